@@ -1,0 +1,31 @@
+-- What contracts see of a source and of a sink in memory.
+use Rattle.std.specs.Prelude.{ℕ, ◌+◌, ◌-◌, ◌^◌, min, List, length}
+
+-- bytes to be read in pieces; the calls that `fails` names, counted from 1, fail
+pub record SourceState : Type 0 where
+  pub left : List ℕ
+  pub piece : ℕ
+  pub fails : List ℕ
+  pub calls : ℕ
+  pub faults : ℕ
+
+-- bytes taken in pieces up to `room` of them; the calls that `fails` names, counted from 1, fail
+pub record SinkState : Type 0 where
+  pub held : List ℕ
+  pub room : ℕ
+  pub piece : ℕ
+  pub fails : List ℕ
+  pub calls : ℕ
+  pub faults : ℕ
+
+-- the number of the next call, which stands still at the last value of its type
+abbrev pub next_call : ℕ → ℕ
+next_call calls = min (calls + 1) (2 ^ 64 - 1)
+
+-- how many bytes one read of a source gives into a buffer
+abbrev pub given : SourceState → ℕ → ℕ
+given s buffer = min (min s.piece buffer) (length s.left)
+
+-- how many bytes one write to a sink takes of a piece
+abbrev pub taken : SinkState → ℕ → ℕ
+taken s offered = min (min s.piece offered) (s.room - length s.held)

@@ -1,0 +1,75 @@
+//! The edge to the standard library's streams: each call is passed on, and each error is counted.
+
+ghost use Rattle.std.specs.Prelude.{◌≡◌, ◌<◌, ℕ, length, IfOk};
+ghost use Rattle.std.specs.Io.{ReadsAtMost, WritesAtMost};
+ghost use Rattle.std.specs.Io.KnownBytes.{ReadConsumes, WriteAppends};
+ghost use Rattle.meter_io.specs.Causes.{HasCause};
+
+use crate::{Failed, Sink, Source};
+use std::io::{Read, Write};
+
+/// A reader of the standard library as a source. It tells the bytes left where the reader tells them, which standard
+/// input and files do not.
+#[derive(Drop)]
+pub struct StdSource<R: Read + Drop> {
+    inner: R,
+    faults: u64,
+}
+
+impl<R: Read + Drop> StdSource<R> {
+    /// A source that reads from `inner`, and counts its errors.
+    pub fn new(inner: R) -> StdSource<R> {
+        StdSource { inner, faults: 0 }
+    }
+}
+
+impl<R: Read + Drop> Source for StdSource<R> {
+    ghost left = { λ s. R.remaining s.inner };
+
+    ghost faults = { λ s. s.faults };
+
+    fn read(&mut self, buf: &mut [u8]) -> Result<usize, Failed> {
+        match self.inner.read(buf) {
+            Ok(count) => Ok(count),
+            Err(_) => {
+                self.faults = self.faults.saturating_add(1);
+                Err(Failed)
+            }
+        }
+    }
+}
+
+/// A writer of the standard library as a sink. It tells the bytes held where the writer tells them, which standard
+/// output and files do not. A write that takes nothing is a fault.
+#[derive(Drop)]
+pub struct StdSink<W: Write + Drop> {
+    inner: W,
+    faults: u64,
+}
+
+impl<W: Write + Drop> StdSink<W> {
+    /// A sink that writes to `inner`, and counts its errors.
+    pub fn new(inner: W) -> StdSink<W> {
+        StdSink { inner, faults: 0 }
+    }
+}
+
+impl<W: Write + Drop> Sink for StdSink<W> {
+    ghost held = { λ s. W.contents s.inner };
+
+    ghost faults = { λ s. s.faults };
+
+    fn write(&mut self, piece: &[u8]) -> Result<usize, Failed> {
+        match self.inner.write(piece) {
+            Ok(0) => {
+                self.faults = self.faults.saturating_add(1);
+                Err(Failed)
+            }
+            Ok(count) => Ok(count),
+            Err(_) => {
+                self.faults = self.faults.saturating_add(1);
+                Err(Failed)
+            }
+        }
+    }
+}

@@ -1,0 +1,31 @@
+//! The outside of the meter: where bytes come from and where they go.
+//!
+//! A [`Source`] gives bytes, a [`Sink`] takes them, and both count their faults: a failed call has its cause in a count
+//! that rose. Contracts above speak of the bytes that a source has left and that a sink holds, where it tells them.
+//! [`read_all`] reads a source to its end, and [`write_all`] writes a piece whole. [`MemSource`] and [`MemSink`] stand
+//! in memory and can fail at chosen calls; [`StdSource`] and [`StdSink`] are the edge to the standard library's streams.
+//!
+//! [`NoMemory`] is the one answer for want of memory, here and in the crates above.
+#![tactic(auto)]
+
+mod edge;
+mod reading;
+mod sink;
+mod source;
+#[cfg(test)]
+mod tests;
+mod writing;
+
+pub use edge::{StdSink, StdSource};
+pub use reading::{ReadError, read_all};
+pub use sink::{MemSink, Sink};
+pub use source::{MemSource, Source};
+pub use writing::write_all;
+
+/// A call of a source or of a sink that failed. The object counted the fault.
+#[derive(Clone, Copy, Debug, PartialEq, Eq)]
+pub struct Failed;
+
+/// Want of memory. It is merged with no other answer.
+#[derive(Clone, Copy, Debug, PartialEq, Eq)]
+pub struct NoMemory;
