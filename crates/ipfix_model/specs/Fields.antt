@@ -1,5 +1,5 @@
 -- Lengths of fields and records (RFC 7011, sections 3.4.1 and 7).
-use Rattle.std.specs.Prelude.{ℕ, Bool, ◌+◌, ◌==◌, if◌then◌else◌, List, [], ◌∷◌, sum_by}
+use Rattle.std.specs.Prelude.{ℕ, Bool, ◌==◌, if◌then◌else◌, List, sum_by}
 use Rattle.ipfix_model.specs.declared.fields.FieldSpec.{FieldSpec}
 
 -- the length 65535 announces a field of variable length

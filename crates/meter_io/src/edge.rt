@@ -4,9 +4,11 @@ ghost use Rattle.std.specs.Prelude.{◌≡◌, ◌<◌, ℕ, length, IfOk};
 ghost use Rattle.std.specs.Io.{ReadsAtMost, WritesAtMost};
 ghost use Rattle.std.specs.Io.KnownBytes.{ReadConsumes, WriteAppends};
 ghost use Rattle.meter_io.specs.Causes.{HasCause};
+ghost use Rattle.meter_io.specs.Edge.{Counted};
 
 use crate::{Failed, Sink, Source};
 use std::io::{Read, Write};
+use std::marker::Model;
 
 /// A reader of the standard library as a source. It tells the bytes left where the reader tells them, which standard
 /// input and files do not.
@@ -16,15 +18,23 @@ pub struct StdSource<R: Read + Drop> {
     faults: u64,
 }
 
+impl<R: Read + Drop> Model for StdSource<R> {
+    ghost Value = { Counted R };
+
+    ghost view = { λ s. record { stream = s.inner; faults = s.faults } };
+}
+
 impl<R: Read + Drop> StdSource<R> {
     /// A source that reads from `inner`, and counts its errors.
-    pub fn new(inner: R) -> StdSource<R> {
+    pub fn new(inner: R) -> StdSource<R>
+        ensures { result ≡ record { stream = inner; faults = 0 } }
+    {
         StdSource { inner, faults: 0 }
     }
 }
 
 impl<R: Read + Drop> Source for StdSource<R> {
-    ghost left = { λ s. R.remaining s.inner };
+    ghost left = { λ s. R.remaining s.stream };
 
     ghost faults = { λ s. s.faults };
 
@@ -47,15 +57,23 @@ pub struct StdSink<W: Write + Drop> {
     faults: u64,
 }
 
+impl<W: Write + Drop> Model for StdSink<W> {
+    ghost Value = { Counted W };
+
+    ghost view = { λ s. record { stream = s.inner; faults = s.faults } };
+}
+
 impl<W: Write + Drop> StdSink<W> {
     /// A sink that writes to `inner`, and counts its errors.
-    pub fn new(inner: W) -> StdSink<W> {
+    pub fn new(inner: W) -> StdSink<W>
+        ensures { result ≡ record { stream = inner; faults = 0 } }
+    {
         StdSink { inner, faults: 0 }
     }
 }
 
 impl<W: Write + Drop> Sink for StdSink<W> {
-    ghost held = { λ s. W.contents s.inner };
+    ghost held = { λ s. W.contents s.stream };
 
     ghost faults = { λ s. s.faults };
 

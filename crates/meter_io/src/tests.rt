@@ -1,6 +1,10 @@
 //! Reads and writes that fail, end early or come in small pieces.
 
-use crate::{MemSink, MemSource, ReadError, Sink, Source, StdSink, StdSource, read_all, write_all};
+use crate::{
+    Failed, MemSink, MemSource, ReadError, Sink, Source, StdSink, StdSource, read_all, write_all,
+};
+use std::collections::VecDeque;
+use std::io::{self, Cursor, Read, Write};
 use std::test::Fail;
 
 /// Nine bytes, read in pieces of `piece` with the calls `fails` failing.
@@ -36,10 +40,10 @@ fn writes_all_or_a_prefix(rt: HostRuntime) -> Result<(), Fail> {
     for (room, piece, fails, want, written) in [
         (9, 100, [0], Ok(()), 9),
         (9, 1, [0], Ok(()), 9),
-        (8, 100, [0], Err(crate::Failed), 8),
-        (0, 100, [0], Err(crate::Failed), 0),
-        (100, 4, [2], Err(crate::Failed), 4),
-        (100, 4, [3], Err(crate::Failed), 8),
+        (8, 100, [0], Err(Failed), 8),
+        (0, 100, [0], Err(Failed), 0),
+        (100, 4, [2], Err(Failed), 4),
+        (100, 4, [3], Err(Failed), 8),
         (100, 4, [4], Ok(()), 9),
     ] {
         let Ok(mut sink) = MemSink::open(rt.alloc(), room, piece, fails.as_slice()) else {
@@ -57,5 +61,46 @@ fn writes_all_or_a_prefix(rt: HostRuntime) -> Result<(), Fail> {
             "room {room}, piece {piece}, fails {fails:?}"
         );
     }
+    Ok(())
+}
+
+/// A stream whose calls all fail.
+#[derive(Drop)]
+struct Broken;
+
+impl Read for Broken {
+    fn read(&mut self, _buf: &mut [u8]) -> io::Result<usize> {
+        Err(io::Error::from(io::ErrorKind::BrokenPipe))
+    }
+}
+
+impl Write for Broken {
+    fn write(&mut self, _buf: &[u8]) -> io::Result<usize> {
+        Err(io::Error::from(io::ErrorKind::BrokenPipe))
+    }
+
+    fn flush(&mut self) -> io::Result<()> {
+        Ok(())
+    }
+}
+
+#[test]
+fn the_edge_passes_calls_on_and_reports_errors(rt: HostRuntime) -> Result<(), Fail> {
+    let mut input = StdSource::new(Cursor::new(b"nine byte".as_slice()));
+    let bytes = read_all(rt.alloc(), &mut input, 100).map_err(|_| Fail::from("not read"))?;
+    assert_eq!(rt; bytes.as_slice(), b"nine byte".as_slice());
+    let mut buf = [0u8; 4];
+    assert_eq!(rt;
+        StdSource::new(Broken).read(buf.as_mut_slice()),
+        Err(Failed)
+    );
+
+    let mut output = StdSink::new(VecDeque::new(rt.alloc()));
+    assert_eq!(rt; write_all(&mut output, b"nine byte"), Ok(()));
+    assert_eq!(rt;
+        write_all(&mut StdSink::new(Broken), b"nine byte"),
+        Err(Failed)
+    );
+    assert_eq!(rt; write_all(&mut StdSink::new(Broken), b""), Ok(()));
     Ok(())
 }

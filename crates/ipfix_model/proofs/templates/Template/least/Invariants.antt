@@ -1,4 +1,4 @@
-use Rattle.std.proofs.Common.{◌≡◌, ◌≤◌, ◌*◌, ℕ, sum_by, take, length}
+use Rattle.std.proofs.Common.{◌≡◌, ◌≤◌, ◌*◌, sum_by, take}
 use Rattle.ipfix_model.specs.Fields.{field_least}
 use Rattle.ipfix_model.proofs.templates.Template.least.Given as goal
 
