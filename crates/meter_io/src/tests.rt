@@ -1,5 +1,7 @@
 //! Reads and writes that fail, end early or come in small pieces.
 
+ghost use Rattle.std.specs.Prelude.{◌<◌};
+
 use crate::{
     Failed, MemSink, MemSource, ReadError, Sink, Source, StdSink, StdSource, read_all, write_all,
 };
@@ -30,6 +32,7 @@ fn reads_to_the_end_within_the_limit(rt: HostRuntime) {
         (10, 100, [3], Ok(9)),
         (2, 4, [4], Err(ReadError::TooLarge)),
     ] {
+        assert!(rt; piece > 0);
         let got = read_nine(&rt, piece, fails.as_slice(), limit);
         assert_eq!(rt; got, want, "piece {piece}, limit {limit}, fails {fails:?}");
     }
@@ -46,6 +49,7 @@ fn writes_all_or_a_prefix(rt: HostRuntime) -> Result<(), Fail> {
         (100, 4, [3], Err(Failed), 8),
         (100, 4, [4], Ok(()), 9),
     ] {
+        assert!(rt; piece > 0);
         let Ok(mut sink) = MemSink::open(rt.alloc(), room, piece, fails.as_slice()) else {
             return Err(Fail::from("no memory"));
         };
