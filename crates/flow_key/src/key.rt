@@ -1,0 +1,199 @@
+ghost use Rattle.std.specs.Prelude.{◌≡◌, ◌≢◌, ℕ, ◌+◌, ◌<◌, ◌≤◌, ◌^◌, ◌*◌, ◌/◌, ◌%◌, Some, IfSome, IsNone};
+
+use std::cmp::Ordering;
+
+/// The key of a flow (RFC 7011, section 2: the properties that define a flow).
+///
+/// Addresses are numbers: the octets of the address field read in network order. The ports are 0 where a
+/// packet has none. The order of keys is the order of their fields, the first field first.
+#[derive(Clone, Copy, PartialEq, Eq, PartialOrd, Ord, Hash, Debug)]
+pub struct FlowKey {
+    /// The IP version, 4 or 6.
+    pub version: u8,
+    /// The source address; below 2^32 for version 4.
+    pub source: u128,
+    /// The destination address; below 2^32 for version 4.
+    pub destination: u128,
+    /// The protocol number of the IANA registry.
+    pub protocol: u8,
+    /// The source port, or 0.
+    pub source_port: u16,
+    /// The destination port, or 0.
+    pub destination_port: u16,
+    pub ghost known: { version ≢ 4 → version ≡ 6 },
+    pub ghost narrow: { version ≡ 4 → (source < 2 ^ 32) × (destination < 2 ^ 32) },
+    // The widths of the fields, for a reader of clauses, where a number has none.
+    pub ghost sized: { (source < 2 ^ 128) × (destination < 2 ^ 128)
+        × (protocol < 2 ^ 8) × (source_port < 2 ^ 16) × (destination_port < 2 ^ 16) },
+}
+
+/// The multiplier that [`FlowKey::set_of`] mixes each word with: 2^64 divided by the golden ratio.
+const MULTIPLIER: u64 = 0x9E37_79B9_7F4A_7C15;
+
+impl FlowKey {
+    ghost use Rattle.flow_key.specs.Key.{words_of, set_number, key_order};
+
+    /// The key as five words: version, protocol and ports packed into the first, then the upper and the
+    /// lower half of the source address, then those of the destination address.
+    pub fn to_words(&self) -> [u64; 5]
+        ensures { result ≡ words_of self.now }
+    {
+        let ports = (self.source_port as u64) << 16 | self.destination_port as u64;
+        let transport = (self.protocol as u64) << 32 | ports;
+        [
+            (self.version as u64) << 40 | transport,
+            upper(self.source),
+            lower(self.source),
+            upper(self.destination),
+            lower(self.destination),
+        ]
+    }
+
+    /// The key that has these words, as [`FlowKey::to_words`] gives them; `None` where no key has them.
+    pub fn of_words(words: &[u64; 5]) -> Option<FlowKey>
+        ensures some { IfSome result (λ key. words_of key ≡ words.now) }
+        ensures none { IsNone result → (key : FlowKey) → words_of key ≢ words.now }
+        ensures round_trip { (key : FlowKey) → words_of key ≡ words.now → result ≡ Some key }
+    {
+        let [
+            first,
+            source_high,
+            source_low,
+            destination_high,
+            destination_low,
+        ] = *words;
+        let version = first >> 40;
+        let source = joined(source_high, source_low);
+        let destination = joined(destination_high, destination_low);
+        let narrow = source >> 32 == 0 && destination >> 32 == 0;
+        if version == 6 || version == 4 && narrow {
+            Some(FlowKey {
+                version: version as u8,
+                source,
+                destination,
+                protocol: (first >> 32 & 0xFF) as u8,
+                source_port: (first >> 16 & 0xFFFF) as u16,
+                destination_port: (first & 0xFFFF) as u16,
+            })
+        } else {
+            None
+        }
+    }
+
+    /// The number of the set that the key belongs to, in a table of `sets` sets.
+    ///
+    /// Each word of the key is taken into a hash by `xor` and a product modulo 2^64; the upper half of the
+    /// hash, modulo `sets`, is the answer.
+    pub fn set_of(&self, sets: u64) -> u64
+        requires { 1 ≤ sets }
+        ensures number { result ≡ set_number self.now sets }
+        ensures below { result < sets }
+    {
+        let mut hash = 0u64;
+        for word in self.to_words() {
+            hash = (hash ^ word).wrapping_mul(MULTIPLIER);
+        }
+        (hash >> 32) % sets
+    }
+
+    /// How this key and another stand in the order of keys.
+    pub fn order(&self, other: &FlowKey) -> Ordering
+        ensures { result ≡ key_order self.now other.now }
+    {
+        self.cmp(other)
+    }
+}
+
+/// The upper half of an address.
+fn upper(address: u128) -> u64
+    ensures { result ≡ address / 2 ^ 64 }
+{
+    (address >> 64) as u64
+}
+
+/// The lower half of an address.
+fn lower(address: u128) -> u64
+    ensures { result ≡ address % 2 ^ 64 }
+{
+    (address & u64::MAX as u128) as u64
+}
+
+/// The address with these two halves.
+fn joined(high: u64, low: u64) -> u128
+    ensures { result ≡ high * 2 ^ 64 + low }
+{
+    (high as u128) << 64 | low as u128
+}
+
+#[cfg(test)]
+mod tests {
+    use super::*;
+
+    /// UDP from 192.0.2.1:4000 to this port of 192.0.2.2.
+    fn udp(destination_port: u16) -> FlowKey {
+        FlowKey {
+            version: 4,
+            source: 0xC000_0201,
+            destination: 0xC000_0202,
+            protocol: 17,
+            source_port: 4000,
+            destination_port,
+        }
+    }
+
+    /// TCP from 2001:db8::1 port 1025 to 2001:db8::2 port 443.
+    fn tcp() -> FlowKey {
+        FlowKey {
+            version: 6,
+            source: 0x2001_0DB8_0000_0000_0000_0000_0000_0001,
+            destination: 0x2001_0DB8_0000_0000_0000_0000_0000_0002,
+            protocol: 6,
+            source_port: 1025,
+            destination_port: 443,
+        }
+    }
+
+    #[test]
+    fn words_and_sets(rt: HostRuntime) {
+        let udp_words = [0x411_0FA0_0035, 0, 0xC000_0201, 0, 0xC000_0202];
+        let tcp_words = [
+            0x606_0401_01BB,
+            0x2001_0DB8_0000_0000,
+            1,
+            0x2001_0DB8_0000_0000,
+            2,
+        ];
+        for (key, words, sets) in [
+            (udp(53), udp_words, [0, 1, 1308, 62748]),
+            (tcp(), tcp_words, [0, 2, 2193, 59537]),
+        ] {
+            assert!(rt; key.to_words() == words);
+            assert!(rt; FlowKey::of_words(&words) == Some(key));
+            assert!(rt; key.set_of(1) == sets[0]);
+            assert!(rt; key.set_of(7) == sets[1]);
+            assert!(rt; key.set_of(4096) == sets[2]);
+            assert!(rt; key.set_of(65536) == sets[3]);
+        }
+    }
+
+    #[test]
+    fn words_of_no_key(rt: HostRuntime) {
+        for words in [
+            [0, 0, 0, 0, 0],
+            [0x511_0FA0_0035, 0, 0xC000_0201, 0, 0xC000_0202],
+            [0x411_0FA0_0035, 0, 0x1_0000_0000, 0, 0xC000_0202],
+            [0x411_0FA0_0035, 0, 0xC000_0201, 1, 0xC000_0202],
+            [0x104_110F_A000_0035, 0, 0xC000_0201, 0, 0xC000_0202],
+        ] {
+            assert!(rt; FlowKey::of_words(&words).is_none());
+        }
+    }
+
+    #[test]
+    fn order_by_fields(rt: HostRuntime) {
+        assert!(rt; udp(53).order(&tcp()) == Ordering::Less);
+        assert!(rt; udp(53).order(&udp(54)) == Ordering::Less);
+        assert!(rt; udp(53).order(&udp(53)) == Ordering::Equal);
+        assert!(rt; udp(53) != udp(54));
+    }
+}
