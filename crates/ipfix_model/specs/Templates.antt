@@ -1,7 +1,7 @@
 -- The templates that the meter writes, for the crates above.
 use Rattle.std.specs.Prelude.{ℕ, List}
 use Rattle.ipfix_model.specs.declared.fields.FieldSpec.{FieldSpec}
-use Rattle.ipfix_model.specs.declared.TheConstants.{V4_FIELDS, V6_FIELDS, V4_TEMPLATE, V6_TEMPLATE}
+use Rattle.ipfix_model.specs.declared.templates.TheConstants.{V4_FIELDS, V6_FIELDS, V4_TEMPLATE, V6_TEMPLATE}
 
 -- The number and the fields of the template for flows over IPv4.
 abbrev pub v4_template : ℕ
