@@ -1,0 +1,59 @@
+-- The walk over the extension headers, one header at a time.
+use Rattle.std.proofs.Common.{◌≡◌, ◌<◌, ◌≤◌, ◌-◌, ◌+◌, ◌*◌, ◌==◌, ℕ, zero, suc, Bool, true, false, List, length, drop, Result, Ok, Err, refl, absurd, arith, cond, if◌then◌else◌, nat_le, length-drop, inl, inr}
+use Rattle.std.proofs.lemmas.Grind.{common_steps}
+use Rattle.packet_headers.specs.declared.fault.HeaderFault.{HeaderFault}
+use Rattle.packet_headers.specs.declared.fault.HeaderFault.TheVariants.{Short}
+use Rattle.packet_headers.specs.Fields.{octet_at}
+use Rattle.packet_headers.specs.Extensions.{Upper, is_extension, extension_length, is_whole, is_later_fragment, upper_behind, upper_part}
+
+-- an extension header has at least eight octets
+pub extension_length-least : (next : ℕ) (headers : List ℕ) → 8 ≤ extension_length next headers
+extension_length-least next headers = grind (arith, common_steps)
+
+-- a whole header lies inside
+pub is_whole-inside : (next : ℕ) (headers : List ℕ) → is_whole next headers ≡ true → extension_length next headers ≤ length headers
+is_whole-inside next headers whole = grind (arith, common_steps)
+
+-- behind a whole header less is left
+pub rest_shorter : (n next : ℕ) (headers : List ℕ) → is_whole next headers ≡ true → length headers < suc n
+    → length (drop (extension_length next headers) headers) < n
+rest_shorter n next headers whole room =
+    let least = extension_length-least next headers in
+    let inside = is_whole-inside next headers whole in
+    simp (length-drop) (omega arith)
+
+-- two answers that differ only in how the walk goes on behind a whole header
+same_choice : {A : Type 0} (extension whole later : Bool) (fragment cut end one other : A) → (whole ≡ true → one ≡ other)
+    → (if extension then (if whole then (if later then fragment else one) else cut) else end)
+    ≡ (if extension then (if whole then (if later then fragment else other) else cut) else end)
+same_choice false whole later fragment cut end one other same = refl
+same_choice true false later fragment cut end one other same = refl
+same_choice true true true fragment cut end one other same = refl
+same_choice true true false fragment cut end one other same = same refl
+
+-- more headers than there are octets are as good as any number of them
+pub upper_behind-enough : (n m next : ℕ) (headers : List ℕ) → length headers < n → length headers < m
+    → upper_behind n next headers ≡ upper_behind m next headers
+unfolding upper_behind
+upper_behind-enough zero m next headers n_room m_room = absurd (omega arith)
+upper_behind-enough (suc n) zero next headers n_room m_room = absurd (omega arith)
+upper_behind-enough (suc n) (suc m) next headers n_room m_room =
+    same_choice (is_extension next) (is_whole next headers) (is_later_fragment next headers) _ _ _ _ _
+    (λ whole. upper_behind-enough n m (octet_at 0 headers) (drop (extension_length next headers) headers)
+      (rest_shorter n next headers whole n_room) (rest_shorter m next headers whole m_room))
+
+-- The walk goes over one header, and then walks on over what is left: however many headers there are.
+pub upper_part-step : (next : ℕ) (headers : List ℕ) → upper_part next headers
+    ≡ (if is_extension next then
+        (if is_whole next headers then
+          (if is_later_fragment next headers
+            then Ok (record { protocol = 0; later = true; payload = drop 8 headers })
+            else upper_part (octet_at 0 headers) (drop (extension_length next headers) headers))
+        else Err Short)
+      else Ok (record { protocol = next; later = false; payload = headers }))
+unfolding upper_behind upper_part
+upper_part-step next headers =
+    same_choice (is_extension next) (is_whole next headers) (is_later_fragment next headers) _ _ _ _ _
+    (λ whole. upper_behind-enough (length headers) (suc (length (drop (extension_length next headers) headers)))
+      (octet_at 0 headers) (drop (extension_length next headers) headers)
+      (rest_shorter (length headers) next headers whole (omega arith)) (omega arith))

@@ -1,0 +1,83 @@
+//! The extension headers of IPv6.
+
+ghost use Rattle.std.specs.Prelude.{◌≡◌, ◌≢◌, ◌≤◌, true, false, IfOk, IfErr, length};
+ghost use Rattle.packet_headers.specs.Extensions.{is_extension, extension_length, is_whole, upper_part};
+ghost use Rattle.packet_headers.specs.Shown.{upper_shown};
+
+use crate::fault::HeaderFault;
+use crate::fields::u16_at;
+
+/// The numbers of the headers that are gone over.
+const HOP_BY_HOP: u8 = 0;
+const ROUTING: u8 = 43;
+const FRAGMENT: u8 = 44;
+const AUTHENTICATION: u8 = 51;
+const DESTINATION_OPTIONS: u8 = 60;
+
+/// What lies behind the extension headers.
+#[derive(Clone, Copy, Debug)]
+pub struct UpperView<'a> {
+    pub protocol: u8,
+    pub later: bool,
+    pub payload: &'a [u8],
+}
+
+/// Goes over the extension headers, from the one that `first` names to the packet's end.
+pub fn upper_of(first: u8, headers: &[u8]) -> Result<UpperView<'_>, HeaderFault>
+    ensures fields { IfOk result (λ view. upper_part first headers.now ≡ Ok (upper_shown view)) }
+    ensures fault { IfErr result (λ fault. upper_part first headers.now ≡ Err fault) }
+    ensures never_not_ip { result ≢ Err HeaderFault.NotIp }
+{
+    let mut next = first;
+    let mut rest = headers;
+    while is_extension(next) {
+        let length = length_of(next, rest)?;
+        if next == FRAGMENT && u16_at(rest, 2) >> 3 > 0 {
+            return Ok(UpperView {
+                protocol: 0,
+                later: true,
+                payload: &rest[length..],
+            });
+        }
+        next = rest[0];
+        rest = &rest[length..];
+    }
+    Ok(UpperView {
+        protocol: next,
+        later: false,
+        payload: rest,
+    })
+}
+
+/// Whether the header is gone over.
+fn is_extension(next: u8) -> bool
+    ensures { result ≡ is_extension next }
+{
+    matches!(
+        next,
+        HOP_BY_HOP | ROUTING | FRAGMENT | AUTHENTICATION | DESTINATION_OPTIONS
+    )
+}
+
+/// The length of the extension header at the front, where all of it is there.
+fn length_of(next: u8, rest: &[u8]) -> Result<usize, HeaderFault>
+    ensures value { IfOk result (λ octets. octets ≡ extension_length next rest.now) }
+    ensures whole { IfOk result (λ octets. is_whole next rest.now ≡ true) }
+    ensures least { IfOk result (λ octets. 8 ≤ octets) }
+    ensures inside { IfOk result (λ octets. octets ≤ length rest.now) }
+    ensures fault { IfErr result (λ fault. (is_whole next rest.now ≡ false) × (fault ≡ HeaderFault.Short)) }
+{
+    if rest.len() < 2 {
+        return Err(HeaderFault::Short);
+    }
+    let words = usize::from(rest[1]);
+    let length = match next {
+        FRAGMENT => 8,
+        AUTHENTICATION => 4 * (words + 2),
+        _ => 8 * (words + 1),
+    };
+    if rest.len() < length {
+        return Err(HeaderFault::Short);
+    }
+    Ok(length)
+}
