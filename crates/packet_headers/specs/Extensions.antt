@@ -20,9 +20,9 @@ is_extension next = (next == 0) || (next == 43) || (next == 44) || (next == 51) 
 -- 4 octets without the first two, each other counts words of 8 octets without the first.
 abbrev pub extension_length : ℕ → List ℕ → ℕ
 extension_length next headers =
-  if next == 44 then 8
-  else if next == 51 then 4 * (octet_at 1 headers + 2)
-  else 8 * (octet_at 1 headers + 1)
+    if next == 44 then 8
+    else if next == 51 then 4 * (octet_at 1 headers + 2)
+    else 8 * (octet_at 1 headers + 1)
 
 -- The first two octets and the whole header are there.
 abbrev pub is_whole : ℕ → List ℕ → Bool
@@ -36,13 +36,13 @@ is_later_fragment next headers = (next == 44) && nat_lt 0 (number_at 2 2 headers
 unfoldable pub upper_behind : ℕ → ℕ → List ℕ → Result Upper HeaderFault
 upper_behind zero next headers = Err Short
 upper_behind (suc more) next headers =
-  if is_extension next then
+    if is_extension next then
     (if is_whole next headers then
-      (if is_later_fragment next headers
-        then Ok (record { protocol = 0; later = true; payload = drop 8 headers })
-        else upper_behind more (octet_at 0 headers) (drop (extension_length next headers) headers))
+    (if is_later_fragment next headers
+    then Ok (record { protocol = 0; later = true; payload = drop 8 headers })
+    else upper_behind more (octet_at 0 headers) (drop (extension_length next headers) headers))
     else Err Short)
-  else Ok (record { protocol = next; later = false; payload = headers })
+    else Ok (record { protocol = next; later = false; payload = headers })
 
 -- All the extension headers, which each have at least 8 octets, from the one that `next` names to the
 -- packet's end.

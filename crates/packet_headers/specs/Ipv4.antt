@@ -1,10 +1,10 @@
 -- The IPv4 header (RFC 791, section 3.1).
-use Rattle.std.specs.Prelude.{◌+◌, ◌*◌, ◌/◌, ◌%◌, ◌==◌, ◌&&◌, ℕ, List, length, drop, Result, Ok, Err, nat_lt, nat_le, if◌then◌else◌}
+use Rattle.std.specs.Prelude.{◌+◌, ◌*◌, ◌/◌, ◌%◌, ◌==◌, ◌&&◌, ℕ, List, length, Result, Ok, Err, nat_lt, nat_le, if◌then◌else◌}
 use Rattle.packet_headers.specs.declared.fault.HeaderFault.{HeaderFault}
 use Rattle.packet_headers.specs.declared.fault.HeaderFault.TheVariants.{Short, BadHeader}
 use Rattle.packet_headers.specs.Fields.{octet_at, number_at}
 use Rattle.packet_headers.specs.Outcome.{◌>>=◌}
-use Rattle.packet_headers.specs.Packet.{IpPart, limited, packet_of}
+use Rattle.packet_headers.specs.Packet.{IpPart, limited, behind_header}
 
 -- The version, and the header's length in words of four octets: the upper and the lower four bits of
 -- the first octet.
@@ -17,19 +17,19 @@ header_words rest = octet_at 0 rest % 16
 -- The header's length in octets, its options among them. The least header has 20 octets.
 unfoldable pub header_length : List ℕ → Result ℕ HeaderFault
 header_length rest =
-  if nat_lt (length rest) 20 then Err Short
-  else if (version rest == 4) && nat_le 5 (header_words rest) then
+    if nat_lt (length rest) 20 then Err Short
+    else if (version rest == 4) && nat_le 5 (header_words rest) then
     (if nat_lt (length rest) (4 * header_words rest) then Err Short else Ok (4 * header_words rest))
-  else Err BadHeader
+    else Err BadHeader
 
 -- The octets of the packet: its total length, which isn't below the header's. A total length of 0 stands
 -- in packets whose sending was offloaded: there it is what is left of the frame's original length.
 unfoldable pub packet_length : List ℕ → ℕ → ℕ → Result ℕ HeaderFault
 packet_length rest original header =
-  let total = number_at 2 2 rest in
-  if total == 0 then limited (if nat_lt original header then header else original)
-  else if nat_lt total header then Err BadHeader
-  else limited total
+    let total = number_at 2 2 rest in
+    if total == 0 then limited (if nat_lt original header then header else original)
+    else if nat_lt total header then Err BadHeader
+    else limited total
 
 -- The fragment offset is the lower 13 bits of octets 6 and 7.
 abbrev pub fragment_offset : List ℕ → ℕ
@@ -47,5 +47,5 @@ ipv4_part rest original = do
     destination = number_at 16 4 rest;
     protocol = octet_at 9 rest;
     later = nat_lt 0 (fragment_offset rest);
-    payload = drop header (packet_of octets rest)
+    payload = behind_header header octets rest;
   })

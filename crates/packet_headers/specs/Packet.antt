@@ -1,5 +1,5 @@
 -- An IP packet: what both versions tell of it.
-use Rattle.std.specs.Prelude.{ℕ, Bool, List, Result, Ok, Err, nat_lt, if◌then◌else◌, take}
+use Rattle.std.specs.Prelude.{ℕ, Bool, List, Result, Ok, Err, nat_lt, if◌then◌else◌, take, drop}
 use Rattle.packet_headers.specs.declared.fault.HeaderFault.{HeaderFault}
 use Rattle.packet_headers.specs.declared.fault.HeaderFault.TheVariants.{BadHeader}
 
@@ -17,6 +17,8 @@ pub record IpPart : Type 0 where
 abbrev pub limited : ℕ → Result ℕ HeaderFault
 limited octets = if nat_lt 16777215 octets then Err BadHeader else Ok octets
 
--- The packet as far as it was captured: what is captured behind its end, as padding, is no part of it.
-abbrev pub packet_of : ℕ → List ℕ → List ℕ
-packet_of octets rest = take octets rest
+-- What lies behind the first `header` octets of a packet of so many octets, as far as it was captured:
+-- up to the packet's end or the captured end, whichever comes first. What is captured behind the packet's
+-- end, as padding, is no part of it.
+unfoldable pub behind_header : ℕ → ℕ → List ℕ → List ℕ
+behind_header header octets rest = drop header (take octets rest)

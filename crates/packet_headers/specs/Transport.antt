@@ -15,14 +15,14 @@ abbrev pub tcp_fields : List ℕ → TransportPart
 tcp_fields segment = record {
   source_port = number_at 0 2 segment;
   destination_port = number_at 2 2 segment;
-  flags = number_at 12 2 segment % 4096
+  flags = number_at 12 2 segment % 4096;
 }
 
 abbrev pub udp_fields : List ℕ → TransportPart
 udp_fields datagram = record {
   source_port = number_at 0 2 datagram;
   destination_port = number_at 2 2 datagram;
-  flags = 0
+  flags = 0;
 }
 
 -- TCP's ports and flags are in its first 14 octets, UDP's ports in its first 4.

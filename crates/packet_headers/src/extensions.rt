@@ -1,17 +1,21 @@
 //! The extension headers of IPv6.
 
 ghost use Rattle.std.specs.Prelude.{◌≡◌, ◌≢◌, ◌≤◌, true, false, IfOk, IfErr, length};
-ghost use Rattle.packet_headers.specs.Extensions.{is_extension, extension_length, is_whole, upper_part};
-ghost use Rattle.packet_headers.specs.Shown.{upper_shown};
+ghost use Rattle.packet_headers.specs.Extensions.{is_extension, extension_length, is_whole, is_later_fragment, upper_part};
+ghost use Rattle.packet_headers.specs.Shown.{upper_shown, StepGives};
 
 use crate::fault::HeaderFault;
 use crate::fields::u16_at;
 
 /// The numbers of the headers that are gone over.
 const HOP_BY_HOP: u8 = 0;
+
 const ROUTING: u8 = 43;
+
 const FRAGMENT: u8 = 44;
+
 const AUTHENTICATION: u8 = 51;
+
 const DESTINATION_OPTIONS: u8 = 60;
 
 /// What lies behind the extension headers.
@@ -22,6 +26,12 @@ pub struct UpperView<'a> {
     pub payload: &'a [u8],
 }
 
+/// What one header is: none that is gone over, or the last of those, or one with another behind it.
+enum Step<'a> {
+    Ends(UpperView<'a>),
+    GoesOn(u8, &'a [u8]),
+}
+
 /// Goes over the extension headers, from the one that `first` names to the packet's end.
 pub fn upper_of(first: u8, headers: &[u8]) -> Result<UpperView<'_>, HeaderFault>
     ensures fields { IfOk result (λ view. upper_part first headers.now ≡ Ok (upper_shown view)) }
@@ -30,23 +40,41 @@ pub fn upper_of(first: u8, headers: &[u8]) -> Result<UpperView<'_>, HeaderFault>
 {
     let mut next = first;
     let mut rest = headers;
-    while is_extension(next) {
-        let length = length_of(next, rest)?;
-        if next == FRAGMENT && u16_at(rest, 2) >> 3 > 0 {
-            return Ok(UpperView {
-                protocol: 0,
-                later: true,
-                payload: &rest[length..],
-            });
+    loop {
+        match go_over(next, rest)? {
+            Step::Ends(upper) => return Ok(upper),
+            Step::GoesOn(named, behind) => {
+                next = named;
+                rest = behind;
+            }
         }
-        next = rest[0];
-        rest = &rest[length..];
     }
-    Ok(UpperView {
-        protocol: next,
-        later: false,
-        payload: rest,
-    })
+}
+
+/// Goes over one extension header.
+#[tactic(auto, using(crate::proofs::Walk::walk_laws))]
+fn go_over(next: u8, headers: &[u8]) -> Result<Step<'_>, HeaderFault>
+    ensures step { IfOk result (StepGives next headers.now) }
+    ensures fault { IfErr result (λ fault. upper_part next headers.now ≡ Err fault) }
+    ensures never_not_ip { result ≢ Err HeaderFault.NotIp }
+{
+    if !is_extension(next) {
+        return Ok(Step::Ends(UpperView {
+            protocol: next,
+            later: false,
+            payload: headers,
+        }));
+    }
+    let length = length_of(next, headers)?;
+    let (_, behind) = headers.split_at(length);
+    if is_later_fragment(next, headers) {
+        return Ok(Step::Ends(UpperView {
+            protocol: 0,
+            later: true,
+            payload: behind,
+        }));
+    }
+    Ok(Step::GoesOn(headers[0], behind))
 }
 
 /// Whether the header is gone over.
@@ -57,6 +85,14 @@ fn is_extension(next: u8) -> bool
         next,
         HOP_BY_HOP | ROUTING | FRAGMENT | AUTHENTICATION | DESTINATION_OPTIONS
     )
+}
+
+/// Whether a fragment header is that of a fragment other than the first.
+fn is_later_fragment(next: u8, headers: &[u8]) -> bool
+    requires { 4 ≤ length headers.now }
+    ensures { result ≡ is_later_fragment next headers.now }
+{
+    next == FRAGMENT && u16_at(headers, 2) >> 3 > 0
 }
 
 /// The length of the extension header at the front, where all of it is there.

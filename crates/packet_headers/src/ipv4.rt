@@ -6,7 +6,7 @@ ghost use Rattle.packet_headers.specs.Shown.{ipv4_shown};
 
 use crate::fault::HeaderFault;
 use crate::fields::{u16_at, u32_at};
-use crate::packet::{captured_packet, limited_length};
+use crate::packet::{captured_behind, limited_length};
 
 /// The least length of a header, in octets.
 const LEAST_HEADER: usize = 20;
@@ -45,14 +45,13 @@ impl<'a> Ipv4View<'a> {
     {
         let header = header_of(rest)?;
         let octets = length_of(rest, original, header)?;
-        let packet = captured_packet(rest, octets);
         Ok(Ipv4View {
             octets,
             source: u32_at(rest, 12),
             destination: u32_at(rest, 16),
             protocol: rest[9],
             later: u16_at(rest, 6) & 0x1fff > 0,
-            payload: &packet[header..],
+            payload: captured_behind(rest, header, octets),
         })
     }
 }

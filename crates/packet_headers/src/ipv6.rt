@@ -7,7 +7,7 @@ ghost use Rattle.packet_headers.specs.Shown.{ipv6_shown};
 use crate::extensions::upper_of;
 use crate::fault::HeaderFault;
 use crate::fields::{u16_at, u128_at};
-use crate::packet::{captured_packet, limited_length};
+use crate::packet::{captured_behind, limited_length};
 
 /// The length of the header, in octets.
 const HEADER: usize = 40;
@@ -51,8 +51,7 @@ impl<'a> Ipv6View<'a> {
         ensures never_not_ip { result ≢ Err HeaderFault.NotIp }
     {
         let octets = checked_length_of(rest, original)?;
-        let packet = captured_packet(rest, octets);
-        let upper = upper_of(rest[6], &packet[HEADER..])?;
+        let upper = upper_of(rest[6], captured_behind(rest, HEADER, octets))?;
         Ok(Ipv6View {
             octets,
             source: u128_at(rest, 8),

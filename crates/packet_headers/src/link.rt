@@ -13,11 +13,15 @@ const RAW: u32 = 101;
 const COOKED: u32 = 113;
 /// The places of the type in the headers of Ethernet and of Linux cooked version 1.
 const ETHERNET_TYPE: usize = 12;
+
 const COOKED_TYPE: usize = 14;
 /// The types of a customer tag, a service tag, IPv4 and IPv6.
 const CUSTOMER_TAG: u16 = 0x8100;
+
 const SERVICE_TAG: u16 = 0x88A8;
+
 const IPV4: u16 = 0x0800;
+
 const IPV6: u16 = 0x86DD;
 
 /// The link part of a frame that holds an IP packet.

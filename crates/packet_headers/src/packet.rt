@@ -1,7 +1,7 @@
-//! What both versions of IP share: the limit of a packet's length, and its captured part.
+//! What both versions of IP share: the limit of a packet's length, and what lies behind a header.
 
-ghost use Rattle.std.specs.Prelude.{◌≡◌};
-ghost use Rattle.packet_headers.specs.Packet.{limited, packet_of};
+ghost use Rattle.std.specs.Prelude.{◌≡◌, ◌≤◌, length};
+ghost use Rattle.packet_headers.specs.Packet.{limited, behind_header};
 
 use crate::fault::HeaderFault;
 
@@ -19,15 +19,19 @@ pub fn limited_length(octets: u64) -> Result<u32, HeaderFault>
     Ok(octets as u32)
 }
 
-/// The captured part of a packet of so many octets, without what lies behind its end.
+/// What lies behind the first `header` octets of a packet of `octets` octets, as far as it was captured.
 #[inline]
-pub fn captured_packet(rest: &[u8], octets: u32) -> &[u8]
-    ensures { result.now ≡ packet_of octets rest.now }
+#[tactic(auto, unfolding(crate::specs::Packet::behind_header))]
+pub fn captured_behind(rest: &[u8], header: usize, octets: u32) -> &[u8]
+    requires inside { header ≤ length rest.now }
+    requires header { header ≤ octets }
+    ensures { result.now ≡ behind_header header octets rest.now }
 {
     let octets = octets as usize;
-    if octets < rest.len() {
+    let packet = if octets < rest.len() {
         &rest[..octets]
     } else {
         rest
-    }
+    };
+    &packet[header..]
 }
