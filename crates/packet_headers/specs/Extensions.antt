@@ -1,5 +1,5 @@
 -- The extension headers of IPv6 (RFC 8200, section 4; the authentication header: RFC 4302, section 2).
-use Rattle.std.specs.Prelude.{◌+◌, ◌*◌, ◌/◌, ◌==◌, ◌&&◌, ◌||◌, ℕ, zero, suc, Bool, true, false, List, length, drop, Result, Ok, Err, nat_lt, nat_le, if◌then◌else◌}
+use Rattle.std.specs.Prelude.{◌≡◌, ◌+◌, ◌*◌, ◌/◌, ◌==◌, ◌&&◌, ◌||◌, ℕ, zero, suc, Bool, true, false, List, length, drop, Result, Ok, Err, nat_lt, nat_le, if◌then◌else◌}
 use Rattle.packet_headers.specs.declared.fault.HeaderFault.{HeaderFault}
 use Rattle.packet_headers.specs.declared.fault.HeaderFault.TheVariants.{Short}
 use Rattle.packet_headers.specs.Fields.{octet_at, number_at}
@@ -32,19 +32,28 @@ is_whole next headers = nat_le 2 (length headers) && nat_le (extension_length ne
 abbrev pub is_later_fragment : ℕ → List ℕ → Bool
 is_later_fragment next headers = (next == 44) && nat_lt 0 (number_at 2 2 headers / 8)
 
--- At most so many extension headers from here on. The first octet of each names the next.
-unfoldable pub upper_behind : ℕ → ℕ → List ℕ → Result Upper HeaderFault
-upper_behind zero next headers = Err Short
-upper_behind (suc more) next headers =
+-- One header: none of these, or a later fragment's, or one behind which `walk` goes on. The first octet of
+-- a header names the next one.
+abbrev pub over_one : (ℕ → List ℕ → Result Upper HeaderFault) → ℕ → List ℕ → Result Upper HeaderFault
+over_one walk next headers =
     if is_extension next then
     (if is_whole next headers then
     (if is_later_fragment next headers
     then Ok (record { protocol = 0; later = true; payload = drop 8 headers })
-    else upper_behind more (octet_at 0 headers) (drop (extension_length next headers) headers))
+    else walk (octet_at 0 headers) (drop (extension_length next headers) headers))
     else Err Short)
     else Ok (record { protocol = next; later = false; payload = headers })
 
--- All the extension headers, which each have at least 8 octets, from the one that `next` names to the
--- packet's end.
+-- At most so many extension headers.
+unfoldable pub over_at_most : ℕ → ℕ → List ℕ → Result Upper HeaderFault
+over_at_most zero = λ next headers. Err Short
+over_at_most (suc more) = over_one (over_at_most more)
+
+-- All the extension headers, from the one that `next` names to the packet's end. Each has at least 8
+-- octets, so there are never more of them than octets.
 unfoldable pub upper_part : ℕ → List ℕ → Result Upper HeaderFault
-upper_part next headers = upper_behind (suc (length headers)) next headers
+upper_part next headers = over_at_most (suc (length headers)) next headers
+
+-- So the bound plays no part: the walk goes over one header, and then over what is left.
+abbrev pub WalksOn : ℕ → List ℕ → Type 0
+WalksOn next headers = upper_part next headers ≡ over_one upper_part next headers

@@ -1,5 +1,5 @@
 -- The IPv4 header (RFC 791, section 3.1).
-use Rattle.std.specs.Prelude.{◌+◌, ◌*◌, ◌/◌, ◌%◌, ◌==◌, ◌&&◌, ℕ, List, length, Result, Ok, Err, nat_lt, nat_le, if◌then◌else◌}
+use Rattle.std.specs.Prelude.{◌*◌, ◌/◌, ◌%◌, ◌==◌, ◌&&◌, ℕ, max, List, length, Result, Ok, Err, nat_lt, nat_le, if◌then◌else◌}
 use Rattle.packet_headers.specs.declared.fault.HeaderFault.{HeaderFault}
 use Rattle.packet_headers.specs.declared.fault.HeaderFault.TheVariants.{Short, BadHeader}
 use Rattle.packet_headers.specs.Fields.{octet_at, number_at}
@@ -27,7 +27,7 @@ header_length rest =
 unfoldable pub packet_length : List ℕ → ℕ → ℕ → Result ℕ HeaderFault
 packet_length rest original header =
     let total = number_at 2 2 rest in
-    if total == 0 then limited (if nat_lt original header then header else original)
+    if total == 0 then limited (max original header)
     else if nat_lt total header then Err BadHeader
     else limited total
 

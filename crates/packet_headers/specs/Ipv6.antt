@@ -1,11 +1,11 @@
 -- The IPv6 header (RFC 8200, section 3).
-use Rattle.std.specs.Prelude.{◌+◌, ◌/◌, ◌==◌, ◌&&◌, ℕ, List, length, Result, Ok, Err, nat_lt, not, if◌then◌else◌}
+use Rattle.std.specs.Prelude.{◌+◌, ◌/◌, ◌==◌, ◌&&◌, ℕ, max, List, length, Result, Ok, Err, nat_lt, not, if◌then◌else◌}
 use Rattle.packet_headers.specs.declared.fault.HeaderFault.{HeaderFault}
 use Rattle.packet_headers.specs.declared.fault.HeaderFault.TheVariants.{Short, BadHeader}
 use Rattle.packet_headers.specs.Fields.{octet_at, number_at}
 use Rattle.packet_headers.specs.Outcome.{◌>>=◌}
 use Rattle.packet_headers.specs.Packet.{IpPart, limited, behind_header}
-use Rattle.packet_headers.specs.Extensions.{Upper, upper_part}
+use Rattle.packet_headers.specs.Extensions.{upper_part}
 
 -- The octets of the packet: the header's 40 and the payload length. A payload length of 0 in front of
 -- another header than 59, which means no next header, stands in packets whose sending was offloaded:
@@ -13,7 +13,7 @@ use Rattle.packet_headers.specs.Extensions.{Upper, upper_part}
 unfoldable pub packet_length : List ℕ → ℕ → Result ℕ HeaderFault
 packet_length rest original =
     let payload = number_at 4 2 rest in
-    if (payload == 0) && not (octet_at 6 rest == 59) then limited (if nat_lt original 40 then 40 else original)
+    if (payload == 0) && not (octet_at 6 rest == 59) then limited (max original 40)
     else limited (40 + payload)
 
 -- The octets of a packet of version 6 with its whole header.

@@ -1,5 +1,5 @@
 -- The transport headers: TCP (RFC 9293, section 3.1) and UDP (RFC 768).
-use Rattle.std.specs.Prelude.{◌%◌, ◌==◌, ℕ, Bool, List, length, Result, Ok, Err, nat_lt, if◌then◌else◌}
+use Rattle.std.specs.Prelude.{◌%◌, ℕ, List, length, Result, Ok, Err, nat_lt, if◌then◌else◌}
 use Rattle.packet_headers.specs.declared.fault.HeaderFault.{HeaderFault}
 use Rattle.packet_headers.specs.declared.fault.HeaderFault.TheVariants.{Short}
 use Rattle.packet_headers.specs.Fields.{number_at}

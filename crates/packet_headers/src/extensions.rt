@@ -1,7 +1,7 @@
 //! The extension headers of IPv6.
 
-ghost use Rattle.std.specs.Prelude.{◌≡◌, ◌≢◌, ◌≤◌, true, false, IfOk, IfErr, length};
-ghost use Rattle.packet_headers.specs.Extensions.{is_extension, extension_length, is_whole, is_later_fragment, upper_part};
+ghost use Rattle.std.specs.Prelude.{◌≡◌, ◌≢◌, ◌≤◌, ℕ, List, true, false, IfOk, IfErr, length};
+ghost use Rattle.packet_headers.specs.Extensions.{is_extension, extension_length, is_whole, is_later_fragment, upper_part, WalksOn};
 ghost use Rattle.packet_headers.specs.Shown.{upper_shown, StepGives};
 
 use crate::fault::HeaderFault;
@@ -50,6 +50,11 @@ pub fn upper_of(first: u8, headers: &[u8]) -> Result<UpperView<'_>, HeaderFault>
         }
     }
 }
+
+/// The walk goes over one header, and then over what is left, however many there are.
+pub fn walk_law()
+    ensures { (next : ℕ) (headers : List ℕ) → WalksOn next headers }
+{}
 
 /// Goes over one extension header.
 #[tactic(auto, using(crate::proofs::Walk::walk_laws))]

@@ -91,7 +91,7 @@ fn length_of(rest: &[u8], original: u64, header: usize) -> Result<u32, HeaderFau
     let header = header as u64;
     let total = u64::from(u16_at(rest, 2));
     if total == 0 {
-        return limited_length(if original < header { header } else { original });
+        return limited_length(original.max(header));
     }
     if total < header {
         return Err(HeaderFault::BadHeader);

@@ -92,7 +92,7 @@ fn length_of(rest: &[u8], original: u64) -> Result<u32, HeaderFault>
 {
     let payload = u64::from(u16_at(rest, 4));
     if payload == 0 && rest[6] != NO_NEXT_HEADER {
-        return limited_length(if original < 40 { 40 } else { original });
+        return limited_length(original.max(40));
     }
     limited_length(40 + payload)
 }
