@@ -21,9 +21,13 @@ mod packet;
 mod tcp;
 mod udp;
 
+pub use extensions::walk_law;
 pub use fault::HeaderFault;
 pub use ipv4::Ipv4View;
 pub use ipv6::Ipv6View;
 pub use link::LinkView;
 pub use tcp::TcpView;
 pub use udp::UdpView;
+
+#[cfg(test)]
+mod tests;
