@@ -1,5 +1,5 @@
 -- The walk over the extension headers, one header at a time.
-use Rattle.std.proofs.Common.{◌≡◌, ◌<◌, ◌≤◌, ℕ, zero, suc, Bool, true, false, List, length, drop, Ok, Err, refl, ◌∙◌, arith, if◌then◌else◌, length-drop}
+use Rattle.std.proofs.Common.{not, ◌≡◌, ◌<◌, ◌≤◌, ℕ, zero, suc, Bool, true, false, List, length, drop, Ok, Err, refl, ◌∙◌, arith, if◌then◌else◌, length-drop}
 use Rattle.std.proofs.lemmas.Grind.{common_steps}
 use Rattle.packet_headers.specs.declared.fault.HeaderFault.TheVariants.{Short}
 use Rattle.packet_headers.specs.Fields.{octet_at}
@@ -23,8 +23,8 @@ rest_shorter n next headers whole room =
 
 -- two answers that differ only in how the walk goes on behind a whole header
 same_choice : {A : Type 0} (extension whole later : Bool) (fragment cut end one other : A) → (whole ≡ true → one ≡ other)
-    → (if extension then (if whole then (if later then fragment else one) else cut) else end)
-    ≡ (if extension then (if whole then (if later then fragment else other) else cut) else end)
+    → (if not extension then end else if not whole then cut else if later then fragment else one)
+    ≡ (if not extension then end else if not whole then cut else if later then fragment else other)
 same_choice false whole later fragment cut end one other same = refl
 same_choice true false later fragment cut end one other same = refl
 same_choice true true true fragment cut end one other same = refl

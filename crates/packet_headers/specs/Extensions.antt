@@ -1,5 +1,5 @@
 -- The extension headers of IPv6 (RFC 8200, section 4; the authentication header: RFC 4302, section 2).
-use Rattle.std.specs.Prelude.{◌≡◌, ◌+◌, ◌*◌, ◌/◌, ◌==◌, ◌&&◌, ◌||◌, ℕ, zero, suc, Bool, true, false, List, length, drop, Result, Ok, Err, nat_lt, nat_le, if◌then◌else◌}
+use Rattle.std.specs.Prelude.{◌≡◌, ◌+◌, ◌*◌, ◌/◌, ◌==◌, ◌&&◌, ◌||◌, ℕ, zero, suc, Bool, true, false, List, length, drop, Result, Ok, Err, nat_lt, nat_le, not, if◌then◌else◌}
 use Rattle.packet_headers.specs.declared.fault.HeaderFault.{HeaderFault}
 use Rattle.packet_headers.specs.declared.fault.HeaderFault.TheVariants.{Short}
 use Rattle.packet_headers.specs.Fields.{octet_at, number_at}
@@ -36,13 +36,10 @@ is_later_fragment next headers = (next == 44) && nat_lt 0 (number_at 2 2 headers
 -- a header names the next one.
 abbrev pub over_one : (ℕ → List ℕ → Result Upper HeaderFault) → ℕ → List ℕ → Result Upper HeaderFault
 over_one walk next headers =
-    if is_extension next then
-    (if is_whole next headers then
-    (if is_later_fragment next headers
-    then Ok (record { protocol = 0; later = true; payload = drop 8 headers })
-    else walk (octet_at 0 headers) (drop (extension_length next headers) headers))
-    else Err Short)
-    else Ok (record { protocol = next; later = false; payload = headers })
+    if not (is_extension next) then Ok (record { protocol = next; later = false; payload = headers })
+    else if not (is_whole next headers) then Err Short
+    else if is_later_fragment next headers then Ok (record { protocol = 0; later = true; payload = drop 8 headers })
+    else walk (octet_at 0 headers) (drop (extension_length next headers) headers)
 
 -- At most so many extension headers.
 unfoldable pub over_at_most : ℕ → ℕ → List ℕ → Result Upper HeaderFault

@@ -1,5 +1,5 @@
 -- The IPv4 header (RFC 791, section 3.1).
-use Rattle.std.specs.Prelude.{◌*◌, ◌/◌, ◌%◌, ◌==◌, ◌&&◌, ℕ, max, List, length, Result, Ok, Err, nat_lt, nat_le, if◌then◌else◌}
+use Rattle.std.specs.Prelude.{◌*◌, ◌/◌, ◌%◌, ◌==◌, ◌||◌, ℕ, max, List, length, Result, Ok, Err, nat_lt, not, if◌then◌else◌}
 use Rattle.packet_headers.specs.declared.fault.HeaderFault.{HeaderFault}
 use Rattle.packet_headers.specs.declared.fault.HeaderFault.TheVariants.{Short, BadHeader}
 use Rattle.packet_headers.specs.Fields.{octet_at, number_at}
@@ -18,9 +18,9 @@ header_words rest = octet_at 0 rest % 16
 unfoldable pub header_length : List ℕ → Result ℕ HeaderFault
 header_length rest =
     if nat_lt (length rest) 20 then Err Short
-    else if (version rest == 4) && nat_le 5 (header_words rest) then
-    (if nat_lt (length rest) (4 * header_words rest) then Err Short else Ok (4 * header_words rest))
-    else Err BadHeader
+    else if not (version rest == 4) || nat_lt (header_words rest) 5 then Err BadHeader
+    else if nat_lt (length rest) (4 * header_words rest) then Err Short
+    else Ok (4 * header_words rest)
 
 -- The octets of the packet: its total length, which isn't below the header's. A total length of 0 stands
 -- in packets whose sending was offloaded: there it is what is left of the frame's original length.

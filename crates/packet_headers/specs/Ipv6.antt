@@ -20,8 +20,8 @@ packet_length rest original =
 unfoldable pub checked_length : List ℕ → ℕ → Result ℕ HeaderFault
 checked_length rest original =
     if nat_lt (length rest) 40 then Err Short
-    else if octet_at 0 rest / 16 == 6 then packet_length rest original
-    else Err BadHeader
+    else if not (octet_at 0 rest / 16 == 6) then Err BadHeader
+    else packet_length rest original
 
 -- The IPv6 packet at the front of what was captured, where the frame's original length leaves so many
 -- octets for it.

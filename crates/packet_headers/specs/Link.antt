@@ -1,5 +1,5 @@
 -- The link part: what stands in front of the IP header of a captured frame.
-use Rattle.std.specs.Prelude.{◌≡◌, ◌+◌, ◌/◌, ◌⊎◌, ◌==◌, ◌||◌, ℕ, Bool, List, length, Result, Ok, Err, nat_lt, if◌then◌else◌}
+use Rattle.std.specs.Prelude.{◌≡◌, ◌+◌, ◌/◌, ◌⊎◌, ◌==◌, ◌||◌, ℕ, Bool, List, length, Result, Ok, Err, nat_lt, not, if◌then◌else◌}
 use Rattle.packet_headers.specs.declared.fault.HeaderFault.{HeaderFault}
 use Rattle.packet_headers.specs.declared.fault.HeaderFault.TheVariants.{Short, NotIp}
 use Rattle.packet_headers.specs.declared.link.Announced.{Announced}
@@ -28,10 +28,9 @@ is_tag kind = (kind == 0x8100) || (kind == 0x88A8)
 -- (IEEE 802.1Q, 9.3 to 9.6).
 unfoldable pub after_tag : List ℕ → Announced → Result Announced HeaderFault
 after_tag frame first =
-    if is_tag first.kind then
-    (if nat_lt (length frame) (first.place + 4) then Err Short
-    else Ok (record { kind = number_at (first.place + 2) 2 frame; place = first.place + 4 }))
-    else Ok first
+    if not (is_tag first.kind) then Ok first
+    else if nat_lt (length frame) (first.place + 4) then Err Short
+    else Ok (record { kind = number_at (first.place + 2) 2 frame; place = first.place + 4 })
 
 -- IPv4 and IPv6 are announced by 0x0800 and 0x86DD (RFC 894, RFC 2464); no other type is IP.
 unfoldable pub ip_announced : Announced → Result LinkPart HeaderFault

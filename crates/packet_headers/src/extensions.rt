@@ -7,18 +7,23 @@ ghost use Rattle.packet_headers.specs.Shown.{upper_shown, StepGives};
 use crate::fault::HeaderFault;
 use crate::fields::u16_at;
 
-/// The numbers of the headers that are gone over.
+/// Hop-by-hop options.
 const HOP_BY_HOP: u8 = 0;
 
+/// A routing header.
 const ROUTING: u8 = 43;
 
+/// A fragment header.
 const FRAGMENT: u8 = 44;
 
+/// An authentication header.
 const AUTHENTICATION: u8 = 51;
 
+/// Destination options.
 const DESTINATION_OPTIONS: u8 = 60;
 
-/// What lies behind the extension headers.
+/// What lies behind the extension headers: its protocol, whether it is a fragment other than the first,
+/// whose protocol is 0 here, and the octets up to the packet's end.
 #[derive(Clone, Copy, Debug)]
 pub struct UpperView<'a> {
     pub protocol: u8,
@@ -26,7 +31,8 @@ pub struct UpperView<'a> {
     pub payload: &'a [u8],
 }
 
-/// What one header is: none that is gone over, or the last of those, or one with another behind it.
+/// What going over one header shows: what lies behind the last one, or the number and the octets of the
+/// next one.
 enum Step<'a> {
     Ends(UpperView<'a>),
     GoesOn(u8, &'a [u8]),
@@ -51,7 +57,8 @@ pub fn upper_of(first: u8, headers: &[u8]) -> Result<UpperView<'_>, HeaderFault>
     }
 }
 
-/// The walk goes over one header, and then over what is left, however many there are.
+/// A law on the definition of the walk: it goes over one header, and then over what is left, however
+/// many there are. The call does nothing.
 pub fn walk_law()
     ensures { (next : ℕ) (headers : List ℕ) → WalksOn next headers }
 {}

@@ -7,21 +7,28 @@ ghost use Rattle.packet_headers.specs.Shown.{link_shown};
 use crate::fault::HeaderFault;
 use crate::fields::u16_at;
 
-/// Raw IP: no link header.
+/// The link type of raw IP, which has no link header.
 const RAW: u32 = 101;
-/// Linux cooked version 1.
+
+/// The link type of Linux cooked version 1.
 const COOKED: u32 = 113;
-/// The places of the type in the headers of Ethernet and of Linux cooked version 1.
+
+/// The place of the type in the header of Ethernet.
 const ETHERNET_TYPE: usize = 12;
 
+/// The place of the type in the header of Linux cooked version 1.
 const COOKED_TYPE: usize = 14;
-/// The types of a customer tag, a service tag, IPv4 and IPv6.
+
+/// The type of a customer tag.
 const CUSTOMER_TAG: u16 = 0x8100;
 
+/// The type of a service tag.
 const SERVICE_TAG: u16 = 0x88A8;
 
+/// The type of IPv4.
 const IPV4: u16 = 0x0800;
 
+/// The type of IPv6.
 const IPV6: u16 = 0x86DD;
 
 /// The link part of a frame that holds an IP packet.
