@@ -5,7 +5,7 @@ use Rattle.packet_headers.specs.declared.fault.HeaderFault.TheVariants.{Short}
 use Rattle.packet_headers.specs.Fields.{octet_at, number_at}
 
 -- What lies behind the extension headers: its protocol, whether it is a fragment other than the first,
--- whose protocol isn't there, and the octets up to the packet's end.
+-- whose protocol is 0 here, and the octets up to the packet's end.
 pub record Upper : Type 0 where
   pub protocol : ℕ
   pub later : Bool

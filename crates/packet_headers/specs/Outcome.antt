@@ -2,10 +2,6 @@
 use Rattle.std.specs.Prelude.{Result, Ok, Err}
 use Rattle.packet_headers.specs.declared.fault.HeaderFault.{HeaderFault}
 
--- The fields of a header, or its fault.
-abbrev pub Outcome : Type 0 → Type 0
-Outcome A = Result A HeaderFault
-
 -- One rule behind another: the second is looked at only where the first has no fault.
 infixl 10 ◌>>=◌
 abbrev pub ◌>>=◌ : {A B : Type 0} → Result A HeaderFault → (A → Result B HeaderFault) → Result B HeaderFault
