@@ -1,0 +1,39 @@
+-- The IPv6 header (RFC 8200, section 3).
+use Rattle.std.specs.Prelude.{◌+◌, ◌/◌, ◌==◌, ◌&&◌, ℕ, max, List, length, Result, Ok, Err, nat_lt, not, if◌then◌else◌}
+use Rattle.packet_headers.specs.declared.fault.HeaderFault.{HeaderFault}
+use Rattle.packet_headers.specs.declared.fault.HeaderFault.TheVariants.{Short, BadHeader}
+use Rattle.packet_headers.specs.Fields.{octet_at, number_at}
+use Rattle.packet_headers.specs.Outcome.{◌>>=◌}
+use Rattle.packet_headers.specs.Packet.{IpPart, limited, behind_header}
+use Rattle.packet_headers.specs.Extensions.{upper_part}
+
+-- The octets of the packet: the header's 40 and the payload length. A payload length of 0 in front of
+-- another header than 59, which means no next header, stands in packets whose sending was offloaded:
+-- there it is what is left of the frame's original length.
+unfoldable pub packet_length : List ℕ → ℕ → Result ℕ HeaderFault
+packet_length rest original =
+    let payload = number_at 4 2 rest in
+    if (payload == 0) && not (octet_at 6 rest == 59) then limited (max original 40)
+    else limited (40 + payload)
+
+-- The octets of a packet of version 6 with its whole header.
+unfoldable pub checked_length : List ℕ → ℕ → Result ℕ HeaderFault
+checked_length rest original =
+    if nat_lt (length rest) 40 then Err Short
+    else if not (octet_at 0 rest / 16 == 6) then Err BadHeader
+    else packet_length rest original
+
+-- The IPv6 packet at the front of what was captured, where the frame's original length leaves so many
+-- octets for it.
+unfoldable pub ipv6_part : List ℕ → ℕ → Result IpPart HeaderFault
+ipv6_part rest original = do
+  octets ← checked_length rest original
+  upper ← upper_part (octet_at 6 rest) (behind_header 40 octets rest)
+  Ok (record {
+    octets = octets;
+    source = number_at 8 16 rest;
+    destination = number_at 24 16 rest;
+    protocol = upper.protocol;
+    later = upper.later;
+    payload = upper.payload;
+  })

@@ -1,0 +1,9 @@
+pub mod Fields
+pub mod Outcome
+pub mod Link
+pub mod Packet
+pub mod Ipv4
+pub mod Extensions
+pub mod Ipv6
+pub mod Transport
+pub mod Shown

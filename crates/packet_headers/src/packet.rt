@@ -1,0 +1,37 @@
+//! What both versions of IP share: the limit of a packet's length, and what lies behind a header.
+
+ghost use Rattle.std.specs.Prelude.{◌≡◌, ◌≤◌, length};
+ghost use Rattle.packet_headers.specs.Packet.{limited, behind_header};
+
+use crate::fault::HeaderFault;
+
+/// The greatest number of octets of a packet.
+pub const GREATEST: u64 = 16_777_215;
+
+/// The number of octets of a packet, where it isn't above the greatest.
+#[inline]
+pub fn limited_length(octets: u64) -> Result<u32, HeaderFault>
+    ensures { result ≡ limited octets }
+{
+    if octets > GREATEST {
+        return Err(HeaderFault::BadHeader);
+    }
+    Ok(octets as u32)
+}
+
+/// What lies behind the first `header` octets of a packet of `octets` octets, as far as it was captured.
+#[inline]
+#[tactic(auto, unfolding(crate::specs::Packet::behind_header))]
+pub fn captured_behind(rest: &[u8], header: usize, octets: u32) -> &[u8]
+    requires inside { header ≤ length rest.now }
+    requires header { header ≤ octets }
+    ensures { result.now ≡ behind_header header octets rest.now }
+{
+    let octets = octets as usize;
+    let packet = if octets < rest.len() {
+        &rest[..octets]
+    } else {
+        rest
+    };
+    &packet[header..]
+}
