@@ -1,0 +1,70 @@
+ghost use Rattle.std.specs.Prelude.{◌≡◌, ◌≤◌, IsTrue, length};
+ghost use Rattle.pcap_reader.specs.File.{is_known_link};
+
+use crate::endianness::Endianness;
+use crate::header::{FileHeader, read_header};
+
+/// Why some bytes are no capture that can be read.
+#[derive(Clone, Copy, Debug, PartialEq, Eq)]
+pub enum CaptureError {
+    /// They do not begin with the file header of a classic capture.
+    NotCapture,
+    /// They do, and the link type is this one, which is none of Ethernet (1), raw IP (101) and Linux cooked
+    /// version 1 (113).
+    LinkUnknown(u32),
+}
+
+/// A capture file in memory, whose header was read.
+#[derive(Clone, Copy, Debug)]
+pub struct Capture<'a> {
+    bytes: &'a [u8],
+    order: Endianness,
+    nanos: bool,
+    link: u32,
+    ghost whole: { 24 ≤ length bytes.now },
+    ghost known: { IsTrue (is_known_link link) },
+}
+
+impl<'a> Capture<'a> {
+    ghost use Rattle.std.specs.Prelude.{◌≡◌, ◌≤◌, ◌↔◌, ℕ, None, Some, Ok, Err, IfOk, IsSomeAnd, length};
+    ghost use Rattle.pcap_reader.specs.File.{capture_file, IsKnownLink};
+    ghost use Rattle.pcap_reader.specs.Views.{file_of};
+
+    /// Reads the file header of a classic capture, 24 bytes. Its magic number is one of four, its version is 2.4, and
+    /// its link type is the whole last field, so that one with a nonzero upper half is unknown.
+    pub fn open(bytes: &'a [u8]) -> Result<Capture<'a>, CaptureError>
+        ensures capture { IfOk result (λ c. capture_file bytes.now ≡ Some (file_of c)) }
+        ensures known { IfOk result (λ c. IsKnownLink (file_of c).link) }
+        ensures not_capture { (result ≡ Err CaptureError.NotCapture) ↔ (capture_file bytes.now ≡ None) }
+        ensures link_unknown { (n : ℕ) → (result ≡ Err (CaptureError.LinkUnknown n)) ↔ IsSomeAnd (capture_file bytes.now) (λ file. (file.link ≡ n) × ¬ IsKnownLink n) }
+    {
+        let Some(header) = read_header(bytes) else {
+            return Err(CaptureError::NotCapture);
+        };
+        let FileHeader { order, nanos, link } = header;
+        match link {
+            1 | 101 | 113 => Ok(Capture {
+                bytes,
+                order,
+                nanos,
+                link,
+            }),
+            _ => Err(CaptureError::LinkUnknown(link)),
+        }
+    }
+
+    /// The link type: 1, 101 or 113.
+    pub fn link(&self) -> u32
+        ensures link { result ≡ (file_of self.now).link }
+        ensures known { IsKnownLink result }
+    {
+        self.link
+    }
+
+    /// Whether fractions of a second are nanoseconds, and not microseconds.
+    pub fn nanos(&self) -> bool
+        ensures { result ≡ (file_of self.now).nanos }
+    {
+        self.nanos
+    }
+}
