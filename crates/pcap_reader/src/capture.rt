@@ -2,7 +2,10 @@ ghost use Rattle.std.specs.Prelude.{◌≡◌, ◌≤◌, IsTrue, length};
 ghost use Rattle.pcap_reader.specs.File.{is_known_link};
 
 use crate::endianness::Endianness;
-use crate::header::{FileHeader, read_header};
+use crate::front::{Front, front_at};
+use crate::header::{FILE_HEADER, FileHeader, read_header};
+use crate::index::{IndexError, RecordIndex};
+use std::alloc::Global;
 
 /// Why some bytes are no capture that can be read.
 #[derive(Clone, Copy, Debug, PartialEq, Eq)]
@@ -26,8 +29,10 @@ pub struct Capture<'a> {
 }
 
 impl<'a> Capture<'a> {
-    ghost use Rattle.std.specs.Prelude.{◌≡◌, ◌≤◌, ◌↔◌, ℕ, None, Some, Ok, Err, IfOk, IsSomeAnd, length};
+    ghost use Rattle.std.specs.Prelude.{◌≡◌, ◌<◌, ◌≤◌, ◌^◌, ◌↔◌, ℕ, None, Some, Ok, Err, IfOk, OnOk, IsSomeAnd, length};
     ghost use Rattle.pcap_reader.specs.File.{capture_file, IsKnownLink};
+    ghost use Rattle.pcap_reader.specs.Records.{damage_of};
+    ghost use Rattle.pcap_reader.specs.Index.{IsIndexOf};
     ghost use Rattle.pcap_reader.specs.Views.{file_of};
 
     /// Reads the file header of a classic capture, 24 bytes. Its magic number is one of four, its version is 2.4, and
@@ -50,6 +55,33 @@ impl<'a> Capture<'a> {
                 link,
             }),
             _ => Err(CaptureError::LinkUnknown(link)),
+        }
+    }
+
+    /// Where its records begin, and how many bytes are left behind them, in one pass from record to record. The index
+    /// keeps four bytes a record.
+    pub fn index(&self, alloc: Global) -> Result<RecordIndex, IndexError>
+        requires { length (file_of self.now).bytes < 2 ^ 32 }
+        ensures index { IfOk result (λ index. IsIndexOf index (file_of self.now)) }
+        ensures undamaged { OnOk result (damage_of (file_of self.now) ≡ None) }
+        ensures damaged { (at : ℕ) → result ≡ Err (IndexError.Damaged at) → damage_of (file_of self.now) ≡ Some at }
+    {
+        let mut offsets: Vec<u32> = Vec::new(alloc);
+        let mut at = FILE_HEADER;
+        'records: loop {
+            match front_at(self.order, self.bytes, at) {
+                Front::Record(end) => {
+                    if offsets.push(at as u32).is_err() {
+                        return Err(IndexError::NoMemory);
+                    }
+                    at = end;
+                }
+                Front::Damage => return Err(IndexError::Damaged(at as u64)),
+                Front::Rest => {
+                    let tail = (self.bytes.len() - at) as u64;
+                    return Ok(RecordIndex { offsets, tail });
+                }
+            }
         }
     }
 

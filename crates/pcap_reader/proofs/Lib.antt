@@ -1,0 +1,4 @@
+pub mod Parts
+pub mod Search
+pub mod Cutting
+pub mod Place

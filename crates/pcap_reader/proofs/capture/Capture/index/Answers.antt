@@ -1,0 +1,22 @@
+use Rattle.std.proofs.Common.{◌≡◌, ◌∷◌, [], ◌++◌, Some, ap, sym, ◌∙◌, refl, arith}
+use Rattle.std.proofs.lemmas.Grind.{common_steps}
+use Rattle.pcap_reader.specs.Records.{damage_of}
+use Rattle.pcap_reader.specs.Views.{file_of}
+use Rattle.pcap_reader.proofs.Search.{Found-record, Found-index, Found-sound, Found-damage}
+use Rattle.pcap_reader.proofs.capture.Capture.index.Goals as goal
+
+pub records-preserved : goal.records-preserved
+records-preserved c =
+    let grown : c.push.new.self.items ≡ c.records.offsets.items ++ c.records.at ∷ [] = grind (arith, common_steps) in
+    rw grown (Found-record _ _ _ _ _ c.in-Record.ensures c.records.invariant)
+
+pub returns-in-Damage-clause-damaged : goal.returns-in-Damage-clause-damaged
+returns-in-Damage-clause-damaged c = λ at e.
+    let here : c.records.at ≡ at = cc in
+    rw (← here) (Found-damage (file_of c.args.self.now) c.records.offsets.items c.records.at c.in-Damage.ensures c.records.invariant)
+
+pub returns-in-Rest-clause-index : goal.returns-in-Rest-clause-index
+returns-in-Rest-clause-index c = Found-index (file_of c.args.self.now) _ c.records.at c.in-Rest.ensures.no_record c.records.invariant refl
+
+pub returns-in-Rest-clause-undamaged : goal.returns-in-Rest-clause-undamaged
+returns-in-Rest-clause-undamaged c = Found-sound (file_of c.args.self.now) c.records.offsets.items c.records.at c.in-Rest.ensures c.records.invariant
