@@ -1,4 +1,5 @@
-pub mod Parts
-pub mod Search
 pub mod Cutting
+pub mod Numbers
+pub mod Parts
 pub mod Place
+pub mod Search

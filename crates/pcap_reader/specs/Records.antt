@@ -95,3 +95,8 @@ pub record IsCutInto (file : CaptureFile) (parts : List (List ℕ)) (rest : List
   pub together : file.bytes ≡ take file_header_len file.bytes ++ (concat parts ++ rest)
   pub records : AllByRecursion (IsRecord file.order) parts
   pub ended : begins_with_record file.order rest ≡ false
+
+-- The file is cut so, and in no other way.
+pub record IsOnlyCut (file : CaptureFile) (parts : List (List ℕ)) (rest : List ℕ) : Type 0 where
+  pub cut : IsCutInto file parts rest
+  pub only : (others : List (List ℕ)) (left : List ℕ) → IsCutInto file others left → (others ≡ parts) × (left ≡ rest)

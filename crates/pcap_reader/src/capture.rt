@@ -5,6 +5,7 @@ use crate::endianness::Endianness;
 use crate::front::{Front, front_at};
 use crate::header::{FILE_HEADER, FileHeader, read_header};
 use crate::index::{IndexError, RecordIndex};
+use crate::record::{Record, record_at};
 use std::alloc::Global;
 
 /// Why some bytes are no capture that can be read.
@@ -29,11 +30,11 @@ pub struct Capture<'a> {
 }
 
 impl<'a> Capture<'a> {
-    ghost use Rattle.std.specs.Prelude.{◌≡◌, ◌<◌, ◌≤◌, ◌^◌, ◌↔◌, ℕ, None, Some, Ok, Err, IfOk, OnOk, IsSomeAnd, length};
+    ghost use Rattle.std.specs.Prelude.{◌≡◌, ◌<◌, ◌≤◌, ◌^◌, ◌↔◌, ℕ, None, Some, Ok, Err, IfOk, OnOk, IsSomeAnd, ◌+◌, length, slice_get, slice_index, slice_range};
     ghost use Rattle.pcap_reader.specs.File.{capture_file, IsKnownLink};
-    ghost use Rattle.pcap_reader.specs.Records.{damage_of};
+    ghost use Rattle.pcap_reader.specs.Records.{IsOnlyCut, parts_of, rest_of, damage_of, records_of, most_captured};
     ghost use Rattle.pcap_reader.specs.Index.{IsIndexOf};
-    ghost use Rattle.pcap_reader.specs.Views.{file_of};
+    ghost use Rattle.pcap_reader.specs.Views.{file_of, record_read};
 
     /// Reads the file header of a classic capture, 24 bytes. Its magic number is one of four, its version is 2.4, and
     /// its link type is the whole last field, so that one with a nonzero upper half is unknown.
@@ -62,6 +63,11 @@ impl<'a> Capture<'a> {
     /// keeps four bytes a record.
     pub fn index(&self, alloc: Global) -> Result<RecordIndex, IndexError>
         requires { length (file_of self.now).bytes < 2 ^ 32 }
+
+        // The records are the one way to cut the file into a file header, records and a rest.
+        ensures cut { let file = file_of self.now in IsOnlyCut file (parts_of file) (rest_of file) }
+
+        // The index has the place of each record, and the length of the rest.
         ensures index { IfOk result (λ index. IsIndexOf index (file_of self.now)) }
         ensures undamaged { OnOk result (damage_of (file_of self.now) ≡ None) }
         ensures damaged { (at : ℕ) → result ≡ Err (IndexError.Damaged at) → damage_of (file_of self.now) ≡ Some at }
@@ -83,6 +89,18 @@ impl<'a> Capture<'a> {
                 }
             }
         }
+    }
+
+    /// The `n`-th record, counted from 0, by its place in the index.
+    pub fn record(&self, index: &RecordIndex, n: u64) -> Record<'a>
+        requires index { IsIndexOf index.now (file_of self.now) }
+        requires number { n < length index.now.offsets }
+        ensures value { slice_get (records_of (file_of self.now)) n ≡ Some (record_read result) }
+        ensures place { let from = slice_index index.now.offsets n + 16 in result.captured.now ≡ slice_range (file_of self.now).bytes from (from + length result.captured.now) }
+        ensures within { slice_index index.now.offsets n + 16 + length result.captured.now ≤ length (file_of self.now).bytes }
+        ensures small { length result.captured.now ≤ most_captured }
+    {
+        record_at(self.order, self.bytes, index.offset(n))
     }
 
     /// The link type: 1, 101 or 113.

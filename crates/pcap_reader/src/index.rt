@@ -1,4 +1,4 @@
-ghost use Rattle.std.specs.Prelude.{◌≡◌, length};
+ghost use Rattle.std.specs.Prelude.{◌≡◌, ◌<◌, length, slice_index};
 
 use std::marker::Model;
 
@@ -33,6 +33,14 @@ impl RecordIndex {
         ensures { result ≡ length self.now.offsets }
     {
         self.offsets.len() as u64
+    }
+
+    /// Where the `n`-th record begins.
+    pub(crate) fn offset(&self, n: u64) -> usize
+        requires { n < length self.now.offsets }
+        ensures { result ≡ slice_index self.now.offsets n }
+    {
+        self.offsets[n as usize] as usize
     }
 
     /// The number of bytes behind the last record that are no whole record.

@@ -2,6 +2,7 @@ use Rattle.std.proofs.Common.{◌≡◌, ◌∷◌, [], ◌++◌, Some, ap, sym,
 use Rattle.std.proofs.lemmas.Grind.{common_steps}
 use Rattle.pcap_reader.specs.Records.{damage_of}
 use Rattle.pcap_reader.specs.Views.{file_of}
+use Rattle.pcap_reader.proofs.Cutting.{file_is_cut_once}
 use Rattle.pcap_reader.proofs.Search.{Found-record, Found-index, Found-sound, Found-damage}
 use Rattle.pcap_reader.proofs.capture.Capture.index.Goals as goal
 
@@ -20,3 +21,12 @@ returns-in-Rest-clause-index c = Found-index (file_of c.args.self.now) _ c.recor
 
 pub returns-in-Rest-clause-undamaged : goal.returns-in-Rest-clause-undamaged
 returns-in-Rest-clause-undamaged c = Found-sound (file_of c.args.self.now) c.records.offsets.items c.records.at c.in-Rest.ensures c.records.invariant
+
+pub returns-then-is_err-clause-cut : goal.returns-then-is_err-clause-cut
+returns-then-is_err-clause-cut c = file_is_cut_once (file_of c.args.self.now) c.args.self.now.whole
+
+pub returns-in-Damage-clause-cut : goal.returns-in-Damage-clause-cut
+returns-in-Damage-clause-cut c = file_is_cut_once (file_of c.args.self.now) c.args.self.now.whole
+
+pub returns-in-Rest-clause-cut : goal.returns-in-Rest-clause-cut
+returns-in-Rest-clause-cut c = file_is_cut_once (file_of c.args.self.now) c.args.self.now.whole
