@@ -62,12 +62,12 @@ CutFrom-record order bytes at end h later =
     let split = record_parts-record order bytes at end h in
     let len : length part ≡ 16 + n = omega (arith, h.behind, h.within, length-take (16 + n) (drop at bytes), length-drop at bytes) in
     let behind : at + length (concat (record_parts order at bytes)) ≡ end + length (concat others) =
-        omega (arith, len, h.behind, ap (λ (parts : List (List ℕ)). length (concat parts)) split, length-append part (concat others)) in
+    omega (arith, len, h.behind, ap (λ (parts : List (List ℕ)). length (concat parts)) split, length-append part (concat others)) in
     let left = drop (end + length (concat others)) bytes in
     let front : take end bytes ≡ take at bytes ++ part = ap (λ (k : ℕ). take k bytes) h.behind ∙ take-add at (16 + n) bytes in
     let regrouped : take end bytes ++ (concat others ++ left) ≡ take at bytes ++ ((part ++ concat others) ++ left) =
-        ap (λ (f : List ℕ). f ++ (concat others ++ left)) front ∙ append_assoc (take at bytes) part (concat others ++ left)
-        ∙ ap (λ (r : List ℕ). take at bytes ++ r) (sym (append_assoc part (concat others) left)) in
+    ap (λ (f : List ℕ). f ++ (concat others ++ left)) front ∙ append_assoc (take at bytes) part (concat others ++ left)
+    ∙ ap (λ (r : List ℕ). take at bytes ++ r) (sym (append_assoc part (concat others) left)) in
     record {
       together = rw (behind, split) (later.together ∙ regrouped);
       records = rw split (IsRecord-take order (drop at bytes) (Holds-from_test order (drop at bytes) h.is_record), later.records);
@@ -88,9 +88,9 @@ cut_from zero order bytes at within all =
 cut_from (suc fuel) order bytes at within all =
     elim (cases_Bool (begins_with_record order (drop at bytes))) [
       | inl h ↦
-        let e = ends_at order bytes at within h in
-        let end = at + (16 + claimed_len order (drop at bytes)) in
-        CutFrom-record order bytes at end e (cut_from fuel order bytes end e.within (omega arith))
+          let e = ends_at order bytes at within h in
+          let end = at + (16 + claimed_len order (drop at bytes)) in
+          CutFrom-record order bytes at end e (cut_from fuel order bytes end e.within (omega arith))
       | inr h ↦ CutFrom-rest order bytes at h
     ]
 
@@ -115,15 +115,15 @@ parts_are order (part ∷ parts) front rest bytes at len together records ended 
     let end = at + length part in
     let all : length bytes ≡ at + (length part + length more) = ap length regrouped ∙ length-append front (part ++ more) ∙ omega (arith, len, length-append part more) in
     let holds : Holds order (drop at bytes) = record {
-        header = omega (arith, first.header, all, length-drop at bytes);
-        small = omega (arith, claim, first.small);
-        enough = omega (arith, claim, first.whole, all, length-drop at bytes);
-      } in
+      header = omega (arith, first.header, all, length-drop at bytes);
+      small = omega (arith, claim, first.small);
+      enough = omega (arith, claim, first.whole, all, length-drop at bytes);
+    } in
     let ends : EndsAt order bytes at end = record {
-        is_record = test-from_Holds order (drop at bytes) holds;
-        behind = omega (arith, claim, first.whole);
-        within = omega arith;
-      } in
+      is_record = test-from_Holds order (drop at bytes) holds;
+      behind = omega (arith, claim, first.whole);
+      within = omega arith;
+    } in
     let split = record_parts-record order bytes at end ends in
     let front_is : take (16 + claimed_len order (drop at bytes)) (drop at bytes) ≡ part = ap (take (16 + claimed_len order (drop at bytes))) left ∙ take_at part more (16 + claimed_len order (drop at bytes)) (omega (arith, claim, first.whole)) in
     let later : parts ≡ record_parts order end bytes = parts_are order parts (front ++ part) rest bytes end (omega (arith, len, length-append front part)) (regrouped ∙ sym (append_assoc front part more)) records.1 ended in
@@ -135,8 +135,8 @@ one_cut file parts rest h cut =
     let len : length front ≡ 24 = omega (arith, length-take 24 file.bytes) in
     let same = parts_are file.order parts front rest file.bytes 24 len cut.together cut.records cut.ended in
     let left : rest ≡ drop (24 + length (concat parts)) file.bytes =
-        sym (ap (drop (24 + length (concat parts))) (cut.together ∙ sym (append_assoc front (concat parts) rest))
-        ∙ drop_at (front ++ concat parts) rest (24 + length (concat parts)) (omega (arith, len, length-append front (concat parts)))) in
+    sym (ap (drop (24 + length (concat parts))) (cut.together ∙ sym (append_assoc front (concat parts) rest))
+    ∙ drop_at (front ++ concat parts) rest (24 + length (concat parts)) (omega (arith, len, length-append front (concat parts)))) in
     (same, left ∙ ap (λ (ps : List (List ℕ)). drop (24 + length (concat ps)) file.bytes) same)
 
 -- there is one way to cut a file

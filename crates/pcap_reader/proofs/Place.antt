@@ -52,7 +52,7 @@ Reads-from_place order bytes part at stands =
     let is = stands.is_record in
     let all : length bytes - at ≡ length part + length more = sym (length-drop at bytes) ∙ ap length stands.there ∙ length-append part more in
     let number_is : (k : ℕ) → k + 4 ≤ 16 → number order 4 (drop k (drop at bytes)) ≡ number order 4 (drop k part) =
-        λ (k : ℕ) (h : k + 4 ≤ 16). ap (λ (left : List ℕ). number order 4 (drop k left)) stands.there ∙ number-drop-append order 4 k part more (omega (arith, is.header)) in
+    λ (k : ℕ) (h : k + 4 ≤ 16). ap (λ (left : List ℕ). number order 4 (drop k left)) stands.there ∙ number-drop-append order 4 k part more (omega (arith, is.header)) in
     let claim : claimed_len order (drop at bytes) ≡ claimed_len order part = number_is 8 (omega arith) in
     let behind : drop (at + 16) bytes ≡ drop 16 part ++ more = sym (drop-drop 16 at bytes) ∙ ap (drop 16) stands.there ∙ drop-append-le 16 part more is.header in
     record {

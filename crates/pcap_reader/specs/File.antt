@@ -37,8 +37,8 @@ capture_file bytes =
     if nat_lt (length bytes) file_header_len then None else
     option_and_then
     (λ m. if is_version_2_4 m.0 bytes
-        then Some (record { bytes = bytes; order = m.0; nanos = m.1; link = number m.0 4 (drop 20 bytes) })
-        else None)
+    then Some (record { bytes = bytes; order = m.0; nanos = m.1; link = number m.0 4 (drop 20 bytes) })
+    else None)
     (told_by_magic (number Big 4 bytes))
 
 -- The link types that are read: Ethernet, raw IP, Linux cooked version 1.

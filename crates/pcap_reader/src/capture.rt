@@ -1,5 +1,5 @@
 ghost use Rattle.std.specs.Prelude.{◌≡◌, ◌≤◌, IsTrue, length};
-ghost use Rattle.pcap_reader.specs.File.{is_known_link};
+ghost use Rattle.pcap_reader.specs.File.{file_header_len, is_known_link};
 
 use crate::endianness::Endianness;
 use crate::front::{Front, front_at};
@@ -25,7 +25,7 @@ pub struct Capture<'a> {
     order: Endianness,
     nanos: bool,
     link: u32,
-    ghost whole: { 24 ≤ length bytes.now },
+    ghost whole: { file_header_len ≤ length bytes.now },
     ghost known: { IsTrue (is_known_link link) },
 }
 
@@ -40,6 +40,7 @@ impl<'a> Capture<'a> {
     /// its link type is the whole last field, so that one with a nonzero upper half is unknown.
     pub fn open(bytes: &'a [u8]) -> Result<Capture<'a>, CaptureError>
         ensures capture { IfOk result (λ c. capture_file bytes.now ≡ Some (file_of c)) }
+        ensures bytes { IfOk result (λ c. (file_of c).bytes ≡ bytes.now) }
         ensures known { IfOk result (λ c. IsKnownLink (file_of c).link) }
         ensures not_capture { (result ≡ Err CaptureError.NotCapture) ↔ (capture_file bytes.now ≡ None) }
         ensures link_unknown { (n : ℕ) → (result ≡ Err (CaptureError.LinkUnknown n)) ↔ IsSomeAnd (capture_file bytes.now) (λ file. (file.link ≡ n) × ¬ IsKnownLink n) }
@@ -85,13 +86,14 @@ impl<'a> Capture<'a> {
                 Front::Damage => return Err(IndexError::Damaged(at as u64)),
                 Front::Rest => {
                     let tail = (self.bytes.len() - at) as u64;
-                    return Ok(RecordIndex { offsets, tail });
+                    return Ok(RecordIndex::new(offsets, tail));
                 }
             }
         }
     }
 
     /// The `n`-th record, counted from 0, by its place in the index.
+    #[inline]
     pub fn record(&self, index: &RecordIndex, n: u64) -> Record<'a>
         requires index { IsIndexOf index.now (file_of self.now) }
         requires number { n < length index.now.offsets }
@@ -104,6 +106,7 @@ impl<'a> Capture<'a> {
     }
 
     /// The link type: 1, 101 or 113.
+    #[inline]
     pub fn link(&self) -> u32
         ensures link { result ≡ (file_of self.now).link }
         ensures known { IsKnownLink result }
@@ -112,6 +115,7 @@ impl<'a> Capture<'a> {
     }
 
     /// Whether fractions of a second are nanoseconds, and not microseconds.
+    #[inline]
     pub fn nanos(&self) -> bool
         ensures { result ≡ (file_of self.now).nanos }
     {

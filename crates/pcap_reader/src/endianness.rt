@@ -15,7 +15,8 @@ pub enum Endianness {
 impl Endianness {
     /// The number in the first two bytes.
     #[tactic(auto, unfolding(crate::specs::Number::number))]
-    pub fn read_u16(self, bytes: &[u8]) -> u16
+    #[inline]
+    pub(crate) fn read_u16(self, bytes: &[u8]) -> u16
         requires { 2 ≤ length bytes.now }
         ensures { result ≡ number self 2 bytes.now }
     {
@@ -27,7 +28,8 @@ impl Endianness {
 
     /// The number in the first four bytes.
     #[tactic(auto, unfolding(crate::specs::Number::number))]
-    pub fn read_u32(self, bytes: &[u8]) -> u32
+    #[inline]
+    pub(crate) fn read_u32(self, bytes: &[u8]) -> u32
         requires { 4 ≤ length bytes.now }
         ensures { result ≡ number self 4 bytes.now }
     {

@@ -22,6 +22,7 @@ pub(crate) enum Front {
 
 /// What stands at a place.
 #[tactic(auto, unfolding(crate::specs::Records::begins_with_record, crate::specs::Records::begins_with_damage))]
+#[inline]
 pub(crate) fn front_at(order: Endianness, bytes: &[u8], at: usize) -> Front
     requires { at ≤ length bytes.now }
     ensures { IsFront order bytes.now at result }

@@ -15,8 +15,8 @@ pub enum IndexError {
 /// Where the records of a capture begin: four bytes a record.
 #[derive(Debug, Drop)]
 pub struct RecordIndex {
-    pub(crate) offsets: Vec<u32>,
-    pub(crate) tail: u64,
+    offsets: Vec<u32>,
+    tail: u64,
 }
 
 impl Model for RecordIndex {
@@ -28,7 +28,16 @@ impl Model for RecordIndex {
 }
 
 impl RecordIndex {
+    /// The index of these offsets and this tail.
+    pub(crate) fn new(offsets: Vec<u32>, tail: u64) -> RecordIndex
+        ensures offsets { result.offsets ≡ offsets.items }
+        ensures tail { result.tail ≡ tail }
+    {
+        RecordIndex { offsets, tail }
+    }
+
     /// The number of records.
+    #[inline]
     pub fn count(&self) -> u64
         ensures { result ≡ length self.now.offsets }
     {
@@ -36,6 +45,7 @@ impl RecordIndex {
     }
 
     /// Where the `n`-th record begins.
+    #[inline]
     pub(crate) fn offset(&self, n: u64) -> usize
         requires { n < length self.now.offsets }
         ensures { result ≡ slice_index self.now.offsets n }

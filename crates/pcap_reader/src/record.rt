@@ -20,6 +20,7 @@ pub struct Record<'a> {
 }
 
 /// The record at a place where one stands whole.
+#[inline]
 pub(crate) fn record_at(order: Endianness, bytes: &[u8], at: usize) -> Record<'_>
     requires header { at + 16 ≤ length bytes.now }
     requires whole { at + 16 + claimed_len order (drop at bytes.now) ≤ length bytes.now }

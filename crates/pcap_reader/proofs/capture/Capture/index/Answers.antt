@@ -17,7 +17,7 @@ returns-in-Damage-clause-damaged c = λ at e.
     rw (← here) (Found-damage (file_of c.args.self.now) c.records.offsets.items c.records.at c.in-Damage.ensures c.records.invariant)
 
 pub returns-in-Rest-clause-index : goal.returns-in-Rest-clause-index
-returns-in-Rest-clause-index c = Found-index (file_of c.args.self.now) _ c.records.at c.in-Rest.ensures.no_record c.records.invariant refl
+returns-in-Rest-clause-index c = Found-index (file_of c.args.self.now) _ c.records.at c.in-Rest.ensures.no_record (rw c.new.ensures.offsets c.records.invariant) c.new.ensures.tail
 
 pub returns-in-Rest-clause-undamaged : goal.returns-in-Rest-clause-undamaged
 returns-in-Rest-clause-undamaged c = Found-sound (file_of c.args.self.now) c.records.offsets.items c.records.at c.in-Rest.ensures c.records.invariant
