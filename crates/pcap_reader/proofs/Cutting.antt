@@ -1,8 +1,8 @@
 -- The file is cut into its header, its records and the rest, in one way only.
-use Rattle.std.proofs.Common.{◌≡◌, ℕ, zero, suc, ◌+◌, ◌≤◌, Bool, true, false, List, [], ◌∷◌, ◌++◌, length, take, drop, refl, sym, ap, subst, ◌∙◌, append_assoc, arith, inl, inr}
+use Rattle.std.proofs.Common.{◌≡◌, ℕ, zero, suc, ◌+◌, ◌*◌, ◌≤◌, true, false, List, [], ◌∷◌, ◌++◌, length, take, drop, refl, sym, ap, ◌∙◌, append_assoc, arith, inl, inr}
 use Rattle.std.specs.List.{concat, AllByRecursion}
 use Rattle.std.proofs.Math.Seq.{take-add}
-use Rattle.std.proofs.lemmas.List.{take-append-drop, take-append-le, drop-append-le, length-append, length-take, length-drop, take_at, drop_at, take-take, drop-drop}
+use Rattle.std.proofs.lemmas.List.{take-append-drop, length-append, length-take, length-drop, take_at, drop_at}
 use Rattle.std.proofs.lemmas.Bool.{cases_Bool}
 use Rattle.std.proofs.lemmas.Bool.Decides.{nat_tests}
 use Rattle.pcap_reader.specs.declared.endianness.Endianness.{Endianness}
@@ -142,3 +142,16 @@ one_cut file parts rest h cut =
 -- there is one way to cut a file
 pub file_is_cut_once : (file : CaptureFile) → 24 ≤ length file.bytes → IsOnlyCut file (parts_of file) (rest_of file)
 file_is_cut_once file h = record { cut = file_is_cut file h; only = λ parts rest. one_cut file parts rest h }
+
+-- each record has 16 bytes and more
+long_parts : (order : Endianness) (parts : List (List ℕ)) → AllByRecursion (IsRecord order) parts → 16 * length parts ≤ length (concat parts)
+long_parts order [] records = omega arith
+long_parts order (part ∷ parts) records = omega (arith, records.0.header, long_parts order parts records.1, length-append part (concat parts))
+
+-- so a file has no more records than it has room for
+pub few_parts : (file : CaptureFile) → 24 ≤ length file.bytes → 24 + 16 * length (parts_of file) + length (rest_of file) ≤ length file.bytes
+few_parts file h =
+    let cut = file_is_cut file h in
+    let all : length file.bytes ≡ length (take 24 file.bytes) + (length (concat (parts_of file)) + length (rest_of file)) =
+    ap length cut.together ∙ length-append (take 24 file.bytes) (concat (parts_of file) ++ rest_of file) ∙ ap (λ (k : ℕ). length (take 24 file.bytes) + k) (length-append (concat (parts_of file)) (rest_of file)) in
+    omega (arith, all, length-take 24 file.bytes, long_parts file.order (parts_of file) cut.records)

@@ -1,13 +1,14 @@
 -- What the search for records has found when it stands at a place.
-use Rattle.std.proofs.Common.{◌≡◌, ℕ, suc, ◌+◌, ◌-◌, ◌≤◌, true, false, List, [], ◌∷◌, ◌++◌, length, take, drop, map, Some, None, refl, sym, ap, ◌∙◌, append_assoc, arith}
+use Rattle.std.proofs.Common.{◌≡◌, ℕ, suc, ◌+◌, ◌*◌, ◌-◌, ◌≤◌, true, false, List, [], ◌∷◌, ◌++◌, length, take, drop, Some, None, refl, sym, ap, ◌∙◌, append_assoc, arith}
 use Rattle.std.specs.List.{concat}
 use Rattle.std.proofs.lemmas.List.{length-append, length-take, length-drop, length-map, append-nil}
 use Rattle.std.proofs.lemmas.Bool.Decides.{nat_tests}
 use Rattle.pcap_reader.specs.declared.endianness.Endianness.{Endianness}
 use Rattle.pcap_reader.specs.File.{CaptureFile}
-use Rattle.pcap_reader.specs.Records.{claimed_len, begins_with_record, begins_with_damage, record_parts, parts_of, rest_offset, rest_of, tail_of, damage_of, records_of, packet_record, offsets_from, record_offsets}
+use Rattle.pcap_reader.specs.Records.{claimed_len, begins_with_record, begins_with_damage, record_parts, parts_of, damage_of, packet_record, offsets_from}
 use Rattle.pcap_reader.specs.Index.{Offsets, IsIndexOf}
 use Rattle.pcap_reader.specs.Front.{EndsAt, IsRest}
+use Rattle.pcap_reader.proofs.Cutting.{few_parts}
 use Rattle.pcap_reader.proofs.Parts.{record_parts-record, record_parts-rest}
 
 -- the offsets found, with those from this place on, are all, and the rest begins behind the records from here on
@@ -71,3 +72,9 @@ Found-damage file offsets at h found =
     let none : begins_with_record file.order (drop at file.bytes) ≡ false = damage-no_record file.order (drop at file.bytes) h in
     let ended = Found-ended file.order file.bytes offsets at none found in
     rw (ended.1, h) refl
+
+-- an index has no more records than the file has room for
+pub few_records : (file : CaptureFile) (index : Offsets) → 24 ≤ length file.bytes → IsIndexOf index file → 24 + 16 * length index.offsets + index.tail ≤ length file.bytes
+few_records file index h is =
+    let count = is.count ∙ length-map (parts_of file) (packet_record file.order) in
+    omega (arith, count, is.tail, few_parts file h)

@@ -30,7 +30,7 @@ pub struct Capture<'a> {
 }
 
 impl<'a> Capture<'a> {
-    ghost use Rattle.std.specs.Prelude.{◌≡◌, ◌<◌, ◌≤◌, ◌^◌, ◌↔◌, ℕ, None, Some, Ok, Err, IfOk, OnOk, IsSomeAnd, ◌+◌, length, slice_get, slice_index, slice_range};
+    ghost use Rattle.std.specs.Prelude.{◌≡◌, ◌<◌, ◌≤◌, ◌^◌, ◌↔◌, ℕ, None, Some, Ok, Err, IfOk, OnOk, IsSomeAnd, ◌+◌, ◌*◌, length, slice_get, slice_index, slice_range};
     ghost use Rattle.pcap_reader.specs.File.{capture_file, IsKnownLink};
     ghost use Rattle.pcap_reader.specs.Records.{IsOnlyCut, parts_of, rest_of, damage_of, records_of, most_captured};
     ghost use Rattle.pcap_reader.specs.Index.{IsIndexOf};
@@ -70,6 +70,9 @@ impl<'a> Capture<'a> {
 
         // The index has the place of each record, and the length of the rest.
         ensures index { IfOk result (λ index. IsIndexOf index (file_of self.now)) }
+        ensures few { IfOk result (λ index. 24 + 16 * length index.offsets + index.tail ≤ length (file_of self.now).bytes) }
+
+        // Damage is the first record header that claims too much.
         ensures undamaged { OnOk result (damage_of (file_of self.now) ≡ None) }
         ensures damaged { (at : ℕ) → result ≡ Err (IndexError.Damaged at) → damage_of (file_of self.now) ≡ Some at }
     {

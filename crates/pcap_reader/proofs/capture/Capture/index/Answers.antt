@@ -1,9 +1,8 @@
-use Rattle.std.proofs.Common.{◌≡◌, ◌∷◌, [], ◌++◌, Some, ap, sym, ◌∙◌, refl, arith}
+use Rattle.std.proofs.Common.{◌≡◌, ◌∷◌, [], ◌++◌, arith}
 use Rattle.std.proofs.lemmas.Grind.{common_steps}
-use Rattle.pcap_reader.specs.Records.{damage_of}
 use Rattle.pcap_reader.specs.Views.{file_of}
 use Rattle.pcap_reader.proofs.Cutting.{file_is_cut_once}
-use Rattle.pcap_reader.proofs.Search.{Found-record, Found-index, Found-sound, Found-damage}
+use Rattle.pcap_reader.proofs.Search.{Found-record, Found-index, Found-sound, Found-damage, few_records}
 use Rattle.pcap_reader.proofs.capture.Capture.index.Goals as goal
 
 pub records-preserved : goal.records-preserved
@@ -18,6 +17,9 @@ returns-in-Damage-clause-damaged c = λ at e.
 
 pub returns-in-Rest-clause-index : goal.returns-in-Rest-clause-index
 returns-in-Rest-clause-index c = Found-index (file_of c.args.self.now) _ c.records.at c.in-Rest.ensures.no_record (rw c.new.ensures.offsets c.records.invariant) c.new.ensures.tail
+
+pub returns-in-Rest-clause-few : goal.returns-in-Rest-clause-few
+returns-in-Rest-clause-few c = few_records (file_of c.args.self.now) _ c.args.self.now.whole (Found-index (file_of c.args.self.now) _ c.records.at c.in-Rest.ensures.no_record (rw c.new.ensures.offsets c.records.invariant) c.new.ensures.tail)
 
 pub returns-in-Rest-clause-undamaged : goal.returns-in-Rest-clause-undamaged
 returns-in-Rest-clause-undamaged c = Found-sound (file_of c.args.self.now) c.records.offsets.items c.records.at c.in-Rest.ensures c.records.invariant
