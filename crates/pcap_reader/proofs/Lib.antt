@@ -1,0 +1,5 @@
+pub mod Cutting
+pub mod Numbers
+pub mod Parts
+pub mod Place
+pub mod Search

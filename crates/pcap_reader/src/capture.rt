@@ -1,0 +1,127 @@
+ghost use Rattle.std.specs.Prelude.{◌≡◌, ◌≤◌, IsTrue, length};
+ghost use Rattle.pcap_reader.specs.File.{file_header_len, is_known_link};
+
+use crate::endianness::Endianness;
+use crate::front::{Front, front_at};
+use crate::header::{FILE_HEADER, FileHeader, read_header};
+use crate::index::{IndexError, RecordIndex};
+use crate::record::{Record, record_at};
+use std::alloc::Global;
+
+/// Why some bytes are no capture that can be read.
+#[derive(Clone, Copy, Debug, PartialEq, Eq)]
+pub enum CaptureError {
+    /// They do not begin with the file header of a classic capture.
+    NotCapture,
+    /// They do, and the link type is this one, which is none of Ethernet (1), raw IP (101) and Linux cooked
+    /// version 1 (113).
+    LinkUnknown(u32),
+}
+
+/// A capture file in memory, whose header was read.
+#[derive(Clone, Copy, Debug)]
+pub struct Capture<'a> {
+    bytes: &'a [u8],
+    order: Endianness,
+    nanos: bool,
+    link: u32,
+    ghost whole: { file_header_len ≤ length bytes.now },
+    ghost known: { IsTrue (is_known_link link) },
+}
+
+impl<'a> Capture<'a> {
+    ghost use Rattle.std.specs.Prelude.{◌≡◌, ◌<◌, ◌≤◌, ◌^◌, ◌↔◌, ℕ, None, Some, Ok, Err, IfOk, OnOk, IsSomeAnd, ◌+◌, ◌*◌, length, slice_get, slice_index, slice_range};
+    ghost use Rattle.pcap_reader.specs.File.{capture_file, IsKnownLink};
+    ghost use Rattle.pcap_reader.specs.Records.{IsOnlyCut, parts_of, rest_of, damage_of, records_of, most_captured};
+    ghost use Rattle.pcap_reader.specs.Index.{IsIndexOf};
+    ghost use Rattle.pcap_reader.specs.Views.{file_of, record_read};
+
+    /// Reads the file header of a classic capture, 24 bytes. Its magic number is one of four, its version is 2.4, and
+    /// its link type is the whole last field, so that one with a nonzero upper half is unknown.
+    pub fn open(bytes: &'a [u8]) -> Result<Capture<'a>, CaptureError>
+        ensures capture { IfOk result (λ c. capture_file bytes.now ≡ Some (file_of c)) }
+        ensures bytes { IfOk result (λ c. (file_of c).bytes ≡ bytes.now) }
+        ensures known { IfOk result (λ c. IsKnownLink (file_of c).link) }
+        ensures not_capture { (result ≡ Err CaptureError.NotCapture) ↔ (capture_file bytes.now ≡ None) }
+        ensures link_unknown { (n : ℕ) → (result ≡ Err (CaptureError.LinkUnknown n)) ↔ IsSomeAnd (capture_file bytes.now) (λ file. (file.link ≡ n) × ¬ IsKnownLink n) }
+    {
+        let Some(header) = read_header(bytes) else {
+            return Err(CaptureError::NotCapture);
+        };
+        let FileHeader { order, nanos, link } = header;
+        match link {
+            1 | 101 | 113 => Ok(Capture {
+                bytes,
+                order,
+                nanos,
+                link,
+            }),
+            _ => Err(CaptureError::LinkUnknown(link)),
+        }
+    }
+
+    /// Where its records begin, and how many bytes are left behind them, in one pass from record to record. The index
+    /// keeps four bytes a record.
+    pub fn index(&self, alloc: Global) -> Result<RecordIndex, IndexError>
+        requires { length (file_of self.now).bytes < 2 ^ 32 }
+
+        // The records are the one way to cut the file into a file header, records and a rest.
+        ensures cut { let file = file_of self.now in IsOnlyCut file (parts_of file) (rest_of file) }
+
+        // The index has the place of each record, and the length of the rest.
+        ensures index { IfOk result (λ index. IsIndexOf index (file_of self.now)) }
+        ensures few { IfOk result (λ index. 24 + 16 * length index.offsets + index.tail ≤ length (file_of self.now).bytes) }
+
+        // Damage is the first record header that claims too much.
+        ensures undamaged { OnOk result (damage_of (file_of self.now) ≡ None) }
+        ensures damaged { (at : ℕ) → result ≡ Err (IndexError.Damaged at) → damage_of (file_of self.now) ≡ Some at }
+    {
+        let mut offsets: Vec<u32> = Vec::new(alloc);
+        let mut at = FILE_HEADER;
+        'records: loop {
+            match front_at(self.order, self.bytes, at) {
+                Front::Record(end) => {
+                    if offsets.push(at as u32).is_err() {
+                        return Err(IndexError::NoMemory);
+                    }
+                    at = end;
+                }
+                Front::Damage => return Err(IndexError::Damaged(at as u64)),
+                Front::Rest => {
+                    let tail = (self.bytes.len() - at) as u64;
+                    return Ok(RecordIndex::new(offsets, tail));
+                }
+            }
+        }
+    }
+
+    /// The `n`-th record, counted from 0, by its place in the index.
+    #[inline]
+    pub fn record(&self, index: &RecordIndex, n: u64) -> Record<'a>
+        requires index { IsIndexOf index.now (file_of self.now) }
+        requires number { n < length index.now.offsets }
+        ensures value { slice_get (records_of (file_of self.now)) n ≡ Some (record_read result) }
+        ensures place { let from = slice_index index.now.offsets n + 16 in result.captured.now ≡ slice_range (file_of self.now).bytes from (from + length result.captured.now) }
+        ensures within { slice_index index.now.offsets n + 16 + length result.captured.now ≤ length (file_of self.now).bytes }
+        ensures small { length result.captured.now ≤ most_captured }
+    {
+        record_at(self.order, self.bytes, index.offset(n))
+    }
+
+    /// The link type: 1, 101 or 113.
+    #[inline]
+    pub fn link(&self) -> u32
+        ensures link { result ≡ (file_of self.now).link }
+        ensures known { IsKnownLink result }
+    {
+        self.link
+    }
+
+    /// Whether fractions of a second are nanoseconds, and not microseconds.
+    #[inline]
+    pub fn nanos(&self) -> bool
+        ensures { result ≡ (file_of self.now).nanos }
+    {
+        self.nanos
+    }
+}

@@ -1,0 +1,62 @@
+ghost use Rattle.std.specs.Prelude.{◌≡◌, ◌<◌, length, slice_index};
+
+use std::marker::Model;
+
+/// Why the records of a capture could not be found.
+#[derive(Clone, Copy, Debug, PartialEq, Eq)]
+pub enum IndexError {
+    /// The record header at this offset, counted from the beginning of the file, claims more than 262,144
+    /// captured bytes.
+    Damaged(u64),
+    /// There was no memory for the index.
+    NoMemory,
+}
+
+/// Where the records of a capture begin: four bytes a record.
+#[derive(Debug, Drop)]
+pub struct RecordIndex {
+    offsets: Vec<u32>,
+    tail: u64,
+}
+
+impl Model for RecordIndex {
+    ghost use Rattle.pcap_reader.specs.Index.{Offsets};
+
+    ghost Value = { Offsets };
+
+    ghost view = { λ i. record { offsets = i.offsets.items; tail = i.tail } };
+}
+
+impl RecordIndex {
+    /// The index of these offsets and this tail.
+    pub(crate) fn new(offsets: Vec<u32>, tail: u64) -> RecordIndex
+        ensures offsets { result.offsets ≡ offsets.items }
+        ensures tail { result.tail ≡ tail }
+    {
+        RecordIndex { offsets, tail }
+    }
+
+    /// The number of records.
+    #[inline]
+    pub fn count(&self) -> u64
+        ensures { result ≡ length self.now.offsets }
+    {
+        self.offsets.len() as u64
+    }
+
+    /// Where the `n`-th record begins.
+    #[inline]
+    pub(crate) fn offset(&self, n: u64) -> usize
+        requires { n < length self.now.offsets }
+        ensures { result ≡ slice_index self.now.offsets n }
+    {
+        self.offsets[n as usize] as usize
+    }
+
+    /// The number of bytes behind the last record that are no whole record.
+    pub fn tail(&self) -> u64
+        ensures { result ≡ self.now.tail }
+    {
+        self.tail
+    }
+}

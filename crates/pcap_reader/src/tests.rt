@@ -1,0 +1,161 @@
+use super::*;
+use std::alloc::Global;
+use std::process::Abort;
+use std::test::Fail;
+
+/// A file header: least byte first, microseconds, version 2.4, Ethernet.
+static LITTLE: [u8; 24] = [
+    0xd4, 0xc3, 0xb2, 0xa1, 2, 0, 4, 0, 0, 0, 0, 0, 0, 0, 0, 0, 0, 0, 4, 0, 1, 0, 0, 0,
+];
+
+/// A record header: 1000 s, fraction 7, captured length 42, original length 60; least byte first.
+static RECORD: [u8; 16] = [0xe8, 3, 0, 0, 7, 0, 0, 0, 42, 0, 0, 0, 60, 0, 0, 0];
+
+/// The captured bytes of `RECORD`.
+static PACKET: [u8; 42] = [0; 42];
+
+/// `LITTLE` with other bytes from a place on.
+fn header_with(at: usize, bytes: &[u8]) -> [u8; 24] {
+    let mut header = LITTLE;
+    for (place, byte) in header.iter_mut().skip(at).zip(bytes) {
+        *place = *byte;
+    }
+    header
+}
+
+/// The bytes of the parts, one behind the other.
+fn joined(alloc: Global, parts: &[&[u8]]) -> Result<Vec<u8>, Fail> {
+    let mut all = Vec::new(alloc);
+    for part in parts {
+        all.extend_from_slice(part)?;
+    }
+    Ok(all)
+}
+
+#[test]
+fn headers_that_are_refused(rt: HostRuntime) {
+    let not = CaptureError::NotCapture;
+    let unknown = CaptureError::LinkUnknown;
+    let table: [(&[u8], CaptureError); 13] = [
+        (&[], not),
+        (&LITTLE[..23], not),
+        (&header_with(0, &[0xd4, 0xc3, 0xb2, 0xa2]), not),
+        (&header_with(0, &[0x0a, 0x0d, 0x0d, 0x0a]), not),
+        (&header_with(0, &[0xa1, 0xb2, 0xc3, 0xd4]), not),
+        (&header_with(4, &[1]), not),
+        (&header_with(4, &[2, 1]), not),
+        (&header_with(6, &[3]), not),
+        (&header_with(6, &[4, 1]), not),
+        (&header_with(20, &[0]), unknown(0)),
+        (&header_with(20, &[105]), unknown(105)),
+        (&header_with(20, &[1, 0, 1, 0]), unknown(65_537)),
+        (&header_with(20, &[1, 0, 0, 0x14]), unknown(335_544_321)),
+    ];
+    for (bytes, error) in table {
+        assert_eq!(rt; Capture::open(bytes).err(), Some(error));
+    }
+}
+
+/// How many records a capture has and how long its tail is, or why they could not be found.
+fn counted(rt: &impl Abort, alloc: Global, bytes: &[u8]) -> Result<(u64, u64), IndexError> {
+    let capture = Capture::open(bytes).expect(rt, "a capture");
+    assert!(rt; bytes.len() < 1 << 32);
+    let index = capture.index(alloc)?;
+    Ok((index.count(), index.tail()))
+}
+
+/// A record header with captured length 0.
+static EMPTY: [u8; 16] = [0; 16];
+
+/// Record headers with captured lengths 262,144 and 262,145.
+static MOST: [u8; 16] = [0xe8, 3, 0, 0, 0, 0, 0, 0, 0, 0, 4, 0, 0, 0, 4, 0];
+
+static TOO_MUCH: [u8; 16] = [0xe8, 3, 0, 0, 0, 0, 0, 0, 1, 0, 4, 0, 1, 0, 4, 0];
+
+#[test]
+fn records_tails_and_damage(rt: HostRuntime) -> Result<(), Fail> {
+    let alloc = rt.alloc();
+    let table: [([&[u8]; 4], Result<(u64, u64), IndexError>); 12] = [
+        ([&[], &[], &[], &[]], Ok((0, 0))),
+        ([&RECORD, &PACKET, &[], &[]], Ok((1, 0))),
+        ([&RECORD, &PACKET, &RECORD, &PACKET], Ok((2, 0))),
+        ([&RECORD, &PACKET, &RECORD, &PACKET[..37]], Ok((1, 53))),
+        ([&RECORD[..15], &[], &[], &[]], Ok((0, 15))),
+        ([&RECORD, &[], &[], &[]], Ok((0, 16))),
+        ([&EMPTY, &EMPTY, &[], &[]], Ok((2, 0))),
+        ([&TOO_MUCH, &[], &[], &[]], Err(IndexError::Damaged(24))),
+        ([&TOO_MUCH[..15], &[], &[], &[]], Ok((0, 15))),
+        (
+            [&RECORD, &PACKET, &TOO_MUCH, &EMPTY],
+            Err(IndexError::Damaged(82)),
+        ),
+        (
+            [&EMPTY, &TOO_MUCH, &TOO_MUCH, &EMPTY],
+            Err(IndexError::Damaged(40)),
+        ),
+        ([&RECORD, &TOO_MUCH, &TOO_MUCH, &[]], Ok((0, 48))),
+    ];
+    for ([a, b, c, d], want) in table {
+        let file = joined(alloc, &[&LITTLE, a, b, c, d])?;
+        assert_eq!(rt; counted(&rt, alloc, &file), want);
+    }
+    Ok(())
+}
+
+#[test]
+fn the_longest_record(rt: HostRuntime) -> Result<(), Fail> {
+    let alloc = rt.alloc();
+    for (captured, want) in [
+        (0, (0, 16)),
+        (262_143, (0, 262_159)),
+        (262_144, (1, 0)),
+        (262_145, (1, 1)),
+    ] {
+        let packet = vec![in alloc; 0u8; captured]?;
+        let file = joined(alloc, &[&LITTLE, &MOST, &packet])?;
+        assert_eq!(rt; counted(&rt, alloc, &file), Ok(want), "{captured} bytes");
+    }
+    Ok(())
+}
+
+#[test]
+fn fields_in_either_order(rt: HostRuntime) -> Result<(), Fail> {
+    let alloc = rt.alloc();
+    let little = [
+        0x04, 3, 2, 1, 0x08, 7, 6, 5, 3, 0, 0, 0, 0x0c, 0x0b, 0x0a, 9,
+    ];
+    let big = [
+        1, 2, 3, 0x04, 5, 6, 7, 0x08, 0, 0, 0, 3, 9, 0x0a, 0x0b, 0x0c,
+    ];
+    let big_header = |magic: [u8; 4], link: u8| {
+        let [a, b, c, d] = magic;
+        [
+            a, b, c, d, 0, 2, 0, 4, 0, 0, 0, 0, 0, 0, 0, 0, 0, 4, 0, 0, 0, 0, 0, link,
+        ]
+    };
+    let table: [([u8; 24], [u8; 16], bool, u32); 4] = [
+        (LITTLE, little, false, 1),
+        (header_with(0, &[0x4d, 0x3c]), little, true, 1),
+        (big_header([0xa1, 0xb2, 0xc3, 0xd4], 101), big, false, 101),
+        (big_header([0xa1, 0xb2, 0x3c, 0x4d], 113), big, true, 113),
+    ];
+    for (header, record, nanos, link) in table {
+        let file = joined(alloc, &[&header, &record, b"one", &record, b"two", b"tail"])?;
+        let capture = Capture::open(&file).ok().ok_or("a capture")?;
+        assert_eq!(rt; capture.nanos(), nanos);
+        assert_eq!(rt; capture.link(), link);
+        assert!(rt; file.len() < 1 << 32);
+        let index = capture.index(alloc).ok().ok_or("an index")?;
+        assert_eq!(rt; index.count(), 2);
+        assert_eq!(rt; index.tail(), 4);
+        for (n, captured) in [(0, b"one"), (1, b"two")] {
+            assert!(rt; n < index.count());
+            let read = capture.record(&index, n);
+            assert_eq!(rt; read.seconds, 0x0102_0304);
+            assert_eq!(rt; read.fraction, 0x0506_0708);
+            assert_eq!(rt; read.original, 0x090a_0b0c);
+            assert_eq!(rt; read.captured, captured.as_slice());
+        }
+    }
+    Ok(())
+}
