@@ -2,3 +2,4 @@ pub mod Laws
 pub mod Lawful
 pub mod Order
 pub mod Regrouping
+pub mod Steps

@@ -8,10 +8,13 @@
 //! [`laws`] holds laws about lawful lists, as contracts.
 #![tactic(auto)]
 
-mod gather;
+mod gathering;
+mod joining;
 pub mod laws;
+mod orders;
+mod reasons;
 mod record;
 
-pub use gather::gather;
+pub use gathering::gather;
 pub use meter_io::NoMemory;
 pub use record::{ACTIVE_TIMEOUT, FORCED_END, FlowRecord, IDLE_TIMEOUT};
