@@ -1,11 +1,10 @@
 -- What stands when fragments are permuted and joined.
-use Rattle.std.proofs.Common.{◌≡◌, ◌≢◌, ℕ, zero, suc, ◌+◌, ◌-◌, ◌<◌, ◌≤◌, List, [], ◌∷◌, ◌++◌, length, take, sum_by, flat_map, map, refl, sym, ap, ◌∙◌, subst, arith, append_assoc, length-append, All, Contains, IsPermutation}
+use Rattle.std.proofs.Common.{◌≡◌, ℕ, ◌+◌, ◌<◌, ◌≤◌, List, [], ◌∷◌, ◌++◌, length, take, sum_by, flat_map, map, refl, sym, ap, ◌∙◌, subst, arith, append_assoc, length-append, All, IsPermutation}
 use Rattle.std.specs.List.{AllZip}
 use Rattle.std.proofs.lemmas.List.{take-take, take_at}
-use Rattle.std.proofs.lemmas.List.Concat.{flat_map_single}
 use Rattle.std.proofs.lemmas.List.Elements.{All-append, All-weaker, All-contains, All-take, Contains-push}
 use Rattle.std.proofs.lemmas.List.Sums.{sum_by-append, sum_by-cons}
-use Rattle.std.proofs.lemmas.List.Sorted.{sum_by-IsPermutation, IsPermutation-refl, IsPermutation-sym, IsPermutation-trans, IsPermutation-cons, IsPermutation-to_front, IsPermutation-append_left}
+use Rattle.std.proofs.lemmas.List.Sorted.{sum_by-IsPermutation, IsPermutation-refl, IsPermutation-sym, IsPermutation-trans, IsPermutation-to_front, IsPermutation-append_left}
 use Rattle.packet_accept.specs.declared.packet.Packet.{Packet}
 use Rattle.flow_parts.specs.declared.fragment.Fragment.{Fragment}
 use Rattle.flow_parts.specs.declared.timeouts.Timeouts.{Timeouts}
@@ -43,20 +42,20 @@ together_one f = record {
   octets = omega arith;
   flags = IsUnion-one (λ (g : Fragment). g.flags) f;
   first = IsLeast-one (λ (g : Fragment). g.first) f;
-  last = IsGreatest-one (λ (g : Fragment). g.last) f
+  last = IsGreatest-one (λ (g : Fragment). g.last) f;
 }
 
 together_joined : (limits : Timeouts) (F G : List Fragment) (f g w : Fragment) → IsJoinable limits f g → IsJoined f g w → IsTogether F f → IsTogether G g → IsTogether (F ++ G) w
 together_joined limits F G f g w j u a b = record {
   some = λ e. (let none = ap length e in let reached = a.first.reached in let below = reached.2 in absurd (omega (arith, length-append F G)));
   one_key = All-append (λ p. p.key ≡ w.key) F G
-    (All-weaker (λ p. p.key ≡ f.key) (λ p. p.key ≡ w.key) (λ p e. e ∙ sym u.key) F a.one_key)
-    (All-weaker (λ p. p.key ≡ g.key) (λ p. p.key ≡ w.key) (λ p e. e ∙ sym j.one_key ∙ sym u.key) G b.one_key);
+      (All-weaker (λ p. p.key ≡ f.key) (λ p. p.key ≡ w.key) (λ p e. e ∙ sym u.key) F a.one_key)
+      (All-weaker (λ p. p.key ≡ g.key) (λ p. p.key ≡ w.key) (λ p e. e ∙ sym j.one_key ∙ sym u.key) G b.one_key);
   packets = (let e = u.packets in let x = a.packets in let y = b.packets in omega (arith, sum_by-append packets_in F G));
   octets = (let e = u.octets in let x = a.octets in let y = b.octets in omega (arith, sum_by-append octets_in F G));
   flags = subst (λ n. IsUnion (λ (p : Fragment). p.flags) (F ++ G) n) (sym u.flags) (IsUnion-append (λ (p : Fragment). p.flags) F G f.flags g.flags a.flags b.flags);
   first = subst (λ n. IsLeast (λ (p : Fragment). p.first) (F ++ G) n) (sym u.first) (IsLeast-append (λ (p : Fragment). p.first) F G f.first g.first a.first b.first);
-  last = subst (λ n. IsGreatest (λ (p : Fragment). p.last) (F ++ G) n) (sym u.last) (IsGreatest-append (λ (p : Fragment). p.last) F G f.last g.last a.last b.last)
+  last = subst (λ n. IsGreatest (λ (p : Fragment). p.last) (F ++ G) n) (sym u.last) (IsGreatest-append (λ (p : Fragment). p.last) F G f.last g.last a.last b.last);
 }
 
 each_alone : (F : List Fragment) → AllZip IsTogether (map (λ f. f ∷ []) F) F
@@ -82,7 +81,7 @@ module _ (limits : Timeouts) where
   grouped_joined A f g w F j u (x ∷ y ∷ groups) s h = record {
     groups = (x ++ y) ∷ groups;
     whole = subst (λ l. IsPermutation A l) (sym (append_assoc x y (flat groups))) s;
-    each = (together_joined limits x y f g w j u h.0 h.1.0, h.1.1)
+    each = (together_joined limits x y f g w j u h.0 h.1.0, h.1.1);
   }
 
   pub grouped : (A F G : List Fragment) → Reaches limits F G → IsGrouped A F → IsGrouped A G
@@ -139,12 +138,12 @@ module _ (limits : Timeouts) where
       → Reaches limits (part ∷ S) (w ∷ s) → Reaches limits start ((s ++ w ∷ []) ++ rest)
   stacked start S part w s rest r q =
       let before : IsPermutation (S ++ part ∷ rest) ((part ∷ S) ++ rest) = subst (λ l. IsPermutation l ((part ∷ S) ++ rest)) (append_assoc S (part ∷ []) rest)
-            (IsPermutation-append_left rest (S ++ part ∷ []) (part ∷ S) (IsPermutation-to_front S part)) in
+      (IsPermutation-append_left rest (S ++ part ∷ []) (part ∷ S) (IsPermutation-to_front S part)) in
       let after : IsPermutation ((w ∷ s) ++ rest) ((s ++ w ∷ []) ++ rest) = IsPermutation-append_left rest (w ∷ s) (s ++ w ∷ []) (IsPermutation-sym (s ++ w ∷ []) (w ∷ s) (IsPermutation-to_front s w)) in
       onward start (S ++ part ∷ rest) ((s ++ w ∷ []) ++ rest) r
-        (onward (S ++ part ∷ rest) ((part ∷ S) ++ rest) ((s ++ w ∷ []) ++ rest) (moved (S ++ part ∷ rest) ((part ∷ S) ++ rest) before)
-          (onward ((part ∷ S) ++ rest) ((w ∷ s) ++ rest) ((s ++ w ∷ []) ++ rest) (beside (part ∷ S) (w ∷ s) rest q)
-            (moved ((w ∷ s) ++ rest) ((s ++ w ∷ []) ++ rest) after)))
+      (onward (S ++ part ∷ rest) ((part ∷ S) ++ rest) ((s ++ w ∷ []) ++ rest) (moved (S ++ part ∷ rest) ((part ∷ S) ++ rest) before)
+      (onward ((part ∷ S) ++ rest) ((w ∷ s) ++ rest) ((s ++ w ∷ []) ++ rest) (beside (part ∷ S) (w ∷ s) rest q)
+      (moved ((w ∷ s) ++ rest) ((s ++ w ∷ []) ++ rest) after)))
 
 -- a stack that lost its top is still the front of the list that it was the front of, which holds the top
 pub still_front : (S s t : List Fragment) (top : Fragment) (n : ℕ) → s ≡ t ++ top ∷ [] → s ≡ take n S → n ≡ length s → t ≡ take (length t) S

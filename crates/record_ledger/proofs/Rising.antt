@@ -1,14 +1,13 @@
 -- Lists in order.
-use Rattle.std.proofs.Common.{◌≡◌, ℕ, zero, suc, ◌+◌, ◌-◌, ◌<◌, ◌≤◌, Bool, true, false, ◌⊎◌, inl, inr, List, [], ◌∷◌, ◌++◌, length, get_or, take, refl, sym, ap, ◌∙◌, subst, arith, append_assoc, length-append, All, Contains}
+use Rattle.std.proofs.Common.{◌≡◌, ℕ, suc, ◌+◌, ◌-◌, ◌<◌, ◌≤◌, Bool, true, false, inl, inr, List, [], ◌∷◌, ◌++◌, length, get_or, take, refl, sym, ap, ◌∙◌, subst, arith, length-append, All, Contains}
 use Rattle.std.specs.Cmp.{IsTotalOrder, IsStrictWeakOrder}
 use Rattle.std.specs.List.Sorted.{IsSortedBy}
 use Rattle.std.specs.Ordering.{is_lt, nat_cmp, ordering_then}
-use Rattle.std.specs.declared.cmp.Ordering.{Ordering}
-use Rattle.std.specs.declared.cmp.Ordering.TheVariants.{Less, Equal, Greater}
+use Rattle.std.specs.declared.cmp.Ordering.TheVariants.{Equal}
 use Rattle.std.proofs.lemmas.Bool.{cases_lt}
 use Rattle.std.proofs.lemmas.Cmp.{nat_cmp_total, on_total, then_total, tied_itself, ranked, by_ranked}
 use Rattle.std.proofs.lemmas.List.{get_or-take, get_or_append_left, get_or_at, length-take}
-use Rattle.std.proofs.lemmas.List.Elements.{All-append, All-cons, All-nil, All-weaker, All-contains, All-contains_itself, Contains-append_left, Contains-append_right, Contains-get_or}
+use Rattle.std.proofs.lemmas.List.Elements.{All-append, All-cons, All-nil, All-weaker, All-contains, All-contains_itself, Contains-append_left, Contains-append_right}
 use Rattle.std.proofs.lemmas.List.Sorted.{ranks_by, sorted_far}
 use Rattle.flow_key.specs.declared.key.FlowKey.{FlowKey}
 use Rattle.flow_key.specs.Key.{key_order}
@@ -43,12 +42,12 @@ module _ {X : Type 0} where
   -- what is sorted rises
   pub rises_from_sorted : (lt : X → X → Bool) → IsStrictWeakOrder lt → (xs : List X) → IsSortedBy lt xs → Rises (λ x y. lt y x ≡ false) xs
   rises_from_sorted lt o [] up = tt
-  rises_from_sorted lt o (x ∷ xs) up =
-      ( λ k d h. sorted_far lt o (x ∷ xs) up 0 (suc k) d (omega arith) (omega arith)
-      , rises_from_sorted lt o xs (λ k d low h.
-          let e : suc k + 1 ≡ suc (k + 1) = omega arith in
-          subst (λ n. lt (get_or (x ∷ xs) n d) (get_or xs k d) ≡ false) e (up (suc k) d (omega arith) (omega arith)))
-      )
+  rises_from_sorted lt o (x ∷ xs) up = (
+    λ k d h. sorted_far lt o (x ∷ xs) up 0 (suc k) d (omega arith) (omega arith),
+    rises_from_sorted lt o xs (λ k d low h.
+        let e : suc k + 1 ≡ suc (k + 1) = omega arith in
+        subst (λ n. lt (get_or (x ∷ xs) n d) (get_or xs k d) ≡ false) e (up (suc k) d (omega arith) (omega arith))),
+  )
 
   module _ (R : X → X → Type 0) where
     pub rises_back : (xs ys : List X) → Rises R (xs ++ ys) → Rises R ys
@@ -66,14 +65,14 @@ module _ {X : Type 0} where
     rises_settled [] t f w rest into onto h =
         let back = rises_back t (f ∷ rest) h in
         (All-weaker (R f) (R w) onto rest back.0, back.1)
-    rises_settled (x ∷ s) t f w rest into onto h =
-        ( All-append (R x) (s ++ w ∷ []) rest
-            (All-append (R x) s (w ∷ [])
-              (All-front (R x) s t (All-front (R x) (s ++ t) (f ∷ rest) h.0))
-              (All-one (R x) w (into x (All-contains (R x) (f ∷ rest) f (All-back (R x) (s ++ t) (f ∷ rest) h.0) (0, omega arith, refl)))))
-            (All-back (R x) (f ∷ []) rest (All-back (R x) (s ++ t) (f ∷ rest) h.0))
-        , rises_settled s t f w rest into onto h.1
-        )
+    rises_settled (x ∷ s) t f w rest into onto h = (
+      All-append (R x) (s ++ w ∷ []) rest
+          (All-append (R x) s (w ∷ [])
+          (All-front (R x) s t (All-front (R x) (s ++ t) (f ∷ rest) h.0))
+          (All-one (R x) w (into x (All-contains (R x) (f ∷ rest) f (All-back (R x) (s ++ t) (f ∷ rest) h.0) (0, omega arith, refl)))))
+          (All-back (R x) (f ∷ []) rest (All-back (R x) (s ++ t) (f ∷ rest) h.0)),
+      rises_settled s t f w rest into onto h.1,
+    )
 
 -- numbers of which the first isn't below the second
 pub not_less : (x y : ℕ) → is_lt (nat_cmp x y) ≡ false → y ≤ x
@@ -104,7 +103,7 @@ module _ (limits : Timeouts) where
   none_taken n S le h = λ k d l j.
       let long = length-take n S in
       h k d (omega arith) (let e = get_or-take n S k d (omega arith) in let e' = get_or-take n S (k + 1) d (omega arith) in
-        subst (λ g. IsJoinable limits (get_or S k d) g) e' (subst (λ f. IsJoinable limits f (get_or (take n S) (k + 1) d)) e j))
+      subst (λ g. IsJoinable limits (get_or S k d) g) e' (subst (λ f. IsJoinable limits f (get_or (take n S) (k + 1) d)) e j))
 
   pub none_pushed : (s : List Fragment) (w : Fragment) → NoneJoinable limits s → ((d : Fragment) → 0 < length s → ¬ IsJoinable limits (get_or s (length s - 1) d) w)
       → NoneJoinable limits (s ++ w ∷ [])
@@ -112,10 +111,10 @@ module _ (limits : Timeouts) where
       let long = length-append s (w ∷ []) in
       let e : get_or (s ++ w ∷ []) k d ≡ get_or s k d = get_or_append_left s (w ∷ []) d k (omega arith) in
       elim (cases_lt (k + 1) (length s)) [
-        inl m ↦ h k d m (let e' = get_or_append_left s (w ∷ []) d (k + 1) m in
-          subst (λ g. IsJoinable limits (get_or s k d) g) e' (subst (λ f. IsJoinable limits f (get_or (s ++ w ∷ []) (k + 1) d)) e j))
-      | inr m ↦ (let last : k ≡ length s - 1 = omega arith in
-          let e' : get_or (s ++ w ∷ []) (k + 1) d ≡ w = get_or_at s w [] d (k + 1) (omega arith) in
-          top d (omega arith) (subst (λ n. IsJoinable limits (get_or s n d) w) last
+        | inl m ↦ h k d m (let e' = get_or_append_left s (w ∷ []) d (k + 1) m in
+            subst (λ g. IsJoinable limits (get_or s k d) g) e' (subst (λ f. IsJoinable limits f (get_or (s ++ w ∷ []) (k + 1) d)) e j))
+        | inr m ↦ (let last : k ≡ length s - 1 = omega arith in
+            let e' : get_or (s ++ w ∷ []) (k + 1) d ≡ w = get_or_at s w [] d (k + 1) (omega arith) in
+            top d (omega arith) (subst (λ n. IsJoinable limits (get_or s n d) w) last
             (subst (λ g. IsJoinable limits (get_or s k d) g) e' (subst (λ f. IsJoinable limits f (get_or (s ++ w ∷ []) (k + 1) d)) e j))))
       ]

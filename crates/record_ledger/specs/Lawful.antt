@@ -1,5 +1,5 @@
 -- Lists of records that are lawful for a list of packets (after RFC 5470, section 5.1.1).
-use Rattle.std.specs.Prelude.{◌≡◌, ℕ, ◌+◌, List, [], ◌∷◌, Option, Some, None, MatchOption, Bool, filter, map, nat_lt, if◌then◌else◌, IsSorted, ⊤}
+use Rattle.std.specs.Prelude.{◌≡◌, ℕ, ◌+◌, List, [], ◌∷◌, Option, Some, None, MatchOption, filter, map, nat_lt, if◌then◌else◌, IsSorted, ⊤}
 use Rattle.std.specs.Ordering.{is_eq}
 use Rattle.flow_key.specs.declared.key.FlowKey.{FlowKey}
 use Rattle.flow_key.specs.Key.{key_order}

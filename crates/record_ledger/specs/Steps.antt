@@ -1,5 +1,5 @@
 -- How the fragments of the parts become those of the records: by permuting and joining.
-use Rattle.std.specs.Prelude.{◌≡◌, ℕ, ◌+◌, ◌<◌, List, [], ◌∷◌, ◌++◌, Option, Some, None, Bool, if◌then◌else◌, IsPermutation, slice_index_or, length, drop, All, false, ⊤}
+use Rattle.std.specs.Prelude.{◌≡◌, ℕ, ◌+◌, ◌<◌, List, [], ◌∷◌, Option, Some, None, if◌then◌else◌, IsPermutation, slice_index_or, length, All, false, ⊤}
 use Rattle.std.specs.Ordering.{is_eq, is_lt}
 use Rattle.flow_key.specs.Key.{key_order}
 use Rattle.flow_parts.specs.declared.fragment.Fragment.{Fragment}
@@ -12,9 +12,9 @@ use Rattle.record_ledger.specs.Order.{key_then_last}
 pub data Reaches (limits : Timeouts) : List Fragment → List Fragment → Type 0 where
   moved : (parts others : List Fragment) → IsPermutation parts others → Reaches limits parts others
   joined : (one other whole : Fragment) (rest : List Fragment) → IsJoinable limits one other → IsJoined one other whole
-    → Reaches limits (one ∷ other ∷ rest) (whole ∷ rest)
+      → Reaches limits (one ∷ other ∷ rest) (whole ∷ rest)
   onward : (parts others wholes : List Fragment) → Reaches limits parts others → Reaches limits others wholes
-    → Reaches limits parts wholes
+      → Reaches limits parts wholes
 
 -- R holds of each element and each later one.
 abbrev pub Rises : {X : Type 0} → (X → X → Type 0) → List X → Type 0

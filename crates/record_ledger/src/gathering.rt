@@ -5,15 +5,13 @@ ghost use Rattle.flow_parts.specs.Sharing.{SharesOut};
 ghost use Rattle.record_ledger.specs.Regrouping.{Regroups};
 ghost use Rattle.record_ledger.specs.Lawful.{IsClock, IsLawful};
 
-use std::alloc::Global;
-
-use flow_parts::{Fragment, Timeouts};
-use meter_io::NoMemory;
-
 use crate::joining::joined;
 use crate::orders::by_last;
 use crate::reasons::with_reasons;
 use crate::record::FlowRecord;
+use flow_parts::{Fragment, Timeouts};
+use meter_io::NoMemory;
+use std::alloc::Global;
 
 /// Gathers fragments into flow records.
 ///

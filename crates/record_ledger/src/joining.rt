@@ -3,15 +3,17 @@ ghost use Rattle.flow_parts.specs.declared.fragment.Fragment.{Fragment};
 ghost use Rattle.flow_parts.specs.Joining.{IsJoinable};
 ghost use Rattle.record_ledger.specs.Steps.{Reaches, NoneJoinable, Rises, NotAfter};
 
-use std::alloc::Global;
-
+use crate::orders::sorted_by_key;
 use flow_parts::{Fragment, Timeouts};
 use meter_io::NoMemory;
-
-use crate::orders::sorted_by_key;
+use std::alloc::Global;
 
 /// The fragments joined: sorted by key and last time, no two neighbours joinable.
-pub fn joined(alloc: Global, parts: &[Fragment], timeouts: &Timeouts) -> Result<Vec<Fragment>, NoMemory>
+pub fn joined(
+    alloc: Global,
+    parts: &[Fragment],
+    timeouts: &Timeouts,
+) -> Result<Vec<Fragment>, NoMemory>
     requires packets { sum_by (λ (f : Fragment). f.packets) parts.now < 2 ^ 64 }
     requires octets { sum_by (λ (f : Fragment). f.octets) parts.now < 2 ^ 64 }
     ensures reached { IfOk result (λ wholes. Reaches timeouts.now parts.now wholes.items) }
@@ -19,7 +21,10 @@ pub fn joined(alloc: Global, parts: &[Fragment], timeouts: &Timeouts) -> Result<
     ensures apart { IfOk result (λ wholes. NoneJoinable timeouts.now wholes.items) }
 {
     let sorted = sorted_by_key(alloc, parts)?;
-    let mut stack = Vec::new(alloc);
+    let mut stack = match Vec::with_capacity(alloc, sorted.len()) {
+        Ok(stack) => stack,
+        Err(_) => return Err(NoMemory),
+    };
     for part in &sorted {
         let whole = settled(&mut stack, *part, timeouts);
         if stack.push(whole).is_err() {
@@ -50,7 +55,11 @@ fn settled(stack: &mut Vec<Fragment>, part: Fragment, timeouts: &Timeouts) -> Fr
 }
 
 /// The top of the stack taken off, where there is one that is joinable with the fragment.
-fn joinable_top(stack: &mut Vec<Fragment>, whole: &Fragment, timeouts: &Timeouts) -> Option<Fragment>
+fn joinable_top(
+    stack: &mut Vec<Fragment>,
+    whole: &Fragment,
+    timeouts: &Timeouts,
+) -> Option<Fragment>
     ensures some { IfSome result (λ top. (stack.old.items ≡ stack.new.items ++ top ∷ []) × IsJoinable timeouts.now top whole.now) }
     ensures none { IfNone result (stack.new.items ≡ stack.old.items) }
     ensures apart { IfNone result ((d : Fragment) → 0 < vec_len stack.new

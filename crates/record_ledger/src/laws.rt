@@ -6,5 +6,4 @@ ghost use Rattle.record_ledger.specs.Laws.{TiesJoin, HasNoTies};
 pub fn lawful_lists_have_no_ties()
     ensures ties_join { TiesJoin }
     ensures no_ties { HasNoTies }
-{
-}
+{}

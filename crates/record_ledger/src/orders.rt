@@ -1,13 +1,11 @@
 ghost use Rattle.std.specs.Prelude.{◌≡◌, IfOk, IsPermutation, IsSorted};
 ghost use Rattle.record_ledger.specs.Order.{key_then_last, written_order};
 
-use std::alloc::Global;
-use std::cmp::Ordering;
-
+use crate::record::FlowRecord;
 use flow_parts::Fragment;
 use meter_io::NoMemory;
-
-use crate::record::FlowRecord;
+use std::alloc::Global;
+use std::cmp::Ordering;
 
 /// The parts, sorted by key, then by last time.
 pub fn sorted_by_key(alloc: Global, parts: &[Fragment]) -> Result<Vec<Fragment>, NoMemory>
@@ -34,5 +32,8 @@ fn by_key(one: &Fragment, other: &Fragment) -> Ordering
 pub fn by_last(one: &FlowRecord, other: &FlowRecord) -> Ordering
     ensures { result ≡ written_order one.now other.now }
 {
-    one.part.last.cmp(&other.part.last).then(one.part.key.order(&other.part.key))
+    one.part
+        .last
+        .cmp(&other.part.last)
+        .then(one.part.key.order(&other.part.key))
 }

@@ -3,12 +3,10 @@ ghost use Rattle.record_ledger.specs.declared.record.FlowRecord.{FlowRecord};
 ghost use Rattle.record_ledger.specs.Lawful.{reason_of};
 ghost use Rattle.record_ledger.specs.Steps.{next_of_key};
 
-use std::alloc::Global;
-
+use crate::record::{ACTIVE_TIMEOUT, FORCED_END, FlowRecord, IDLE_TIMEOUT};
 use flow_parts::{Fragment, Timeouts};
 use meter_io::NoMemory;
-
-use crate::record::{ACTIVE_TIMEOUT, FORCED_END, FlowRecord, IDLE_TIMEOUT};
+use std::alloc::Global;
 
 /// The fragments as records with their reasons, in the same order.
 pub fn with_reasons(
@@ -20,9 +18,12 @@ pub fn with_reasons(
     ensures parts { IfOk result (λ records. map (λ (r : FlowRecord). r.part) records.items ≡ wholes.now) }
     ensures reasons { IfOk result (λ records. (k : ℕ) (d : FlowRecord) → k < length records.items
         → (slice_index_or records.items k d).reason ≡ reason_of timeouts.now clock (slice_index_or records.items k d).part
-            (next_of_key (slice_index_or records.items k d).part (drop (k + 1) wholes.now))) }
+        (next_of_key (slice_index_or records.items k d).part (drop (k + 1) wholes.now))) }
 {
-    let mut records = Vec::new(alloc);
+    let mut records = match Vec::with_capacity(alloc, wholes.len()) {
+        Ok(records) => records,
+        Err(_) => return Err(NoMemory),
+    };
     for (place, part) in wholes.iter().enumerate() {
         let reason = reason(part, &wholes[place + 1..], timeouts, clock);
         let record = FlowRecord {

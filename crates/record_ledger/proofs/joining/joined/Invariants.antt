@@ -7,5 +7,5 @@ abbrev pub invariant-loop-part : goal.invariant-loop-part
 invariant-loop-part l = record {
   reached : Reaches l.timeouts l.parts (l.stack.items ++ drop l.part-index l.part-items);
   rises : Rises NotAfter (l.stack.items ++ drop l.part-index l.part-items);
-  apart : NoneJoinable l.timeouts l.stack.items
+  apart : NoneJoinable l.timeouts l.stack.items;
 }

@@ -8,7 +8,7 @@ invariant-loop-top l = record {
   reached : Reaches l.timeouts (l.fn.part ∷ l.fn.stack.items) (l.whole ∷ l.stack.items);
   below : l.stack.items ≡ take (vec_len l.stack) l.fn.stack.items;
   key : l.whole.key ≡ l.fn.part.key;
-  last : l.whole.last ≡ l.fn.part.last
+  last : l.whole.last ≡ l.fn.part.last;
 }
 
 abbrev pub decreases-loop-top : goal.decreases-loop-top

@@ -9,5 +9,5 @@ abbrev pub invariant-loop-place : goal.invariant-loop-place
 invariant-loop-place l = record {
   parts : map (λ (r : FlowRecord). r.part) l.records.items ≡ take l.place l.wholes;
   reasons : (k : ℕ) (d : FlowRecord) → k < length l.records.items → (get_or l.records.items k d).reason
-    ≡ reason_of l.timeouts l.clock (get_or l.records.items k d).part (next_of_key (get_or l.records.items k d).part (drop (k + 1) l.wholes))
+      ≡ reason_of l.timeouts l.clock (get_or l.records.items k d).part (next_of_key (get_or l.records.items k d).part (drop (k + 1) l.wholes));
 }
