@@ -14,6 +14,8 @@ pub mod laws;
 mod orders;
 mod reasons;
 mod record;
+#[cfg(test)]
+mod tests;
 
 pub use gathering::gather;
 pub use meter_io::NoMemory;

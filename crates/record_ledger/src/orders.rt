@@ -32,8 +32,8 @@ fn by_key(one: &Fragment, other: &Fragment) -> Ordering
 pub fn by_last(one: &FlowRecord, other: &FlowRecord) -> Ordering
     ensures { result ≡ written_order one.now other.now }
 {
-    one.part
-        .last
-        .cmp(&other.part.last)
-        .then(one.part.key.order(&other.part.key))
+    match one.part.last.cmp(&other.part.last) {
+        Ordering::Equal => one.part.key.order(&other.part.key),
+        apart => apart,
+    }
 }
