@@ -6,9 +6,10 @@
 //! says which set of a table of sets a key belongs to.
 //!
 //! Every value of `FlowKey` is a key that a packet can have: its version is 4 or 6, and the addresses of
-//! version 4 fit 32 bits. Nothing here takes memory.
+//! version 4 fit 32 bits. Nothing here takes memory. [`laws`] holds laws about keys, as contracts.
 #![tactic(auto)]
 
 mod key;
+pub mod laws;
 
 pub use key::FlowKey;

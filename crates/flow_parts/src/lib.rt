@@ -12,6 +12,8 @@
 
 mod fragment;
 pub mod laws;
+#[cfg(test)]
+mod tests;
 mod timeouts;
 
 pub use fragment::Fragment;

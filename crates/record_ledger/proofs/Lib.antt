@@ -1,0 +1,4 @@
+pub mod Gathered
+pub mod Keyed
+pub mod Reaching
+pub mod Rising

@@ -1,0 +1,53 @@
+-- Lists of records that are lawful for a list of packets (after RFC 5470, section 5.1.1).
+use Rattle.std.specs.Prelude.{◌≡◌, ℕ, ◌+◌, List, [], ◌∷◌, Option, Some, None, MatchOption, filter, map, nat_lt, if◌then◌else◌, IsSorted, ⊤}
+use Rattle.std.specs.Ordering.{is_eq}
+use Rattle.flow_key.specs.declared.key.FlowKey.{FlowKey}
+use Rattle.flow_key.specs.Key.{key_order}
+use Rattle.packet_accept.specs.declared.packet.Packet.{Packet}
+use Rattle.flow_parts.specs.declared.fragment.Fragment.{Fragment}
+use Rattle.flow_parts.specs.declared.timeouts.Timeouts.{Timeouts}
+use Rattle.flow_parts.specs.Extremes.{IsGreatest}
+use Rattle.flow_parts.specs.Joining.{IsJoinable}
+use Rattle.flow_parts.specs.Sharing.{SharesOut}
+use Rattle.record_ledger.specs.declared.record.FlowRecord.{FlowRecord}
+use Rattle.record_ledger.specs.Order.{written_order}
+
+-- The clock of packets: the greatest of their times, and none where there is no packet.
+abbrev pub IsClock : List Packet → Option ℕ → Type 0
+IsClock packets clock = MatchOption clock (packets ≡ []) (IsGreatest (λ (p : Packet). p.time) packets)
+
+-- The records of one key, in the order of the list.
+abbrev pub of_key : FlowKey → List FlowRecord → List FlowRecord
+of_key key records = filter (λ r. is_eq (key_order r.part.key key)) records
+
+-- The fragment of a list's first record.
+abbrev pub first_part : List FlowRecord → Option Fragment
+first_part [] = None
+first_part (r ∷ rest) = Some r.part
+
+-- R holds of each record of a list and the fragment of the next one, if there is one.
+abbrev pub EachWithNext : (FlowRecord → Option Fragment → Type 0) → List FlowRecord → Type 0
+EachWithNext R [] = ⊤
+EachWithNext R (r ∷ rest) = R r (first_part rest) × EachWithNext R rest
+
+-- The record isn't joinable with the next one of its key.
+abbrev pub StandsApart : Timeouts → FlowRecord → Option Fragment → Type 0
+StandsApart limits r next = MatchOption next ⊤ (λ n. ¬ IsJoinable limits r.part n)
+
+-- The reason why a fragment's flow ended, by the next fragment of its key and the clock: 1 where the flow was idle for
+-- longer than the idle time-out after it, 2 where the next one follows sooner, and 4 where nothing is known.
+abbrev pub reason_of : Timeouts → ℕ → Fragment → Option Fragment → ℕ
+reason_of limits clock part (Some next) = if nat_lt (part.last + limits.idle) next.first then 1 else 2
+reason_of limits clock part None = if nat_lt (part.last + limits.idle) clock then 1 else 4
+
+-- The record has that reason.
+abbrev pub HasReason : Timeouts → ℕ → FlowRecord → Option Fragment → Type 0
+HasReason limits clock r next = r.reason ≡ reason_of limits clock r.part next
+
+-- The records are lawful for the packets: their fragments share out the packets, they stand in the written order, of the
+-- records of one key no two neighbours are joinable, and each reason is right by the clock of the packets.
+pub record IsLawful (limits : Timeouts) (packets : List Packet) (records : List FlowRecord) : Type 0 where
+  pub shared : SharesOut limits packets (map (λ (r : FlowRecord). r.part) records)
+  pub ordered : IsSorted written_order records
+  pub apart : (key : FlowKey) → EachWithNext (StandsApart limits) (of_key key records)
+  pub reasons : (clock : ℕ) → IsClock packets (Some clock) → (key : FlowKey) → EachWithNext (HasReason limits clock) (of_key key records)

@@ -1,0 +1,5 @@
+pub mod Laws
+pub mod Lawful
+pub mod Order
+pub mod Regrouping
+pub mod Steps

@@ -1,0 +1,22 @@
+//! Gathering: from fragments to the lawful list of flow records.
+//!
+//! A flow may lie in several [`Fragment`](flow_parts::Fragment)s. [`gather`] joins those of one key as long as
+//! neighbours are joinable, gives each record the reason why its flow ended, and puts the records into the written
+//! order: by the time of the last packet, then by key. The list *regroups* the fragments, and it is *lawful* for every
+//! list of packets that the fragments share out.
+//!
+//! [`laws`] holds laws about lawful lists, as contracts.
+#![tactic(auto)]
+
+mod gathering;
+mod joining;
+pub mod laws;
+mod orders;
+mod reasons;
+mod record;
+#[cfg(test)]
+mod tests;
+
+pub use gathering::gather;
+pub use meter_io::NoMemory;
+pub use record::{ACTIVE_TIMEOUT, FORCED_END, FlowRecord, IDLE_TIMEOUT};

@@ -1,0 +1,295 @@
+ghost use Rattle.std.specs.Prelude.{◌+◌, ◌<◌, ◌≤◌, ◌^◌, IsTrue, sum_by};
+ghost use Rattle.flow_parts.specs.declared.fragment.Fragment.{Fragment};
+
+use crate::gather;
+use flow_key::FlowKey;
+use flow_parts::{Fragment, Timeouts};
+use packet_accept::Packet;
+use std::alloc::Global;
+use std::process::Abort;
+use std::test::Fail;
+
+/// UDP from this port of 192.0.2.1 to 192.0.2.2:53.
+fn key(source_port: u16) -> FlowKey {
+    FlowKey {
+        version: 4,
+        source: 0xC000_0201,
+        destination: 0xC000_0202,
+        protocol: 17,
+        source_port,
+        destination_port: 53,
+    }
+}
+
+/// The fragment of one packet of 28 octets from this port at this time.
+fn alone(source_port: u16, time: u64) -> Fragment {
+    Fragment::of(&Packet {
+        number: 0,
+        key: key(source_port),
+        time,
+        octets: 28,
+        flags: 0,
+    })
+}
+
+/// Whether the packets and the octets of all parts are few enough to be added up.
+fn are_few(parts: &[Fragment]) -> bool
+    ensures packets { IsTrue result → sum_by (λ (f : Fragment). f.packets) parts.now < 2 ^ 64 }
+    ensures octets { IsTrue result → sum_by (λ (f : Fragment). f.octets) parts.now < 2 ^ 64 }
+{
+    let mut packets = 0u64;
+    let mut octets = 0u64;
+    for part in parts {
+        match (
+            packets.checked_add(part.packets),
+            octets.checked_add(part.octets),
+        ) {
+            (Some(more), Some(longer)) => {
+                packets = more;
+                octets = longer;
+            }
+            _ => return false,
+        }
+    }
+    true
+}
+
+/// Gathers packets of these ports and times, and compares port, packets, first, last and reason of each record.
+fn expect(
+    rt: &impl Abort,
+    alloc: Global,
+    packets: &[(u16, u64)],
+    records: &[(u16, u64, u64, u64, u8)],
+) -> Result<(), Fail> {
+    let mut parts = Vec::new(alloc);
+    for (port, time) in packets {
+        parts.push(alone(*port, *time))?;
+    }
+    let clock = packets.iter().map(|packet| packet.1).max();
+    assert!(rt; are_few(&parts));
+    let gathered = gather(alloc, &parts, Timeouts::new(300, 1800), clock)?;
+    assert!(rt; gathered.len() == records.len());
+    for (found, wanted) in gathered.iter().zip(records) {
+        assert!(rt; found.part.key.source_port == wanted.0);
+        assert!(rt; found.part.packets == wanted.1);
+        assert!(rt; found.part.first == wanted.2 && found.part.last == wanted.3);
+        assert!(rt; found.reason == wanted.4);
+    }
+    Ok(())
+}
+
+#[test]
+fn gaps_and_spans(rt: HostRuntime) -> Result<(), Fail> {
+    // Two packets a second apart, in either order.
+    let pair = [(4000, 2, 1_000_000, 1_001_000, 4)];
+    expect(
+        &rt,
+        rt.alloc(),
+        &[(4000, 1_000_000), (4000, 1_001_000)],
+        &pair,
+    )?;
+    expect(
+        &rt,
+        rt.alloc(),
+        &[(4000, 1_001_000), (4000, 1_000_000)],
+        &pair,
+    )?;
+    // A gap of exactly the idle time-out, and one of a millisecond more.
+    let joined = [(4000, 2, 1_000_000, 1_300_000, 4)];
+    expect(
+        &rt,
+        rt.alloc(),
+        &[(4000, 1_000_000), (4000, 1_300_000)],
+        &joined,
+    )?;
+    let apart = [
+        (4000, 1, 1_000_000, 1_000_000, 1),
+        (4000, 1, 1_300_001, 1_300_001, 4),
+    ];
+    expect(
+        &rt,
+        rt.alloc(),
+        &[(4000, 1_000_000), (4000, 1_300_001)],
+        &apart,
+    )?;
+    // Two ports: the first is idle for a millisecond too long when the capture ends.
+    let ports = [
+        (4000, 1, 1_000_000, 1_000_000, 1),
+        (4001, 1, 1_301_000, 1_301_000, 4),
+    ];
+    expect(
+        &rt,
+        rt.alloc(),
+        &[(4000, 1_000_000), (4001, 1_301_000)],
+        &ports,
+    )?;
+    // Two ports with one last time stand by key.
+    let tied = [
+        (4000, 1, 1_000_000, 1_000_000, 4),
+        (4001, 1, 1_000_000, 1_000_000, 4),
+    ];
+    expect(
+        &rt,
+        rt.alloc(),
+        &[(4001, 1_000_000), (4000, 1_000_000)],
+        &tied,
+    )?;
+    // No packet.
+    expect(&rt, rt.alloc(), &[], &[])
+}
+
+#[test]
+fn active_time_out(rt: HostRuntime) -> Result<(), Fail> {
+    // A packet every 200 seconds, ten of them over exactly the active time-out.
+    let mut packets = [
+        (4000, 1_000_000),
+        (4000, 1_200_000),
+        (4000, 1_400_000),
+        (4000, 1_600_000),
+        (4000, 1_800_000),
+        (4000, 2_000_000),
+        (4000, 2_200_000),
+        (4000, 2_400_000),
+        (4000, 2_600_000),
+        (4000, 2_800_000),
+    ];
+    expect(
+        &rt,
+        rt.alloc(),
+        &packets,
+        &[(4000, 10, 1_000_000, 2_800_000, 4)],
+    )?;
+    // The last one a millisecond later.
+    packets[9] = (4000, 2_800_001);
+    let cut = [
+        (4000, 9, 1_000_000, 2_600_000, 2),
+        (4000, 1, 2_800_001, 2_800_001, 4),
+    ];
+    expect(&rt, rt.alloc(), &packets, &cut)
+}
+
+#[test]
+fn joins_again_below(rt: HostRuntime) -> Result<(), Fail> {
+    // The last fragment spans both others, which alone are too far apart.
+    let timeouts = Timeouts::new(300, 1800);
+    let parts = [
+        wide(4000, 0, 100),
+        wide(4000, 300_101, 400_000),
+        wide(4000, 50, 500_000),
+    ];
+    assert!(rt; !timeouts.joinable(&parts[0], &parts[1]));
+    assert!(rt; are_few(&parts));
+    let gathered = gather(rt.alloc(), &parts, timeouts, Some(800_001))?;
+    assert!(rt; gathered.len() == 1);
+    assert!(rt;
+        gathered[0].part
+            == Fragment {
+                key: key(4000),
+                packets: 6,
+                octets: 300,
+                first: 0,
+                last: 500_000,
+                flags: 2
+            }
+    );
+    assert!(rt; gathered[0].reason == 1);
+    Ok(())
+}
+
+#[test]
+fn web_exchange(rt: HostRuntime) -> Result<(), Fail> {
+    let start = 1_700_000_000_000;
+    let parts = [
+        sent(query(), start + 10, 60, 0),
+        sent(reply(), start + 25, 76, 0),
+        sent(request(), start + 30, 60, 0x002),
+        sent(response(), start + 50, 60, 0x012),
+        sent(request(), start + 51, 52, 0x010),
+        sent(request(), start + 52, 152, 0x018),
+        sent(response(), start + 72, 52, 0x010),
+        sent(response(), start + 80, 1500, 0x018),
+        sent(request(), start + 90, 40, 0x004),
+    ];
+    assert!(rt; are_few(&parts));
+    let records = gather(
+        rt.alloc(),
+        &parts,
+        Timeouts::new(300, 1800),
+        Some(start + 90),
+    )?;
+    assert!(rt; records.len() == 4);
+    let wanted = [
+        (query(), 1, 60, 0, start + 10, start + 10),
+        (reply(), 1, 76, 0, start + 25, start + 25),
+        (response(), 3, 1612, 0x01A, start + 50, start + 80),
+        (request(), 4, 304, 0x01E, start + 30, start + 90),
+    ];
+    for (found, (key, packets, octets, flags, first, last)) in records.iter().zip(wanted) {
+        assert!(rt;
+            found.part.key == key && found.part.packets == packets && found.part.octets == octets
+        );
+        assert!(rt; found.part.flags == flags && found.reason == 4);
+        assert!(rt; found.part.first == first && found.part.last == last);
+    }
+    Ok(())
+}
+
+/// A fragment of two packets of 50 octets each over this span.
+fn wide(source_port: u16, first: u64, last: u64) -> Fragment
+    requires { first ≤ last }
+{
+    Fragment {
+        key: key(source_port),
+        packets: 2,
+        octets: 100,
+        first,
+        last,
+        flags: 2,
+    }
+}
+
+/// The fragment of one packet with these values.
+fn sent(key: FlowKey, time: u64, octets: u32, flags: u16) -> Fragment {
+    Fragment::of(&Packet {
+        number: 0,
+        key,
+        time,
+        octets,
+        flags,
+    })
+}
+
+/// From 10.0.0.5:50000 to the name server 10.0.0.1:53.
+fn query() -> FlowKey {
+    between(0x0A00_0005, 0x0A00_0001, 17, 50000, 53)
+}
+
+fn reply() -> FlowKey {
+    between(0x0A00_0001, 0x0A00_0005, 17, 53, 50000)
+}
+
+/// From 10.0.0.5:40000 to the web server 198.51.100.7:80.
+fn request() -> FlowKey {
+    between(0x0A00_0005, 0xC633_6407, 6, 40000, 80)
+}
+
+fn response() -> FlowKey {
+    between(0xC633_6407, 0x0A00_0005, 6, 80, 40000)
+}
+
+fn between(
+    source: u32,
+    destination: u32,
+    protocol: u8,
+    source_port: u16,
+    destination_port: u16,
+) -> FlowKey {
+    FlowKey {
+        version: 4,
+        source: source as u128,
+        destination: destination as u128,
+        protocol,
+        source_port,
+        destination_port,
+    }
+}
