@@ -1,0 +1,12 @@
+-- The laws, as they are proved of the definitions.
+use Rattle.packet_accept.proofs.Answers.{answer-placed, answers_count, packets_together}
+use Rattle.packet_accept.proofs.acceptance.packets_law.Goals as goal
+
+pub returns-clause-at : goal.returns-clause-at
+returns-clause-at c = answer-placed
+
+pub returns-clause-count : goal.returns-clause-count
+returns-clause-count c = answers_count
+
+pub returns-clause-together : goal.returns-clause-together
+returns-clause-together c = packets_together

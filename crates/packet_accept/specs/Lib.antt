@@ -1,0 +1,5 @@
+pub mod Cause
+pub mod Key
+pub mod Acceptance
+pub mod Shown
+pub mod Packets
