@@ -1,2 +1,3 @@
 pub mod Keys
-pub mod Answers
+pub mod FileAnswers
+pub mod Permuted

@@ -1,6 +1,6 @@
 //! The acceptance of a record.
 
-ghost use Rattle.std.specs.Prelude.{◌≡◌, ◌++◌, ◌^◌, ◌<◌, ◌≤◌, ℕ, List, Result, Some, Ok, IfOk, IfErr, IsErr, drop, length, slice_get};
+ghost use Rattle.std.specs.Prelude.{◌≡◌, ◌++◌, ◌^◌, ◌<◌, ◌≤◌, ℕ, List, Result, Some, Ok, IfOk, IfErr, IsErr, IsPermutation, drop, length, slice_get};
 ghost use Rattle.packet_headers.specs.Link.{IsLinkType, IsIpVersion, link_part};
 ghost use Rattle.packet_headers.specs.Shown.{link_shown};
 ghost use Rattle.pcap_reader.specs.File.{CaptureFile};
@@ -104,4 +104,5 @@ pub fn packets_law()
     ensures at { (file : CaptureFile) (n : ℕ) (rec : PacketRecord) → slice_get (records_of file) n ≡ Some rec → slice_get (answers_of file) n ≡ Some (accepted file.link file.nanos rec n) }
     ensures count { (file : CaptureFile) → length (answers_of file) ≡ length (records_of file) }
     ensures together { (answers others : List (Result Packet Ignored)) → packets_in (answers ++ others) ≡ packets_in answers ++ packets_in others }
+    ensures permuted { (answers others : List (Result Packet Ignored)) → IsPermutation answers others → IsPermutation (packets_in answers) (packets_in others) }
 {}

@@ -18,3 +18,6 @@ mod transport;
 pub use acceptance::{accept, packets_law};
 pub use ignored::Ignored;
 pub use packet::Packet;
+
+#[cfg(test)]
+mod tests;

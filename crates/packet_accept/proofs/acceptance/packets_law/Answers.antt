@@ -1,5 +1,5 @@
 -- The laws, as they are proved of the definitions.
-use Rattle.packet_accept.proofs.Answers.{answer-placed, answers_count, packets_together}
+use Rattle.packet_accept.proofs.FileAnswers.{answer-placed, answers_count, packets_together, packets_permuted}
 use Rattle.packet_accept.proofs.acceptance.packets_law.Goals as goal
 
 pub returns-clause-at : goal.returns-clause-at
@@ -10,3 +10,6 @@ returns-clause-count c = answers_count
 
 pub returns-clause-together : goal.returns-clause-together
 returns-clause-together c = packets_together
+
+pub returns-clause-permuted : goal.returns-clause-permuted
+returns-clause-permuted c = packets_permuted

@@ -1,5 +1,5 @@
 -- The answers to the records of a file.
-use Rattle.std.proofs.Common.{◌≡◌, ℕ, ◌+◌, List, [], ◌∷◌, ◌++◌, Result, add-zero, zero, suc, length, map, Some, refl, arith, slice_get}
+use Rattle.std.proofs.Common.{◌≡◌, ℕ, ◌+◌, List, [], ◌∷◌, ◌++◌, Result, add-zero, zero, suc, length, map, Some, refl, arith, slice_get, IsPermutation}
 use Rattle.std.specs.List.{enumerate_from}
 use Rattle.std.specs.Result.{result_ok}
 use Rattle.std.proofs.lemmas.Grind.{common_steps}
@@ -9,6 +9,7 @@ use Rattle.pcap_reader.specs.Records.{PacketRecord, records_of}
 use Rattle.packet_accept.specs.declared.packet.Packet.{Packet}
 use Rattle.packet_accept.specs.declared.ignored.Ignored.{Ignored}
 use Rattle.packet_accept.specs.Acceptance.{accepted}
+use Rattle.packet_accept.proofs.Permuted.{filter_map-permutation}
 use Rattle.packet_accept.specs.Packets.{answer_to, answers_of, packets_in}
 
 -- as many answers as there are elements
@@ -39,3 +40,6 @@ answers_count file = length-answers (answer_to file) 0 (records_of file)
 
 pub packets_together : (answers others : List (Result Packet Ignored)) → packets_in (answers ++ others) ≡ packets_in answers ++ packets_in others
 packets_together answers others = filter_map-append result_ok answers others
+
+pub packets_permuted : (answers others : List (Result Packet Ignored)) → IsPermutation answers others → IsPermutation (packets_in answers) (packets_in others)
+packets_permuted answers others same = filter_map-permutation result_ok answers others same
