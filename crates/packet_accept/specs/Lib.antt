@@ -3,3 +3,4 @@ pub mod Key
 pub mod Acceptance
 pub mod Shown
 pub mod Packets
+pub mod Clock

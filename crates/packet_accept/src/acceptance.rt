@@ -1,18 +1,13 @@
 //! The acceptance of a record.
 
-ghost use Rattle.std.specs.Prelude.{◌≡◌, ◌++◌, ◌^◌, ◌<◌, ◌≤◌, ℕ, List, Result, Some, Ok, IfOk, IfErr, IsErr, IsPermutation, drop, length, slice_get};
+ghost use Rattle.std.specs.Prelude.{◌≡◌, ◌^◌, ◌<◌, IfOk, IfErr, drop};
 ghost use Rattle.packet_headers.specs.Link.{IsLinkType, IsIpVersion, link_part};
 ghost use Rattle.packet_headers.specs.Shown.{link_shown};
-ghost use Rattle.pcap_reader.specs.File.{CaptureFile};
-ghost use Rattle.pcap_reader.specs.Records.{PacketRecord, records_of};
 ghost use Rattle.pcap_reader.specs.Views.{file_of, record_read};
-ghost use Rattle.packet_accept.specs.declared.packet.Packet.{Packet};
-ghost use Rattle.packet_accept.specs.declared.ignored.Ignored.{Ignored};
 ghost use Rattle.packet_accept.specs.Cause.{or_cause};
 ghost use Rattle.packet_accept.specs.Key.{key_of};
 ghost use Rattle.packet_accept.specs.Acceptance.{accepted, time_of};
 ghost use Rattle.packet_accept.specs.Shown.{ip_shown, transport_shown};
-ghost use Rattle.packet_accept.specs.Packets.{answers_of, packets_in};
 
 use crate::ignored::Ignored;
 use crate::ip::{Ip, ip_of};
@@ -33,6 +28,7 @@ use pcap_reader::{Capture, Record};
 /// - `ShortTransport`: fewer than 14 octets of TCP, or 4 of UDP, lie in the packet and were captured.
 ///
 /// Takes no memory, and copies no captured byte.
+#[inline]
 #[tactic(auto, unfolding(crate::specs::Acceptance::accepted))]
 pub fn accept(capture: &Capture<'_>, rec: &Record<'_>, n: u64) -> Result<Packet, Ignored>
     ensures answer { let file = file_of capture.now in result ≡ accepted file.link file.nanos (record_read rec.now) n }
@@ -55,6 +51,7 @@ pub fn accept(capture: &Capture<'_>, rec: &Record<'_>, n: u64) -> Result<Packet,
 }
 
 /// The time in whole milliseconds, of seconds and a fraction in nanoseconds or microseconds.
+#[inline]
 #[tactic(auto, unfolding(crate::specs::Acceptance::time_of))]
 fn time_of(nanos: bool, seconds: u32, fraction: u32) -> Result<u64, Ignored>
     ensures value { result ≡ time_of nanos seconds fraction }
@@ -72,6 +69,7 @@ fn time_of(nanos: bool, seconds: u32, fraction: u32) -> Result<u64, Ignored>
 }
 
 /// The link part of a frame.
+#[inline]
 fn link_of(link: u32, captured: &[u8]) -> Result<LinkView<'_>, Ignored>
     requires { IsLinkType link }
     ensures fields { IfOk result (λ view. or_cause (link_part link captured.now) ≡ Ok (link_shown view)) }
@@ -84,6 +82,7 @@ fn link_of(link: u32, captured: &[u8]) -> Result<LinkView<'_>, Ignored>
 }
 
 /// The key of a packet.
+#[inline]
 fn key_of(ip: Ip<'_>, transport: Transport) -> FlowKey
     requires version { IsIpVersion ip.version }
     requires narrow { ip.version ≡ 4 → (ip.source < 2 ^ 32) × (ip.destination < 2 ^ 32) }
@@ -98,11 +97,3 @@ fn key_of(ip: Ip<'_>, transport: Transport) -> FlowKey
         destination_port: transport.destination_port,
     }
 }
-
-/// Laws on the answers to a file's records and on the packets among them. The call does nothing.
-pub fn packets_law()
-    ensures at { (file : CaptureFile) (n : ℕ) (rec : PacketRecord) → slice_get (records_of file) n ≡ Some rec → slice_get (answers_of file) n ≡ Some (accepted file.link file.nanos rec n) }
-    ensures count { (file : CaptureFile) → length (answers_of file) ≡ length (records_of file) }
-    ensures together { (answers others : List (Result Packet Ignored)) → packets_in (answers ++ others) ≡ packets_in answers ++ packets_in others }
-    ensures permuted { (answers others : List (Result Packet Ignored)) → IsPermutation answers others → IsPermutation (packets_in answers) (packets_in others) }
-{}

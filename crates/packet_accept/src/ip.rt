@@ -32,6 +32,7 @@ pub struct Ip<'a> {
 
 /// The packet of this version at the front of `rest`, where the frame's original length leaves `original`
 /// octets for it.
+#[inline]
 #[tactic(auto, unfolding(crate::specs::Acceptance::ip_part))]
 pub fn ip_of(version: u8, rest: &[u8], original: u64) -> Result<Ip<'_>, Ignored>
     requires { IsIpVersion version }
@@ -48,6 +49,7 @@ pub fn ip_of(version: u8, rest: &[u8], original: u64) -> Result<Ip<'_>, Ignored>
 }
 
 /// The IPv4 packet at the front of `rest`.
+#[inline]
 fn ipv4_of(rest: &[u8], original: u64) -> Result<Ip<'_>, Ignored>
     ensures fields { IfOk result (λ ip. or_cause (ipv4_part rest.now original) ≡ Ok (ip_shown ip)) }
     ensures fault { IfErr result (λ cause. or_cause (ipv4_part rest.now original) ≡ Err cause) }
@@ -68,6 +70,7 @@ fn ipv4_of(rest: &[u8], original: u64) -> Result<Ip<'_>, Ignored>
 }
 
 /// The IPv6 packet at the front of `rest`.
+#[inline]
 fn ipv6_of(rest: &[u8], original: u64) -> Result<Ip<'_>, Ignored>
     ensures fields { IfOk result (λ ip. or_cause (ipv6_part rest.now original) ≡ Ok (ip_shown ip)) }
     ensures fault { IfErr result (λ cause. or_cause (ipv6_part rest.now original) ≡ Err cause) }

@@ -6,17 +6,19 @@
 //!
 //! `specs/Acceptance.antt` says in one page which answer a record gets, in terms of the headers' fields, and
 //! `specs/Packets.antt` which packets a capture file has: those of its records, in file order, each numbered by
-//! its record's place.
+//! its record's place. [`packets_law`] and [`clock_law`] say how packets and their clock are put together.
 #![tactic(auto)]
 
 mod acceptance;
 mod ignored;
 mod ip;
+mod laws;
 mod packet;
 mod transport;
 
-pub use acceptance::{accept, packets_law};
+pub use acceptance::accept;
 pub use ignored::Ignored;
+pub use laws::{clock_law, packets_law};
 pub use packet::Packet;
 
 #[cfg(test)]

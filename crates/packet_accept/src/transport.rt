@@ -32,6 +32,7 @@ pub struct Transport {
 }
 
 /// The ports and the control bits, each 0 where the packet has none.
+#[inline]
 #[tactic(auto, unfolding(crate::specs::Acceptance::transport_part))]
 pub fn transport_of(ip: &Ip<'_>) -> Result<Transport, Ignored>
     ensures fields { IfOk result (λ transport. transport_part (ip_shown ip.now) ≡ Ok (transport_shown transport)) }
@@ -48,6 +49,7 @@ pub fn transport_of(ip: &Ip<'_>) -> Result<Transport, Ignored>
 }
 
 /// The ports and the control bits of TCP.
+#[inline]
 fn tcp_of(payload: &[u8]) -> Result<Transport, Ignored>
     ensures fields { IfOk result (λ transport. or_short_transport (tcp_part payload.now) ≡ Ok (transport_shown transport)) }
     ensures fault { IfErr result (λ cause. or_short_transport (tcp_part payload.now) ≡ Err cause) }
@@ -63,6 +65,7 @@ fn tcp_of(payload: &[u8]) -> Result<Transport, Ignored>
 }
 
 /// The ports of UDP, which has no control bits.
+#[inline]
 fn udp_of(payload: &[u8]) -> Result<Transport, Ignored>
     ensures fields { IfOk result (λ transport. or_short_transport (udp_part payload.now) ≡ Ok (transport_shown transport)) }
     ensures fault { IfErr result (λ cause. or_short_transport (udp_part payload.now) ≡ Err cause) }
