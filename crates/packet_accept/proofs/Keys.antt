@@ -1,7 +1,6 @@
 -- A key is known by its fields, and so it is the one of the packet that has these fields.
-use Rattle.std.proofs.Common.{◌≡◌, ◌≢◌, ◌==◌, ◌%◌, ◌<◌, ◌^◌, ℕ, Bool, true, false, refl, sym, ◌∙◌, if◌then◌else◌, arith, eqb→eq}
+use Rattle.std.proofs.Common.{◌≡◌, ◌≢◌, ◌==◌, ◌%◌, ◌<◌, ◌^◌, ℕ, Bool, true, false, refl, sym, ◌∙◌, if◌then◌else◌, arith}
 use Rattle.std.proofs.Math.Nat.{mod-eq_of_lt}
-use Rattle.std.proofs.lemmas.Grind.{common_steps}
 use mathlib.Core.HLevel.{is_prop→PathP}
 use Rattle.std.proofs.Props.{props}
 use Rattle.flow_key.specs.declared.key.FlowKey.{FlowKey}
