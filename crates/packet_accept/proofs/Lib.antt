@@ -1,0 +1,4 @@
+pub mod Keys
+pub mod FileAnswers
+pub mod Permuted
+pub mod Clocks

@@ -1,0 +1,31 @@
+ghost use Rattle.std.specs.Prelude.{◌≡◌};
+ghost use Rattle.packet_accept.specs.Cause.{cause_of};
+
+use packet_headers::HeaderFault;
+
+/// Why a record gives no packet: the first cause in the order of the checks.
+#[derive(Clone, Copy, Debug, PartialEq, Eq)]
+pub enum Ignored {
+    /// The frame holds no IP packet.
+    NotIp = 1,
+    /// The link part, the IP header or an extension header ends behind what was captured of the packet.
+    Short = 2,
+    /// The IP header's fields contradict each other, or its packet is longer than 16,777,215 octets.
+    BadHeader = 3,
+    /// The TCP or UDP header's fields end behind what was captured of the packet.
+    ShortTransport = 4,
+    /// The fraction of the record's time is a second or more.
+    BadTime = 5,
+}
+
+impl From<HeaderFault> for Ignored {
+    ghost from_gives = { λ fault cause. cause ≡ cause_of fault };
+
+    fn from(fault: HeaderFault) -> Ignored {
+        match fault {
+            HeaderFault::Short => Ignored::Short,
+            HeaderFault::NotIp => Ignored::NotIp,
+            HeaderFault::BadHeader => Ignored::BadHeader,
+        }
+    }
+}

@@ -1,0 +1,28 @@
+//! Laws on the definitions, for proofs above. The calls do nothing.
+
+ghost use Rattle.std.specs.Prelude.{◌≡◌, ◌++◌, ℕ, List, Option, Result, Some, IsPermutation, length, slice_get};
+ghost use Rattle.pcap_reader.specs.File.{CaptureFile};
+ghost use Rattle.pcap_reader.specs.Records.{PacketRecord, records_of};
+ghost use Rattle.packet_accept.specs.declared.packet.Packet.{Packet};
+ghost use Rattle.packet_accept.specs.declared.ignored.Ignored.{Ignored};
+ghost use Rattle.packet_accept.specs.Acceptance.{accepted};
+ghost use Rattle.packet_accept.specs.Packets.{answers_of, packets_in};
+ghost use Rattle.packet_accept.specs.Clock.{IsClock, later};
+
+/// A file has one answer for each of its records, at the record's place. The packets among two lists of answers
+/// together are those among the one and those among the other, and the order of the answers is that of the packets.
+pub fn packets_law()
+    ensures count { (file : CaptureFile) → length (answers_of file) ≡ length (records_of file) }
+    ensures place { (file : CaptureFile) (n : ℕ) (rec : PacketRecord) → slice_get (records_of file) n ≡ Some rec
+        → slice_get (answers_of file) n ≡ Some (accepted file.link file.nanos rec n) }
+    ensures together { (answers others : List (Result Packet Ignored))
+        → packets_in (answers ++ others) ≡ packets_in answers ++ packets_in others }
+    ensures permuted { (answers others : List (Result Packet Ignored)) → IsPermutation answers others
+        → IsPermutation (packets_in answers) (packets_in others) }
+{}
+
+/// The clock of two lists of packets together is the later of theirs.
+pub fn clock_law()
+    ensures { (packets others : List Packet) (one two : Option ℕ) → IsClock packets one → IsClock others two
+        → IsClock (packets ++ others) (later one two) }
+{}
