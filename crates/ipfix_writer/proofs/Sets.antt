@@ -5,9 +5,10 @@ use Rattle.std.proofs.lemmas.Bool.{eq-eqb}
 use Rattle.std.proofs.lemmas.Bool.Decides.{eqb_tells}
 use Rattle.std.proofs.lemmas.List.{drop-drop, drop_all}
 use Rattle.std.specs.List.{prefix_len}
+use Rattle.ipfix_model.specs.declared.fields.FieldSpec.{FieldSpec}
 use Rattle.record_ledger.specs.declared.record.FlowRecord.{FlowRecord}
 use Rattle.byteorder.specs.Endian.{big_bytes}
-use Rattle.ipfix_writer.specs.Encoding.{set, data_record, record_size, template_of}
+use Rattle.ipfix_writer.specs.Encoding.{set, data_record, field_specifier, record_size, template_of}
 use Rattle.ipfix_writer.specs.Layout.{RecordSet, records_bytes, put_before, sets_of, bytes_of_sets, body_of}
 use Rattle.ipfix_writer.proofs.Sizes.{length-big, length-data_record, length-set}
 
@@ -242,3 +243,19 @@ pub body_of-rest : (flows : List FlowRecord) (done : ℕ) (items start : List �
     → items ++ body_of (drop done flows) ≡ start ++ body_of flows → items ≡ start ++ body_of flows
 unfolding body_of sets_of
 body_of-rest flows done items start past is = sym (append-nil items) ∙ ap (λ fs. items ++ body_of fs) (sym (drop_all done flows past)) ∙ is
+
+-- the field specifier at a place stands in front of those behind it
+pub fields_next : (fields : List FieldSpec) (i : ℕ) (d : FieldSpec) → i < length fields
+    → flat_map field_specifier (drop i fields) ≡ field_specifier (get_or fields i d) ++ flat_map field_specifier (drop (i + 1) fields)
+fields_next fields i d inside =
+    ap (flat_map field_specifier) (drop-cons fields i d inside)
+    ∙ ap (λ n. field_specifier (get_or fields i d) ++ flat_map field_specifier (drop n fields)) (sym (add-one i))
+
+-- one more field specifier was appended
+pub fields-more : (fields : List FieldSpec) (i : ℕ) (d : FieldSpec) (old new start : List ℕ) → i < length fields
+    → new ≡ old ++ field_specifier (get_or fields i d) → old ++ flat_map field_specifier (drop i fields) ≡ start ++ flat_map field_specifier fields
+    → new ++ flat_map field_specifier (drop (i + 1) fields) ≡ start ++ flat_map field_specifier fields
+fields-more fields i d old new start inside is before =
+    ap (λ bs. bs ++ flat_map field_specifier (drop (i + 1) fields)) is
+    ∙ append_assoc old (field_specifier (get_or fields i d)) (flat_map field_specifier (drop (i + 1) fields))
+    ∙ ap (λ bs. old ++ bs) (sym (fields_next fields i d inside)) ∙ before

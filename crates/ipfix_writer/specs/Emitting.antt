@@ -1,10 +1,10 @@
 -- An emitter between its calls.
-use Rattle.std.specs.Prelude.{◌≡◌, ℕ, ◌+◌, ◌-◌, ◌%◌, ◌^◌, ◌==◌, if◌then◌else◌, min, List, [], ◌∷◌, ◌++◌, length, Option, Some, None}
+use Rattle.std.specs.Prelude.{◌≡◌, ℕ, ◌<◌, ◌≤◌, ◌/◌, ◌+◌, ◌-◌, ◌%◌, ◌^◌, ◌==◌, if◌then◌else◌, min, List, [], ◌∷◌, ◌++◌, length, Option, Some, None}
 use Rattle.record_ledger.specs.declared.record.FlowRecord.{FlowRecord}
 use Rattle.ipfix_writer.specs.declared.emitter.Phase.{Phase}
-use Rattle.ipfix_writer.specs.declared.emitter.Phase.TheVariants.{Started}
+use Rattle.ipfix_writer.specs.declared.emitter.Phase.TheVariants.{Fresh, Started}
 use Rattle.ipfix_writer.specs.Encoding.{template_message, template_of}
-use Rattle.ipfix_writer.specs.Layout.{AreFilled, data_messages, together}
+use Rattle.ipfix_writer.specs.Layout.{AreFilled, data_messages, together, message_length}
 
 -- What contracts see of an emitter: the message size, the export time, how far it came, the records that wait for
 -- their message to be full, the sequence number of that message, and how many messages were written.
@@ -38,7 +38,21 @@ pub record IsUnderWay (emitter : EmitterState) (flows : List FlowRecord) (writte
   pub parts : List (List FlowRecord)
   pub started : emitter.phase ≡ Started
   pub whole : together parts ++ emitter.waiting ≡ flows
+  pub begun : emitter.waiting ≡ [] → parts ≡ []
   pub filled : AreFilled emitter.size (parts ++ waiting_part emitter.waiting)
   pub bytes : written ≡ template_message emitter.export_time ++ data_messages emitter.export_time 0 parts
   pub sequence : emitter.sequence ≡ length (together parts) % 2 ^ 32
   pub messages : emitter.messages ≡ min (1 + length parts) (2 ^ 64 - 1)
+
+-- What an emitter keeps of its fields: the room for a message and its records, the length of the message that waits,
+-- and the template of its last record.
+pub record EmitterKeeps (size : ℕ) (phase : Phase) (waiting : List FlowRecord) (sequence messages length_of_message : ℕ) (template : Option ℕ)
+    (room_of_bytes room_of_records : ℕ) : Type 0 where
+  pub least : 116 ≤ size
+  pub most : size < 2 ^ 16
+  pub exact : length_of_message ≡ message_length waiting
+  pub within : length_of_message ≤ size
+  pub last : template ≡ last_template waiting
+  pub bytes : size ≤ room_of_bytes
+  pub records : size / 48 ≤ room_of_records
+  pub fresh : phase ≡ Fresh → (waiting ≡ []) × (sequence ≡ 0) × (messages ≡ 0)

@@ -1,5 +1,5 @@
 -- The layout of records as a stream of messages.
-use Rattle.std.specs.Prelude.{◌≡◌, ℕ, ◌+◌, ◌%◌, ◌^◌, ◌<◌, ◌≤◌, ◌==◌, if◌then◌else◌, List, [], ◌∷◌, ◌++◌, length, take, flat_map}
+use Rattle.std.specs.Prelude.{◌≡◌, ℕ, ◌+◌, ◌%◌, ◌^◌, ◌-◌, min, ◌<◌, ◌≤◌, ◌==◌, if◌then◌else◌, List, [], ◌∷◌, ◌++◌, length, take, flat_map}
 use Rattle.record_ledger.specs.declared.record.FlowRecord.{FlowRecord}
 use Rattle.ipfix_writer.specs.Encoding.{message, set, template_message, template_of, data_record}
 
@@ -63,6 +63,11 @@ pub record IsLayout (size export_time : ℕ) (flows : List FlowRecord) (bytes : 
   pub whole : together parts ≡ flows
   pub filled : AreFilled size parts
   pub written : bytes ≡ template_message export_time ++ data_messages export_time 0 parts
+
+-- The bytes are the layout of the records in so many messages, the template message among them.
+pub record IsLayoutOf (size export_time : ℕ) (flows : List FlowRecord) (bytes : List ℕ) (messages : ℕ) : Type 0 where
+  pub layout : IsLayout size export_time flows bytes
+  pub count : messages ≡ min (1 + length layout.parts) (2 ^ 64 - 1)
 
 -- The bytes are the beginning of the layout of the records.
 pub record BeginsLayout (size export_time : ℕ) (flows : List FlowRecord) (bytes : List ℕ) : Type 0 where

@@ -26,6 +26,7 @@ const OBSERVATION_DOMAIN: u32 = 1;
 pub fn append_message_header(buffer: &mut Vec<u8>, size: u16, export_time: u32, sequence: u32)
     requires { length buffer.old.items + 16 ≤ vec_capacity buffer.old }
     ensures items { buffer.new.items ≡ buffer.old.items ++ message_header size export_time sequence }
+    ensures longer { length buffer.new.items ≡ length buffer.old.items + 16 }
     ensures room { vec_capacity buffer.old ≤ vec_capacity buffer.new }
 {
     append_u16(buffer, VERSION);

@@ -4,7 +4,8 @@
 mod body;
 mod emitter;
 mod encode;
+mod message;
 mod numbers;
 
-pub use body::{append_body, append_message_header};
-pub use emitter::Phase;
+pub use emitter::{Emitter, Phase};
+pub use message::{encode_message, encode_template_message};
