@@ -1,5 +1,8 @@
 -- An emitter from call to call.
-use Rattle.std.proofs.Common.{◌≡◌, ◌≤◌, ◌<◌, ◌+◌, ◌-◌, ◌*◌, ◌/◌, ◌%◌, ◌^◌, min, ℕ, List, [], ◌∷◌, ◌++◌, length, take, drop, refl, sym, ap, ◌∙◌, subst, arith, append-nil, append_assoc, length-append, take-append-drop, Option, Some, None, Bool, true, false, ◌==◌, eqb-true}
+use Rattle.std.proofs.Common.{◌≡◌, ◌≤◌, ◌<◌, ◌+◌, ◌-◌, ◌*◌, ◌/◌, ◌%◌, ◌^◌, min, ℕ, List, [], ◌∷◌, ◌++◌, length, take, drop, refl, sym, ap, ◌∙◌, subst, arith, append-nil, append_assoc, length-append, take-append-drop, Option, Some, None, Bool, true, false, ◌==◌, eqb-true, suc, get_or, add-one, Result, Ok, Err}
+use Rattle.std.specs.Prelude.{IfOk, OnErr}
+use Rattle.std.proofs.Math.Seq.{drop-cons, take-suc}
+use Rattle.std.proofs.lemmas.List.{take_all}
 use Rattle.std.proofs.lemmas.Bool.{eq-eqb}
 use Rattle.std.proofs.Math.Nat.{mod-add-div', add-mul-mod_self_right}
 use Rattle.std.specs.Io.KnownBytes.{Appends}
@@ -264,3 +267,27 @@ is_nil (flow ∷ flows) count counted test = absurd (omega (arith, counted, eqb-
 pub some-left : (flows waiting : List FlowRecord) (count : ℕ) → length flows ≡ count → (count == 0) ≡ false → flows ≡ waiting → 0 < length waiting
 some-left [] waiting count counted test is = absurd (differ (sym (eq-eqb count 0 (sym counted)) ∙ test))
 some-left (flow ∷ flows) waiting count counted test is = omega (arith, ap length is)
+
+-- records up to a place, the one there, and those behind it
+pub taken-one : (records : List FlowRecord) (i : ℕ) (flow : FlowRecord) → i < length records → flow ≡ get_or records i flow
+    → take i records ++ flow ∷ [] ≡ take (i + 1) records
+taken-one records i flow inside is =
+    ap (λ f. take i records ++ f ∷ []) is ∙ sym (take-suc records i flow inside) ∙ ap (λ n. take n records) (sym (add-one i))
+
+pub records-split : (records : List FlowRecord) (i : ℕ) (flow : FlowRecord) → i < length records → flow ≡ get_or records i flow
+    → take i records ++ flow ∷ drop (i + 1) records ≡ records
+records-split records i flow inside is =
+    ap (λ fs. take i records ++ fs) (ap (λ n. flow ∷ drop n records) (add-one i) ∙ ap (λ f. f ∷ drop (suc i) records) is ∙ sym (drop-cons records i flow inside))
+    ∙ take-append-drop i records
+
+pub all-taken : (records : List FlowRecord) (i : ℕ) → length records ≤ i → take i records ≡ records
+all-taken records i past = take_all i records past
+
+-- a fact of an outcome, under another
+pub on_ok : {T E : Type 0} {P Q : T → Type 0} (r : Result T E) → IfOk r P → ((x : T) → P x → Q x) → IfOk r Q
+on_ok (Ok x) h f = f x h
+on_ok (Err e) h f = tt
+
+pub on_err : {T E : Type 0} {P Q : Type 0} (r : Result T E) → OnErr r P → (P → Q) → OnErr r Q
+on_err (Ok x) h f = tt
+on_err (Err e) h f = f h
