@@ -1,9 +1,9 @@
 -- Messages that are filled one after the other.
-use Rattle.std.proofs.Common.{◌≡◌, ◌≤◌, ◌<◌, ◌+◌, ◌%◌, ◌^◌, ◌⊎◌, inl, inr, ℕ, zero, suc, List, [], ◌∷◌, ◌++◌, length, flat_map, take, refl, sym, ap, ◌∙◌, subst, arith, length-append, append_assoc, append-nil, add-zero, zero-add, add_assoc}
+use Rattle.std.proofs.Common.{◌≡◌, ◌≤◌, ◌<◌, ◌+◌, ◌%◌, ◌^◌, inl, inr, ℕ, List, [], ◌∷◌, ◌++◌, length, refl, sym, ap, ◌∙◌, subst, arith, length-append, append_assoc, append-nil, add-zero, zero-add, add_assoc}
 use Rattle.std.proofs.lemmas.Bool.{cases_lt}
 use Rattle.record_ledger.specs.declared.record.FlowRecord.{FlowRecord}
 use Rattle.ipfix_writer.specs.Encoding.{message, template_message}
-use Rattle.ipfix_writer.specs.Layout.{body_of, message_length, AreFilled, data_messages, together, IsLayout, BeginsLayout}
+use Rattle.ipfix_writer.specs.Layout.{body_of, message_length, AreFilled, data_messages, together, BeginsLayout}
 use Rattle.ipfix_writer.proofs.Lengths.{message_length-snoc, message_length-nil, record_size-bounds}
 
 -- one more record in the last message, where it fits
@@ -55,17 +55,18 @@ tail_from : (size : ℕ) (parts : List (List FlowRecord)) (first : FlowRecord) (
     → AreFilled size (parts ++ (first ∷ flows) ∷ []) → TailFrom size parts (first ∷ flows) rest
 tail_from size parts first flows [] room filled = record { tail = (first ∷ flows) ∷ []; whole = refl; filled = filled }
 tail_from size parts first flows (flow ∷ rest) room filled = elim (cases_lt size (message_length ((first ∷ flows) ++ flow ∷ []))) [
-  inl full ↦
-    (let next = filled-next size parts (first ∷ flows) flow filled full (alone-fits size flow room) in
-    let later = tail_from size (parts ++ (first ∷ flows) ∷ []) flow [] rest room next in
-    record {
-      tail = (first ∷ flows) ∷ later.tail;
-      whole = ap (λ fs. (first ∷ flows) ++ fs) later.whole;
-      filled = subst (AreFilled size) (append_assoc parts ((first ∷ flows) ∷ []) later.tail) later.filled;
-    })
+  | inl full ↦
+      (let next = filled-next size parts (first ∷ flows) flow filled full (alone-fits size flow room) in
+      let later = tail_from size (parts ++ (first ∷ flows) ∷ []) flow [] rest room next in
+      record {
+        tail = (first ∷ flows) ∷ later.tail;
+        whole = ap (λ fs. (first ∷ flows) ++ fs) later.whole;
+        filled = subst (AreFilled size) (append_assoc parts ((first ∷ flows) ∷ []) later.tail) later.filled;
+      })
   | inr fits ↦
-    (let later = tail_from size parts first (flows ++ flow ∷ []) rest room (filled-more size parts first flows flow filled fits) in
-    record { tail = later.tail; whole = later.whole ∙ append_assoc (first ∷ flows) (flow ∷ []) rest; filled = later.filled }) ]
+      (let later = tail_from size parts first (flows ++ flow ∷ []) rest room (filled-more size parts first flows flow filled fits) in
+      record { tail = later.tail; whole = later.whole ∙ append_assoc (first ∷ flows) (flow ∷ []) rest; filled = later.filled })
+]
 
 -- the data messages of some parts, and of those behind them
 pub data_messages-append : (export_time before : ℕ) (parts others : List (List FlowRecord))
@@ -83,7 +84,7 @@ data_messages-append export_time before (part ∷ parts) others =
 -- the message of the records that wait, behind those before them
 pub data_messages-last : (export_time : ℕ) (parts : List (List FlowRecord)) (waiting : List FlowRecord)
     → data_messages export_time 0 (parts ++ waiting ∷ [])
-      ≡ data_messages export_time 0 parts ++ message export_time (length (together parts) % 2 ^ 32) (body_of waiting)
+    ≡ data_messages export_time 0 parts ++ message export_time (length (together parts) % 2 ^ 32) (body_of waiting)
 unfolding data_messages
 data_messages-last export_time parts waiting =
     data_messages-append export_time 0 parts (waiting ∷ [])
@@ -108,10 +109,10 @@ begins-parts size export_time parts first flows rest bytes more room filled is =
         written = refl;
       };
       begins =
-        ap (λ bs. template_message export_time ++ bs) (data_messages-append export_time 0 parts later.tail)
-        ∙ sym (append_assoc (template_message export_time) (data_messages export_time 0 parts) tail_bytes)
-        ∙ ap (λ bs. bs ++ tail_bytes) is
-        ∙ append_assoc bytes more tail_bytes;
+          ap (λ bs. template_message export_time ++ bs) (data_messages-append export_time 0 parts later.tail)
+          ∙ sym (append_assoc (template_message export_time) (data_messages export_time 0 parts) tail_bytes)
+          ∙ ap (λ bs. bs ++ tail_bytes) is
+          ∙ append_assoc bytes more tail_bytes;
     }
 
 -- the bytes of a beginning of the template message begin every layout
@@ -126,4 +127,4 @@ begins-start size export_time [] bytes more room is = record {
 }
 begins-start size export_time (flow ∷ flows) bytes more room is =
     begins-parts size export_time [] flow [] flows bytes more room (omega arith, alone-fits size flow room)
-      (append-nil (template_message export_time) ∙ is)
+    (append-nil (template_message export_time) ∙ is)

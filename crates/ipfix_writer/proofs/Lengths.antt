@@ -1,5 +1,5 @@
 -- The length of a message that takes in one more record.
-use Rattle.std.proofs.Common.{◌≡◌, ◌≤◌, ◌<◌, ◌+◌, ◌*◌, ◌==◌, ℕ, zero, suc, Bool, true, false, cond, List, [], ◌∷◌, ◌++◌, length, if◌then◌else◌, Option, Some, None, refl, sym, ap, ◌∙◌, subst, arith, length-append, append-nil}
+use Rattle.std.proofs.Common.{◌≡◌, ◌≤◌, ◌+◌, ◌*◌, ◌==◌, ℕ, Bool, true, false, List, [], ◌∷◌, ◌++◌, length, if◌then◌else◌, Some, refl, arith, length-append}
 use Rattle.record_ledger.specs.declared.record.FlowRecord.{FlowRecord}
 use Rattle.ipfix_writer.specs.Encoding.{set, data_record, record_size, template_of}
 use Rattle.ipfix_writer.specs.Layout.{RecordSet, put_before, sets_of, bytes_of_sets, body_of, message_length}
@@ -23,7 +23,7 @@ header_for template (first ∷ sets) = header_between template first.template
 
 length-put_before-if : (b : Bool) (template : ℕ) (bytes : List ℕ) (first : RecordSet) (sets : List RecordSet)
     → length (bytes_of_sets (if b then record { template = template; records = bytes ++ first.records } ∷ sets else record { template = template; records = bytes } ∷ (first ∷ sets)))
-      ≡ length bytes + (if b then 0 else 4) + length (bytes_of_sets (first ∷ sets))
+    ≡ length bytes + (if b then 0 else 4) + length (bytes_of_sets (first ∷ sets))
 length-put_before-if true template bytes first sets =
     let whole = length-append (set template (bytes ++ first.records)) (bytes_of_sets sets) in
     let own = length-append (set first.template first.records) (bytes_of_sets sets) in

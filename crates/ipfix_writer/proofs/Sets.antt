@@ -1,5 +1,5 @@
 -- Records and sets of a list of flows, from the front.
-use Rattle.std.proofs.Common.{◌≡◌, ◌≢◌, ◌≤◌, ◌<◌, ◌+◌, ◌*◌, ◌==◌, ℕ, zero, suc, Bool, true, false, cond, IsTrue, List, [], ◌∷◌, ◌++◌, length, flat_map, take, drop, take_while, if◌then◌else◌, refl, sym, ap, ◌∙◌, subst, arith, length-append, append_assoc, append-nil, get_or, add-one, eqb-true, inl, inr, ◌⊎◌}
+use Rattle.std.proofs.Common.{◌≡◌, ◌≤◌, ◌<◌, ◌+◌, ◌*◌, ◌==◌, ℕ, suc, Bool, true, false, cond, List, [], ◌∷◌, ◌++◌, length, flat_map, take, drop, take_while, if◌then◌else◌, refl, sym, ap, ◌∙◌, subst, arith, length-append, append_assoc, append-nil, get_or, add-one, inl, inr, ◌⊎◌}
 use Rattle.std.proofs.Math.Seq.{drop-cons}
 use Rattle.std.proofs.lemmas.Bool.{eq-eqb}
 use Rattle.std.proofs.lemmas.Bool.Decides.{eqb_tells}
@@ -33,8 +33,9 @@ differ e = cc
 -- two numbers that are equal have the same test against a third
 eqb-swapped : (a b c : ℕ) → a ≡ c → (b == c) ≡ false → (a == b) ≡ false
 eqb-swapped a b c is other = elim (eqb_tells a b) [
-  inl same ↦ absurd (differ (sym (eq-eqb b c (sym same.1 ∙ is)) ∙ other))
-  | inr apart ↦ apart.0 ]
+  | inl same ↦ absurd (differ (sym (eq-eqb b c (sym same.1 ∙ is)) ∙ other))
+  | inr apart ↦ apart.0
+]
 
 -- a set of these records
 abbrev set_with : ℕ → List ℕ → RecordSet
@@ -61,7 +62,7 @@ unfolding put_before
 put_before-front template bytes [] = ([], bytes, refl)
 put_before-front template bytes (first ∷ sets) =
     elim (template == first.template) as (λ b. (rest : List RecordSet) × (records : List ℕ)
-      × ((if b then set_with template (bytes ++ first.records) ∷ sets else set_with template bytes ∷ (first ∷ sets)) ≡ set_with template records ∷ rest))
+    × ((if b then set_with template (bytes ++ first.records) ∷ sets else set_with template bytes ∷ (first ∷ sets)) ≡ set_with template records ∷ rest))
     [ true ↦ (sets, bytes ++ first.records, refl) | false ↦ (first ∷ sets, bytes, refl) ]
 
 -- whether a record has this template
@@ -96,7 +97,7 @@ alone template flow is = ap (λ n. set_with n (data_record flow) ∷ []) is ∙ 
 in_first : (template : ℕ) (flow next : FlowRecord) (flows : List FlowRecord) → template_of flow ≡ template
     → HasFirstSet template (next ∷ flows)
     → sets_of (flow ∷ (next ∷ flows))
-      ≡ set_with template (data_record flow ++ records_bytes (take (leading template (next ∷ flows)) (next ∷ flows))) ∷ sets_of (drop (leading template (next ∷ flows)) (next ∷ flows))
+    ≡ set_with template (data_record flow ++ records_bytes (take (leading template (next ∷ flows)) (next ∷ flows))) ∷ sets_of (drop (leading template (next ∷ flows)) (next ∷ flows))
 unfolding sets_of
 in_first template flow next flows is rest =
     let set_of_rest = set_with template (records_bytes (take (leading template (next ∷ flows)) (next ∷ flows))) in
@@ -133,9 +134,10 @@ unfolding sets_of
 first_set template flow [] is = rw (eq-eqb (template_of flow) template is) (alone template flow is)
 first_set template flow (next ∷ flows) is =
     first_set-cases template flow next flows (of_template template next) is refl
-      (elim (eqb_tells (template_of next) template) [
-        inl same ↦ inl (first_set template next flows same.1)
-        | inr apart ↦ inr apart.0 ])
+    (elim (eqb_tells (template_of next) template) [
+      | inl same ↦ inl (first_set template next flows same.1)
+      | inr apart ↦ inr apart.0
+    ])
 
 -- a list that isn't empty is its first element and the others
 first_and_rest : (flows : List FlowRecord) (flow : FlowRecord) → 0 < length flows → flow ≡ get_or flows 0 flow → (rest : List FlowRecord) × (flows ≡ flow ∷ rest)
@@ -170,12 +172,13 @@ leading-size template [] = omega arith
 leading-size template (flow ∷ flows) =
     let rest = leading-size template flows in
     elim (eqb_tells (template_of flow) template) [
-      inl same ↦ rw same.0
-        (length-append (data_record flow) (records_bytes (take (leading template flows) flows))
+      | inl same ↦ rw same.0
+          (length-append (data_record flow) (records_bytes (take (leading template flows) flows))
           ∙ ap (λ n. n + length (records_bytes (take (leading template flows) flows))) (length-data_record flow ∙ size_by_template flow ∙ ap template_size same.1)
           ∙ ap (λ n. template_size template + n) rest
           ∙ one_more_times (leading template flows) (template_size template))
-      | inr apart ↦ rw apart.0 (omega arith) ]
+      | inr apart ↦ rw apart.0 (omega arith)
+    ]
 
 -- what append_set writes in front of the sets that are left
 pub record IsFirstSet (template count size : ℕ) (flows : List FlowRecord) : Type 0 where
@@ -204,8 +207,8 @@ first_set-of flows flow template count some is kind counted =
     let counts : count ≡ leading (template_of flow) all =
     counted ∙ length-take_while template flows ∙ ap (leading template) parts.1 ∙ ap (λ t. leading t all) kind in
     subst (λ list. IsFirstSet template count (record_size flow) list) (sym parts.1)
-      (subst (λ t. IsFirstSet t count (record_size flow) all) (sym kind)
-        (subst (λ n. IsFirstSet (template_of flow) n (record_size flow) all) (sym counts) (first_set-of-list flow parts.0)))
+    (subst (λ t. IsFirstSet t count (record_size flow) all) (sym kind)
+    (subst (λ n. IsFirstSet (template_of flow) n (record_size flow) all) (sym counts) (first_set-of-list flow parts.0)))
 
 -- a number at the end makes a list longer by its bytes
 pub longer_by : (n x : ℕ) (old new : List ℕ) → new ≡ old ++ big_bytes n x → length new ≡ length old + n

@@ -1,16 +1,15 @@
 -- An emitter from call to call.
-use Rattle.std.proofs.Common.{◌≡◌, ◌≤◌, ◌<◌, ◌+◌, ◌-◌, ◌*◌, ◌/◌, ◌%◌, ◌^◌, min, ℕ, List, [], ◌∷◌, ◌++◌, length, take, drop, refl, sym, ap, ◌∙◌, subst, arith, append-nil, append_assoc, length-append, take-append-drop, Option, Some, None, Bool, true, false, ◌==◌, eqb-true, suc, get_or, add-one, Result, Ok, Err}
+use Rattle.std.proofs.Common.{◌≡◌, ◌≤◌, ◌<◌, ◌+◌, ◌-◌, ◌*◌, ◌/◌, ◌%◌, ◌^◌, min, ℕ, List, [], ◌∷◌, ◌++◌, length, take, drop, refl, sym, ap, ◌∙◌, subst, arith, append-nil, append_assoc, length-append, take-append-drop, Option, Some, None, true, false, ◌==◌, eqb-true, suc, get_or, add-one, Result, Ok, Err}
 use Rattle.std.specs.Prelude.{IfOk, OnErr}
 use Rattle.std.proofs.Math.Seq.{drop-cons, take-suc}
 use Rattle.std.proofs.lemmas.List.{take_all}
 use Rattle.std.proofs.lemmas.Bool.{eq-eqb}
 use Rattle.std.proofs.Math.Nat.{mod-add-div', add-mul-mod_self_right}
-use Rattle.std.specs.Io.KnownBytes.{Appends}
 use Rattle.record_ledger.specs.declared.record.FlowRecord.{FlowRecord}
 use Rattle.ipfix_writer.specs.declared.emitter.Phase.{Phase}
 use Rattle.ipfix_writer.specs.declared.emitter.Phase.TheVariants.{Fresh, Started}
 use Rattle.ipfix_writer.specs.Encoding.{message, template_message, template_of, record_size}
-use Rattle.ipfix_writer.specs.Layout.{body_of, message_length, AreFilled, data_messages, together, IsLayout, IsLayoutOf, BeginsLayout}
+use Rattle.ipfix_writer.specs.Layout.{body_of, message_length, AreFilled, data_messages, together, IsLayoutOf, BeginsLayout}
 use Rattle.ipfix_writer.specs.Emitting.{EmitterState, EmitterKeeps, IsUnderWay, waiting_part, last_template, header_before}
 use Rattle.ipfix_writer.proofs.Lengths.{message_length-nil, message_length-snoc, message_length-bound, last_template-snoc}
 use Rattle.ipfix_writer.proofs.Filling.{begins-start, begins-parts, filled-more, filled-next, alone-fits, data_messages-last, together-last}
@@ -54,7 +53,7 @@ pub under_way-start : (size export_time : ℕ) (waiting : List FlowRecord) (sequ
 under_way-start size export_time waiting sequence none zero =
     let E : List FlowRecord → ℕ → EmitterState = λ flows n. record { size = size; export_time = export_time; phase = Started; waiting = flows; sequence = n; messages = 1 } in
     subst (λ flows. IsUnderWay (E flows sequence) [] (template_message export_time)) (sym none)
-      (subst (λ n. IsUnderWay (E [] n) [] (template_message export_time)) (sym zero) (under_way-empty size export_time))
+    (subst (λ n. IsUnderWay (E [] n) [] (template_message export_time)) (sym zero) (under_way-empty size export_time))
 
 -- a part of the template message begins every layout
 pub begins-template : (size export_time : ℕ) (flows : List FlowRecord) (piece : List ℕ) (count : ℕ) → 116 ≤ size
@@ -144,7 +143,7 @@ under_way-more emitter flows written flow way fits = record {
 pub record IsClosed (emitter : EmitterState) (flows : List FlowRecord) (written : List ℕ) (parts : List (List FlowRecord)) : Type 0 where
   pub whole : together (parts ++ emitter.waiting ∷ []) ≡ flows
   pub bytes : written ++ message emitter.export_time emitter.sequence (body_of emitter.waiting)
-    ≡ template_message emitter.export_time ++ data_messages emitter.export_time 0 (parts ++ emitter.waiting ∷ [])
+      ≡ template_message emitter.export_time ++ data_messages emitter.export_time 0 (parts ++ emitter.waiting ∷ [])
 
 pub closed : (emitter : EmitterState) (flows : List FlowRecord) (written : List ℕ) (way : IsUnderWay emitter flows written) → IsClosed emitter flows written way.parts
 closed emitter flows written way =
@@ -152,10 +151,10 @@ closed emitter flows written way =
     record {
       whole = together-last way.parts emitter.waiting ∙ way.whole;
       bytes =
-        ap (λ bs. bs ++ last) way.bytes
-        ∙ append_assoc (template_message emitter.export_time) (data_messages emitter.export_time 0 way.parts) last
-        ∙ ap (λ n. template_message emitter.export_time ++ (data_messages emitter.export_time 0 way.parts ++ message emitter.export_time n (body_of emitter.waiting))) way.sequence
-        ∙ ap (λ bs. template_message emitter.export_time ++ bs) (sym (data_messages-last emitter.export_time way.parts emitter.waiting));
+          ap (λ bs. bs ++ last) way.bytes
+          ∙ append_assoc (template_message emitter.export_time) (data_messages emitter.export_time 0 way.parts) last
+          ∙ ap (λ n. template_message emitter.export_time ++ (data_messages emitter.export_time 0 way.parts ++ message emitter.export_time n (body_of emitter.waiting))) way.sequence
+          ∙ ap (λ bs. template_message emitter.export_time ++ bs) (sym (data_messages-last emitter.export_time way.parts emitter.waiting));
     }
 
 -- the records that wait fill their message
@@ -185,31 +184,31 @@ under_way-next emitter after flows written flow room way full is =
     let parts = way.parts ++ emitter.waiting ∷ [] in
     let count = length-append (together way.parts) emitter.waiting in
     subst (λ e. IsUnderWay e (flows ++ flow ∷ []) (written ++ message emitter.export_time emitter.sequence (body_of emitter.waiting))) (sym is)
-      (record {
-        parts = parts;
-        started = way.started;
-        whole = ap (λ fs. fs ++ flow ∷ []) shut.whole;
-        begun = λ e. absurd (not_empty [] flow e);
-        filled = filled-next emitter.size way.parts emitter.waiting flow (waiting-filled emitter.size way.parts emitter.waiting some way.filled) full (alone-fits emitter.size flow (omega arith));
-        bytes = shut.bytes;
-        sequence = mod_sum emitter.sequence (length emitter.waiting) (length (together way.parts)) way.sequence
+    (record {
+      parts = parts;
+      started = way.started;
+      whole = ap (λ fs. fs ++ flow ∷ []) shut.whole;
+      begun = λ e. absurd (not_empty [] flow e);
+      filled = filled-next emitter.size way.parts emitter.waiting flow (waiting-filled emitter.size way.parts emitter.waiting some way.filled) full (alone-fits emitter.size flow (omega arith));
+      bytes = shut.bytes;
+      sequence = mod_sum emitter.sequence (length emitter.waiting) (length (together way.parts)) way.sequence
           ∙ ap (λ n. n % 4294967296) (sym count ∙ ap length (sym (together-last way.parts emitter.waiting)));
-        messages = omega (arith, way.messages, length-append way.parts (emitter.waiting ∷ []));
-      })
+      messages = omega (arith, way.messages, length-append way.parts (emitter.waiting ∷ []));
+    })
 
 -- a part of the message that was to be written begins every layout that goes on with the record
 pub begins-next : (emitter : EmitterState) (flows : List FlowRecord) (written : List ℕ) (flow : FlowRecord) (rest : List FlowRecord) (count : ℕ) → 116 ≤ emitter.size
     → IsUnderWay emitter flows written → emitter.size < message_length (emitter.waiting ++ flow ∷ [])
     → BeginsLayout emitter.size emitter.export_time (flows ++ flow ∷ rest)
-      (written ++ take count (message emitter.export_time emitter.sequence (body_of emitter.waiting)))
+    (written ++ take count (message emitter.export_time emitter.sequence (body_of emitter.waiting)))
 begins-next emitter flows written flow rest count room way full =
     let shut = closed emitter flows written way in
     let some = some-wait emitter.size emitter.waiting flow (omega arith) full in
     let last = message emitter.export_time emitter.sequence (body_of emitter.waiting) in
     subst (λ fs. BeginsLayout emitter.size emitter.export_time (fs ++ flow ∷ rest) (written ++ take count last)) shut.whole
-      (begins-parts emitter.size emitter.export_time (way.parts ++ emitter.waiting ∷ []) flow [] rest (written ++ take count last) (drop count last) (omega arith)
-        (filled-next emitter.size way.parts emitter.waiting flow (waiting-filled emitter.size way.parts emitter.waiting some way.filled) full (alone-fits emitter.size flow (omega arith)))
-        (sym shut.bytes ∙ ap (λ bs. written ++ bs) (sym (take-append-drop count last)) ∙ sym (append_assoc written (take count last) (drop count last))))
+    (begins-parts emitter.size emitter.export_time (way.parts ++ emitter.waiting ∷ []) flow [] rest (written ++ take count last) (drop count last) (omega arith)
+    (filled-next emitter.size way.parts emitter.waiting flow (waiting-filled emitter.size way.parts emitter.waiting some way.filled) full (alone-fits emitter.size flow (omega arith)))
+    (sym shut.bytes ∙ ap (λ bs. written ++ bs) (sym (take-append-drop count last)) ∙ sym (append_assoc written (take count last) (drop count last))))
 
 -- the layout where no record waits
 pub finished-empty : (emitter : EmitterState) (flows : List FlowRecord) (written : List ℕ) → emitter.waiting ≡ [] → IsUnderWay emitter flows written

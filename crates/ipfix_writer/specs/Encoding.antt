@@ -1,5 +1,5 @@
 -- The bytes of messages, sets and records (RFC 7011, sections 3.1 to 3.4). All numbers stand in network order.
-use Rattle.std.specs.Prelude.{ℕ, ◌+◌, ◌==◌, if◌then◌else◌, List, [], ◌∷◌, ◌++◌, length, flat_map}
+use Rattle.std.specs.Prelude.{ℕ, ◌+◌, ◌==◌, if◌then◌else◌, List, ◌++◌, length, flat_map}
 use Rattle.byteorder.specs.Endian.{big_bytes}
 use Rattle.ipfix_model.specs.declared.fields.FieldSpec.{FieldSpec}
 use Rattle.ipfix_model.specs.Templates.{v4_fields, v6_fields, v4_template, v6_template}

@@ -9,10 +9,7 @@ use crate::encode::{append_data_record, data_record_size, template_number};
 use crate::numbers::{append_u16, append_u32};
 use record_ledger::FlowRecord;
 
-/// The bytes of a message header.
-pub const MESSAGE_HEADER: usize = 16;
-
-/// The bytes of a set header.
+/// The length of a set header, in octets.
 pub const SET_HEADER: usize = 4;
 
 /// The version of IPFIX (RFC 7011, section 3.1).
@@ -41,7 +38,10 @@ pub fn append_message_header(buffer: &mut Vec<u8>, size: u16, export_time: u32, 
 fn run_length(flows: &[FlowRecord], template: u16) -> usize
     ensures { result ≡ length (take_while (λ flow. template_of flow == template) flows.now) }
 {
-    flows.iter().take_while(|flow| template_number(flow) == template).count()
+    flows
+        .iter()
+        .take_while(|flow| template_number(flow) == template)
+        .count()
 }
 
 /// Appends the data records of these flows.

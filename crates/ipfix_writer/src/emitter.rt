@@ -6,6 +6,7 @@ ghost use Rattle.std.specs.Vec.{vec_capacity};
 ghost use Rattle.meter_io.specs.Causes.{HasCause};
 ghost use Rattle.ipfix_writer.specs.Emitting.{header_before};
 
+use crate::body::SET_HEADER;
 use crate::encode::{data_record_size, template_number};
 use crate::message::{encode_message, encode_template_message};
 use meter_io::{Failed, NoMemory, Sink, write_all};
@@ -15,9 +16,6 @@ use std::marker::Model;
 
 /// The length of a message without records, in octets.
 const MESSAGE_HEADER: usize = 16;
-
-/// The length of a set header, in octets.
-const SET_HEADER: usize = 4;
 
 /// The length of the least data record, in octets.
 const LEAST_RECORD: usize = 48;
@@ -68,15 +66,16 @@ impl Model for Emitter {
 
     ghost Value = { EmitterState };
 
-    ghost view = {
-        λ e. record {
-            size = e.size; export_time = e.export_time; phase = e.phase; waiting = e.waiting.items; sequence = e.sequence; messages = e.messages
-        }
-    };
+    ghost view = { λ e. record {
+      size = e.size;
+      export_time = e.export_time;
+      phase = e.phase;
+      waiting = e.waiting.items;
+      sequence = e.sequence;
+      messages = e.messages;
+    } };
 
-    ghost invariant = {
-        λ e. EmitterKeeps e.size e.phase e.waiting.items e.sequence e.messages e.length e.template (vec_capacity e.buffer) (vec_capacity e.waiting)
-    };
+    ghost invariant = { λ e. EmitterKeeps e.size e.phase e.waiting.items e.sequence e.messages e.length e.template (vec_capacity e.buffer) (vec_capacity e.waiting) };
 }
 
 impl Emitter {
@@ -88,9 +87,7 @@ impl Emitter {
     /// An emitter of messages of at most `size` octets, from 116 to 65,535, with this export time in seconds.
     pub fn open(alloc: Global, size: usize, export_time: u32) -> Result<Emitter, NoMemory>
         requires { (116 ≤ size) × (size < 2 ^ 16) }
-        ensures {
-            IfOk result (λ emitter. emitter ≡ record { size = size; export_time = export_time; phase = Phase.Fresh; waiting = []; sequence = 0; messages = 0 })
-        }
+        ensures { IfOk result (λ emitter. emitter ≡ record { size = size; export_time = export_time; phase = Phase.Fresh; waiting = []; sequence = 0; messages = 0 }) }
     {
         let Ok(buffer) = Vec::with_capacity(alloc, size) else {
             return Err(NoMemory);
@@ -114,13 +111,9 @@ impl Emitter {
     /// Writes the message with the templates.
     pub fn start<K: Sink>(&mut self, sink: &mut K) -> Result<(), Failed>
         requires { self.old.phase ≡ Phase.Fresh }
-        ensures started {
-            OnOk result ((bytes : List ℕ) × Appends (K.held sink.old) (K.held sink.new) bytes × IsUnderWay self.new [] bytes)
-        }
-        ensures broken {
-            OnErr result ((bytes : List ℕ) × Appends (K.held sink.old) (K.held sink.new) bytes
-                × ((flows : List FlowRecord) → BeginsLayout self.old.size self.old.export_time flows bytes))
-        }
+        ensures started { OnOk result ((bytes : List ℕ) × Appends (K.held sink.old) (K.held sink.new) bytes × IsUnderWay self.new [] bytes) }
+        ensures broken { OnErr result ((bytes : List ℕ) × Appends (K.held sink.old) (K.held sink.new) bytes
+            × ((flows : List FlowRecord) → BeginsLayout self.old.size self.old.export_time flows bytes)) }
         ensures settings { (self.new.size ≡ self.old.size) × (self.new.export_time ≡ self.old.export_time) }
         ensures phase { OnErr result (self.new.phase ≡ Phase.Broken) }
         ensures cause { HasCause (K.faults sink.old) (K.faults sink.new) result }
@@ -161,25 +154,25 @@ impl Emitter {
     /// Writes the message of the records that wait.
     fn flush<K: Sink>(&mut self, sink: &mut K) -> Result<(), Failed>
         requires { self.old.phase ≡ Phase.Started }
-        ensures written {
-            OnOk result (Appends (K.held sink.old) (K.held sink.new) (message self.old.export_time self.old.sequence (body_of self.old.waiting)))
-        }
-        ensures after {
-            OnOk result (self.new ≡ record self.old {
-                waiting = [];
-                sequence = (self.old.sequence + length self.old.waiting) % 2 ^ 32;
-                messages = min (self.old.messages + 1) (2 ^ 64 - 1);
-            })
-        }
-        ensures prefix {
-            OnErr result ((count : ℕ) × Appends (K.held sink.old) (K.held sink.new)
-                (take count (message self.old.export_time self.old.sequence (body_of self.old.waiting))))
-        }
+        ensures written { OnOk result (Appends (K.held sink.old) (K.held sink.new) (message self.old.export_time self.old.sequence (body_of self.old.waiting))) }
+        ensures after { OnOk result (self.new ≡ record self.old {
+          waiting = [];
+          sequence = (self.old.sequence + length self.old.waiting) % 2 ^ 32;
+          messages = min (self.old.messages + 1) (2 ^ 64 - 1);
+        }) }
+        ensures prefix { OnErr result ((count : ℕ) × Appends (K.held sink.old) (K.held sink.new)
+            (take count (message self.old.export_time self.old.sequence (body_of self.old.waiting)))) }
         ensures broken { OnErr result (self.new ≡ record self.old { phase = Phase.Broken }) }
         ensures cause { HasCause (K.faults sink.old) (K.faults sink.new) result }
     {
         let count = self.waiting.len() as u32;
-        encode_message(&mut self.buffer, self.waiting.as_slice(), self.length, self.export_time, self.sequence);
+        encode_message(
+            &mut self.buffer,
+            self.waiting.as_slice(),
+            self.length,
+            self.export_time,
+            self.sequence,
+        );
         match write_all(sink, self.buffer.as_slice()) {
             Ok(()) => {
                 self.sequence = self.sequence.wrapping_add(count);
@@ -199,15 +192,11 @@ impl Emitter {
     /// Takes in one more record. The message before it is written where the record doesn't fit it.
     pub fn record<K: Sink>(&mut self, flow: &FlowRecord, sink: &mut K) -> Result<(), Failed>
         requires { self.old.phase ≡ Phase.Started }
-        ensures taken {
-            OnOk result ((flows : List FlowRecord) (written : List ℕ) → IsUnderWay self.old flows written
-                → (bytes : List ℕ) × Appends (K.held sink.old) (K.held sink.new) bytes × IsUnderWay self.new (flows ++ flow.now ∷ []) (written ++ bytes))
-        }
-        ensures broken {
-            OnErr result ((flows : List FlowRecord) (written : List ℕ) → IsUnderWay self.old flows written
-                → (bytes : List ℕ) × Appends (K.held sink.old) (K.held sink.new) bytes
-                × ((rest : List FlowRecord) → BeginsLayout self.old.size self.old.export_time (flows ++ flow.now ∷ rest) (written ++ bytes)))
-        }
+        ensures taken { OnOk result ((flows : List FlowRecord) (written : List ℕ) → IsUnderWay self.old flows written
+            → (bytes : List ℕ) × Appends (K.held sink.old) (K.held sink.new) bytes × IsUnderWay self.new (flows ++ flow.now ∷ []) (written ++ bytes)) }
+        ensures broken { OnErr result ((flows : List FlowRecord) (written : List ℕ) → IsUnderWay self.old flows written
+            → (bytes : List ℕ) × Appends (K.held sink.old) (K.held sink.new) bytes
+            × ((rest : List FlowRecord) → BeginsLayout self.old.size self.old.export_time (flows ++ flow.now ∷ rest) (written ++ bytes))) }
         ensures settings { (self.new.size ≡ self.old.size) × (self.new.export_time ≡ self.old.export_time) }
         ensures started { OnOk result (self.new.phase ≡ Phase.Started) }
         ensures phase { OnErr result (self.new.phase ≡ Phase.Broken) }
@@ -231,15 +220,11 @@ impl Emitter {
     /// Writes the records that wait, and tells how many messages were written, the one with the templates among them.
     pub fn finish<K: Sink>(mut self, sink: &mut K) -> Result<u64, Failed>
         requires { self.phase ≡ Phase.Started }
-        ensures finished {
-            IfOk result (λ messages. (flows : List FlowRecord) (written : List ℕ) → IsUnderWay self flows written
-                → (bytes : List ℕ) × Appends (K.held sink.old) (K.held sink.new) bytes
-                × IsLayoutOf self.size self.export_time flows (written ++ bytes) messages)
-        }
-        ensures broken {
-            OnErr result ((flows : List FlowRecord) (written : List ℕ) → IsUnderWay self flows written
-                → (bytes : List ℕ) × Appends (K.held sink.old) (K.held sink.new) bytes × BeginsLayout self.size self.export_time flows (written ++ bytes))
-        }
+        ensures finished { IfOk result (λ messages. (flows : List FlowRecord) (written : List ℕ) → IsUnderWay self flows written
+            → (bytes : List ℕ) × Appends (K.held sink.old) (K.held sink.new) bytes
+            × IsLayoutOf self.size self.export_time flows (written ++ bytes) messages) }
+        ensures broken { OnErr result ((flows : List FlowRecord) (written : List ℕ) → IsUnderWay self flows written
+            → (bytes : List ℕ) × Appends (K.held sink.old) (K.held sink.new) bytes × BeginsLayout self.size self.export_time flows (written ++ bytes)) }
         ensures cause { HasCause (K.faults sink.old) (K.faults sink.new) result }
     {
         if self.waiting.is_empty() {

@@ -14,7 +14,11 @@ use record_ledger::FlowRecord;
 pub fn template_number(flow: &FlowRecord) -> u16
     ensures { result ≡ template_of flow.now }
 {
-    if flow.part.key.version == 4 { V4_TEMPLATE } else { V6_TEMPLATE }
+    if flow.part.key.version == 4 {
+        V4_TEMPLATE
+    } else {
+        V6_TEMPLATE
+    }
 }
 
 /// The bytes of a data record: 48 for version 4, 72 for version 6.

@@ -12,6 +12,8 @@ mod encode;
 mod message;
 mod numbers;
 mod stream;
+#[cfg(test)]
+mod tests;
 
 pub use emitter::{Emitter, Phase};
 pub use stream::{emit_all, layout};

@@ -15,11 +15,18 @@ const TEMPLATE_SET: u16 = 2;
 
 /// The length of that set in the first message, and of that message.
 const TEMPLATE_SET_LENGTH: u16 = 100;
+
 const TEMPLATE_MESSAGE_LENGTH: u16 = 116;
 
 /// Puts the message of these records, of this length, into the buffer.
 #[tactic(auto, unfolding(crate::specs::Encoding::message, crate::specs::Layout::message_length))]
-pub fn encode_message(buffer: &mut Vec<u8>, flows: &[FlowRecord], size: usize, export_time: u32, sequence: u32)
+pub fn encode_message(
+    buffer: &mut Vec<u8>,
+    flows: &[FlowRecord],
+    size: usize,
+    export_time: u32,
+    sequence: u32,
+)
     requires size { size ≡ message_length flows.now }
     requires small { size < 2 ^ 16 }
     requires room { size ≤ vec_capacity buffer.old }

@@ -15,16 +15,16 @@ use std::alloc::Global;
 /// templates among them.
 ///
 /// `Failed` comes only where the sink's count of faults rose; the sink then took a beginning of the stream.
-pub fn emit_all<K: Sink>(emitter: Emitter, records: &[FlowRecord], sink: &mut K) -> Result<u64, Failed>
+pub fn emit_all<K: Sink>(
+    emitter: Emitter,
+    records: &[FlowRecord],
+    sink: &mut K,
+) -> Result<u64, Failed>
     requires { emitter.phase ≡ Phase.Fresh }
-    ensures written {
-        IfOk result (λ messages. (bytes : List ℕ) × Appends (K.held sink.old) (K.held sink.new) bytes
-            × IsLayoutOf emitter.size emitter.export_time records.now bytes messages)
-    }
-    ensures broken {
-        OnErr result ((bytes : List ℕ) × Appends (K.held sink.old) (K.held sink.new) bytes
-            × BeginsLayout emitter.size emitter.export_time records.now bytes)
-    }
+    ensures written { IfOk result (λ messages. (bytes : List ℕ) × Appends (K.held sink.old) (K.held sink.new) bytes
+        × IsLayoutOf emitter.size emitter.export_time records.now bytes messages) }
+    ensures broken { OnErr result ((bytes : List ℕ) × Appends (K.held sink.old) (K.held sink.new) bytes
+        × BeginsLayout emitter.size emitter.export_time records.now bytes) }
     ensures cause { HasCause (K.faults sink.old) (K.faults sink.new) result }
 {
     let mut emitter = emitter;
@@ -65,7 +65,12 @@ impl Sink for Growing {
 }
 
 /// The stream of these records: messages of at most `size` octets, from 116 to 65,535, with this export time in seconds.
-pub fn layout(alloc: Global, records: &[FlowRecord], size: usize, export_time: u32) -> Result<Vec<u8>, NoMemory>
+pub fn layout(
+    alloc: Global,
+    records: &[FlowRecord],
+    size: usize,
+    export_time: u32,
+) -> Result<Vec<u8>, NoMemory>
     requires { (116 ≤ size) × (size < 2 ^ 16) }
     ensures { IfOk result (λ bytes. IsLayout size export_time records.now bytes.items) }
 {

@@ -1,4 +1,4 @@
-use Rattle.std.proofs.Common.{arith, ◌≡◌, ◌++◌, ◌∙◌, ap, sym, length, length-append, length-drop, drop, ◌+◌, ◌≤◌, append-nil}
+use Rattle.std.proofs.Common.{arith, ap, length, drop}
 use Rattle.ipfix_writer.specs.Layout.{body_of}
 use Rattle.ipfix_writer.proofs.Sets.{put_together, body_of-after, body_of-rest}
 use Rattle.ipfix_writer.proofs.body.append_body.Goals as goal

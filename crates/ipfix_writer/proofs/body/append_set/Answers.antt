@@ -1,27 +1,26 @@
-use Rattle.std.proofs.Common.{arith, ◌≡◌, ◌++◌, ◌∙◌, ap, sym, length, length-append, take, ◌+◌, ◌*◌}
+use Rattle.std.proofs.Common.{arith, ◌++◌, ◌∙◌, ap, length, length-append, take, ◌+◌, ◌*◌}
 use Rattle.ipfix_writer.specs.Layout.{records_bytes}
 use Rattle.byteorder.specs.Endian.{big_bytes}
-use Rattle.ipfix_writer.proofs.Sizes.{length-big}
 use Rattle.ipfix_writer.proofs.Sets.{first_set-of, first_set-lengths, first_set-written, longer_by}
 use Rattle.ipfix_writer.proofs.body.append_set.Goals as goal
 
 pub append_u16-requires : goal.append_u16-requires
 append_u16-requires c =
     let first = first_set-of c.args.flows.now c.index-flows-0.result c.template_number-template.result c.run_length-count.result
-      c.requires.some c.index-flows-0.is c.template_number-template.ensures c.run_length-count.ensures in
+    c.requires.some c.index-flows-0.is c.template_number-template.ensures c.run_length-count.ensures in
     omega (arith, first_set-lengths _ _ _ _ first)
 
 pub overflow_cast-size : goal.overflow_cast-size
 overflow_cast-size c =
     let first = first_set-of c.args.flows.now c.index-flows-0.result c.template_number-template.result c.run_length-count.result
-      c.requires.some c.index-flows-0.is c.template_number-template.ensures c.run_length-count.ensures in
+    c.requires.some c.index-flows-0.is c.template_number-template.ensures c.run_length-count.ensures in
     let lengths = first_set-lengths _ _ _ _ first in
     grind (arith, lengths, c.data_record_size.ensures)
 
 pub append_u16-requires-2 : goal.append_u16-requires-2
 append_u16-requires-2 c =
     let first = first_set-of c.args.flows.now c.index-flows-0.result c.template_number-template.result c.run_length-count.result
-      c.requires.some c.index-flows-0.is c.template_number-template.ensures c.run_length-count.ensures in
+    c.requires.some c.index-flows-0.is c.template_number-template.ensures c.run_length-count.ensures in
     let lengths = first_set-lengths _ _ _ _ first in
     let longer = longer_by 2 c.template_number-template.result _ _ c.append_u16.ensures.items in
     omega (arith, lengths, longer)
@@ -29,7 +28,7 @@ append_u16-requires-2 c =
 pub append_data_records-requires : goal.append_data_records-requires
 append_data_records-requires c =
     let first = first_set-of c.args.flows.now c.index-flows-0.result c.template_number-template.result c.run_length-count.result
-      c.requires.some c.index-flows-0.is c.template_number-template.ensures c.run_length-count.ensures in
+    c.requires.some c.index-flows-0.is c.template_number-template.ensures c.run_length-count.ensures in
     let lengths = first_set-lengths _ _ _ _ first in
     let longer = longer_by 2 c.template_number-template.result _ _ c.append_u16.ensures.items in
     let longest = longer_by 2 _ _ _ c.append_u16-2.ensures.items in
@@ -38,7 +37,7 @@ append_data_records-requires c =
 pub returns : goal.returns
 returns c =
     let first = first_set-of c.args.flows.now c.index-flows-0.result c.template_number-template.result c.run_length-count.result
-      c.requires.some c.index-flows-0.is c.template_number-template.ensures c.run_length-count.ensures in
+    c.requires.some c.index-flows-0.is c.template_number-template.ensures c.run_length-count.ensures in
     let longer = longer_by 2 c.template_number-template.result _ _ c.append_u16.ensures.items in
     let longest = longer_by 2 _ _ _ c.append_u16-2.ensures.items in
     let whole = ap length c.append_data_records.ensures.items ∙ length-append c.append_u16-2.new.buffer.items (records_bytes (take c.run_length-count.result c.args.flows.now)) in

@@ -1,6 +1,6 @@
-use Rattle.std.proofs.Common.{arith, length-append, ◌≡◌, ◌+◌, length, ap, ◌∙◌}
+use Rattle.std.proofs.Common.{arith, length-append, length, ap, ◌∙◌}
 use Rattle.ipfix_writer.specs.Encoding.{key_part}
-use Rattle.ipfix_writer.proofs.Sizes.{length-key_part, key_leaves_counts}
+use Rattle.ipfix_writer.proofs.Sizes.{key_leaves_counts}
 use Rattle.ipfix_writer.proofs.encode.append_data_record.Goals as goal
 
 pub append_counts-requires : goal.append_counts-requires

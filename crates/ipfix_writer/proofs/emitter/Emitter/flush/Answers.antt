@@ -1,4 +1,4 @@
-use Rattle.std.proofs.Common.{◌≡◌, ◌∙◌, ◌≤◌, ◌^◌, Fits, ap, sym, arith}
+use Rattle.std.proofs.Common.{◌∙◌, ap, arith}
 use Rattle.ipfix_writer.specs.Emitting.{EmitterState}
 use Rattle.ipfix_writer.proofs.Lengths.{message_length-bound}
 use Rattle.ipfix_writer.proofs.UnderWay.{keeps-flushed}
@@ -11,4 +11,4 @@ overflow_cast-count g c =
 pub invariant_of-self : goal.invariant_of-self
 invariant_of-self g c =
     keeps-flushed _ _ _ _ _ _ _ _ _ _ _ _ _ _ c.self.invariant (ap (λ (e : EmitterState). e.phase) c.self.view_is ∙ c.requires)
-      c.clear.ensures.items (c.encode_message.ensures.room) (omega (arith, c.clear.ensures.capacity))
+    c.clear.ensures.items (c.encode_message.ensures.room) (omega (arith, c.clear.ensures.capacity))
