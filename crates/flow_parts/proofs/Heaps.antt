@@ -6,7 +6,8 @@ use Rattle.std.proofs.lemmas.List.Sorted.{All-permutation, length_permutation, s
 use Rattle.packet_accept.specs.declared.packet.Packet.{Packet}
 use Rattle.flow_parts.specs.declared.fragment.Fragment.{Fragment}
 use Rattle.flow_parts.specs.declared.timeouts.Timeouts.{Timeouts}
-use Rattle.flow_parts.specs.Extremes.{IsLeast, IsGreatest, IsUnion}
+use Rattle.flow_parts.specs.Extremes.{IsLeast, IsUnion}
+use Rattle.packet_accept.specs.Clock.{IsGreatest}
 use Rattle.flow_parts.specs.Heap.{IsHeap}
 use Rattle.flow_parts.specs.Joining.{TakesIn, IsJoinable}
 use Rattle.flow_parts.specs.Parts.{IsAlone, IsAbsorbed, IsJoined}

@@ -1,6 +1,6 @@
 //! The acceptance of a record.
 
-ghost use Rattle.std.specs.Prelude.{◌≡◌, ◌^◌, ◌<◌, IfOk, IfErr, drop};
+ghost use Rattle.std.specs.Prelude.{◌≡◌, ◌*◌, ◌^◌, ◌<◌, IfOk, IfErr, drop};
 ghost use Rattle.packet_headers.specs.Link.{IsLinkType, IsIpVersion, link_part};
 ghost use Rattle.packet_headers.specs.Shown.{link_shown};
 ghost use Rattle.pcap_reader.specs.Views.{file_of, record_read};
@@ -35,6 +35,8 @@ pub fn accept(capture: &Capture<'_>, rec: &Record<'_>, n: u64) -> Result<Packet,
     ensures number { IfOk result (λ packet. packet.number ≡ n) }
     ensures octets { IfOk result (λ packet. packet.octets < 2 ^ 24) }
     ensures time { IfOk result (λ packet. packet.time < 2 ^ 43) }
+    // In whole seconds the time has 32 bits.
+    ensures seconds { IfOk result (λ packet. packet.time < 1000 * 2 ^ 32) }
 {
     let time = time_of(capture.nanos(), rec.seconds, rec.fraction)?;
     let link = link_of(capture.link(), rec.captured)?;
@@ -55,7 +57,7 @@ pub fn accept(capture: &Capture<'_>, rec: &Record<'_>, n: u64) -> Result<Packet,
 #[tactic(auto, unfolding(crate::specs::Acceptance::time_of))]
 fn time_of(nanos: bool, seconds: u32, fraction: u32) -> Result<u64, Ignored>
     ensures value { result ≡ time_of nanos seconds fraction }
-    ensures bounded { IfOk result (λ time. time < 2 ^ 43) }
+    ensures bounded { IfOk result (λ time. time < 1000 * 2 ^ 32) }
 {
     let (second, milliseconds) = if nanos {
         (1_000_000_000, fraction / 1_000_000)

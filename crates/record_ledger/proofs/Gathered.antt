@@ -23,7 +23,8 @@ use Rattle.flow_parts.proofs.Shares.{permuted}
 use Rattle.record_ledger.specs.declared.record.FlowRecord.{FlowRecord}
 use Rattle.record_ledger.specs.Order.{key_then_last, written_order}
 use Rattle.record_ledger.specs.Regrouping.{IsTogether, Regroups}
-use Rattle.record_ledger.specs.Lawful.{IsClock, of_key, first_part, EachWithNext, StandsApart, HasReason, reason_of, IsLawful}
+use Rattle.packet_accept.specs.Clock.{IsClock}
+use Rattle.record_ledger.specs.Lawful.{of_key, first_part, EachWithNext, StandsApart, HasReason, reason_of, IsLawful}
 use Rattle.record_ledger.specs.Laws.{HasNoTies}
 use Rattle.record_ledger.specs.Steps.{Reaches, Rises, NotAfter, NoneJoinable, next_of_key}
 use Rattle.record_ledger.proofs.Keyed.{part_of, first_not_less, second_less, first_less, both_tie, tie_from_test, less_numbers, less_from_greater, less_than_rest, less_otherwise, less_no_tie, tie_flips, rises_distinct, distinct_from_rises, rises_more, filter_contains, contains_filter, rises_filter, same_rising, pairs_from_rises, All-unmap, rises_unmap, rises_weaker}

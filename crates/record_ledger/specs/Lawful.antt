@@ -6,15 +6,11 @@ use Rattle.flow_key.specs.Key.{key_order}
 use Rattle.packet_accept.specs.declared.packet.Packet.{Packet}
 use Rattle.flow_parts.specs.declared.fragment.Fragment.{Fragment}
 use Rattle.flow_parts.specs.declared.timeouts.Timeouts.{Timeouts}
-use Rattle.flow_parts.specs.Extremes.{IsGreatest}
+use Rattle.packet_accept.specs.Clock.{IsClock}
 use Rattle.flow_parts.specs.Joining.{IsJoinable}
 use Rattle.flow_parts.specs.Sharing.{SharesOut}
 use Rattle.record_ledger.specs.declared.record.FlowRecord.{FlowRecord}
 use Rattle.record_ledger.specs.Order.{written_order}
-
--- The clock of packets: the greatest of their times, and none where there is no packet.
-abbrev pub IsClock : List Packet → Option ℕ → Type 0
-IsClock packets clock = MatchOption clock (packets ≡ []) (IsGreatest (λ (p : Packet). p.time) packets)
 
 -- The records of one key, in the order of the list.
 abbrev pub of_key : FlowKey → List FlowRecord → List FlowRecord

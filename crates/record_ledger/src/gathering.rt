@@ -3,7 +3,8 @@ ghost use Rattle.packet_accept.specs.declared.packet.Packet.{Packet};
 ghost use Rattle.flow_parts.specs.declared.fragment.Fragment.{Fragment};
 ghost use Rattle.flow_parts.specs.Sharing.{SharesOut};
 ghost use Rattle.record_ledger.specs.Regrouping.{Regroups};
-ghost use Rattle.record_ledger.specs.Lawful.{IsClock, IsLawful};
+ghost use Rattle.packet_accept.specs.Clock.{IsClock};
+ghost use Rattle.record_ledger.specs.Lawful.{IsLawful};
 
 use crate::joining::joined;
 use crate::orders::by_last;
