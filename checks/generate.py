@@ -5,7 +5,7 @@
 
 empty.pcap       no packet at all
 expiry.pcap      UDP and TCP over IPv4 with gaps, for records that end by the idle and by the active time-out
-transports.pcap  over IPv4: each of the twelve TCP control bits, ICMP, fragments, options, tags, ports and addresses at the ends
+transports.pcap  over IPv4: each of the twelve TCP control bits, ICMP, fragments, options, tags, and values at the ends
 extensions.pcap  over IPv6: TCP, UDP, ICMPv6, extension headers, fragments, addresses at the ends
 cooked.pcap      Linux cooked packets with nanoseconds, greatest byte first
 late.pcap        raw IP at the last seconds that a capture can say
