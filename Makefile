@@ -1,6 +1,47 @@
-.PHONY: test
+# Romtyalig. `make demo` builds the program and runs it on a sample capture; `make test` proves and tests all.
+
+PREFIX ?= /usr/local
+PROGRAM := bin/romtyalig
+CAPTURE := examples/web-exchange.pcap
+
+.PHONY: help demo build test check install clean
+
+help:
+	@echo "make demo                 build the program, which proves it, and show the records of a sample capture"
+	@echo "make test                 the gate: prove every crate from nothing, run all tests, then the checks of checks/"
+	@echo "make build                leave the program as $(PROGRAM)"
+	@echo "make check                compare the program with other readers and meters (checks/)"
+	@echo "make install PREFIX=DIR   install the program below DIR, $(PREFIX) by default"
+
+demo: build
+	@echo "The records of $(CAPTURE): an ARP request, a DNS query and its reply, and a TCP exchange."
+	@echo "Each line is the template's number and then ELEMENT=VALUE, by the numbers of the IANA IPFIX registry."
+	$(PROGRAM) meter < $(CAPTURE) > bin/web-exchange.ipfix
+	$(PROGRAM) show < bin/web-exchange.ipfix
+
+build: $(PROGRAM)
+
+# `rt run` proves the crates, builds the program and runs it, here on an empty stream.
+$(PROGRAM): crates.txt $(wildcard crates/*/src/*.rt crates/*/src/*/*.rt crates/*/specs/*.antt crates/*/proofs/*.antt)
+	@echo "Proving and building: some twenty minutes where nothing is proved yet, else a minute or two."
+	@cd crates/romtyalig && rt run -- show < /dev/null > build.log 2>&1 || { tail -n 20 build.log; exit 1; }
+	@rm -f crates/romtyalig/build.log
+	@mkdir -p bin
+	@cp crates/romtyalig/out/romtyalig $(PROGRAM)
+
 test:
+	@echo "The gate: about an hour on four processors where nothing is proved yet, else the time of what changed."
 	rt ci
+	@$(MAKE) --no-print-directory check
+
+check: build
 	checks/foreign_readers.sh
 	python3 checks/second_meter.py
 	python3 checks/second_reader.py
+
+install: build
+	install -d $(DESTDIR)$(PREFIX)/bin
+	install -m 755 $(PROGRAM) $(DESTDIR)$(PREFIX)/bin/romtyalig
+
+clean:
+	rm -rf bin crates/*/out
