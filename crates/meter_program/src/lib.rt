@@ -1,0 +1,6 @@
+//! The meter.
+#![tactic(auto)]
+
+mod metering;
+
+pub use metering::{Metered, fragments_of};
