@@ -35,7 +35,7 @@ pub meter-more : (packets : List Packet) (parts all : List Fragment) (clock now 
     → all ≡ parts ++ part ∷ [] → now ≡ later clock (Some packet.time) → Meter packets parts clock → Meter (packets ++ packet ∷ []) all now
 meter-more packets parts all clock now packet part permuted clocks shares all_is now_is meter = record {
   shared = λ limits. subst (SharesOut limits (packets ++ packet ∷ [])) (sym all_is)
-    (permuted limits (packets ++ packet ∷ []) (packets ++ packet ∷ []) (part ∷ parts) (parts ++ part ∷ [])
+      (permuted limits (packets ++ packet ∷ []) (packets ++ packet ∷ []) (part ∷ parts) (parts ++ part ∷ [])
       (IsPermutation-refl (packets ++ packet ∷ []))
       (IsPermutation-sym (parts ++ part ∷ []) (part ∷ parts) (IsPermutation-to_front parts part))
       (shares limits packets parts (meter.shared limits)));

@@ -1,6 +1,10 @@
 //! The meter.
 #![tactic(auto)]
 
+mod meter;
 mod metering;
+mod settings;
+mod status;
 
-pub use metering::{Metered, fragments_of};
+pub use settings::Settings;
+pub use status::Status;

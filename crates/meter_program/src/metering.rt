@@ -35,14 +35,10 @@ fn later_of(clock: Option<u64>, time: u64) -> Option<u64>
 
 /// Takes in one more packet.
 fn take_in(metered: &mut Metered, packet: &Packet) -> Result<(), NoMemory>
-    ensures meter {
-        OnOk result ((packets : List Packet) → Meter packets metered.old.parts.items metered.old.clock
-            → Meter (packets ++ packet.now ∷ []) metered.new.parts.items metered.new.clock)
-    }
-    ensures few {
-        OnOk result ((most : ℕ) → packet.now.octets < 2 ^ 24 → packet.now.time < 1000 * 2 ^ 32
-            → AreFew metered.old.parts.items metered.old.clock most → AreFew metered.new.parts.items metered.new.clock (most + 1))
-    }
+    ensures meter { OnOk result ((packets : List Packet) → Meter packets metered.old.parts.items metered.old.clock
+        → Meter (packets ++ packet.now ∷ []) metered.new.parts.items metered.new.clock) }
+    ensures few { OnOk result ((most : ℕ) → packet.now.octets < 2 ^ 24 → packet.now.time < 1000 * 2 ^ 32
+        → AreFew metered.old.parts.items metered.old.clock most → AreFew metered.new.parts.items metered.new.clock (most + 1)) }
 {
     sharing_out_stands();
     clock_law();
@@ -57,16 +53,17 @@ fn take_in(metered: &mut Metered, packet: &Packet) -> Result<(), NoMemory>
 }
 
 /// Takes in the packet of a record, where it has one.
-fn take_record(metered: &mut Metered, capture: &Capture<'_>, record: &Record<'_>, n: u64) -> Result<(), NoMemory>
-    ensures meter {
-        let file = file_of capture.now in
+fn take_record(
+    metered: &mut Metered,
+    capture: &Capture<'_>,
+    record: &Record<'_>,
+    n: u64,
+) -> Result<(), NoMemory>
+    ensures meter { let file = file_of capture.now in
         OnOk result ((packets : List Packet) → Meter packets metered.old.parts.items metered.old.clock
-            → Meter (packets ++ packets_in (accepted file.link file.nanos (record_read record.now) n ∷ [])) metered.new.parts.items metered.new.clock)
-    }
-    ensures few {
-        OnOk result ((most : ℕ) → AreFew metered.old.parts.items metered.old.clock most
-            → AreFew metered.new.parts.items metered.new.clock (most + 1))
-    }
+        → Meter (packets ++ packets_in (accepted file.link file.nanos (record_read record.now) n ∷ [])) metered.new.parts.items metered.new.clock) }
+    ensures few { OnOk result ((most : ℕ) → AreFew metered.old.parts.items metered.old.clock most
+        → AreFew metered.new.parts.items metered.new.clock (most + 1)) }
 {
     match accept(capture, record, n) {
         Ok(packet) => take_in(metered, &packet),
@@ -75,7 +72,11 @@ fn take_record(metered: &mut Metered, capture: &Capture<'_>, record: &Record<'_>
 }
 
 /// The packets of a capture as fragments of one packet each.
-pub fn fragments_of(alloc: Global, capture: &Capture<'_>, index: &RecordIndex) -> Result<Metered, NoMemory>
+pub fn fragments_of(
+    alloc: Global,
+    capture: &Capture<'_>,
+    index: &RecordIndex,
+) -> Result<Metered, NoMemory>
     requires { IsIndexOf index.now (file_of capture.now) }
     ensures meter { IfOk result (λ metered. Meter (packets_of (file_of capture.now)) metered.parts.items metered.clock) }
     ensures few { IfOk result (λ metered. AreFew metered.parts.items metered.clock (length index.now.offsets)) }

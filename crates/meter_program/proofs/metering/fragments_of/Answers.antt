@@ -13,8 +13,8 @@ loop-n-preserved c =
     let place = c.packets_law.ensures.place file n (record_read c.record-record.result) c.record-record.ensures.value in
     record {
       meter = subst (λ packets. Meter packets c.take_record.new.metered.parts.items c.take_record.new.metered.clock)
-        (packets-more (answers_of file) n _ place c.packets_law.ensures.together)
-        (c.in-Ok.ensures.meter (packets_in (take n (answers_of file))) c.loop-n.invariant.meter);
+          (packets-more (answers_of file) n _ place c.packets_law.ensures.together)
+          (c.in-Ok.ensures.meter (packets_in (take n (answers_of file))) c.loop-n.invariant.meter);
       few = c.in-Ok.ensures.few n c.loop-n.invariant.few;
       end = c.loop-n.invariant.end;
     }
