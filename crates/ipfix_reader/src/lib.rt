@@ -1,0 +1,14 @@
+//! Reading of IPFIX messages (RFC 7011, sections 3.1 to 3.4 and 7).
+#![tactic(auto)]
+
+mod cursor;
+mod fault;
+mod known;
+mod messages;
+mod records;
+mod sets;
+mod specifiers;
+mod values;
+
+pub use fault::{StreamError, StreamFault};
+pub use messages::read_stream;
