@@ -5,3 +5,5 @@ pub mod TableEntries
 pub mod RecordSteps
 pub mod SetSteps
 pub mod MessageSteps
+pub mod FlowParts
+pub mod NumberSteps

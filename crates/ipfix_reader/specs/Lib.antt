@@ -9,3 +9,4 @@ pub mod Tables
 pub mod Records
 pub mod Sets
 pub mod Messages
+pub mod Flows

@@ -3,6 +3,7 @@
 
 mod cursor;
 mod fault;
+mod flow;
 mod known;
 mod messages;
 mod records;
@@ -11,4 +12,5 @@ mod specifiers;
 mod values;
 
 pub use fault::{StreamError, StreamFault};
+pub use flow::flow_of;
 pub use messages::read_stream;

@@ -1,13 +1,23 @@
 //! A record of a flow.
 
+ghost use Rattle.std.specs.Prelude.{ℕ, ◌<◌, ◌^◌};
+
 use flow_parts::Fragment;
 
-/// A record of a flow: what is known of its packets, and why it ended (RFC 5102's flowEndReason, as the IANA IPFIX
-/// registry has it).
+/// The flow was idle for longer than the idle time-out (flowEndReason 1 of the IANA registry).
+pub const IDLE_TIMEOUT: u8 = 1;
+/// The flow went on, but was cut by the active time-out (flowEndReason 2).
+pub const ACTIVE_TIMEOUT: u8 = 2;
+/// The metering ended before the flow was known to have ended (flowEndReason 4).
+pub const FORCED_END: u8 = 4;
+
+/// One flow record: what is known of the packets of one flow, and why it ended.
 #[derive(Clone, Copy, PartialEq, Eq, Debug)]
 pub struct FlowRecord {
-    /// The packets of the flow, taken together.
+    /// The packets of the record, taken together.
     pub part: Fragment,
-    /// The end reason: 1 idle time-out, 2 active time-out, 4 forced end.
+    /// Why the flow ended: [`IDLE_TIMEOUT`], [`ACTIVE_TIMEOUT`] or [`FORCED_END`] in a record that was gathered here.
     pub reason: u8,
+    // The width of the reason, for a reader of clauses, where a number has none.
+    pub ghost sized: { reason < 2 ^ 8 },
 }
