@@ -9,6 +9,8 @@ mod messages;
 mod records;
 mod sets;
 mod specifiers;
+#[cfg(test)]
+mod tests;
 mod values;
 
 pub use fault::{StreamError, StreamFault};
