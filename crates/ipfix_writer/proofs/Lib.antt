@@ -1,0 +1,6 @@
+pub mod Sizes
+pub mod Sets
+pub mod Lengths
+pub mod Filling
+pub mod Templates
+pub mod UnderWay

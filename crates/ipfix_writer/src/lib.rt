@@ -1,0 +1,19 @@
+//! Records of flows as a stream of IPFIX messages (RFC 7011).
+//!
+//! The stream begins with a message that has the two templates. Data messages follow, each with the longest prefix of
+//! the records still left that fits the message size; neighbours of one template share a set. [`layout`] gives the
+//! whole stream of a list of records. An [`Emitter`] keeps the records of one message and writes the same bytes to a
+//! sink as the records come, and [`emit_all`] is a whole run of it; all its memory is taken when it is made.
+#![tactic(auto)]
+
+mod body;
+mod emitter;
+mod encode;
+mod message;
+mod numbers;
+mod stream;
+#[cfg(test)]
+mod tests;
+
+pub use emitter::{Emitter, Phase};
+pub use stream::{emit_all, layout};

@@ -1,0 +1,86 @@
+//! Whole streams.
+
+ghost use Rattle.std.specs.Prelude.{◌≡◌, ◌≤◌, ◌<◌, ◌^◌, List, ℕ, IfOk, OnErr, Some};
+ghost use Rattle.std.specs.declared.option.Option.{Option};
+ghost use Rattle.std.specs.Io.KnownBytes.{Appends};
+ghost use Rattle.meter_io.specs.Causes.{HasCause};
+ghost use Rattle.ipfix_writer.specs.Layout.{IsLayout, IsLayoutOf, BeginsLayout};
+
+use crate::emitter::{Emitter, Phase};
+use meter_io::{Failed, NoMemory, Sink};
+use record_ledger::FlowRecord;
+use std::alloc::Global;
+
+/// Writes the whole stream of these records by a fresh emitter, and tells how many messages it has, the one with the
+/// templates among them.
+///
+/// `Failed` comes only where the sink's count of faults rose; the sink then took a beginning of the stream.
+pub fn emit_all<K: Sink>(
+    emitter: Emitter,
+    records: &[FlowRecord],
+    sink: &mut K,
+) -> Result<u64, Failed>
+    requires { emitter.phase ≡ Phase.Fresh }
+    ensures written { IfOk result (λ messages. (bytes : List ℕ) × Appends (K.held sink.old) (K.held sink.new) bytes
+        × IsLayoutOf emitter.size emitter.export_time records.now bytes messages) }
+    ensures broken { OnErr result ((bytes : List ℕ) × Appends (K.held sink.old) (K.held sink.new) bytes
+        × BeginsLayout emitter.size emitter.export_time records.now bytes) }
+    ensures cause { HasCause (K.faults sink.old) (K.faults sink.new) result }
+{
+    let mut emitter = emitter;
+    match emitter.start(sink) {
+        Ok(()) => {}
+        Err(Failed) => return Err(Failed),
+    }
+    for flow in records {
+        match emitter.record(flow, sink) {
+            Ok(()) => {}
+            Err(Failed) => return Err(Failed),
+        }
+    }
+    emitter.finish(sink)
+}
+
+/// A sink that grows as it needs; a write fails where memory is wanting.
+#[derive(Drop)]
+struct Growing {
+    bytes: Vec<u8>,
+    faults: u64,
+}
+
+impl Sink for Growing {
+    ghost held = { λ s. Some s.bytes.items };
+
+    ghost faults = { λ s. s.faults };
+
+    fn write(&mut self, piece: &[u8]) -> Result<usize, Failed> {
+        match self.bytes.extend_from_slice(piece) {
+            Ok(()) => Ok(piece.len()),
+            Err(_) => {
+                self.faults = self.faults.saturating_add(1);
+                Err(Failed)
+            }
+        }
+    }
+}
+
+/// The stream of these records: messages of at most `size` octets, from 116 to 65,535, with this export time in seconds.
+pub fn layout(
+    alloc: Global,
+    records: &[FlowRecord],
+    size: usize,
+    export_time: u32,
+) -> Result<Vec<u8>, NoMemory>
+    requires { (116 ≤ size) × (size < 2 ^ 16) }
+    ensures { IfOk result (λ bytes. IsLayout size export_time records.now bytes.items) }
+{
+    let emitter = Emitter::open(alloc, size, export_time)?;
+    let mut stream = Growing {
+        bytes: Vec::new(alloc),
+        faults: 0,
+    };
+    match emit_all(emitter, records, &mut stream) {
+        Ok(_) => Ok(stream.bytes),
+        Err(Failed) => Err(NoMemory),
+    }
+}

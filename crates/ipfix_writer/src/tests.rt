@@ -1,0 +1,182 @@
+//! Streams whose bytes were written out by hand from RFC 7011, sections 3.1 to 3.4.
+
+ghost use Rattle.std.specs.Prelude.{◌≤◌, ◌<◌, ◌^◌};
+
+use crate::{Emitter, emit_all, layout};
+use flow_key::FlowKey;
+use flow_parts::Fragment;
+use meter_io::{Failed, MemSink};
+use record_ledger::FlowRecord;
+use std::alloc::Global;
+use std::test::Fail;
+
+/// The message with the templates, but for its first eight bytes.
+const TEMPLATES: &str = "0000000000000001000200640100000b00080004000c0004000700020\
+    00b00020004000100060002000200080001000800980008009900080088000\
+    10101000b001b0010001c001000070002000b000200040001000600020002000800010008009800080099000800880001";
+
+/// The value of a hexadecimal digit, and 0 for any other byte.
+fn digit(byte: u8) -> u8
+    ensures { result < 16 }
+{
+    match byte {
+        b'0'..=b'9' => byte - b'0',
+        b'a'..=b'f' => byte - b'a' + 10,
+        _ => 0,
+    }
+}
+
+/// Appends the bytes that the hexadecimal digits stand for.
+fn append_hex(bytes: &mut Vec<u8>, text: &str) -> Result<(), Fail> {
+    for pair in text.as_bytes().chunks_exact(2) {
+        if let [high, low] = pair {
+            bytes.push(digit(*high) * 16 + digit(*low))?;
+        }
+    }
+    Ok(())
+}
+
+/// A record of UDP over IPv4 from this port.
+fn over_ipv4(source_port: u16, packets: u64, octets: u64, last: u64) -> FlowRecord
+    requires some { 1 ≤ packets }
+    requires later { 1000000 ≤ last }
+{
+    let key = FlowKey {
+        version: 4,
+        source: 0xc000_0201,
+        destination: 0xc000_0202,
+        protocol: 17,
+        source_port,
+        destination_port: 53,
+    };
+    let part = Fragment {
+        key,
+        packets,
+        octets,
+        first: 1_000_000,
+        last,
+        flags: 0,
+    };
+    FlowRecord { part, reason: 4 }
+}
+
+/// A record of TCP over IPv6, 2001:db8::1 to 2001:db8::2, at 5 s.
+fn over_ipv6(source_port: u16, destination_port: u16, octets: u64, flags: u16) -> FlowRecord {
+    let key = FlowKey {
+        version: 6,
+        source: 0x2001_0db8_0000_0000_0000_0000_0000_0001,
+        destination: 0x2001_0db8_0000_0000_0000_0000_0000_0002,
+        protocol: 6,
+        source_port,
+        destination_port,
+    };
+    let part = Fragment {
+        key,
+        packets: 1,
+        octets,
+        first: 5000,
+        last: 5000,
+        flags,
+    };
+    FlowRecord { part, reason: 4 }
+}
+
+/// Whether the layout of these records, in messages of at most 1,400 octets, is the message with the templates and then
+/// these bytes.
+fn is_laid_out(
+    alloc: Global,
+    records: &[FlowRecord],
+    time: u32,
+    time_bytes: &str,
+    data: &str,
+) -> Result<bool, Fail> {
+    let mut wanted = Vec::new(alloc);
+    append_hex(&mut wanted, "000a0074")?;
+    append_hex(&mut wanted, time_bytes)?;
+    append_hex(&mut wanted, TEMPLATES)?;
+    append_hex(&mut wanted, data)?;
+    let bytes = layout(alloc, records, 1400, time).map_err(|_| Fail::from("no memory"))?;
+    Ok(bytes.as_slice() == wanted.as_slice())
+}
+
+#[test]
+fn streams_are_laid_out_as_written_by_hand(rt: HostRuntime) -> Result<(), Fail> {
+    assert!(rt; is_laid_out(rt.alloc(), &[], 0, "00000000", "")?);
+    let one = "000a0044000003e900000000000000010100003\
+        4c0000201c00002020fa000351100000000000000000002000000000000003800000000000f424000000000000f462804";
+    assert!(rt;
+        is_laid_out(
+            rt.alloc(),
+            &[over_ipv4(4000, 2, 56, 1_001_000)],
+            1001,
+            "000003e9",
+            one
+        )?
+    );
+    let two = "000a00a400000005000000000000000101010094\
+        20010db800000000000000000000000120010db80000000000000000000000020000000006000000000000000000010000000000\
+        00009c0000000000001388000000000000138804\
+        20010db800000000000000000000000120010db8000000000000000000000002040101bb06001000000000000000010000000000\
+        00004c0000000000001388000000000000138804";
+    assert!(rt;
+        is_laid_out(
+            rt.alloc(),
+            &[over_ipv6(0, 0, 156, 0), over_ipv6(1025, 443, 76, 16)],
+            5,
+            "00000005",
+            two
+        )?
+    );
+    Ok(())
+}
+
+#[test]
+fn messages_are_filled(rt: HostRuntime) -> Result<(), Fail> {
+    let mut records = Vec::new(rt.alloc());
+    for port in 4000..4029u16 {
+        records.push(over_ipv4(port, 1, 28, 1_000_000))?;
+    }
+    records.push(over_ipv6(1025, 443, 76, 16))?;
+    records.push(over_ipv4(1, 1, 28, 1_000_000))?;
+    for (count, size, messages, length) in [
+        (0, 1400, 1, 116),
+        (28, 1400, 2, 116 + 1364),
+        (29, 1400, 3, 116 + 1364 + 68),
+        (30, 1400, 3, 116 + 1364 + 144),
+        (31, 1400, 3, 116 + 1364 + 196),
+        (4, 116, 3, 116 + 116 + 116),
+        (3, 116, 3, 116 + 116 + 68),
+        (31, 65_535, 2, 116 + 16 + 3 * 4 + 30 * 48 + 72),
+    ] {
+        assert!(rt; count <= records.len() && size >= 116 && size < 65_536);
+        let emitter = Emitter::open(rt.alloc(), size, 1000).map_err(|_| Fail::from("no memory"))?;
+        let mut sink = MemSink::open(rt.alloc(), 4096, 4096, &[]).map_err(|_| Fail::from(
+            "no memory",
+        ))?;
+        let (first, _) = records.as_slice().split_at(count);
+        assert_eq!(rt;
+            emit_all(emitter, first, &mut sink),
+            Ok(messages),
+            "{count} records, size {size}"
+        );
+        assert_eq!(rt; sink.held().len(), length, "{count} records, size {size}");
+    }
+    Ok(())
+}
+
+#[test]
+fn a_failed_write_leaves_a_beginning(rt: HostRuntime) -> Result<(), Fail> {
+    let records = [over_ipv4(4000, 1, 28, 1_000_000)];
+    for (fails, held) in [([2], 100), ([3], 116), ([1], 0)] {
+        let emitter = Emitter::open(rt.alloc(), 1400, 1000).map_err(|_| Fail::from("no memory"))?;
+        let mut sink = MemSink::open(rt.alloc(), 4096, 100, fails.as_slice()).map_err(
+            |_| Fail::from("no memory"),
+        )?;
+        assert_eq!(rt;
+            emit_all(emitter, records.as_slice(), &mut sink),
+            Err(Failed)
+        );
+        assert_eq!(rt; sink.held().len(), held);
+    }
+    Ok(())
+}
