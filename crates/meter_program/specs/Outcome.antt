@@ -10,6 +10,7 @@ use Rattle.flow_parts.specs.declared.timeouts.Timeouts.{Timeouts}
 use Rattle.record_ledger.specs.declared.record.FlowRecord.{FlowRecord}
 use Rattle.record_ledger.specs.Lawful.{IsLawful}
 use Rattle.ipfix_writer.specs.Layout.{IsLayout, BeginsLayout}
+use Rattle.ipfix_reader.specs.Flows.{flows_of}
 use Rattle.meter_program.specs.declared.settings.Settings.{Settings}
 use Rattle.meter_program.specs.declared.status.Status.{Status}
 use Rattle.meter_program.specs.declared.status.Status.TheVariants.{Done, ReadFault, WriteFault, NotCapture, LinkUnknown, Damaged, TooLarge, NoMemory, Usage}
@@ -62,13 +63,14 @@ IsRefused capture _ = ⊥
 -- What a write of records means, by its status: all was written, a write failed and a beginning was, or nothing was for
 -- want of memory.
 abbrev pub WriteMeans : ℕ → ℕ → List FlowRecord → Option (List ℕ) → Option (List ℕ) → ℕ → ℕ → Status → Type 0
-WriteMeans size time records before after faults faults_now Done = (bytes : List ℕ) × Appends before after bytes × IsLayout size time records bytes
+WriteMeans size time records before after faults faults_now Done =
+    (bytes : List ℕ) × Appends before after bytes × IsLayout size time records bytes × (flows_of bytes ≡ Some records)
 WriteMeans size time records before after faults faults_now WriteFault =
     (bytes : List ℕ) × Appends before after bytes × BeginsLayout size time records bytes × Rose faults faults_now
 WriteMeans size time records before after faults faults_now NoMemory = after ≡ before
 WriteMeans size time records before after faults faults_now _ = ⊥
 
--- What `meter` wrote, where it wrote all: the layout of the records.
+-- What `meter` wrote, where it wrote all: the layout of the records, which decodes to them.
 pub record WroteAll (settings : Settings) (seen : Observed) : Type 0 where
   pub capture : List ℕ
   pub was_read : WasRead seen capture
@@ -78,6 +80,7 @@ pub record WroteAll (settings : Settings) (seen : Observed) : Type 0 where
   pub time : ℕ
   pub metered : IsMetered settings capture records time
   pub layout : IsLayout settings.size time records written
+  pub decoded : flows_of written ≡ Some records
 
 -- What it wrote, where a write failed: a beginning of that.
 pub record WroteSome (settings : Settings) (seen : Observed) : Type 0 where

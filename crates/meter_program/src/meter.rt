@@ -15,6 +15,7 @@ use meter_io::{Failed, NoMemory, ReadError, Sink, Source, read_all};
 use pcap_reader::{Capture, CaptureError, IndexError};
 use record_ledger::{FlowRecord, gather};
 use std::alloc::Global;
+use stream_law::layout_law;
 
 /// The most bytes of a capture.
 const CAPTURE_LIMIT: u64 = 1 << 30;
@@ -73,6 +74,7 @@ fn written<K: Sink>(alloc: Global, gathered: Gathered, size: u32, output: &mut K
     ensures { WriteMeans size gathered.export_time gathered.records.items (K.held output.old) (K.held output.new)
         (K.faults output.old) (K.faults output.new) result }
 {
+    layout_law();
     let Ok(emitter) = Emitter::open(alloc, size as usize, gathered.export_time) else {
         return Status::NoMemory;
     };
