@@ -2,5 +2,9 @@
 #![tactic(auto)]
 
 mod metering;
+mod settings;
+mod words;
 
 pub use metering::{Metered, fragments_of};
+pub use settings::Settings;
+pub use words::{Command, command_of};
