@@ -11,10 +11,10 @@ use Rattle.record_ledger.specs.declared.record.FlowRecord.{FlowRecord}
 use Rattle.record_ledger.specs.Lawful.{IsLawful}
 use Rattle.ipfix_writer.specs.Layout.{IsLayout, BeginsLayout}
 use Rattle.ipfix_reader.specs.Flows.{flows_of}
-use Rattle.meter_program.specs.declared.settings.Settings.{Settings}
 use Rattle.meter_program.specs.declared.status.Status.{Status}
 use Rattle.meter_program.specs.declared.status.Status.TheVariants.{Done, ReadFault, WriteFault, NotCapture, LinkUnknown, Damaged, TooLarge, NoMemory, Usage}
 use Rattle.meter_program.specs.Gathering.{export_time}
+use Rattle.meter_program.specs.Words.{Asked, meter, show}
 
 -- What is seen of the objects that are handed to a run, before it and after it: the bytes that the input has left and
 -- the output holds, where they are told, and how often a call of them failed.
@@ -39,14 +39,14 @@ capture_limit = 2 ^ 30
 
 -- The bytes are an undamaged capture, of which these records are lawful: they partition its accepted packets, by these
 -- time-outs. The export time is the time of the latest packet in whole seconds.
-pub record IsMetered (settings : Settings) (capture : List ℕ) (records : List FlowRecord) (time : ℕ) : Type 0 where
+pub record IsMetered (idle_seconds active_seconds : ℕ) (capture : List ℕ) (records : List FlowRecord) (time : ℕ) : Type 0 where
   pub file : CaptureFile
   pub is_file : capture_file capture ≡ Some file
   pub known : IsKnownLink file.link
   pub undamaged : damage_of file ≡ None
   pub limits : Timeouts
-  pub idle : limits.idle ≡ 1000 * settings.idle
-  pub active : limits.active ≡ 1000 * settings.active
+  pub idle : limits.idle ≡ 1000 * idle_seconds
+  pub active : limits.active ≡ 1000 * active_seconds
   pub clock : Option ℕ
   pub clock_is : IsClock (packets_of file) clock
   pub time_is : time ≡ export_time clock
@@ -71,27 +71,27 @@ WriteMeans size time records before after faults faults_now NoMemory = after ≡
 WriteMeans size time records before after faults faults_now _ = ⊥
 
 -- What `meter` wrote, where it wrote all: the layout of the records, which decodes to them.
-pub record WroteAll (settings : Settings) (seen : Observed) : Type 0 where
+pub record WroteAll (idle active size : ℕ) (seen : Observed) : Type 0 where
   pub capture : List ℕ
   pub was_read : WasRead seen capture
   pub written : List ℕ
   pub appended : Appends seen.held_before seen.held_after written
   pub records : List FlowRecord
   pub time : ℕ
-  pub metered : IsMetered settings capture records time
-  pub layout : IsLayout settings.size time records written
+  pub metered : IsMetered idle active capture records time
+  pub layout : IsLayout size time records written
   pub decoded : flows_of written ≡ Some records
 
 -- What it wrote, where a write failed: a beginning of that.
-pub record WroteSome (settings : Settings) (seen : Observed) : Type 0 where
+pub record WroteSome (idle active size : ℕ) (seen : Observed) : Type 0 where
   pub capture : List ℕ
   pub was_read : WasRead seen capture
   pub written : List ℕ
   pub appended : Appends seen.held_before seen.held_after written
   pub records : List FlowRecord
   pub time : ℕ
-  pub metered : IsMetered settings capture records time
-  pub begins : BeginsLayout settings.size time records written
+  pub metered : IsMetered idle active capture records time
+  pub begins : BeginsLayout size time records written
   pub cause : Rose seen.output_before seen.output_after
 
 -- What it read, where it refused what it read. Nothing was written.
@@ -108,12 +108,26 @@ pub record WasTooLarge (seen : Observed) (limit : ℕ) : Type 0 where
   pub many : length bytes ≡ limit + 1
   pub kept : seen.held_after ≡ seen.held_before
 
--- What the command `meter` means, by its status.
-abbrev pub MeterMeans : Settings → Observed → Status → Type 0
-MeterMeans settings seen Done = WroteAll settings seen
-MeterMeans settings seen WriteFault = WroteSome settings seen
-MeterMeans settings seen ReadFault = Rose seen.input_before seen.input_after × (seen.held_after ≡ seen.held_before)
-MeterMeans settings seen TooLarge = WasTooLarge seen capture_limit
-MeterMeans settings seen NoMemory = seen.held_after ≡ seen.held_before
-MeterMeans settings seen Usage = ⊥
-MeterMeans settings seen status = Refused seen status
+-- What the command `meter` means, by its status, with these time-outs in seconds and this message size in octets.
+abbrev pub MeterMeans : ℕ → ℕ → ℕ → Observed → Status → Type 0
+MeterMeans idle active size seen Done = WroteAll idle active size seen
+MeterMeans idle active size seen WriteFault = WroteSome idle active size seen
+MeterMeans idle active size seen ReadFault = Rose seen.input_before seen.input_after × (seen.held_after ≡ seen.held_before)
+MeterMeans idle active size seen TooLarge = WasTooLarge seen capture_limit
+MeterMeans idle active size seen NoMemory = seen.held_after ≡ seen.held_before
+MeterMeans idle active size seen Usage = ⊥
+MeterMeans idle active size seen status = Refused seen status
+
+-- What a command line means that asks for nothing: nothing is read, and nothing is written.
+pub record IsUntouched (seen : Observed) (status : Status) : Type 0 where
+  pub usage : status ≡ Usage
+  pub left : seen.left_after ≡ seen.left_before
+  pub held : seen.held_after ≡ seen.held_before
+  pub input : seen.input_after ≡ seen.input_before
+  pub output : seen.output_after ≡ seen.output_before
+
+-- What a run means, by what its words ask for.
+abbrev pub RunMeans : Option Asked → Observed → Status → Type 0
+RunMeans None seen status = IsUntouched seen status
+RunMeans (Some (meter idle active size)) seen status = MeterMeans idle active size seen status
+RunMeans (Some show) seen status = ⊥

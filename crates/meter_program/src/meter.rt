@@ -41,7 +41,7 @@ fn export_time_of(clock: Option<u64>) -> u32
 /// The records of the capture that these bytes are, or why they are none.
 fn records_of(alloc: Global, bytes: &[u8], settings: &Settings) -> Result<Gathered, Status>
     requires { length bytes.now ≤ 2 ^ 30 }
-    ensures records { IfOk result (λ gathered. IsMetered settings.now bytes.now gathered.records.items gathered.export_time) }
+    ensures records { IfOk result (λ gathered. IsMetered settings.now.idle settings.now.active bytes.now gathered.records.items gathered.export_time) }
     ensures refused { IfErr result (λ status. IsRefused bytes.now status) }
 {
     let capture = match Capture::open(bytes) {
@@ -91,7 +91,7 @@ pub fn meter<S: Source, K: Sink>(
     input: &mut S,
     output: &mut K,
 ) -> Status
-    ensures { MeterMeans settings.now (record {
+    ensures { MeterMeans settings.now.idle settings.now.active settings.now.size (record {
       left_before = S.left input.old;
       left_after = S.left input.new;
       held_before = K.held output.old;
