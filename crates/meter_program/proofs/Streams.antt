@@ -12,5 +12,5 @@ pub layout-decoded : (size size' time time' : ℕ) (flows flows' : List FlowReco
 layout-decoded size size' time time' flows flows' bytes messages law most size_is time_is flows_is written =
     let layout : IsLayout size' time' flows' bytes =
     subst (λ (n : ℕ). IsLayout n time' flows' bytes) size_is
-      (subst (λ (t : ℕ). IsLayout size t flows' bytes) time_is (subst (λ (fs : List FlowRecord). IsLayout size time fs bytes) flows_is written.layout)) in
+    (subst (λ (t : ℕ). IsLayout size t flows' bytes) time_is (subst (λ (fs : List FlowRecord). IsLayout size time fs bytes) flows_is written.layout)) in
     (layout, law flows' bytes size' time' most layout)

@@ -1,5 +1,5 @@
 -- What a run means, by its status.
-use Rattle.std.specs.Prelude.{◌≡◌, ℕ, ◌+◌, ◌*◌, ◌^◌, List, length, Option, Some, None, IsSomeAnd, ⊤}
+use Rattle.std.specs.Prelude.{◌≡◌, ℕ, ◌+◌, ◌*◌, ◌^◌, List, length, take, Option, Some, None, Ok, Err, IsSomeAnd, ⊤}
 use Rattle.std.specs.Io.KnownBytes.{Appends, Consumes, IsAtEnd}
 use Rattle.meter_io.specs.Causes.{Rose}
 use Rattle.pcap_reader.specs.File.{CaptureFile, capture_file, IsKnownLink}
@@ -10,10 +10,14 @@ use Rattle.flow_parts.specs.declared.timeouts.Timeouts.{Timeouts}
 use Rattle.record_ledger.specs.declared.record.FlowRecord.{FlowRecord}
 use Rattle.record_ledger.specs.Lawful.{IsLawful}
 use Rattle.ipfix_writer.specs.Layout.{IsLayout, BeginsLayout}
+use Rattle.ipfix_model.specs.declared.values.DataRecord.{DataRecord}
+use Rattle.ipfix_reader.specs.declared.fault.StreamFault.{StreamFault}
+use Rattle.ipfix_reader.specs.Messages.{decode}
 use Rattle.ipfix_reader.specs.Flows.{flows_of}
 use Rattle.meter_program.specs.declared.status.Status.{Status}
-use Rattle.meter_program.specs.declared.status.Status.TheVariants.{Done, ReadFault, WriteFault, NotCapture, LinkUnknown, Damaged, TooLarge, NoMemory, Usage}
+use Rattle.meter_program.specs.declared.status.Status.TheVariants.{Done, ReadFault, WriteFault, NotCapture, LinkUnknown, Damaged, TooLarge, NoMemory, Usage, NotStream}
 use Rattle.meter_program.specs.Gathering.{export_time}
+use Rattle.meter_program.specs.Shows.{text_of}
 use Rattle.meter_program.specs.Words.{Asked, meter, show}
 
 -- What is seen of the objects that are handed to a run, before it and after it: the bytes that the input has left and
@@ -116,7 +120,47 @@ MeterMeans idle active size seen ReadFault = Rose seen.input_before seen.input_a
 MeterMeans idle active size seen TooLarge = WasTooLarge seen capture_limit
 MeterMeans idle active size seen NoMemory = seen.held_after ≡ seen.held_before
 MeterMeans idle active size seen Usage = ⊥
+MeterMeans idle active size seen (NotStream fault) = ⊥
 MeterMeans idle active size seen status = Refused seen status
+
+-- The most bytes of a stream.
+abbrev pub stream_limit : ℕ
+stream_limit = 2 ^ 26
+
+-- What `show` wrote, where it wrote all: a line for each data record of the stream.
+pub record ShowedAll (seen : Observed) : Type 0 where
+  pub stream : List ℕ
+  pub was_read : WasRead seen stream
+  pub records : List DataRecord
+  pub decoded : decode stream ≡ Ok records
+  pub appended : Appends seen.held_before seen.held_after (text_of records)
+
+-- What it wrote, where a write failed: a beginning of that.
+pub record ShowedSome (seen : Observed) : Type 0 where
+  pub stream : List ℕ
+  pub was_read : WasRead seen stream
+  pub records : List DataRecord
+  pub decoded : decode stream ≡ Ok records
+  pub count : ℕ
+  pub appended : Appends seen.held_before seen.held_after (take count (text_of records))
+  pub cause : Rose seen.output_before seen.output_after
+
+-- What it read, where that has a fault. Nothing was written.
+pub record HasFault (seen : Observed) (fault : StreamFault) : Type 0 where
+  pub stream : List ℕ
+  pub was_read : WasRead seen stream
+  pub decoded : decode stream ≡ Err fault
+  pub kept : seen.held_after ≡ seen.held_before
+
+-- What the command `show` means, by its status.
+abbrev pub ShowMeans : Observed → Status → Type 0
+ShowMeans seen Done = ShowedAll seen
+ShowMeans seen WriteFault = ShowedSome seen
+ShowMeans seen (NotStream fault) = HasFault seen fault
+ShowMeans seen ReadFault = Rose seen.input_before seen.input_after × (seen.held_after ≡ seen.held_before)
+ShowMeans seen TooLarge = WasTooLarge seen stream_limit
+ShowMeans seen NoMemory = seen.held_after ≡ seen.held_before
+ShowMeans seen _ = ⊥
 
 -- What a command line means that asks for nothing: nothing is read, and nothing is written.
 pub record IsUntouched (seen : Observed) (status : Status) : Type 0 where
@@ -130,4 +174,4 @@ pub record IsUntouched (seen : Observed) (status : Status) : Type 0 where
 abbrev pub RunMeans : Option Asked → Observed → Status → Type 0
 RunMeans None seen status = IsUntouched seen status
 RunMeans (Some (meter idle active size)) seen status = MeterMeans idle active size seen status
-RunMeans (Some show) seen status = ⊥
+RunMeans (Some show) seen status = ShowMeans seen status

@@ -3,12 +3,16 @@
 
 mod meter;
 mod metering;
-mod run;
+mod running;
 mod settings;
+mod show;
+mod showing;
 mod status;
+#[cfg(test)]
+mod tests;
 mod words;
 
-pub use run::run;
+pub use running::run;
 pub use settings::Settings;
 pub use status::Status;
 pub use words::{Command, command_of};

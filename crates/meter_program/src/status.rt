@@ -1,5 +1,7 @@
 //! How a run ends.
 
+use ipfix_reader::StreamFault;
+
 /// How a run ends. [`Status::code`] is the exit status of the program.
 #[derive(Clone, Copy, Debug, PartialEq, Eq)]
 pub enum Status {
@@ -21,6 +23,8 @@ pub enum Status {
     TooLarge,
     /// Want of memory.
     NoMemory,
+    /// The stream has this fault.
+    NotStream(StreamFault),
 }
 
 impl Status {
@@ -36,6 +40,7 @@ impl Status {
             Status::Damaged(_) => 6,
             Status::TooLarge => 7,
             Status::NoMemory => 8,
+            Status::NotStream(_) => 9,
         }
     }
 }
