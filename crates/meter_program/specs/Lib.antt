@@ -1,4 +1,5 @@
 pub mod Gathering
+pub mod Shows
 pub mod Words
 pub mod Shows
 pub mod Outcome
