@@ -2,18 +2,40 @@
 #![tactic(auto)]
 
 use meter_io::{StdSink, StdSource};
-use meter_program::run;
+use meter_program::{Status, run};
 use std::alloc::Global;
 use std::env;
-use std::io;
+use std::io::ErrorKind;
 use std::process::ExitCode;
 
-fn main(rt: HostRuntime) -> io::Result<ExitCode> {
+/// The words behind the program's name. A word that isn't UTF-8 is a faulty command line.
+fn words_of(rt: &HostRuntime) -> Result<Vec<String>, Status> {
+    match env::args(rt) {
+        Ok(words) => words
+            .skip(1)
+            .collect(rt.alloc())
+            .map_err(|_| Status::NoMemory),
+        Err(error) if error.kind() == ErrorKind::InvalidData => Err(Status::Usage),
+        Err(_) => Err(Status::NoMemory),
+    }
+}
+
+fn main(rt: HostRuntime) -> ExitCode {
     let alloc: Global = rt.alloc();
-    let words: Vec<String> = env::args(&rt)?.skip(1).collect(alloc)?;
+    let words = match words_of(&rt) {
+        Ok(words) => words,
+        Err(status) => return ExitCode::from(status.code()),
+    };
     let mut input = StdSource::new(rt.stdin());
     let mut output = StdSink::new(rt.stdout());
     let mut notes = StdSink::new(rt.stderr());
-    let status = run(&rt, alloc, words.as_slice(), &mut input, &mut output, &mut notes);
-    Ok(ExitCode::from(status.code()))
+    let status = run(
+        &rt,
+        alloc,
+        words.as_slice(),
+        &mut input,
+        &mut output,
+        &mut notes,
+    );
+    ExitCode::from(status.code())
 }
