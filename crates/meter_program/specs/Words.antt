@@ -38,12 +38,6 @@ setting_by default low high [] = Some default
 setting_by default low high (value ∷ []) = option_and_then (within low high) (number_of value)
 setting_by default low high (value ∷ (another ∷ rest)) = None
 
--- The same where a number was given already, and these values are still to come.
-abbrev pub setting_after : ℕ → ℕ → ℕ → Option ℕ → List (List ℕ) → Option ℕ
-setting_after default low high None values = setting_by default low high values
-setting_after default low high (Some number) [] = Some number
-setting_after default low high (Some number) (value ∷ values) = None
-
 -- What a command line asks for: to meter with an idle time-out and an active time-out in seconds and a message size in
 -- octets, or to show a stream.
 pub data Asked : Type 0 where
@@ -78,3 +72,9 @@ asked_by (name ∷ options) =
 abbrev pub asked : Command → Asked
 asked (Meter settings) = meter settings.idle settings.active settings.size
 asked Show = show
+
+-- A setting by the values that are still to come, where this number was given already, if any.
+abbrev pub setting_after : ℕ → ℕ → ℕ → Option ℕ → List (List ℕ) → Option ℕ
+setting_after default low high None values = setting_by default low high values
+setting_after default low high (Some number) [] = Some number
+setting_after default low high (Some number) (value ∷ values) = None

@@ -12,6 +12,9 @@ use itoa::Buffer;
 use meter_io::NoMemory;
 use std::alloc::Global;
 
+#[cfg(test)]
+mod tests;
+
 /// The elements whose values are numbers.
 const NUMBERS: [u16; 9] = [
     OCTET_DELTA_COUNT,

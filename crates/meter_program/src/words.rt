@@ -8,6 +8,9 @@ ghost use Rattle.meter_program.specs.Words.{number_of, within, are_options, valu
 
 use crate::settings::Settings;
 
+#[cfg(test)]
+mod tests;
+
 /// A command, with its settings.
 #[derive(Clone, Copy, Debug, PartialEq, Eq)]
 pub enum Command {
