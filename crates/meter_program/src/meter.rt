@@ -11,7 +11,7 @@ use crate::status::Status;
 use flow_parts::Timeouts;
 use flow_parts::laws::sharing_out_stands;
 use ipfix_writer::{Emitter, emit_all};
-use meter_io::{Failed, NoMemory, ReadError, Sink, Source, read_all};
+use meter_io::{Failed, ReadError, Sink, Source, read_all};
 use pcap_reader::{Capture, CaptureError, IndexError};
 use record_ledger::{FlowRecord, gather};
 use std::alloc::Global;
@@ -59,13 +59,13 @@ fn records_of(alloc: Global, bytes: &[u8], settings: &Settings) -> Result<Gather
         return Err(Status::NoMemory);
     };
     let export_time = export_time_of(metered.clock);
-    match gather(alloc, metered.parts.as_slice(), limits, metered.clock) {
-        Ok(records) => Ok(Gathered {
-            records,
-            export_time,
-        }),
-        Err(NoMemory) => Err(Status::NoMemory),
-    }
+    let Ok(records) = gather(alloc, metered.parts.as_slice(), limits, metered.clock) else {
+        return Err(Status::NoMemory);
+    };
+    Ok(Gathered {
+        records,
+        export_time,
+    })
 }
 
 /// Writes the stream of these records, in messages of at most `size` octets.

@@ -4,8 +4,8 @@ use Rattle.packet_accept.specs.Packets.{packets_of}
 use Rattle.flow_parts.specs.Sharing.{SharesOut}
 use Rattle.meter_program.proofs.meter.records_of.Goals as goal
 
-pub returns-in-Ok-gather-clause-records : goal.returns-in-Ok-gather-clause-records
-returns-in-Ok-gather-clause-records c =
+pub returns-clause-records : goal.returns-clause-records
+returns-clause-records c =
     let file = file_of c.in-Ok.capture in
     let meter = c.in-Ok-fragments_of.ensures.meter in
     let limits = c.new-limits.result in
