@@ -1,12 +1,12 @@
 //! The top call: a command's words, an input, an output and notes, and how the run ended.
 #![tactic(auto)]
 
+mod lines;
 mod meter;
 mod metering;
 mod running;
 mod settings;
 mod show;
-mod showing;
 mod status;
 #[cfg(test)]
 mod tests;

@@ -7,7 +7,7 @@ ghost use Rattle.meter_program.specs.Outcome.{RunMeans};
 ghost use Rattle.meter_program.specs.Words.{asked_by};
 
 use crate::meter::meter;
-use crate::showing::show;
+use crate::show::show;
 use crate::status::Status;
 use crate::words::{Command, command_of};
 use meter_io::{Sink, Source};

@@ -1,6 +1,6 @@
 use Rattle.std.proofs.Common.{ℕ, ◌≤◌, ◌^◌, arith}
 use Rattle.std.proofs.Math.Nat.{pow-le-pow_right}
-use Rattle.meter_program.proofs.show.number_in.Goals as goal
+use Rattle.meter_program.proofs.lines.number_in.Goals as goal
 
 -- up to seven bytes
 few : (i : ℕ) → i ≤ 7 → 256 ^ i ≤ 256 ^ 7

@@ -1,6 +1,6 @@
 //! Texts of records.
 
-use crate::show::shows;
+use crate::lines::shows;
 use ipfix_model::{DataRecord, FieldValue, Octets, ValueList};
 use std::test::Fail;
 

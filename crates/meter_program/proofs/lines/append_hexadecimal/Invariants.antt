@@ -1,6 +1,6 @@
 use Rattle.std.proofs.Common.{◌≡◌, ◌++◌, flat_map, drop}
 use Rattle.meter_program.specs.Shows.{hexadecimal}
-use Rattle.meter_program.proofs.show.append_hexadecimal.Given as goal
+use Rattle.meter_program.proofs.lines.append_hexadecimal.Given as goal
 
 abbrev pub invariant-loop-byte : goal.invariant-loop-byte
 invariant-loop-byte l =

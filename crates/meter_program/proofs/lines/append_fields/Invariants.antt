@@ -1,6 +1,6 @@
 use Rattle.std.proofs.Common.{◌≡◌, ◌++◌, flat_map, drop}
 use Rattle.meter_program.specs.Shows.{field_text}
-use Rattle.meter_program.proofs.show.append_fields.Given as goal
+use Rattle.meter_program.proofs.lines.append_fields.Given as goal
 
 abbrev pub invariant-loop-field : goal.invariant-loop-field
 invariant-loop-field l =
