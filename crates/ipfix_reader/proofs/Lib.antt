@@ -1,0 +1,9 @@
+pub mod Items
+pub mod ValueSteps
+pub mod SpecifierSteps
+pub mod TableEntries
+pub mod RecordSteps
+pub mod SetSteps
+pub mod MessageSteps
+pub mod FlowParts
+pub mod NumberSteps

@@ -1,0 +1,32 @@
+-- What the walk over the bytes keeps, as the definitions of reading speak of it.
+use Rattle.std.specs.Prelude.{List}
+use Rattle.std.specs.Global.{Vec}
+use Rattle.ipfix_model.specs.declared.values.FieldValue.{FieldValue}
+use Rattle.ipfix_reader.specs.declared.cursor.Cursor.{Cursor}
+use Rattle.ipfix_reader.specs.Part.{Part}
+use Rattle.ipfix_reader.specs.Values.{Values}
+use Rattle.ipfix_reader.specs.Specifiers.{Fields}
+use Rattle.ipfix_reader.specs.Known.{Templates, Sequences}
+use Rattle.ipfix_reader.specs.Messages.{Progress}
+use Rattle.ipfix_reader.specs.Sets.{Contents}
+use Rattle.ipfix_model.specs.declared.values.DataRecord.{DataRecord}
+use Rattle.ipfix_model.specs.declared.fields.FieldSpec.{FieldSpec}
+use Rattle.ipfix_model.specs.declared.templates.Template.{Template}
+
+abbrev pub part_of : Cursor → Part
+part_of cursor = record { at = cursor.at; bytes = cursor.bytes.now }
+
+abbrev pub values_shown : Vec FieldValue × Cursor → Values
+values_shown read = record { values = (read.0).items; rest = part_of read.1 }
+
+abbrev pub fields_shown : Vec FieldSpec × Cursor → Fields
+fields_shown read = record { fields = (read.0).items; rest = part_of read.1 }
+
+abbrev pub template_shown : Template × Cursor → Fields
+template_shown read = record { fields = (read.0).fields; rest = part_of read.1 }
+
+abbrev pub contents_of : Templates → Vec DataRecord → Contents
+contents_of table records = record { templates = table; records = records.items }
+
+abbrev pub progress_of : Templates → Vec DataRecord → Sequences → Progress
+progress_of table records sequences = record { contents = contents_of table records; sequences = sequences }

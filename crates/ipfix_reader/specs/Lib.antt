@@ -1,0 +1,12 @@
+pub mod Part
+pub mod Cursors
+pub mod Outcome
+pub mod Walk
+pub mod Values
+pub mod Specifiers
+pub mod Known
+pub mod Tables
+pub mod Records
+pub mod Sets
+pub mod Messages
+pub mod Flows

@@ -1,0 +1,54 @@
+//! What can be wrong with a stream.
+
+ghost use Rattle.std.specs.Prelude.{◌≡◌};
+ghost use Rattle.ipfix_reader.specs.declared.fault.StreamError.TheVariants.{NoMemory};
+
+use std::alloc::{AllocError, AllocFailed};
+
+/// The first fault of a stream of messages, in their order. `at` is an offset in the stream: that of the message, the
+/// set or the record at fault, or of the padding.
+#[derive(Clone, Copy, Debug, PartialEq, Eq)]
+pub enum StreamFault {
+    /// The message's header or the message goes beyond the stream's end.
+    Cut { at: u64 },
+    /// The message's version isn't 10.
+    BadVersion { at: u64 },
+    /// The length of the message or of the set isn't possible, or the data record goes beyond its set's end.
+    BadLength { at: u64 },
+    /// The data set's template isn't known in its observation domain; `id` is its number.
+    NoTemplate { at: u64, id: u16 },
+    /// The template record is none: it goes beyond its set's end, its number is below 256, no byte is taken by a
+    /// record of it, or its scope isn't one to all of its fields.
+    BadTemplate { at: u64 },
+    /// The padding at the end of a set has a byte that isn't 0.
+    BadPadding { at: u64 },
+    /// The message's sequence number isn't the one expected in its observation domain.
+    BadSequence { at: u64 },
+    /// The template record has no fields, so it withdraws a template (RFC 7011, section 8.1). That isn't taken here.
+    Withdrawal { at: u64 },
+}
+
+/// Why a stream wasn't read.
+#[derive(Clone, Copy, Debug, PartialEq, Eq)]
+pub enum StreamError {
+    /// The stream's first fault.
+    Fault(StreamFault),
+    /// Want of memory.
+    NoMemory,
+}
+
+impl From<AllocError> for StreamError {
+    ghost from_gives = { λ _ error. error ≡ NoMemory };
+
+    fn from(_error: AllocError) -> StreamError {
+        StreamError::NoMemory
+    }
+}
+
+impl<T: Drop> From<AllocFailed<T>> for StreamError {
+    ghost from_gives = { λ _ error. error ≡ NoMemory };
+
+    fn from(_error: AllocFailed<T>) -> StreamError {
+        StreamError::NoMemory
+    }
+}

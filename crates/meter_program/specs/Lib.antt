@@ -1,0 +1,4 @@
+pub mod Gathering
+pub mod Words
+pub mod Shows
+pub mod Outcome

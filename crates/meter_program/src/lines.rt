@@ -1,0 +1,213 @@
+//! Data records as text.
+
+ghost use Rattle.std.specs.Prelude.{◌≡◌, ◌<◌, ◌≤◌, ◌++◌, length, map, flat_map, decimal, IfOk, OnOk};
+ghost use Rattle.std.specs.Char.{digit_char};
+ghost use Rattle.std.specs.Int.Digits.{number_from_digits};
+ghost use Rattle.std.specs.List.{join_with_byte};
+ghost use Rattle.meter_program.specs.Shows.{hexadecimal, is_number, is_address, iana_text, value_text, name_text, field_text, line_of, text_of};
+
+use ipfix_model::elements::*;
+use ipfix_model::{DataRecord, FieldValue};
+use itoa::Buffer;
+use meter_io::NoMemory;
+use std::alloc::Global;
+
+#[cfg(test)]
+mod tests;
+
+/// The elements whose values are numbers.
+const NUMBERS: [u16; 9] = [
+    OCTET_DELTA_COUNT,
+    PACKET_DELTA_COUNT,
+    PROTOCOL_IDENTIFIER,
+    TCP_CONTROL_BITS,
+    SOURCE_TRANSPORT_PORT,
+    DESTINATION_TRANSPORT_PORT,
+    FLOW_END_REASON,
+    FLOW_START_MILLISECONDS,
+    FLOW_END_MILLISECONDS,
+];
+
+/// The elements whose values are IPv4 addresses.
+const ADDRESSES: [u16; 2] = [SOURCE_IPV4_ADDRESS, DESTINATION_IPV4_ADDRESS];
+
+/// Appends bytes to a text.
+#[inline]
+fn append(text: &mut Vec<u8>, bytes: &[u8]) -> Result<(), NoMemory>
+    ensures { OnOk result (text.new.items ≡ text.old.items ++ bytes.now) }
+{
+    match text.extend_from_slice(bytes) {
+        Ok(()) => Ok(()),
+        Err(_) => Err(NoMemory),
+    }
+}
+
+/// Appends a number in decimal.
+fn append_decimal(text: &mut Vec<u8>, number: u64) -> Result<(), NoMemory>
+    ensures { OnOk result (text.new.items ≡ text.old.items ++ decimal number) }
+{
+    let mut digits = Buffer::new();
+    append(text, digits.format(number).as_bytes())
+}
+
+/// A hexadecimal digit.
+fn hexadecimal_digit(value: u8) -> u8
+    requires { value < 16 }
+    ensures { result ≡ digit_char value }
+{
+    if value < 10 {
+        b'0' + value
+    } else {
+        b'a' + (value - 10)
+    }
+}
+
+/// Appends bytes in hexadecimal.
+fn append_hexadecimal(text: &mut Vec<u8>, bytes: &[u8]) -> Result<(), NoMemory>
+    ensures { OnOk result (text.new.items ≡ text.old.items ++ flat_map hexadecimal bytes.now) }
+{
+    for byte in bytes {
+        let digits = [hexadecimal_digit(*byte / 16), hexadecimal_digit(*byte % 16)];
+        match append(text, &digits) {
+            Ok(()) => {}
+            Err(NoMemory) => return Err(NoMemory),
+        }
+    }
+    Ok(())
+}
+
+/// Appends four numbers in decimal, with points between them.
+fn append_address(text: &mut Vec<u8>, address: &[u8]) -> Result<(), NoMemory>
+    requires { length address.now ≡ 4 }
+    ensures { OnOk result (text.new.items ≡ text.old.items ++ join_with_byte 46 (map decimal address.now)) }
+{
+    append_decimal(text, address[0] as u64)?;
+    append(text, b".")?;
+    append_decimal(text, address[1] as u64)?;
+    append(text, b".")?;
+    append_decimal(text, address[2] as u64)?;
+    append(text, b".")?;
+    append_decimal(text, address[3] as u64)
+}
+
+/// The number in up to eight bytes, in network order.
+fn number_in(bytes: &[u8]) -> u64
+    requires { length bytes.now ≤ 8 }
+    ensures { result ≡ number_from_digits 256 bytes.now }
+{
+    let mut number: u64 = 0;
+    for byte in bytes {
+        number = number * 256 + *byte as u64;
+    }
+    number
+}
+
+/// Whether the values of an element are numbers.
+#[tactic(auto, unfolding(crate::specs::Shows::is_number))]
+fn has_numbers(element: u16) -> bool
+    ensures { result ≡ is_number element }
+{
+    NUMBERS.contains(&element)
+}
+
+/// Whether the values of an element are IPv4 addresses.
+#[tactic(auto, unfolding(crate::specs::Shows::is_address))]
+fn has_addresses(element: u16) -> bool
+    ensures { result ≡ is_address element }
+{
+    ADDRESSES.contains(&element)
+}
+
+/// Appends the value of an element of IANA's.
+#[tactic(auto, unfolding(crate::specs::Shows::iana_text))]
+fn append_iana_value(text: &mut Vec<u8>, element: u16, value: &[u8]) -> Result<(), NoMemory>
+    ensures { OnOk result (text.new.items ≡ text.old.items ++ iana_text element value.now) }
+{
+    if has_numbers(element) && 1 <= value.len() && value.len() <= 8 {
+        append_decimal(text, number_in(value))
+    } else if has_addresses(element) && value.len() == 4 {
+        append_address(text, value)
+    } else {
+        append_hexadecimal(text, value)
+    }
+}
+
+/// Appends the value of a field.
+#[tactic(auto, unfolding(crate::specs::Shows::value_text))]
+fn append_value(text: &mut Vec<u8>, field: &FieldValue) -> Result<(), NoMemory>
+    ensures { OnOk result (text.new.items ≡ text.old.items ++ value_text field.now) }
+{
+    if field.enterprise.is_none() {
+        append_iana_value(text, field.element, field.value.items())
+    } else {
+        append_hexadecimal(text, field.value.items())
+    }
+}
+
+/// Appends the name of an element.
+#[tactic(auto, unfolding(crate::specs::Shows::name_text))]
+fn append_name(text: &mut Vec<u8>, enterprise: Option<u32>, element: u16) -> Result<(), NoMemory>
+    ensures { OnOk result (text.new.items ≡ text.old.items ++ name_text enterprise element) }
+{
+    if let Some(enterprise) = enterprise {
+        append_decimal(text, enterprise as u64)?;
+        append(text, b".")?;
+    }
+    append_decimal(text, element as u64)
+}
+
+/// Appends a field.
+#[tactic(auto, unfolding(crate::specs::Shows::field_text))]
+fn append_field(text: &mut Vec<u8>, field: &FieldValue) -> Result<(), NoMemory>
+    ensures { OnOk result (text.new.items ≡ text.old.items ++ field_text field.now) }
+{
+    append(text, b" ")?;
+    append_name(text, field.enterprise, field.element)?;
+    append(text, b"=")?;
+    append_value(text, field)
+}
+
+/// Appends fields.
+fn append_fields(text: &mut Vec<u8>, fields: &[FieldValue]) -> Result<(), NoMemory>
+    ensures { OnOk result (text.new.items ≡ text.old.items ++ flat_map field_text fields.now) }
+{
+    for field in fields {
+        match append_field(text, field) {
+            Ok(()) => {}
+            Err(NoMemory) => return Err(NoMemory),
+        }
+    }
+    Ok(())
+}
+
+/// Appends the line of a record.
+#[tactic(auto, unfolding(crate::specs::Shows::line_of))]
+fn append_line(text: &mut Vec<u8>, line: &DataRecord) -> Result<(), NoMemory>
+    ensures { OnOk result (text.new.items ≡ text.old.items ++ line_of line.now) }
+{
+    append_decimal(text, line.template as u64)?;
+    append_fields(text, line.fields.items())?;
+    append(text, b"\n")
+}
+
+/// The text of data records: a line for each, with the number of its template and then a space and `NAME=VALUE` for
+/// each field, in their order.
+///
+/// NAME is the number of the element, or `ENTERPRISE.ELEMENT` where it is an enterprise's. VALUE is in decimal for
+/// octet and packet counts, protocols, TCP flags, ports, times and end reasons of one to eight bytes, and four decimal
+/// numbers joined by points for IPv4 addresses of four bytes. Any other value, and each value of an enterprise's
+/// element, is in lower-case hexadecimal, two digits for each byte.
+///
+/// The one error is want of memory.
+pub fn shows(alloc: Global, records: &[DataRecord]) -> Result<Vec<u8>, NoMemory>
+    ensures { IfOk result (λ text. text.items ≡ text_of records.now) }
+{
+    let mut text = Vec::new(alloc);
+    for line in records {
+        match append_line(&mut text, line) {
+            Ok(()) => {}
+            Err(NoMemory) => return Err(NoMemory),
+        }
+    }
+    Ok(text)
+}

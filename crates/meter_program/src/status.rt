@@ -1,0 +1,46 @@
+//! How a run ends.
+
+use ipfix_reader::StreamFault;
+
+/// How a run ends. [`Status::code`] is the exit status of the program.
+#[derive(Clone, Copy, Debug, PartialEq, Eq)]
+pub enum Status {
+    /// All was done.
+    Done,
+    /// The input failed.
+    ReadFault,
+    /// The words are no command.
+    Usage,
+    /// A write failed.
+    WriteFault,
+    /// The input is no classic capture.
+    NotCapture,
+    /// The capture has this link type, which isn't read.
+    LinkUnknown(u32),
+    /// The capture is damaged at this offset.
+    Damaged(u64),
+    /// The input is larger than the command's limit.
+    TooLarge,
+    /// Want of memory.
+    NoMemory,
+    /// The stream has this fault.
+    NotStream(StreamFault),
+}
+
+impl Status {
+    /// The exit status of the program.
+    pub fn code(self) -> u8 {
+        match self {
+            Status::Done => 0,
+            Status::ReadFault => 1,
+            Status::Usage => 2,
+            Status::WriteFault => 3,
+            Status::NotCapture => 4,
+            Status::LinkUnknown(_) => 5,
+            Status::Damaged(_) => 6,
+            Status::TooLarge => 7,
+            Status::NoMemory => 8,
+            Status::NotStream(_) => 9,
+        }
+    }
+}
