@@ -30,7 +30,7 @@ message-shorter : (size : ℕ) (bytes : List ℕ) → 16 ≤ size → size ≤ l
 message-shorter size bytes least inside = let left = length-drop size bytes in omega arith
 
 -- so the walk over messages goes on
-stream_message-takes : TakesBytes stream_message
+pub stream_message-takes : TakesBytes stream_message
 stream_message-takes go other before part same =
     same_choice (length part.bytes == 0) _ _ _ (λ some.
     same_behind (checked_length before.sequences part) _ _ (λ size fine.

@@ -71,14 +71,14 @@ template_fields-takes options part read whole is =
     omega arith
 
 -- so the walk over template records goes on
-template_record-takes : (options : Bool) (domain : ℕ) → TakesBytes (template_record options domain)
+pub template_record-takes : (options : Bool) (domain : ℕ) → TakesBytes (template_record options domain)
 template_record-takes options domain go other before part same =
     same_choice (nat_lt (length part.bytes) 4) _ _ _ (λ whole.
     same_behind (template_fields options part) _ _ (λ read is.
     same _ read.rest (template_fields-takes options part read (ltb-false (length part.bytes) 4 whole) is)))
 
 -- and that over data records of which each takes a byte or more
-data_record-takes : (domain number : ℕ) (fields : List FieldSpec) → 0 < least_length fields → TakesBytes (data_record domain number fields)
+pub data_record-takes : (domain number : ℕ) (fields : List FieldSpec) → 0 < least_length fields → TakesBytes (data_record domain number fields)
 data_record-takes domain number fields some go other before part same =
     same_choice (nat_lt (length part.bytes) (least_length fields)) _ _ _ (λ whole.
     same_behind (values_of (BadLength part.at) fields [] part) _ _ (λ read is.

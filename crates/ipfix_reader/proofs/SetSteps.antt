@@ -33,7 +33,7 @@ set-shorter : (size : ℕ) (bytes : List ℕ) → 4 ≤ size → size ≤ length
 set-shorter size bytes least inside = let left = length-drop size bytes in omega arith
 
 -- so the walk over sets goes on
-message_set-takes : (domain : ℕ) → TakesBytes (message_set domain)
+pub message_set-takes : (domain : ℕ) → TakesBytes (message_set domain)
 message_set-takes domain go other before part same =
     same_choice (length part.bytes == 0) _ _ _ (λ some.
     same_choice (is_bad_length part) _ _ _ (λ good.

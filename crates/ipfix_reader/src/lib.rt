@@ -15,6 +15,7 @@ mod cursor;
 mod fault;
 mod flow;
 mod known;
+pub mod laws;
 mod messages;
 mod records;
 mod sets;
