@@ -1,5 +1,5 @@
 -- The parts of a flow record are known by their numbers.
-use Rattle.std.proofs.Common.{◌≡◌, ◌≢◌, ◌<◌, ◌≤◌, ◌^◌, ℕ, List, length, Option, Some, None, refl, sym, ap, subst, ◌∙◌, arith, slice_index}
+use Rattle.std.proofs.Common.{◌≡◌, ◌≢◌, ◌<◌, ◌≤◌, ◌^◌, ℕ, List, Some, None, refl, sym, ap, arith, slice_index}
 use mathlib.Core.HLevel.{is_prop→PathP}
 use Rattle.std.proofs.Props.{props}
 use Rattle.flow_key.specs.declared.key.FlowKey.{FlowKey}
@@ -100,7 +100,7 @@ unfolding part_with
 part_with-some numbers part are =
     let packets : ArePackets numbers = (omega (arith, are.packets, part.counted), omega (arith, are.first, are.last, part.spanned)) in
     let fits : FitPart numbers =
-      ((omega (arith, are.packets, part.sized), omega (arith, are.octets, part.sized)), (omega (arith, are.last, part.sized), omega (arith, are.flags, part.sized))) in
+    ((omega (arith, are.packets, part.sized), omega (arith, are.octets, part.sized)), (omega (arith, are.last, part.sized), omega (arith, are.flags, part.sized))) in
     made_by-yes (both (are_packets numbers) (fit_part numbers)) _ part (packets, fits)
     (λ fits. part_same _ part refl (sym are.packets) (sym are.octets) (sym are.first) (sym are.last) (sym are.flags))
 

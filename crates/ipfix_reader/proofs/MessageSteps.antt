@@ -1,17 +1,15 @@
 -- The messages of a stream, one at a time.
-use Rattle.std.proofs.Common.{◌≡◌, ◌<◌, ◌≤◌, ◌+◌, ◌-◌, ◌%◌, ◌^◌, ◌==◌, ℕ, Bool, true, false, not, List, length, drop, Result, Ok, Err, if◌then◌else◌, refl, sym, ap, ◌∙◌, arith, nat_lt, length-drop}
+use Rattle.std.proofs.Common.{◌≡◌, ◌<◌, ◌≤◌, ◌+◌, ◌-◌, ◌%◌, ◌^◌, ◌==◌, ℕ, not, List, length, drop, Ok, Err, refl, sym, ap, ◌∙◌, arith, nat_lt, length-drop}
 use Rattle.std.proofs.lemmas.Bool.{ltb-false}
-use Rattle.ipfix_model.specs.declared.values.DataRecord.{DataRecord}
 use Rattle.ipfix_reader.specs.declared.fault.StreamFault.{StreamFault}
-use Rattle.ipfix_reader.specs.declared.fault.StreamFault.TheVariants.{Cut, BadVersion, BadLength, BadSequence}
 use Rattle.ipfix_reader.specs.declared.fault.StreamError.{StreamError}
 use Rattle.ipfix_reader.specs.Outcome.{◌>>=◌, IsFaultOf}
-use Rattle.ipfix_reader.specs.Part.{Part, behind, first, number_at}
-use Rattle.ipfix_reader.specs.Walk.{Reading, all_items}
+use Rattle.ipfix_reader.specs.Part.{Part, behind, first}
+use Rattle.ipfix_reader.specs.Walk.{all_items}
 use Rattle.ipfix_reader.specs.Known.{Sequences, expected_in, with_expected}
 use Rattle.ipfix_reader.specs.Sets.{Contents, message_sets}
 use Rattle.ipfix_reader.specs.Messages.{Progress, message_version, message_length, message_sequence, message_domain, is_next, checked_length, next_number, behind_message, stream_message, stream_messages, nothing_read, decode}
-use Rattle.ipfix_reader.proofs.Items.{TakesBytes, goes_on, same_behind, same_choice, behind_ok, not_fault, same_ok, given, fault_behind, fault_of-same}
+use Rattle.ipfix_reader.proofs.Items.{TakesBytes, goes_on, same_behind, same_choice, not_fault, same_ok, given, fault_behind, fault_of-same}
 use Rattle.ipfix_reader.proofs.SetSteps.{above-eqb}
 
 -- a length without fault lies between the header and the end
@@ -32,13 +30,13 @@ message-shorter : (size : ℕ) (bytes : List ℕ) → 16 ≤ size → size ≤ l
 message-shorter size bytes least inside = let left = length-drop size bytes in omega arith
 
 -- so the walk over messages goes on
-stream_message-takes : TakesBytes stream_message
+pub stream_message-takes : TakesBytes stream_message
 stream_message-takes go other before part same =
     same_choice (length part.bytes == 0) _ _ _ (λ some.
-      same_behind (checked_length before.sequences part) _ _ (λ size fine.
-        same_behind (message_sets (message_domain part) before.contents (behind 16 (first size part))) _ _ (λ after is.
-          let bounds = checked_length-bounds before.sequences part size fine in
-          same (behind_message part before after) (behind size part) (message-shorter size part.bytes bounds.0 bounds.1))))
+    same_behind (checked_length before.sequences part) _ _ (λ size fine.
+    same_behind (message_sets (message_domain part) before.contents (behind 16 (first size part))) _ _ (λ after is.
+    let bounds = checked_length-bounds before.sequences part size fine in
+    same (behind_message part before after) (behind size part) (message-shorter size part.bytes bounds.0 bounds.1))))
 
 -- the end of the stream
 pub stream_messages-end : (before : Progress) (part : Part) → length part.bytes ≡ 0 → stream_messages before part ≡ Ok before
@@ -71,8 +69,8 @@ stream_messages-fault before part size error some fine is =
     let rule = λ (after : Contents). all_items stream_message (behind_message part before after) (behind size part) in
     let sets = message_sets (message_domain part) before.contents (behind 16 (first size part)) in
     fault_of-same (all_items stream_message before part) (sets >>= rule) error
-      (goes_on stream_message stream_message-takes before part ∙ rw (above-eqb (length part.bytes) some, fine) refl)
-      (fault_behind sets rule error is)
+    (goes_on stream_message stream_message-takes before part ∙ rw (above-eqb (length part.bytes) some, fine) refl)
+    (fault_behind sets rule error is)
 
 -- the step, with the names of the code
 pub message-read : (before : Progress) (after : Contents) (part sets rest : Part) (size domain number : ℕ) (sequences : Sequences) → 0 < length part.bytes
@@ -82,18 +80,18 @@ pub message-read : (before : Progress) (after : Contents) (part sets rest : Part
     → stream_messages before part ≡ stream_messages (record { contents = after; sequences = sequences }) rest
 message-read before after part sets rest size domain number sequences some fine domain_is sets_are is number_is sequences_are rest_is =
     stream_messages-next before after part size some fine
-      (sym (ap (λ d. message_sets d before.contents (behind 16 (first size part))) domain_is) ∙ sym (ap (message_sets domain before.contents) sets_are) ∙ is)
+    (sym (ap (λ d. message_sets d before.contents (behind 16 (first size part))) domain_is) ∙ sym (ap (message_sets domain before.contents) sets_are) ∙ is)
     ∙ sym (ap (λ s. stream_messages (record { contents = after; sequences = s }) rest)
-        (sequences_are ∙ ap (λ d. with_expected before.sequences d number) domain_is ∙ ap (with_expected before.sequences (message_domain part)) number_is)
-      ∙ ap (stream_messages (behind_message part before after)) rest_is)
+    (sequences_are ∙ ap (λ d. with_expected before.sequences d number) domain_is ∙ ap (with_expected before.sequences (message_domain part)) number_is)
+    ∙ ap (stream_messages (behind_message part before after)) rest_is)
 
 pub message-refused : (before : Progress) (part sets : Part) (size domain : ℕ) (error : StreamError) → 0 < length part.bytes
     → checked_length before.sequences part ≡ Ok size → domain ≡ message_domain part → sets ≡ behind 16 (first size part)
     → IsFaultOf (message_sets domain before.contents sets) error → IsFaultOf (stream_messages before part) error
 message-refused before part sets size domain error some fine domain_is sets_are is =
     stream_messages-fault before part size error some fine
-      (fault_of-same _ (message_sets domain before.contents sets) error
-        (sym (ap (λ d. message_sets d before.contents (behind 16 (first size part))) domain_is) ∙ sym (ap (message_sets domain before.contents) sets_are)) is)
+    (fault_of-same _ (message_sets domain before.contents sets) error
+    (sym (ap (λ d. message_sets d before.contents (behind 16 (first size part))) domain_is) ∙ sym (ap (message_sets domain before.contents) sets_are)) is)
 
 -- the whole stream
 pub decode-read : (bytes : List ℕ) (read : Progress) → stream_messages nothing_read (record { at = 0; bytes = bytes }) ≡ Ok read

@@ -1,5 +1,5 @@
 -- The records of a set, one at a time.
-use Rattle.std.proofs.Common.{◌≡◌, ◌<◌, ◌≤◌, ◌+◌, ◌-◌, ◌==◌, ℕ, zero, suc, Bool, true, false, List, [], ◌∷◌, ◌++◌, length, drop, sum_by, Result, Ok, Err, if◌then◌else◌, refl, sym, ap, subst, ◌∙◌, arith, nat_lt, length-drop, OnOk, IfErr}
+use Rattle.std.proofs.Common.{◌≡◌, ◌<◌, ◌≤◌, ◌+◌, ◌-◌, ◌==◌, ℕ, zero, suc, Bool, List, [], ◌∷◌, ◌++◌, length, drop, Result, Ok, Err, refl, ap, ◌∙◌, arith, nat_lt, length-drop, OnOk, IfErr}
 use Rattle.std.proofs.lemmas.Bool.{le-ltb, lt-ltb, ltb-false}
 use Rattle.std.proofs.lemmas.Grind.{common_steps}
 use Rattle.std.proofs.lemmas.List.Sums.{sum_by-cons}
@@ -8,14 +8,13 @@ use Rattle.ipfix_model.specs.declared.values.FieldValue.{FieldValue}
 use Rattle.ipfix_model.specs.declared.values.DataRecord.{DataRecord}
 use Rattle.ipfix_model.specs.Fields.{least_length, field_least}
 use Rattle.ipfix_reader.specs.declared.fault.StreamFault.{StreamFault}
-use Rattle.ipfix_reader.specs.declared.fault.StreamFault.TheVariants.{BadLength, BadPadding, BadTemplate}
+use Rattle.ipfix_reader.specs.declared.fault.StreamFault.TheVariants.{BadLength, BadTemplate}
 use Rattle.ipfix_reader.specs.declared.fault.StreamError.{StreamError}
-use Rattle.ipfix_reader.specs.declared.fault.StreamError.TheVariants.{Fault, NoMemory}
 use Rattle.ipfix_reader.specs.Outcome.{◌>>=◌, IsFaultOf}
-use Rattle.ipfix_reader.specs.Part.{Part, behind, are_zeros, number_at}
-use Rattle.ipfix_reader.specs.Walk.{Reading, all_items}
-use Rattle.ipfix_reader.specs.Values.{Values, coded_length, value_of, values_of}
-use Rattle.ipfix_reader.specs.Specifiers.{Fields, field_of, specifier_length, record_header, is_bad_header, fields_of, checked, template_fields}
+use Rattle.ipfix_reader.specs.Part.{Part, behind, number_at}
+use Rattle.ipfix_reader.specs.Walk.{all_items}
+use Rattle.ipfix_reader.specs.Values.{Values, coded_length, values_of}
+use Rattle.ipfix_reader.specs.Specifiers.{Fields, specifier_length, record_header, is_bad_header, fields_of, checked, template_fields}
 use Rattle.ipfix_reader.specs.Known.{Templates, with_template}
 use Rattle.ipfix_reader.specs.Records.{padded, template_record, data_record, template_records, data_records, IsPaddingChecked}
 use Rattle.ipfix_reader.proofs.Items.{TakesBytes, goes_on, same_behind, same_choice, behind_ok, not_fault, same_ok, fault_behind, fault_of-same}
@@ -35,7 +34,7 @@ values_of-takes beyond (field ∷ fields) before part read is =
     let open_test = not_fault (nat_lt (length part.bytes) (coded_length field part.bytes)) beyond _ read is in
     let inside : coded_length field part.bytes ≤ length part.bytes = ltb-false (length part.bytes) (coded_length field part.bytes) open_test.0 in
     let rest : length read.rest.bytes + least_length fields ≤ length (drop (coded_length field part.bytes) part.bytes) =
-      values_of-takes beyond fields _ (behind (coded_length field part.bytes) part) read open_test.1 in
+    values_of-takes beyond fields _ (behind (coded_length field part.bytes) part) read open_test.1 in
     let least = field_least-coded field part.bytes in
     let sums : least_length (field ∷ fields) ≡ field_least field + least_length fields = sum_by-cons field_least field fields in
     let left : length (drop (coded_length field part.bytes) part.bytes) ≡ length part.bytes - coded_length field part.bytes = length-drop (coded_length field part.bytes) part.bytes in
@@ -51,7 +50,7 @@ fields_of-takes beyond zero before part read is =
 fields_of-takes beyond (suc count) before part read is =
     let open_test = not_fault (nat_lt (length part.bytes) (specifier_length part.bytes)) beyond _ read is in
     let rest : length read.rest.bytes ≤ length (drop (specifier_length part.bytes) part.bytes) =
-      fields_of-takes beyond count _ (behind (specifier_length part.bytes) part) read open_test.1 in
+    fields_of-takes beyond count _ (behind (specifier_length part.bytes) part) read open_test.1 in
     let left : length (drop (specifier_length part.bytes) part.bytes) ≡ length part.bytes - specifier_length part.bytes = length-drop (specifier_length part.bytes) part.bytes in
     omega arith
 
@@ -66,30 +65,30 @@ template_fields-takes options part read whole is =
     let some = not_fault (least_length (listed.0).fields == 0) (BadTemplate part.at) (Ok listed.0) read listed.2 in
     let same : length (listed.0).rest.bytes ≡ length read.rest.bytes = ap (λ (r : Fields). length r.rest.bytes) (same_ok listed.0 read some.1) in
     let rest : length (listed.0).rest.bytes ≤ length (drop (record_header options) part.bytes) =
-      fields_of-takes (BadTemplate part.at) (number_at 2 2 part.bytes) [] (behind (record_header options) part) listed.0 listed.1 in
+    fields_of-takes (BadTemplate part.at) (number_at 2 2 part.bytes) [] (behind (record_header options) part) listed.0 listed.1 in
     let left : length (drop (record_header options) part.bytes) ≡ length part.bytes - record_header options = length-drop (record_header options) part.bytes in
     let header : 4 ≤ record_header options = grind (arith, common_steps) in
     omega arith
 
 -- so the walk over template records goes on
-template_record-takes : (options : Bool) (domain : ℕ) → TakesBytes (template_record options domain)
+pub template_record-takes : (options : Bool) (domain : ℕ) → TakesBytes (template_record options domain)
 template_record-takes options domain go other before part same =
     same_choice (nat_lt (length part.bytes) 4) _ _ _ (λ whole.
-      same_behind (template_fields options part) _ _ (λ read is.
-        same _ read.rest (template_fields-takes options part read (ltb-false (length part.bytes) 4 whole) is)))
+    same_behind (template_fields options part) _ _ (λ read is.
+    same _ read.rest (template_fields-takes options part read (ltb-false (length part.bytes) 4 whole) is)))
 
 -- and that over data records of which each takes a byte or more
-data_record-takes : (domain number : ℕ) (fields : List FieldSpec) → 0 < least_length fields → TakesBytes (data_record domain number fields)
+pub data_record-takes : (domain number : ℕ) (fields : List FieldSpec) → 0 < least_length fields → TakesBytes (data_record domain number fields)
 data_record-takes domain number fields some go other before part same =
     same_choice (nat_lt (length part.bytes) (least_length fields)) _ _ _ (λ whole.
-      same_behind (values_of (BadLength part.at) fields [] part) _ _ (λ read is.
-        same _ read.rest (let takes = values_of-takes (BadLength part.at) fields [] part read is in omega arith)))
+    same_behind (values_of (BadLength part.at) fields [] part) _ _ (λ read is.
+    same _ read.rest (let takes = values_of-takes (BadLength part.at) fields [] part read is in omega arith)))
 
 -- a template record, and the ones behind it
 pub template_records-next : (options : Bool) (domain : ℕ) (before : Templates) (part : Part) (read : Fields) → 4 ≤ length part.bytes
     → template_fields options part ≡ Ok read
     → template_records options domain before part
-      ≡ template_records options domain (with_template before domain (number_at 0 2 part.bytes) read.fields) read.rest
+    ≡ template_records options domain (with_template before domain (number_at 0 2 part.bytes) read.fields) read.rest
 unfolding template_records
 template_records-next options domain before part read whole is =
     goes_on (template_record options domain) (template_record-takes options domain) before part
@@ -102,8 +101,8 @@ unfolding template_records
 template_records-fault options domain before part error whole is =
     let rule = λ (read : Fields). all_items (template_record options domain) (with_template before domain (number_at 0 2 part.bytes) read.fields) read.rest in
     fault_of-same (all_items (template_record options domain) before part) (template_fields options part >>= rule) error
-      (goes_on (template_record options domain) (template_record-takes options domain) before part ∙ rw (le-ltb (length part.bytes) 4 whole) refl)
-      (fault_behind (template_fields options part) rule error is)
+    (goes_on (template_record options domain) (template_record-takes options domain) before part ∙ rw (le-ltb (length part.bytes) 4 whole) refl)
+    (fault_behind (template_fields options part) rule error is)
 
 -- the end of the template records
 pub template_records-end : (options : Bool) (domain : ℕ) (before : Templates) (part : Part) → length part.bytes < 4
@@ -118,7 +117,7 @@ pub data_records-next : (domain number : ℕ) (fields : List FieldSpec) (before 
     → 0 < least_length fields → least_length fields ≤ length part.bytes
     → values_of (BadLength part.at) fields [] part ≡ Ok read
     → data_records domain number fields before part
-      ≡ data_records domain number fields (before ++ record { domain = domain; template = number; fields = read.values } ∷ []) read.rest
+    ≡ data_records domain number fields (before ++ record { domain = domain; template = number; fields = read.values } ∷ []) read.rest
 unfolding data_records
 data_records-next domain number fields before part read some whole is =
     goes_on (data_record domain number fields) (data_record-takes domain number fields some) before part
@@ -132,9 +131,9 @@ unfolding data_records
 data_records-fault domain number fields before part error some whole is =
     let rule = λ (read : Values). all_items (data_record domain number fields) (before ++ record { domain = domain; template = number; fields = read.values } ∷ []) read.rest in
     fault_of-same (all_items (data_record domain number fields) before part) (values_of (BadLength part.at) fields [] part >>= rule) error
-      (goes_on (data_record domain number fields) (data_record-takes domain number fields some) before part
-        ∙ rw (le-ltb (length part.bytes) (least_length fields) whole) refl)
-      (fault_behind (values_of (BadLength part.at) fields [] part) rule error is)
+    (goes_on (data_record domain number fields) (data_record-takes domain number fields some) before part
+    ∙ rw (le-ltb (length part.bytes) (least_length fields) whole) refl)
+    (fault_behind (values_of (BadLength part.at) fields [] part) rule error is)
 
 -- the end of the data records
 pub data_records-end : (domain number : ℕ) (fields : List FieldSpec) (before : List DataRecord) (part : Part)

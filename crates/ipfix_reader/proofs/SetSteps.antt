@@ -1,19 +1,16 @@
 -- The sets of a message, one at a time.
-use Rattle.std.proofs.Common.{◌≡◌, ◌<◌, ◌≤◌, ◌+◌, ◌-◌, ◌==◌, ◌||◌, ℕ, zero, suc, Bool, true, false, List, length, drop, Option, Some, None, Result, Ok, Err, if◌then◌else◌, refl, sym, ap, ◌∙◌, arith, nat_lt, length-drop, ◌≢◌, OnOk, IfErr}
-use Rattle.std.proofs.lemmas.Bool.{ltb-false, le-ltb, lt-ltb, eq-eqb, ne_eqb}
+use Rattle.std.proofs.Common.{◌≡◌, ◌<◌, ◌≤◌, ◌==◌, ◌||◌, ℕ, Bool, true, false, List, length, drop, Option, Result, Ok, Err, refl, sym, ap, ◌∙◌, arith, nat_lt, length-drop, ◌≢◌, OnOk, IfErr}
+use Rattle.std.proofs.lemmas.Bool.{ltb-false, le-ltb, lt-ltb, ne_eqb}
 use Rattle.ipfix_model.specs.declared.fields.FieldSpec.{FieldSpec}
-use Rattle.ipfix_model.specs.declared.values.DataRecord.{DataRecord}
 use Rattle.ipfix_reader.specs.declared.fault.StreamFault.{StreamFault}
-use Rattle.ipfix_reader.specs.declared.fault.StreamFault.TheVariants.{BadLength, NoTemplate}
+use Rattle.ipfix_reader.specs.declared.fault.StreamFault.TheVariants.{BadLength}
 use Rattle.ipfix_reader.specs.declared.fault.StreamError.{StreamError}
-use Rattle.ipfix_reader.specs.declared.fault.StreamError.TheVariants.{Fault, NoMemory}
 use Rattle.ipfix_reader.specs.Outcome.{◌>>=◌, IsFaultOf}
 use Rattle.ipfix_reader.specs.Part.{Part, behind, first, number_at}
-use Rattle.ipfix_reader.specs.Walk.{Reading, all_items}
-use Rattle.ipfix_reader.specs.Known.{Templates, fields_in}
-use Rattle.ipfix_reader.specs.Records.{template_records, data_records}
+use Rattle.ipfix_reader.specs.Walk.{all_items}
+use Rattle.ipfix_reader.specs.Known.{fields_in}
 use Rattle.ipfix_reader.specs.Sets.{Contents, template_set, data_set, set_contents, set_length, is_bad_length, message_set, message_sets}
-use Rattle.ipfix_reader.proofs.Items.{TakesBytes, goes_on, same_behind, same_choice, behind_ok, not_fault, same_ok, fault_behind, fault_of-same}
+use Rattle.ipfix_reader.proofs.Items.{TakesBytes, goes_on, same_behind, same_choice, fault_behind, fault_of-same}
 
 -- neither of two
 or-false : (a b : Bool) → (a || b) ≡ false → (a ≡ false) × (b ≡ false)
@@ -36,13 +33,13 @@ set-shorter : (size : ℕ) (bytes : List ℕ) → 4 ≤ size → size ≤ length
 set-shorter size bytes least inside = let left = length-drop size bytes in omega arith
 
 -- so the walk over sets goes on
-message_set-takes : (domain : ℕ) → TakesBytes (message_set domain)
+pub message_set-takes : (domain : ℕ) → TakesBytes (message_set domain)
 message_set-takes domain go other before part same =
     same_choice (length part.bytes == 0) _ _ _ (λ some.
-      same_choice (is_bad_length part) _ _ _ (λ good.
-        same_behind (set_contents domain (number_at 0 2 part.bytes) part.at before (behind 4 (first (set_length part) part))) _ _ (λ after is.
-          let bounds = set_length-bounds part good in
-          same after (behind (set_length part) part) (set-shorter (set_length part) part.bytes bounds.0 bounds.1))))
+    same_choice (is_bad_length part) _ _ _ (λ good.
+    same_behind (set_contents domain (number_at 0 2 part.bytes) part.at before (behind 4 (first (set_length part) part))) _ _ (λ after is.
+    let bounds = set_length-bounds part good in
+    same after (behind (set_length part) part) (set-shorter (set_length part) part.bytes bounds.0 bounds.1))))
 
 -- the end of the sets
 pub message_sets-end : (domain : ℕ) (before : Contents) (part : Part) → length part.bytes ≡ 0 → message_sets domain before part ≡ Ok before
@@ -74,8 +71,8 @@ message_sets-fault domain before part error some good is =
     let rule = λ (after : Contents). all_items (message_set domain) after (behind (set_length part) part) in
     let contents = set_contents domain (number_at 0 2 part.bytes) part.at before (behind 4 (first (set_length part) part)) in
     fault_of-same (all_items (message_set domain) before part) (contents >>= rule) error
-      (goes_on (message_set domain) (message_set-takes domain) before part ∙ rw (above-eqb (length part.bytes) some, good) refl)
-      (fault_behind contents rule error is)
+    (goes_on (message_set domain) (message_set-takes domain) before part ∙ rw (above-eqb (length part.bytes) some, good) refl)
+    (fault_behind contents rule error is)
 
 -- what is in a set, by its number
 pub set_contents-templates : (domain number at : ℕ) (before : Contents) (part : Part) → number ≡ 2
@@ -135,4 +132,4 @@ pub set-refused : (domain kind size : ℕ) (before : Contents) (part content : P
     → IsFaultOf (message_sets domain before part) error
 set-refused domain kind size before part content error some good kind_is size_is content_is is =
     message_sets-fault domain before part error some good
-      (fault_of-same _ (set_contents domain kind part.at before content) error (contents-same domain kind size before part content kind_is size_is content_is) is)
+    (fault_of-same _ (set_contents domain kind part.at before content) error (contents-same domain kind size before part content kind_is size_is content_is) is)

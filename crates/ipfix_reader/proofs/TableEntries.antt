@@ -1,10 +1,9 @@
 -- Looking up and putting in, seen without all but the fields.
-use Rattle.std.proofs.Common.{◌≡◌, ℕ, Bool, true, false, cond, List, [], ◌∷◌, Option, None, Some, option_map, refl, sym, ap, ◌∙◌}
+use Rattle.std.proofs.Common.{◌≡◌, ℕ, Bool, true, false, cond, List, [], ◌∷◌, Option, None, Some, option_map, refl, ap, ◌∙◌}
 use Rattle.std.specs.Option.{option_copied}
 use Rattle.std.specs.Borrow.{Bor}
 use Rattle.std.specs.Map.{lookup}
 use Rattle.indexmap.specs.IndexMap.{insert_entry}
-use Rattle.ipfix_model.specs.declared.fields.FieldSpec.{FieldSpec}
 use Rattle.ipfix_reader.specs.declared.known.Known.{Known}
 use Rattle.ipfix_reader.specs.Known.{fields_in, with_template, is_same}
 use Rattle.ipfix_reader.specs.Tables.{entry_shown, templates_shown}
@@ -21,7 +20,7 @@ insert_entry-templates_shown : (entries : List ((ℕ × ℕ) × Known)) (key : �
 insert_entry-templates_shown [] key k = refl
 insert_entry-templates_shown (e ∷ es) key k =
     elim (is_same key e.0) as (λ b. templates_shown (cond b ((e.0, k) ∷ es) (e ∷ insert_entry is_same es key k))
-      ≡ cond b ((e.0, k.template.fields) ∷ templates_shown es) (entry_shown e ∷ insert_entry is_same (templates_shown es) key k.template.fields))
+    ≡ cond b ((e.0, k.template.fields) ∷ templates_shown es) (entry_shown e ∷ insert_entry is_same (templates_shown es) key k.template.fields))
     [ true ↦ refl | false ↦ ap (λ more. entry_shown e ∷ more) (insert_entry-templates_shown es key k) ]
 
 copied_fields : (found : Option (Bor Known)) (r : Option Known) → option_copied found ≡ r

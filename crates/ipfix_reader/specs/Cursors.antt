@@ -1,5 +1,4 @@
 -- What the walk over the bytes keeps, as the definitions of reading speak of it.
-use Rattle.std.specs.Prelude.{List}
 use Rattle.std.specs.Global.{Vec}
 use Rattle.ipfix_model.specs.declared.values.FieldValue.{FieldValue}
 use Rattle.ipfix_reader.specs.declared.cursor.Cursor.{Cursor}

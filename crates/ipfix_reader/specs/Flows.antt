@@ -1,5 +1,5 @@
 -- Flow records among data records.
-use Rattle.std.specs.Prelude.{◌≡◌, ◌<◌, ◌≤◌, ◌^◌, ◌==◌, ◌&&◌, ℕ, Bool, List, [], ◌∷◌, length, Option, Some, None, is_none, option_map, option_and_then, if◌then◌else◌, slice_index, refl}
+use Rattle.std.specs.Prelude.{◌<◌, ◌≤◌, ◌^◌, ◌==◌, ◌&&◌, ℕ, Bool, List, [], ◌∷◌, length, Option, Some, None, is_none, option_map, option_and_then, if◌then◌else◌, slice_index, refl}
 use Rattle.std.specs.Option.{option_or}
 use Rattle.std.specs.Result.{result_ok}
 use Rattle.std.proofs.Common.{ap, true≢false, lit<}
@@ -103,7 +103,7 @@ FitPart numbers = ((slice_index numbers 6 < 2 ^ 64) × (slice_index numbers 7 < 
 abbrev pub fit_part : (numbers : List ℕ) → Dec (FitPart numbers)
 fit_part numbers =
     both (both (dec_lt (slice_index numbers 6) (2 ^ 64)) (dec_lt (slice_index numbers 7) (2 ^ 64)))
-      (both (dec_lt (slice_index numbers 9) (2 ^ 64)) (dec_lt (slice_index numbers 5) (2 ^ 16)))
+    (both (dec_lt (slice_index numbers 9) (2 ^ 64)) (dec_lt (slice_index numbers 5) (2 ^ 16)))
 
 -- What is known of the flow's packets, by the numbers behind the key: flags, packets, octets, first and last time.
 unfoldable pub part_with : List ℕ → FlowKey → Option Fragment
@@ -128,8 +128,8 @@ record_with numbers part =
 abbrev pub flow_by : (List ℕ → Option FlowKey) → List FieldSpec → List FieldValue → Option FlowRecord
 flow_by key_with fields values =
     option_and_then (λ numbers.
-      option_and_then (record_with numbers) (option_and_then (part_with numbers) (key_with numbers)))
-      (numbers_in fields values)
+    option_and_then (record_with numbers) (option_and_then (part_with numbers) (key_with numbers)))
+    (numbers_in fields values)
 
 -- The flow record that a data record is: its fields are those of the template for version 4 or for version 6, and its
 -- numbers are those of a flow. Else none.

@@ -59,8 +59,8 @@ abbrev pub stream_message : Reading Progress → Reading Progress
 stream_message go_on before part =
     if length part.bytes == 0 then Ok before
     else checked_length before.sequences part
-      >>= λ size. message_sets (message_domain part) before.contents (behind 16 (first size part))
-      >>= λ after. go_on (behind_message part before after) (behind size part)
+    >>= λ size. message_sets (message_domain part) before.contents (behind 16 (first size part))
+    >>= λ after. go_on (behind_message part before after) (behind size part)
 
 -- The messages of a stream.
 unfoldable pub stream_messages : Reading Progress

@@ -3,7 +3,6 @@ use Rattle.std.specs.Prelude.{◌≡◌, ℕ, ◌++◌, Bool, true, false, OnOk,
 use Rattle.ipfix_model.specs.declared.fields.FieldSpec.{FieldSpec}
 use Rattle.ipfix_model.specs.declared.values.DataRecord.{DataRecord}
 use Rattle.ipfix_model.specs.Fields.{least_length}
-use Rattle.ipfix_reader.specs.declared.fault.StreamFault.{StreamFault}
 use Rattle.ipfix_reader.specs.declared.fault.StreamFault.TheVariants.{BadLength, BadPadding}
 use Rattle.ipfix_reader.specs.declared.fault.StreamError.{StreamError}
 use Rattle.ipfix_reader.specs.declared.fault.StreamError.TheVariants.{Fault}
@@ -24,14 +23,14 @@ abbrev pub template_record : Bool → ℕ → Reading Templates → Reading Temp
 template_record options domain go_on before part =
     if nat_lt (length part.bytes) 4 then padded before part
     else template_fields options part
-      >>= λ read. go_on (with_template before domain (number_at 0 2 part.bytes) read.fields) read.rest
+    >>= λ read. go_on (with_template before domain (number_at 0 2 part.bytes) read.fields) read.rest
 
 -- A data record of a template with these fields, or the padding, which is shorter than any.
 abbrev pub data_record : ℕ → ℕ → List FieldSpec → Reading (List DataRecord) → Reading (List DataRecord)
 data_record domain number fields go_on before part =
     if nat_lt (length part.bytes) (least_length fields) then padded before part
     else values_of (BadLength part.at) fields [] part
-      >>= λ read. go_on (before ++ record { domain = domain; template = number; fields = read.values } ∷ []) read.rest
+    >>= λ read. go_on (before ++ record { domain = domain; template = number; fields = read.values } ∷ []) read.rest
 
 -- The records of a set of template records, of options template records, and of data records.
 unfoldable pub template_records : Bool → ℕ → Reading Templates

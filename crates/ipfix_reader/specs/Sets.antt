@@ -1,8 +1,7 @@
 -- The sets of a message (RFC 7011, section 3.3).
-use Rattle.std.specs.Prelude.{ℕ, ◌==◌, ◌||◌, Bool, true, false, List, length, Option, Some, None, Result, Ok, Err, nat_lt, if◌then◌else◌}
+use Rattle.std.specs.Prelude.{ℕ, ◌==◌, ◌||◌, Bool, true, false, List, length, Option, Some, None, Ok, Err, nat_lt, if◌then◌else◌}
 use Rattle.ipfix_model.specs.declared.fields.FieldSpec.{FieldSpec}
 use Rattle.ipfix_model.specs.declared.values.DataRecord.{DataRecord}
-use Rattle.ipfix_reader.specs.declared.fault.StreamFault.{StreamFault}
 use Rattle.ipfix_reader.specs.declared.fault.StreamFault.TheVariants.{BadLength, NoTemplate}
 use Rattle.ipfix_reader.specs.Outcome.{◌>>=◌}
 use Rattle.ipfix_reader.specs.Part.{Part, behind, first, number_at}
@@ -19,14 +18,14 @@ pub record Contents : Type 0 where
 abbrev pub template_set : Bool → ℕ → Reading Contents
 template_set options domain before part =
     template_records options domain before.templates part
-      >>= λ templates. Ok (record { templates = templates; records = before.records })
+    >>= λ templates. Ok (record { templates = templates; records = before.records })
 
 -- The contents of a data set whose template may be known, behind the header at the offset `at`.
 abbrev pub data_set : ℕ → ℕ → ℕ → Option (List FieldSpec) → Reading Contents
 data_set domain number at None before part = Err (NoTemplate at number)
 data_set domain number at (Some fields) before part =
     data_records domain number fields before.records part
-      >>= λ records. Ok (record { templates = before.templates; records = records })
+    >>= λ records. Ok (record { templates = before.templates; records = records })
 
 -- The contents of a set, by its number: 2 for templates, 3 for options templates, 256 and above for the data records
 -- of the template with that number. The others are reserved, and skipped.
@@ -51,7 +50,7 @@ message_set domain go_on before part =
     if length part.bytes == 0 then Ok before
     else if is_bad_length part then Err (BadLength part.at)
     else set_contents domain (number_at 0 2 part.bytes) part.at before (behind 4 (first (set_length part) part))
-      >>= λ after. go_on after (behind (set_length part) part)
+    >>= λ after. go_on after (behind (set_length part) part)
 
 -- The sets of a message, behind its header.
 unfoldable pub message_sets : ℕ → Reading Contents

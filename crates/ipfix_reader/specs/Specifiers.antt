@@ -1,5 +1,5 @@
 -- Field specifiers (RFC 7011, section 3.2) and the template records that list them (sections 3.4.1 and 3.4.2).
-use Rattle.std.specs.Prelude.{ℕ, zero, suc, ◌+◌, ◌%◌, ◌==◌, ◌&&◌, ◌||◌, Bool, List, [], ◌∷◌, ◌++◌, length, Option, Some, None, Result, Ok, Err, nat_lt, nat_le, if◌then◌else◌}
+use Rattle.std.specs.Prelude.{ℕ, zero, suc, ◌%◌, ◌==◌, ◌&&◌, ◌||◌, Bool, List, [], ◌∷◌, ◌++◌, length, Some, None, Result, Ok, Err, nat_lt, nat_le, if◌then◌else◌}
 use Rattle.ipfix_model.specs.declared.fields.FieldSpec.{FieldSpec}
 use Rattle.ipfix_model.specs.Fields.{least_length}
 use Rattle.ipfix_reader.specs.declared.fault.StreamFault.{StreamFault}
@@ -58,4 +58,4 @@ template_fields options part =
     if number_at 2 2 part.bytes == 0 then Err (Withdrawal part.at)
     else if is_bad_header options part.bytes then Err (BadTemplate part.at)
     else fields_of (BadTemplate part.at) (number_at 2 2 part.bytes) [] (behind (record_header options) part)
-      >>= checked (BadTemplate part.at)
+    >>= checked (BadTemplate part.at)

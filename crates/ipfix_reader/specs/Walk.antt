@@ -1,5 +1,5 @@
 -- Reading item by item to the end of a part: message by message, set by set, record by record.
-use Rattle.std.specs.Prelude.{◌≡◌, ◌<◌, ℕ, zero, suc, length, Result, Err}
+use Rattle.std.specs.Prelude.{◌≡◌, ℕ, zero, suc, length, Result, Err}
 use Rattle.ipfix_reader.specs.declared.fault.StreamFault.{StreamFault}
 use Rattle.ipfix_reader.specs.declared.fault.StreamFault.TheVariants.{Cut}
 use Rattle.ipfix_reader.specs.Part.{Part}

@@ -61,9 +61,19 @@ fn number_in(field: &FieldSpec, value: &FieldValue) -> Option<u128>
 fn v4_key(numbers: &[u128; 11]) -> Option<FlowKey>
     ensures { result ≡ v4_key numbers.now }
 {
-    let [source, destination, source_port, destination_port, protocol, ..] = *numbers;
+    let [
+        source,
+        destination,
+        source_port,
+        destination_port,
+        protocol,
+        ..
+    ] = *numbers;
     let widest = u128::from(u32::MAX);
-    if source > widest || destination > widest || !fit_key(source_port, destination_port, protocol) {
+    if source > widest
+        || destination > widest
+        || !fit_key(source_port, destination_port, protocol)
+    {
         return None;
     }
     Some(FlowKey {
@@ -80,7 +90,14 @@ fn v4_key(numbers: &[u128; 11]) -> Option<FlowKey>
 fn v6_key(numbers: &[u128; 11]) -> Option<FlowKey>
     ensures { result ≡ v6_key numbers.now }
 {
-    let [source, destination, source_port, destination_port, protocol, ..] = *numbers;
+    let [
+        source,
+        destination,
+        source_port,
+        destination_port,
+        protocol,
+        ..
+    ] = *numbers;
     if !fit_key(source_port, destination_port, protocol) {
         return None;
     }

@@ -1,10 +1,21 @@
-//! Reading of IPFIX messages (RFC 7011, sections 3.1 to 3.4 and 7).
+//! Reading of IPFIX messages (RFC 7011, sections 3.1 to 3.4 and 7), and the flow records among their data records.
+//!
+//! [`read_stream`] decodes a stream of messages to its data records, or tells its first fault and where it stands. Its
+//! definition goes by the standard's nesting: a stream is a list of messages, a message a list of sets, a set a list
+//! of records and padding, and a record a list of values, each as long as its header or its template says. Templates
+//! and expected sequence numbers are kept by observation domain.
+//!
+//! [`flow_of`] is the flow record that a data record is, where it is one.
+//!
+//! A [`Cursor`](cursor::Cursor) is a part of the stream with its offset; each layer reads from one, and nothing is
+//! copied but the values.
 #![tactic(auto)]
 
 mod cursor;
 mod fault;
 mod flow;
 mod known;
+pub mod laws;
 mod messages;
 mod records;
 mod sets;

@@ -68,7 +68,15 @@ fn read_set<'a>(
     }
     let size = usize::from(part.u16_at(2));
     let content = part.first(size).behind(SET_HEADER);
-    match read_content(alloc, domain, part.u16_at(0), part.at, table, records, content) {
+    match read_content(
+        alloc,
+        domain,
+        part.u16_at(0),
+        part.at,
+        table,
+        records,
+        content,
+    ) {
         Ok(()) => Ok(part.behind(size)),
         Err(error) => Err(error),
     }

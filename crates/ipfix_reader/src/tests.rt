@@ -1,40 +1,69 @@
 //! Streams made by hand from the standard, and what is read of them.
 
+ghost use Rattle.std.specs.Prelude.{◌<◌, IfSome};
+
 use crate::{StreamError, StreamFault, flow_of, read_stream};
-use StreamFault::{BadLength, BadPadding, BadSequence, BadTemplate, BadVersion, Cut, NoTemplate, Withdrawal};
+use StreamFault::{
+    BadLength, BadPadding, BadSequence, BadTemplate, BadVersion, Cut, NoTemplate, Withdrawal,
+};
+use Want::{Fault, Records};
+use flow_key::FlowKey;
+use flow_parts::Fragment;
 use ipfix_model::DataRecord;
+use record_ledger::FlowRecord;
 use std::alloc::{AllocError, Global};
 use std::process::Abort;
 use std::test::Fail;
 
-/// A stream in hexadecimal digits, and what is wanted: the records as text, or the fault.
+/// What is wanted of a stream: its records as text, or its first fault.
+#[derive(Clone, Copy, Debug, PartialEq, Eq)]
+enum Want {
+    Records(&'static str),
+    Fault(StreamFault),
+}
+
+/// A stream in hexadecimal digits, and what is wanted.
 struct Row {
     stream: &'static str,
-    records: &'static str,
-    fault: Option<StreamFault>,
+    want: Want,
 }
 
 /// Rows of a table: the stream, and its records or its fault.
 macro_rules! streams {
-    ($($stream:literal => $records:literal $fault:expr;)*) => {
-        &[$(Row { stream: $stream, records: $records, fault: $fault }),*]
+    ($($stream:literal => $want:expr;)*) => {
+        &[$(Row { stream: $stream, want: $want }),*]
     };
 }
 
-/// The bytes that hexadecimal digits stand for. Spaces are for reading alone.
+/// The end of a message's header: export time and sequence number 0, and domain 1.
+const TAIL: [u8; 12] = [0, 0, 0, 0, 0, 0, 0, 0, 0, 0, 0, 1];
+
+/// The value of a hexadecimal digit.
+fn digit(byte: u8) -> Option<u8>
+    ensures { IfSome result (λ value. value < 16) }
+{
+    match byte {
+        b'0'..=b'9' => Some(byte - b'0'),
+        b'a'..=b'f' => Some(byte - b'a' + 10),
+        _ => None,
+    }
+}
+
+/// The bytes that hexadecimal digits stand for; `M` stands for [`TAIL`], and spaces are for reading alone.
 fn bytes_of(alloc: Global, text: &str) -> Result<Vec<u8>, AllocError> {
     let mut bytes = Vec::new(alloc);
     let mut half = None;
-    for digit in text.bytes() {
-        let value = match digit {
-            b'0'..=b'9' => digit - b'0',
-            b'a'..=b'f' => digit - b'a' + 10,
-            _ => continue,
+    for byte in text.bytes() {
+        if byte == b'M' {
+            bytes.extend_from_slice(TAIL.as_slice())?;
+        }
+        let Some(low) = digit(byte) else {
+            continue;
         };
         half = match half {
-            None => Some(value),
+            None => Some(low),
             Some(high) => {
-                bytes.push(value % 16 + 16 * (high % 16))?;
+                bytes.push(high << 4 | low)?;
                 None
             }
         };
@@ -42,7 +71,7 @@ fn bytes_of(alloc: Global, text: &str) -> Result<Vec<u8>, AllocError> {
     Ok(bytes)
 }
 
-/// A record in one line: domain and template, and each field with its value in hexadecimal digits.
+/// Records as text: domain and template, each element with its value in hexadecimal digits, and a semicolon.
 fn text_of(alloc: Global, records: &[DataRecord]) -> Result<String, AllocError> {
     let mut text = String::new(alloc);
     for rec in records {
@@ -64,18 +93,20 @@ fn text_of(alloc: Global, records: &[DataRecord]) -> Result<String, AllocError> 
     Ok(text)
 }
 
-/// The table `rows` holds.
-fn check_rows(rt: &(impl Abort + AllocGlobal), rows: &[Row]) -> Result<(), Fail> {
+/// Each stream gives what is wanted of it.
+fn check_rows<R: Abort + AllocGlobal>(rt: &R, rows: &[Row]) -> Result<(), Fail> {
     for row in rows {
         let bytes = bytes_of(rt.alloc(), row.stream)?;
         match read_stream(rt.alloc(), bytes.as_slice()) {
             Ok(records) => {
-                assert_eq!(rt; row.fault, None);
                 let text = text_of(rt.alloc(), records.as_slice())?;
-                assert_eq!(rt; text.as_str(), row.records);
+                match row.want {
+                    Records(wanted) => assert_eq!(rt; text.as_str(), wanted),
+                    Fault(_) => assert!(rt; false, "{} is read", row.stream),
+                }
             }
-            Err(StreamError::Fault(fault)) => assert_eq!(rt; row.fault, Some(fault)),
-            Err(StreamError::NoMemory) => return Err(Fail::from(AllocError)),
+            Err(StreamError::Fault(fault)) => assert_eq!(rt; Fault(fault), row.want),
+            Err(StreamError::NoMemory) => return Err(Fail::from("no memory")),
         }
     }
     Ok(())
@@ -86,15 +117,333 @@ fn each_fault_stands_where_it_is(rt: HostRuntime) -> Result<(), Fail> {
     check_rows(
         &rt,
         streams! {
-            "000a0010 00000000 00000000 00000001" => "" None;
-            "00090010 00000000 00000000 00000001" => "" Some(BadVersion { at: 0 });
-            "000a0008 00000000 00000000 00000001" => "" Some(BadLength { at: 0 });
-            "000a0018 00000000 00000000 00000001 01000008 00000000" => "" Some(NoTemplate { at: 16, id: 256 });
-            "000a0018 00000000 00000000 00000001 00020008 01000000" => "" Some(Withdrawal { at: 20 });
-            "000a0018 00000000 00000000 00000001 00020008 00ff0001" => "" Some(BadTemplate { at: 20 });
-            "000a0015 00000000 00000000 00000001 00020005 01" => "" Some(BadPadding { at: 20 });
-            "000a0010 00000000 00000000 00000001 000a0010 00000000 00000001 00000001" => "" Some(BadSequence { at: 16 });
-            "000a0011 00000000 00000000 00000001" => "" Some(Cut { at: 0 });
+            "000a0010 M" => Records("");
+            "00090010 M" => Fault(BadVersion { at: 0 });
+            "000a0008 M" => Fault(BadLength { at: 0 });
+            "000a0018 M 01000008 00000000" => Fault(NoTemplate { at: 16, id: 256 });
+            "000a0018 M 00020008 01000000" => Fault(Withdrawal { at: 20 });
+            "000a0018 M 00020008 00ff0001" => Fault(BadTemplate { at: 20 });
+            "000a0015 M 00020005 01" => Fault(BadPadding { at: 20 });
+            "000a0010 M 000a0010 00000000 00000001 00000001" => Fault(BadSequence { at: 16 });
+            "000a0011 M" => Fault(Cut { at: 0 });
         },
     )
+}
+
+#[test]
+fn streams_are_read_as_the_standard_says(rt: HostRuntime) -> Result<(), Fail> {
+    check_rows(
+        &rt,
+        streams! {
+            // Streams and messages without records.
+            "" => Records("");
+            "000a0010 M" => Records("");
+            "000a0010 M 000a0010 M 000a0010 M" => Records("");
+            "000a0014 M 00020004" => Records("");
+            // A template, and data of it.
+            "000a0022 M 0002000c 01000001 00070002 01000006 0fa0" => Records("1/256 7=0fa0;");
+            "000a0024 M 0002000c 01000001 00070002 01000008 0fa0 0035" => Records("1/256 7=0fa0;1/256 7=0035;");
+            "000a001c M 0002000c 01000001 00070002 000a0016 M 01000006 0fa0" => Records("1/256 7=0fa0;");
+            "000a0022 M 0002000c ffff0001 00070002 ffff0006 0fa0" => Records("1/65535 7=0fa0;");
+            "000a0020 M 0002000c 01000001 00070002 01000004" => Records("");
+            // Data whose template isn't known, or isn't known yet.
+            "000a0022 M 01000006 0fa0 0002000c 01000001 00070002" => Fault(NoTemplate { at: 16, id: 256 });
+            "000a0026 M 0002000c 01000001 00070002 01000006 0fa0 01010004" => Fault(NoTemplate { at: 34, id: 257 });
+            // Templates are known in the domain of their message alone.
+            "000a001c M 0002000c 01000001 00070002 000a0016 00000000 00000000 00000002 01000006 0fa0" => Fault(NoTemplate { at: 44, id: 256 });
+            "000a001c M 0002000c 01000001 00070002 000a001c 00000000 00000000 00000002 0002000c 01000001 00040001 000a0016 M 01000006 0fa0 000a0015 00000000 00000000 00000002 01000005 11" => Records("1/256 7=0fa0;2/256 4=11;");
+            // A later template takes the place of an earlier one.
+            "000a0033 M 0002000c 01000001 00070002 01000006 0fa0 0002000c 01000001 00040001 01000005 11" => Records("1/256 7=0fa0;1/256 4=11;");
+            "000a0029 M 00020014 01000001 00070002 01000001 00040001 01000005 11" => Records("1/256 4=11;");
+            // Options templates: a scope of one to all fields; their data counts.
+            "000a0032 M 00030012 0102 0002 0001 00950004 00290008 01020010 00000001 0000000000000005" => Records("1/258 149=00000001 41=0000000000000005;");
+            "000a0022 M 00030012 0102 0002 0002 00950004 00290008" => Records("");
+            "000a0022 M 00030012 0102 0002 0000 00950004 00290008" => Fault(BadTemplate { at: 20 });
+            "000a0022 M 00030012 0102 0002 0003 00950004 00290008" => Fault(BadTemplate { at: 20 });
+            "000a001e M 0003000e 00ff 0001 0001 00950004" => Fault(BadTemplate { at: 20 });
+            "000a0018 M 00030008 0102 0000" => Fault(Withdrawal { at: 20 });
+            "000a0018 M 00030008 0102 0001" => Fault(BadTemplate { at: 20 });
+            "000a0032 M 00030012 0102 0002 0001 00950004 00290008 01020010 00000001 0000000000000005 000a0010 00000000 00000001 00000001" => Records("1/258 149=00000001 41=0000000000000005;");
+            "000a0032 M 00030012 0102 0002 0001 00950004 00290008 01020010 00000001 0000000000000005 000a0010 M" => Fault(BadSequence { at: 50 });
+            // Enterprise fields.
+            "000a0028 M 00020010 01000001 80010004 00007279 01000008 deadbeef" => Records("1/256 29305.1=deadbeef;");
+            "000a0026 M 00020010 01000001 80000002 00000001 01000006 0fa0" => Records("1/256 1.0=0fa0;");
+            "000a0029 M 00020014 01000002 ffff0001 ffffffff 00070002 01000005 01" => Fault(BadPadding { at: 40 });
+            "000a002b M 00020014 01000002 ffff0001 ffffffff 00070002 01000007 010fa0" => Records("1/256 4294967295.32767=01 7=0fa0;");
+            "000a001e M 0002000e 01000001 80010004 0000" => Fault(BadTemplate { at: 20 });
+            // Template records that go beyond their set, and a second one at fault.
+            "000a001a M 0002000a 01000001 0007" => Fault(BadTemplate { at: 20 });
+            "000a001c M 0002000c 01000002 00070002" => Fault(BadTemplate { at: 20 });
+            "000a001c M 0002000c ffffffff 00070002" => Fault(BadTemplate { at: 20 });
+            "000a0024 M 00020014 01000001 00070002 00ff0001 00070002" => Fault(BadTemplate { at: 28 });
+            "000a0018 M 00020008 00ff0000" => Fault(Withdrawal { at: 20 });
+            // Records that take no byte, and a field that takes none.
+            "000a001c M 0002000c 01000001 00070000" => Fault(BadTemplate { at: 20 });
+            "000a0025 M 00020010 01000002 00070000 00040001 01000005 11" => Records("1/256 7= 4=11;");
+            // Variable lengths, by one byte and by three.
+            "000a0024 M 0002000c 01000001 0052ffff 01000008 03616263" => Records("1/256 82=616263;");
+            "000a0021 M 0002000c 01000001 0052ffff 01000005 00" => Records("1/256 82=;");
+            "000a0025 M 0002000c 01000001 0052ffff 01000009 ff00026162" => Records("1/256 82=6162;");
+            "000a0023 M 0002000c 01000001 0052ffff 01000007 ff0000" => Records("1/256 82=;");
+            "000a0024 M 0002000c 01000001 0052ffff 01000008 00016100" => Records("1/256 82=;1/256 82=61;1/256 82=;");
+            "000a0024 M 0002000c 01000001 0052ffff 01000008 04616263" => Fault(BadLength { at: 32 });
+            "000a0022 M 0002000c 01000001 0052ffff 01000006 ff00" => Fault(BadLength { at: 32 });
+            "000a0023 M 0002000c 01000001 0052ffff 01000007 ffffff" => Fault(BadLength { at: 32 });
+            "000a0027 M 00020010 01000002 0052ffff 00040001 01000007 016111" => Records("1/256 82=61 4=11;");
+            "000a0027 M 00020010 01000002 0052ffff 00040001 01000007 026111" => Fault(BadLength { at: 36 });
+            // Sets 0, 1 and 4 to 255 are skipped unread.
+            "000a0024 M 00000005 ff 00010005 ff 00040005 ff 00ff0005 ff" => Records("");
+            // Lengths of sets.
+            "000a0012 M 0002" => Fault(BadLength { at: 16 });
+            "000a0014 M 00040000" => Fault(BadLength { at: 16 });
+            "000a0014 M 00040003" => Fault(BadLength { at: 16 });
+            "000a0014 M 00040005" => Fault(BadLength { at: 16 });
+            "000a0019 M 00040005 ff 00040005" => Fault(BadLength { at: 21 });
+            // Padding, and what is a record.
+            "000a001d M 0002000d 01000001 00070002 00" => Records("");
+            "000a001f M 0002000f 01000001 00070002 000000" => Records("");
+            "000a001f M 0002000f 01000001 00070002 000001" => Fault(BadPadding { at: 28 });
+            "000a0020 M 00020010 01000001 00070002 00000000" => Fault(Withdrawal { at: 28 });
+            "000a0027 M 0002000c 01000001 00010004 0100000b 0000001c 000000" => Records("1/256 1=0000001c;");
+            "000a0027 M 0002000c 01000001 00010004 0100000b 0000001c 010000" => Fault(BadPadding { at: 36 });
+            "000a0028 M 0002000c 01000001 00010004 0100000c 0000001c 00000000" => Records("1/256 1=0000001c;1/256 1=00000000;");
+            "000a0023 M 0002000c 01000001 00010004 01000007 000000" => Records("");
+            // Lengths of messages, and the stream's end.
+            "000a000f M" => Fault(BadLength { at: 0 });
+            "00090008 M" => Fault(BadVersion { at: 0 });
+            "000a000f 00000000 00000000 000000" => Fault(Cut { at: 0 });
+            "000a0010 M 000a" => Fault(Cut { at: 16 });
+            "000a0010 M 000a0014 00000000 00000001 00000001" => Fault(Cut { at: 16 });
+            // Sequence numbers, across 2^32 and by domain; template records don't count.
+            "000a0022 00000000 ffffffff 00000001 0002000c 01000001 00070002 01000006 0fa0 000a0010 M" => Records("1/256 7=0fa0;");
+            "000a0010 00000000 ffffffff 00000001 000a0010 00000000 ffffffff 00000001 000a0010 M" => Fault(BadSequence { at: 32 });
+            "000a0010 00000000 00000005 00000001 000a0010 00000000 00000009 00000002 000a0010 00000000 00000005 00000001 000a0010 00000000 00000009 00000002" => Records("");
+            "000a0010 00000000 00000005 00000001 000a0010 00000000 00000009 00000002 000a0010 00000000 00000005 00000002" => Fault(BadSequence { at: 32 });
+            "000a001c M 0002000c 01000001 00070002 000a0010 00000000 00000001 00000001" => Fault(BadSequence { at: 28 });
+            "000a0010 M 000a0012 00000000 00000001 00000001 0002" => Fault(BadSequence { at: 16 });
+        },
+    )
+}
+
+/// The message with the templates for flows over IPv4 and over IPv6.
+const TEMPLATES: &str = "000a0074 000003e9 00000000 00000001 0002 0064\
+    0100000b 00080004 000c0004 00070002 000b0002 00040001 00060002 00020008 00010008 00980008 00990008 00880001\
+    0101000b 001b0010 001c0010 00070002 000b0002 00040001 00060002 00020008 00010008 00980008 00990008 00880001";
+
+/// UDP from 192.0.2.1 port 4000 to 192.0.2.2 port 53: 2 packets of 56 octets from 1000 s to 1001 s, forced end.
+const UDP: &str =
+    "c0000201 c0000202 0fa0 0035 11 0000 0000000000000002 0000000000000038 00000000000f4240 00000000000f4628 04";
+
+/// The bytes of pieces of text.
+fn joined(alloc: Global, pieces: &[&str]) -> Result<Vec<u8>, AllocError> {
+    let mut bytes = Vec::new(alloc);
+    for piece in pieces {
+        bytes.extend_from_slice(bytes_of(alloc, piece)?.as_slice())?;
+    }
+    Ok(bytes)
+}
+
+/// The first `count` bytes.
+fn front(bytes: &[u8], count: usize) -> &[u8] {
+    let (front, _) = bytes.split_at(count.min(bytes.len()));
+    front
+}
+
+/// The flow record that the only data record of a stream is.
+fn flow_in(alloc: Global, pieces: &[&str]) -> Result<Option<FlowRecord>, Fail> {
+    let bytes = joined(alloc, pieces)?;
+    match read_stream(alloc, bytes.as_slice()) {
+        Ok(records) => match records.as_slice() {
+            [only] => Ok(flow_of(only)),
+            _ => Err(Fail::from("not one record")),
+        },
+        Err(_) => Err(Fail::from("no stream")),
+    }
+}
+
+/// The flow record of [`UDP`].
+fn udp_flow() -> FlowRecord {
+    let key = FlowKey {
+        version: 4,
+        source: 0xc000_0201,
+        destination: 0xc000_0202,
+        protocol: 17,
+        source_port: 4000,
+        destination_port: 53,
+    };
+    let part = Fragment {
+        key,
+        packets: 2,
+        octets: 56,
+        first: 1_000_000,
+        last: 1_001_000,
+        flags: 0,
+    };
+    FlowRecord { part, reason: 4 }
+}
+
+#[test]
+fn a_written_stream_is_read(rt: HostRuntime) -> Result<(), Fail> {
+    let head = "000a0044 000003e9 00000000 00000001 0100 0034";
+    assert_eq!(rt;
+        flow_in(rt.alloc(), &[TEMPLATES, head, UDP])?,
+        Some(udp_flow())
+    );
+    let bytes = joined(rt.alloc(), &[TEMPLATES, head, UDP])?;
+    let whole = bytes.as_slice();
+    assert_eq!(rt; whole.len(), 184);
+    assert_eq!(rt;
+        read_stream(rt.alloc(), front(whole, 183)).err(),
+        Some(StreamError::Fault(Cut { at: 116 }))
+    );
+    let records = read_stream(rt.alloc(), whole).map_err(|_| Fail::from("no stream"))?;
+    assert_eq!(rt;
+        text_of(rt.alloc(), records.as_slice())?.as_str(),
+        "1/256 8=c0000201 12=c0000202 7=0fa0 11=0035 4=11 6=0000 2=0000000000000002 1=0000000000000038 152=00000000000f4240 153=00000000000f4628 136=04;"
+    );
+    Ok(())
+}
+
+/// TCP from 2001:db8::1 to 2001:db8::2: one packet at 5 s, forced end.
+fn tcp_flow(source_port: u16, destination_port: u16, octets: u64, flags: u16) -> FlowRecord {
+    let key = FlowKey {
+        version: 6,
+        source: 0x2001_0db8_0000_0000_0000_0000_0000_0001,
+        destination: 0x2001_0db8_0000_0000_0000_0000_0000_0002,
+        protocol: 6,
+        source_port,
+        destination_port,
+    };
+    let part = Fragment {
+        key,
+        packets: 1,
+        octets,
+        first: 5000,
+        last: 5000,
+        flags,
+    };
+    FlowRecord { part, reason: 4 }
+}
+
+#[test]
+fn records_over_ipv6_are_flows(rt: HostRuntime) -> Result<(), Fail> {
+    let addresses = "20010db8000000000000000000000001 20010db8000000000000000000000002";
+    let fragment =
+        "0000 0000 06 0000 0000000000000001 000000000000009c 0000000000001388 0000000000001388 04";
+    let segment =
+        "0401 01bb 06 0010 0000000000000001 000000000000004c 0000000000001388 0000000000001388 04";
+    let head = "000a00a4 00000005 00000000 00000001 0101 0094";
+    let bytes = joined(
+        rt.alloc(),
+        &[TEMPLATES, head, addresses, fragment, addresses, segment],
+    )?;
+    let records = read_stream(rt.alloc(), bytes.as_slice()).map_err(|_| Fail::from("no stream"))?;
+    assert_eq!(rt; records.len(), 2);
+    assert_eq!(rt; flow_of(&records[0]), Some(tcp_flow(0, 0, 156, 0)));
+    assert_eq!(rt; flow_of(&records[1]), Some(tcp_flow(1025, 443, 76, 16)));
+    Ok(())
+}
+
+#[test]
+fn other_records_are_no_flows(rt: HostRuntime) -> Result<(), Fail> {
+    let head = "000a0044 M 0100 0034 c0000201 c0000202 0fa0 0035 11 0000";
+    for (rest, is_flow) in [
+        (
+            "0000000000000001 0000000000000000 0000000000000001 0000000000000001 00",
+            true,
+        ),
+        (
+            "ffffffffffffffff ffffffffffffffff ffffffffffffffff ffffffffffffffff ff",
+            true,
+        ),
+        (
+            "0000000000000000 0000000000000038 00000000000f4240 00000000000f4628 04",
+            false,
+        ),
+        (
+            "0000000000000001 0000000000000038 00000000000f4629 00000000000f4628 04",
+            false,
+        ),
+    ] {
+        assert_eq!(rt;
+            flow_in(rt.alloc(), &[TEMPLATES, head, rest])?.is_some(),
+            is_flow
+        );
+    }
+    let behind = "00040001 00060002 00020008 00010008 00980008 00990008";
+    let data = "000a0044 M 0200 0034";
+    let enterprise = "000a0048 M 0002 0038 0200000b 00080004 000c0004 00070002 000b0002";
+    for (template, is_flow) in [
+        ("00080004 000c0004 00070002 000b0002", true),
+        ("000c0004 00080004 00070002 000b0002", false),
+        ("00080004 000c0004 000b0002 00070002", false),
+        ("001b0004 001c0004 00070002 000b0002", false),
+        ("00080004 000c0003 00070003 000b0002", false),
+    ] {
+        assert_eq!(rt;
+            flow_in(
+                rt.alloc(),
+                &[
+                    "000a0044 M 0002 0034 0200000b",
+                    template,
+                    behind,
+                    "00880001",
+                    data,
+                    UDP
+                ]
+            )?
+            .is_some(),
+            is_flow
+        );
+    }
+    assert_eq!(rt;
+        flow_in(
+            rt.alloc(),
+            &[enterprise, behind, "80880001 00007279", data, UDP]
+        )?,
+        None
+    );
+    Ok(())
+}
+
+#[test]
+fn a_message_may_hold_28_records(rt: HostRuntime) -> Result<(), Fail> {
+    let mut bytes = joined(rt.alloc(), &[TEMPLATES, "000a0554 M 0100 0544"])?;
+    for _ in 0..28 {
+        bytes.extend_from_slice(bytes_of(rt.alloc(), UDP)?.as_slice())?;
+    }
+    bytes.extend_from_slice(bytes_of(
+        rt.alloc(),
+        "000a0044 00000000 0000001c 00000001 0100 0034",
+    )?.as_slice())?;
+    bytes.extend_from_slice(bytes_of(rt.alloc(), UDP)?.as_slice())?;
+    assert_eq!(rt; bytes.len(), 116 + 1364 + 68);
+    let records = read_stream(rt.alloc(), bytes.as_slice()).map_err(|_| Fail::from("no stream"))?;
+    assert_eq!(rt; records.len(), 29);
+    for rec in records.iter() {
+        assert_eq!(rt; flow_of(rec), Some(udp_flow()));
+    }
+    Ok(())
+}
+
+#[test]
+fn long_values_are_read(rt: HostRuntime) -> Result<(), Fail> {
+    let template = "0002000c 01000001 0052ffff";
+    for (head, set, length) in [
+        ("000a011f M", "01000103 fe", 254),
+        ("000a0122 M", "01000106 ff00ff", 255),
+    ] {
+        let mut bytes = joined(rt.alloc(), &[head, template, set])?;
+        for _ in 0..length {
+            bytes.push(b'a')?;
+        }
+        let records = read_stream(rt.alloc(), bytes.as_slice()).map_err(|_| Fail::from(
+            "no stream",
+        ))?;
+        assert_eq!(rt; records.len(), 1);
+        for field in records[0].fields.items() {
+            assert_eq!(rt; field.value.items().len(), length);
+        }
+    }
+    Ok(())
 }

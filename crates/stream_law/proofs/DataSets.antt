@@ -1,13 +1,12 @@
 -- The records of a data set, and the groups of records that share sets.
-use Rattle.std.proofs.Common.{◌≡◌, ◌<◌, ◌≤◌, ◌+◌, ◌==◌, ℕ, zero, suc, Bool, true, false, cond, List, [], ◌∷◌, ◌++◌, length, map, flat_map, Result, Ok, Err, if◌then◌else◌, refl, sym, ap, subst, ◌∙◌, arith, length-append, append_assoc, append-nil}
+use Rattle.std.proofs.Common.{◌≡◌, ◌≤◌, ◌+◌, ◌==◌, ℕ, Bool, true, false, List, [], ◌∷◌, ◌++◌, length, map, Ok, if◌then◌else◌, refl, sym, ap, ◌∙◌, arith, length-append, append_assoc, append-nil}
 use Rattle.record_ledger.specs.declared.record.FlowRecord.{FlowRecord}
 use Rattle.ipfix_model.specs.declared.values.DataRecord.{DataRecord}
 use Rattle.ipfix_model.specs.Fields.{least_length}
 use Rattle.ipfix_writer.specs.Encoding.{data_record, template_of}
 use Rattle.ipfix_writer.specs.Layout.{RecordSet, records_bytes, put_before, sets_of}
 use Rattle.ipfix_reader.specs.declared.fault.StreamFault.TheVariants.{BadLength}
-use Rattle.ipfix_reader.specs.Part.{Part}
-use Rattle.ipfix_reader.specs.Values.{Values, values_of}
+use Rattle.ipfix_reader.specs.Values.{Values}
 use Rattle.ipfix_reader.specs.Records.{data_records}
 use Rattle.ipfix_reader.proofs.RecordSteps.{data_records-next, data_records-end}
 use Rattle.stream_law.proofs.Values.{values_with, bytes_with, values_of-with}
@@ -21,7 +20,7 @@ AllOf v4 (f ∷ flows) = (is_v4 f ≡ v4) × AllOf v4 flows
 -- one data record, and those behind it
 record-front : (v4 : Bool) (f : FlowRecord) (before : List DataRecord) (at : ℕ) (rest : List ℕ) → is_v4 f ≡ v4
     → data_records 1 (template_for v4) (fields_for v4) before (record { at = at; bytes = data_record f ++ rest })
-      ≡ data_records 1 (template_for v4) (fields_for v4) (before ++ data_of f ∷ []) (record { at = at + least_length (fields_for v4); bytes = rest })
+    ≡ data_records 1 (template_for v4) (fields_for v4) (before ++ data_of f ∷ []) (record { at = at + least_length (fields_for v4); bytes = rest })
 record-front v4 f before at rest is =
     let fields = fields_for v4 in
     let bytes = bytes_with fields (numbers_of f) in
@@ -32,7 +31,7 @@ record-front v4 f before at rest is =
     let same : written ≡ data_of f = λ i. record { domain = 1; template = template_for (sym is i); fields = values_with (fields_for (sym is i)) (numbers_of f) } in
     ap (λ b. data_records 1 (template_for v4) fields before (record { at = at; bytes = b ++ rest })) (bytes-for v4 f is)
     ∙ data_records-next 1 (template_for v4) fields before (record { at = at; bytes = bytes ++ rest }) read (least-for v4) whole
-        (values_of-with (BadLength at) fields (numbers_of f) at [] rest (fixed-for v4) (fit-for v4 f is))
+    (values_of-with (BadLength at) fields (numbers_of f) at [] rest (fixed-for v4) (fit-for v4 f is))
     ∙ (λ i. data_records 1 (template_for v4) fields (before ++ same i ∷ []) (record { at = at + long i; bytes = rest }))
 
 -- all of a set
@@ -73,8 +72,8 @@ set_of g = record { template = template_for g.v4; records = records_bytes g.flow
 
 put-cases : (b c : Bool) (f : FlowRecord) (flows : List FlowRecord) (groups : List Group)
     → (if template_for b == template_for c then record { template = template_for b; records = data_record f ++ records_bytes flows } ∷ map set_of groups
-        else record { template = template_for b; records = data_record f } ∷ (record { template = template_for c; records = records_bytes flows } ∷ map set_of groups))
-      ≡ map set_of (if same b c then record { v4 = c; flows = f ∷ flows } ∷ groups else record { v4 = b; flows = f ∷ [] } ∷ (record { v4 = c; flows = flows } ∷ groups))
+    else record { template = template_for b; records = data_record f } ∷ (record { template = template_for c; records = records_bytes flows } ∷ map set_of groups))
+    ≡ map set_of (if same b c then record { v4 = c; flows = f ∷ flows } ∷ groups else record { v4 = b; flows = f ∷ [] } ∷ (record { v4 = c; flows = flows } ∷ groups))
 put-cases true true f flows groups = refl
 put-cases true false f flows groups =
     ap (λ bytes. record { template = template_for true; records = bytes } ∷ (record { template = template_for false; records = records_bytes flows } ∷ map set_of groups)) (sym (append-nil (data_record f)))
@@ -122,7 +121,7 @@ put_flow-flows : (f : FlowRecord) (groups : List Group) → flows_of_groups (put
 put_flow-flows f [] = refl
 put_flow-flows f (g ∷ groups) =
     elim (same (is_v4 f) g.v4) as (λ b. flows_of_groups (if b then record { v4 = g.v4; flows = f ∷ g.flows } ∷ groups
-      else record { v4 = is_v4 f; flows = f ∷ [] } ∷ (g ∷ groups)) ≡ f ∷ (g.flows ++ flows_of_groups groups))
+    else record { v4 = is_v4 f; flows = f ∷ [] } ∷ (g ∷ groups)) ≡ f ∷ (g.flows ++ flows_of_groups groups))
     [ true ↦ refl | false ↦ refl ]
 
 pub groups_of-flows : (flows : List FlowRecord) → flows_of_groups (groups_of flows) ≡ flows

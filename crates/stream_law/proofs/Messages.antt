@@ -1,32 +1,21 @@
 -- Messages are read as their records.
-use Rattle.std.proofs.Common.{◌≡◌, ◌<◌, ◌≤◌, ◌+◌, ◌-◌, ◌%◌, ◌^◌, ◌==◌, ℕ, zero, suc, Bool, true, false, not, List, [], ◌∷◌, ◌++◌, length, map, flat_map, take, drop, Option, Some, None, option_map, Result, Ok, Err, if◌then◌else◌, refl, sym, ap, subst, ◌∙◌, arith, nat_lt, length-append, append_assoc, append-nil, add_assoc}
-use Rattle.std.proofs.lemmas.Bool.{le-ltb, eq-eqb}
-use Rattle.std.proofs.lemmas.List.{map-append}
+use Rattle.std.proofs.Common.{◌≡◌, ◌<◌, ◌≤◌, ◌+◌, ◌-◌, ◌%◌, ◌^◌, ℕ, true, false, List, [], ◌∷◌, ◌++◌, length, take, drop, Ok, refl, sym, ap, ◌∙◌, arith, length-append}
+use Rattle.std.proofs.lemmas.Bool.{le-ltb}
 use Rattle.std.proofs.Math.Seq.{drop-append_seam}
-use Rattle.std.specs.Option.{option_and_then}
-use Rattle.std.specs.Result.{result_ok}
 use Rattle.byteorder.specs.Endian.{big_bytes}
-use Rattle.record_ledger.specs.declared.record.FlowRecord.{FlowRecord}
-use Rattle.ipfix_model.specs.declared.values.DataRecord.{DataRecord}
 use Rattle.ipfix_model.specs.Templates.{v4_fields, v6_fields, v4_template, v6_template}
-use Rattle.ipfix_writer.specs.Encoding.{message_header, message, set, template_record, field_specifier, template_message}
-use Rattle.ipfix_writer.specs.Layout.{body_of, data_messages, message_length as layout_length, together, AreFilled, IsLayout}
+use Rattle.ipfix_writer.specs.Encoding.{message_header, message, template_record, field_specifier}
 use Rattle.ipfix_writer.proofs.Sizes.{length-message_header}
-use Rattle.ipfix_reader.specs.declared.fault.StreamFault.{StreamFault}
 use Rattle.ipfix_reader.specs.Part.{Part, behind, first, number_at}
-use Rattle.ipfix_reader.specs.Outcome.{◌>>=◌}
-use Rattle.ipfix_reader.specs.Known.{Templates, Sequences, expected_in, with_expected, with_template}
-use Rattle.ipfix_reader.specs.Specifiers.{Fields, template_fields}
-use Rattle.ipfix_reader.specs.Records.{padded, template_records}
-use Rattle.ipfix_reader.specs.Sets.{Contents, template_set, set_contents, message_sets}
-use Rattle.ipfix_reader.specs.Messages.{Progress, message_version, message_length, message_sequence, message_domain, is_next, checked_length, next_number, behind_message, stream_messages, nothing_read, decode}
-use Rattle.ipfix_reader.specs.Flows.{flows_in, flows_of}
+use Rattle.ipfix_reader.specs.Known.{Sequences, expected_in, with_expected, with_template}
+use Rattle.ipfix_reader.specs.Specifiers.{template_fields}
+use Rattle.ipfix_reader.specs.Records.{template_records}
+use Rattle.ipfix_reader.specs.Sets.{Contents, message_sets}
+use Rattle.ipfix_reader.specs.Messages.{Progress, message_version, message_length, message_sequence, message_domain, is_next, checked_length, stream_messages}
 use Rattle.ipfix_reader.proofs.RecordSteps.{template_records-next, template_records-end}
-use Rattle.ipfix_reader.proofs.SetSteps.{message_sets-end, set_contents-templates}
-use Rattle.ipfix_reader.proofs.MessageSteps.{stream_messages-next, stream_messages-end}
+use Rattle.ipfix_reader.proofs.MessageSteps.{stream_messages-next}
 use Rattle.stream_law.proofs.Numbers.{number-front, number-behind, take-front}
-use Rattle.stream_law.proofs.Records.{data_of, flows_in-data_of}
-use Rattle.stream_law.proofs.Sets.{set-decoded, known, contents_with, body-decoded}
+use Rattle.stream_law.proofs.Sets.{known}
 
 -- the header of a message in front of more bytes
 message-version : (time sequence : ℕ) (sets rest : List ℕ) → number_at 0 2 (message time sequence sets ++ rest) ≡ 10
@@ -75,10 +64,10 @@ pub message-decoded : (time sequence at : ℕ) (sets rest : List ℕ) (before : 
     → is_next sequence (expected_in before.sequences 1) ≡ true
     → message_sets 1 before.contents (record { at = at + 16; bytes = sets }) ≡ Ok after
     → stream_messages before (record { at = at; bytes = message time sequence sets ++ rest })
-      ≡ stream_messages (record {
-          contents = after;
-          sequences = with_expected before.sequences 1 ((sequence + (length after.records - length before.contents.records)) % 2 ^ 32);
-        }) (record { at = at + (16 + length sets); bytes = rest })
+    ≡ stream_messages (record {
+      contents = after;
+      sequences = with_expected before.sequences 1 ((sequence + (length after.records - length before.contents.records)) % 2 ^ 32);
+    }) (record { at = at + (16 + length sets); bytes = rest })
 message-decoded time sequence at sets rest before after size_fits sequence_fits next is =
     let bytes = message time sequence sets ++ rest in
     let part : Part = record { at = at; bytes = bytes } in
@@ -89,19 +78,19 @@ message-decoded time sequence at sets rest before after size_fits sequence_fits 
     let number_is : message_sequence part ≡ sequence = message-number time sequence sets rest sequence_fits in
     let domain_is : message_domain part ≡ 1 = message-domain time sequence sets rest in
     let expected : is_next (message_sequence part) (expected_in before.sequences (message_domain part)) ≡ true =
-      (λ i. is_next (number_is i) (expected_in before.sequences (domain_is i))) ∙ next in
+    (λ i. is_next (number_is i) (expected_in before.sequences (domain_is i))) ∙ next in
     let fine : checked_length before.sequences part ≡ Ok (message_length part) =
-      checked_length-fine before.sequences part (omega arith) (message-version time sequence sets rest) (omega arith) (omega arith) expected in
+    checked_length-fine before.sequences part (omega arith) (message-version time sequence sets rest) (omega arith) (omega arith) expected in
     let content : drop 16 (take (message_length part) bytes) ≡ sets =
-      ap (λ n. drop 16 (take n bytes)) (size_is ∙ sym long) ∙ ap (drop 16) (take-front (message time sequence sets) rest) ∙ message-inside time sequence sets in
+    ap (λ n. drop 16 (take n bytes)) (size_is ∙ sym long) ∙ ap (drop 16) (take-front (message time sequence sets) rest) ∙ message-inside time sequence sets in
     let behind_it : drop (message_length part) bytes ≡ rest = ap (λ n. drop n bytes) (size_is ∙ sym long) ∙ drop-append_seam (message time sequence sets) rest in
     let contents : message_sets (message_domain part) before.contents (behind 16 (first (message_length part) part)) ≡ Ok after =
-      (λ i. message_sets (domain_is i) before.contents (record { at = at + 16; bytes = content i })) ∙ is in
+    (λ i. message_sets (domain_is i) before.contents (record { at = at + 16; bytes = content i })) ∙ is in
     stream_messages-next before after part (message_length part) (omega arith) fine contents
     ∙ (λ i. stream_messages (record {
-          contents = after;
-          sequences = with_expected before.sequences (domain_is i) ((number_is i + (length after.records - length before.contents.records)) % 2 ^ 32);
-        }) (record { at = at + size_is i; bytes = behind_it i }))
+      contents = after;
+      sequences = with_expected before.sequences (domain_is i) ((number_is i + (length after.records - length before.contents.records)) % 2 ^ 32);
+    }) (record { at = at + size_is i; bytes = behind_it i }))
 
 -- the template records, and what they make known
 pub templates-read : template_records false 1 [] (record { at = 20; bytes = template_record v4_template v4_fields ++ template_record v6_template v6_fields }) ≡ Ok known
@@ -109,6 +98,6 @@ unfolding template_record field_specifier template_fields number_at with_templat
 templates-read =
     let second : Part = record { at = 68; bytes = template_record v6_template v6_fields } in
     template_records-next false 1 [] (record { at = 20; bytes = template_record v4_template v4_fields ++ template_record v6_template v6_fields })
-      (record { fields = v4_fields; rest = second }) (omega arith) refl
+    (record { fields = v4_fields; rest = second }) (omega arith) refl
     ∙ template_records-next false 1 (((1, v4_template), v4_fields) ∷ []) second (record { fields = v6_fields; rest = record { at = 116; bytes = [] } }) (omega arith) refl
     ∙ template_records-end false 1 known (record { at = 116; bytes = [] }) (omega arith)

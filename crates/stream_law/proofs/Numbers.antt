@@ -1,8 +1,8 @@
 -- Numbers written are numbers read.
-use Rattle.std.proofs.Common.{◌≡◌, ◌<◌, ◌≤◌, ◌+◌, ◌^◌, ℕ, zero, suc, List, [], ◌∷◌, ◌++◌, length, take, drop, refl, sym, ap, ◌∙◌, arith, length-append, append_assoc, append-nil}
+use Rattle.std.proofs.Common.{◌≡◌, ◌<◌, ◌+◌, ◌^◌, ℕ, List, [], ◌∷◌, ◌++◌, length, take, drop, refl, ap}
 use Rattle.byteorder.specs.Endian.{big_bytes, big_number}
 use Rattle.byteorder.specs.Numbers.{length-bytes_high_first, big_number-reads_back}
-use Rattle.ipfix_reader.specs.Part.{Part, behind, first, number_at}
+use Rattle.ipfix_reader.specs.Part.{number_at}
 use Rattle.std.proofs.Math.Seq.{drop-append-add}
 
 -- the bytes of a number are as many as asked for

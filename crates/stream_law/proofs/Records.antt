@@ -1,17 +1,15 @@
 -- A flow record written as a data record is read as that flow record.
-use Rattle.std.proofs.Common.{◌≡◌, ◌≢◌, ◌<◌, ◌≤◌, ◌+◌, ◌^◌, ◌==◌, ℕ, zero, suc, Bool, true, false, List, [], ◌∷◌, ◌++◌, length, Option, None, Some, Result, Ok, Err, if◌then◌else◌, refl, sym, ap, subst, ◌∙◌, arith, length-append, append_assoc, append-nil, add-zero, map, option_map, lit<, eqb-true}
+use Rattle.std.proofs.Common.{◌≡◌, ◌<◌, ◌==◌, ℕ, Bool, true, false, List, [], ◌∷◌, length, None, Some, if◌then◌else◌, refl, ap, ◌∙◌, arith, map, option_map, lit<, eqb-true}
 use Rattle.std.proofs.lemmas.Bool.{eqb-false}
 use Rattle.std.specs.Option.{option_or, option_and_then}
-use Rattle.byteorder.specs.Endian.{big_bytes}
-use Rattle.flow_key.specs.declared.key.FlowKey.{FlowKey}
 use Rattle.record_ledger.specs.declared.record.FlowRecord.{FlowRecord}
 use Rattle.ipfix_model.specs.declared.fields.FieldSpec.{FieldSpec}
 use Rattle.ipfix_model.specs.declared.values.DataRecord.{DataRecord}
 use Rattle.ipfix_model.specs.Fields.{least_length}
 use Rattle.ipfix_model.specs.Templates.{v4_fields, v6_fields, v4_template, v6_template}
-use Rattle.ipfix_writer.specs.Encoding.{key_part, counts_part, data_record, template_of}
+use Rattle.ipfix_writer.specs.Encoding.{key_part, counts_part, data_record}
 use Rattle.ipfix_reader.specs.Flows.{numbers_in, v4_key, v6_key, part_with, record_with, flow_by, flow, flows_in}
-use Rattle.ipfix_reader.proofs.FlowParts.{AreOfKey, AreOfPart, v4_key-some, v6_key-some, part_with-some, record_with-some}
+use Rattle.ipfix_reader.proofs.FlowParts.{v4_key-some, v6_key-some, part_with-some, record_with-some}
 use Rattle.stream_law.proofs.Values.{AreFixed, AllFit, values_with, bytes_with, numbers_in-with}
 
 -- the numbers of a flow record, in the order of the templates' fields
@@ -61,9 +59,9 @@ flow-v4 f domain template v4 =
     let part : part_with numbers f.part.key ≡ Some f.part = part_with-some numbers f.part (record { packets = refl; octets = refl; first = refl; last = refl; flags = refl }) in
     let whole : record_with numbers f.part ≡ Some f = record_with-some numbers f refl in
     let made : flow_by v4_key v4_fields (values_with v4_fields numbers) ≡ Some f =
-      ap (option_and_then (λ ns. option_and_then (record_with ns) (option_and_then (part_with ns) (v4_key ns)))) (numbers_in-with v4_fields numbers (fit-v4 f v4))
-      ∙ ap (λ k. option_and_then (record_with numbers) (option_and_then (part_with numbers) k)) key
-      ∙ ap (option_and_then (record_with numbers)) part ∙ whole in
+    ap (option_and_then (λ ns. option_and_then (record_with ns) (option_and_then (part_with ns) (v4_key ns)))) (numbers_in-with v4_fields numbers (fit-v4 f v4))
+    ∙ ap (λ k. option_and_then (record_with numbers) (option_and_then (part_with numbers) k)) key
+    ∙ ap (option_and_then (record_with numbers)) part ∙ whole in
     ap (λ one. option_or one (flow_by v6_key v6_fields (values_with v4_fields numbers))) made
 
 flow-v6 : (f : FlowRecord) (domain template : ℕ) → f.part.key.version ≡ 6
@@ -76,9 +74,9 @@ flow-v6 f domain template v6 =
     let whole : record_with numbers f.part ≡ Some f = record_with-some numbers f refl in
     let others : numbers_in v4_fields (values_with v6_fields numbers) ≡ None = refl in
     let made : flow_by v6_key v6_fields (values_with v6_fields numbers) ≡ Some f =
-      ap (option_and_then (λ ns. option_and_then (record_with ns) (option_and_then (part_with ns) (v6_key ns)))) (numbers_in-with v6_fields numbers (fit-v6 f))
-      ∙ ap (λ k. option_and_then (record_with numbers) (option_and_then (part_with numbers) k)) key
-      ∙ ap (option_and_then (record_with numbers)) part ∙ whole in
+    ap (option_and_then (λ ns. option_and_then (record_with ns) (option_and_then (part_with ns) (v6_key ns)))) (numbers_in-with v6_fields numbers (fit-v6 f))
+    ∙ ap (λ k. option_and_then (record_with numbers) (option_and_then (part_with numbers) k)) key
+    ∙ ap (option_and_then (record_with numbers)) part ∙ whole in
     ap (λ ns. option_or (option_and_then (λ ns. option_and_then (record_with ns) (option_and_then (part_with ns) (v4_key ns))) ns) (flow_by v6_key v6_fields (values_with v6_fields numbers))) others
     ∙ made
 

@@ -1,5 +1,5 @@
 -- Numbers written as the values of fields are read as these numbers.
-use Rattle.std.proofs.Common.{◌≡◌, ◌<◌, ◌≤◌, ◌+◌, ◌^◌, ◌==◌, ◌&&◌, ℕ, zero, suc, Bool, true, false, List, [], ◌∷◌, ◌++◌, length, take, drop, Option, None, Some, is_none, option_map, Result, Ok, Err, if◌then◌else◌, refl, sym, ap, subst, ◌∙◌, arith, nat_lt, length-append, append_assoc, append-nil, add-zero, zero-add, eq-eqb}
+use Rattle.std.proofs.Common.{◌≡◌, ◌<◌, ◌≤◌, ◌+◌, ◌^◌, ℕ, Bool, true, false, List, [], ◌∷◌, ◌++◌, length, take, drop, None, Some, option_map, Ok, if◌then◌else◌, refl, sym, ap, ◌∙◌, arith, length-append, append_assoc, append-nil, add-zero, zero-add, eq-eqb}
 use Rattle.std.proofs.lemmas.Bool.{le-ltb}
 use Rattle.std.proofs.Math.Seq.{drop-append_seam}
 use Rattle.byteorder.specs.Endian.{big_bytes, big_number}
@@ -9,7 +9,7 @@ use Rattle.ipfix_model.specs.declared.values.FieldValue.{FieldValue}
 use Rattle.ipfix_model.specs.Fields.{is_variable}
 use Rattle.ipfix_reader.specs.declared.fault.StreamFault.{StreamFault}
 use Rattle.ipfix_reader.specs.Part.{Part, behind}
-use Rattle.ipfix_reader.specs.Values.{Values, prefix_length, value_length, coded_length, value_of, values_of}
+use Rattle.ipfix_reader.specs.Values.{prefix_length, value_length, coded_length, value_of, values_of}
 use Rattle.ipfix_reader.specs.Flows.{is_value_of, number_in, numbers_in}
 use Rattle.ipfix_reader.proofs.ValueSteps.{values_of-next}
 use Rattle.stream_law.proofs.Numbers.{length-big, take-front}
@@ -48,14 +48,14 @@ value_of-fixed : (field : FieldSpec) (bytes rest : List ℕ) → is_variable fie
     → value_of field (bytes ++ rest) ≡ record { element = field.element; enterprise = None; value = bytes }
 value_of-fixed field bytes rest fixed own long =
     let value : take (value_length field (bytes ++ rest)) (drop (prefix_length field (bytes ++ rest)) (bytes ++ rest)) ≡ bytes =
-      rw fixed (ap (λ n. take n (bytes ++ rest)) (sym long) ∙ take-front bytes rest) in
+    rw fixed (ap (λ n. take n (bytes ++ rest)) (sym long) ∙ take-front bytes rest) in
     λ i. record { element = field.element; enterprise = own i; value = value i }
 
 -- the value, and those behind it
 values_of-front : (beyond : StreamFault) (field : FieldSpec) (fields : List FieldSpec) (number at : ℕ) (before : List FieldValue) (rest : List ℕ)
     → is_variable field ≡ false → field.enterprise ≡ None
     → values_of beyond (field ∷ fields) before (record { at = at; bytes = big_bytes field.length number ++ rest })
-      ≡ values_of beyond fields (before ++ value_with field number ∷ []) (record { at = at + field.length; bytes = rest })
+    ≡ values_of beyond fields (before ++ value_with field number ∷ []) (record { at = at + field.length; bytes = rest })
 values_of-front beyond field fields number at before rest fixed own =
     let bytes = big_bytes field.length number in
     let part : Part = record { at = at; bytes = bytes ++ rest } in
@@ -63,7 +63,7 @@ values_of-front beyond field fields number at before rest fixed own =
     let coded : coded_length field (bytes ++ rest) ≡ field.length = coded_length-fixed field (bytes ++ rest) fixed in
     let inside : coded_length field (bytes ++ rest) ≤ length (bytes ++ rest) = let all = length-append bytes rest in omega arith in
     let left : drop (coded_length field (bytes ++ rest)) (bytes ++ rest) ≡ rest =
-      ap (λ n. drop n (bytes ++ rest)) (coded ∙ sym long) ∙ drop-append_seam bytes rest in
+    ap (λ n. drop n (bytes ++ rest)) (coded ∙ sym long) ∙ drop-append_seam bytes rest in
     values_of-next beyond fields field before part (le-ltb (length (bytes ++ rest)) (coded_length field (bytes ++ rest)) inside)
     ∙ ap (λ v. values_of beyond fields (before ++ v ∷ []) (behind (coded_length field (bytes ++ rest)) part)) (value_of-fixed field bytes rest fixed own long)
     ∙ (λ i. values_of beyond fields (before ++ value_with field number ∷ []) (record { at = at + coded i; bytes = left i }))
@@ -72,7 +72,7 @@ values_of-front beyond field fields number at before rest fixed own =
 pub values_of-with : (beyond : StreamFault) (fields : List FieldSpec) (numbers : List ℕ) (at : ℕ) (before : List FieldValue) (rest : List ℕ)
     → AreFixed fields → AllFit fields numbers
     → values_of beyond fields before (record { at = at; bytes = bytes_with fields numbers ++ rest })
-      ≡ Ok (record { values = before ++ values_with fields numbers; rest = record { at = at + length (bytes_with fields numbers); bytes = rest } })
+    ≡ Ok (record { values = before ++ values_with fields numbers; rest = record { at = at + length (bytes_with fields numbers); bytes = rest } })
 values_of-with beyond [] [] at before rest fixed fit =
     λ i. Ok (record { values = sym (append-nil before) i; rest = record { at = sym (add-zero at) i; bytes = rest } })
 values_of-with beyond [] (number ∷ numbers) at before rest fixed fit = absurd fit

@@ -1,6 +1,6 @@
 -- Value by value.
-use Rattle.std.proofs.Common.{◌≡◌, ◌∙◌, sym, arith}
-use Rattle.ipfix_reader.proofs.NumberSteps.{numbers_in-unequal, numbers_in-next, numbers_in-other}
+use Rattle.std.proofs.Common.{◌∙◌, sym}
+use Rattle.ipfix_reader.proofs.NumberSteps.{numbers_in-unequal}
 use Rattle.ipfix_reader.proofs.flow.numbers_in.Goals as goal
 
 pub returns-then-values-ne11 : goal.returns-then-values-ne11

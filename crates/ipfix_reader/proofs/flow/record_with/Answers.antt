@@ -1,5 +1,5 @@
 -- The record is known by its numbers.
-use Rattle.std.proofs.Common.{◌≡◌, refl, sym, arith}
+use Rattle.std.proofs.Common.{refl, sym, arith}
 use Rattle.ipfix_reader.proofs.FlowParts.{record_with-some, record_with-none}
 use Rattle.ipfix_reader.proofs.flow.record_with.Goals as goal
 

@@ -1,5 +1,5 @@
 -- The key is known by its numbers.
-use Rattle.std.proofs.Common.{◌≡◌, refl, sym, arith}
+use Rattle.std.proofs.Common.{refl, sym}
 use Rattle.ipfix_reader.proofs.FlowParts.{v6_key-some, v6_key-none}
 use Rattle.ipfix_reader.proofs.flow.v6_key.Goals as goal
 

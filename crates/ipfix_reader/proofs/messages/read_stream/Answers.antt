@@ -1,5 +1,4 @@
 -- From nothing that is read to what was read.
-use Rattle.std.proofs.Common.{◌≡◌, ◌∙◌, sym, ap, arith}
 use Rattle.ipfix_reader.proofs.MessageSteps.{decode-read, decode-refused}
 use Rattle.ipfix_reader.proofs.messages.read_stream.Goals as goal
 

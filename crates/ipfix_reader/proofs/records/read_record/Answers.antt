@@ -19,5 +19,5 @@ pub returns-clause-shorter : goal.returns-clause-shorter
 returns-clause-shorter c =
     let read = rw c.items.ensures at c.in_ok-values.ensures.ok in
     let takes : length c.in_ok-values.rest.bytes.now + least_length c.args.known.now.template.fields ≤ length c.args.part.bytes.now =
-      values_of-takes _ _ _ _ (values_shown (c.in_ok-values.values, c.in_ok-values.rest)) read in
+    values_of-takes _ _ _ _ (values_shown (c.in_ok-values.values, c.in_ok-values.rest)) read in
     omega (arith, takes, c.args.known.now.takes_bytes)

@@ -1,5 +1,4 @@
 -- A record's step.
-use Rattle.std.proofs.Common.{◌∙◌, ap}
 use Rattle.std.proofs.lemmas.Result.{err_from_is_err_and}
 use Rattle.ipfix_reader.proofs.RecordSteps.{template_fields-takes, template_records-next, template_records-fault}
 use Rattle.ipfix_reader.proofs.records.read_template.Goals as goal

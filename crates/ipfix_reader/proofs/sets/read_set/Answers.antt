@@ -1,5 +1,5 @@
 -- A set's step.
-use Rattle.std.proofs.Common.{◌≡◌, ◌∙◌, sym, ap, arith}
+use Rattle.std.proofs.Common.{◌∙◌, sym, ap}
 use Rattle.ipfix_reader.specs.Part.{behind}
 use Rattle.ipfix_reader.specs.Cursors.{part_of}
 use Rattle.ipfix_reader.proofs.SetSteps.{message_sets-bad, set-read, set-refused}
@@ -11,9 +11,9 @@ returns-then-is_bad_length-clause-fault c = message_sets-bad _ _ (part_of c.args
 pub returns-in-Ok-clause-ok : goal.returns-in-Ok-clause-ok
 returns-in-Ok-clause-ok c =
     set-read _ _ _ _ _ (part_of c.args.part) _ _ c.requires (sym c.if-is_bad_length.ensures) c.u16_at-2.ensures
-      (c.from-size.ensures ∙ c.u16_at.ensures) (c.behind-content.ensures ∙ ap (behind 4) c.first.ensures) c.behind.ensures c.in-Ok.ensures.ok
+    (c.from-size.ensures ∙ c.u16_at.ensures) (c.behind-content.ensures ∙ ap (behind 4) c.first.ensures) c.behind.ensures c.in-Ok.ensures.ok
 
 pub returns-in-Err-clause-fault : goal.returns-in-Err-clause-fault
 returns-in-Err-clause-fault c =
     set-refused _ _ _ _ (part_of c.args.part) _ _ c.requires (sym c.if-is_bad_length.ensures) c.u16_at-2.ensures
-      (c.from-size.ensures ∙ c.u16_at.ensures) (c.behind-content.ensures ∙ ap (behind 4) c.first.ensures) c.in-Err.ensures.fault
+    (c.from-size.ensures ∙ c.u16_at.ensures) (c.behind-content.ensures ∙ ap (behind 4) c.first.ensures) c.in-Err.ensures.fault

@@ -15,5 +15,5 @@ loop-turn-preserved c =
     record {
       counted = one_longer _ _ _ _ c.in_ok-push.ensures.items c.loop-turn.invariant.counted;
       left = sym (fields_of-next c.args.beyond _ (c.args.count - (c.loop-turn._turn + 1)) _ _ _ _ _ _ counts c.in-Some.ensures.field c.in-Some.ensures.size c.in-Some.ensures.inside c.in_ok-push.ensures.items c.behind-rest.ensures)
-        ∙ c.loop-turn.invariant.left;
+          ∙ c.loop-turn.invariant.left;
     }

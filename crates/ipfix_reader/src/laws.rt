@@ -1,0 +1,24 @@
+//! Laws on the definitions of reading, as contracts. The calls do nothing.
+
+ghost use Rattle.std.specs.Prelude.{◌<◌, ℕ, Bool, List};
+ghost use Rattle.ipfix_model.specs.declared.fields.FieldSpec.{FieldSpec};
+ghost use Rattle.ipfix_model.specs.declared.values.DataRecord.{DataRecord};
+ghost use Rattle.ipfix_model.specs.Fields.{least_length};
+ghost use Rattle.ipfix_reader.specs.Part.{Part};
+ghost use Rattle.ipfix_reader.specs.Walk.{GoesOn};
+ghost use Rattle.ipfix_reader.specs.Known.{Templates};
+ghost use Rattle.ipfix_reader.specs.Records.{template_record, data_record};
+ghost use Rattle.ipfix_reader.specs.Sets.{Contents, message_set};
+ghost use Rattle.ipfix_reader.specs.Messages.{Progress, stream_message};
+
+/// Reading all messages of a stream is reading one and then all those behind it, however many there are; and so it is
+/// with the sets of a message, the template records of a set, and the data records of a template of which each takes
+/// a byte or more.
+pub fn reading_goes_on()
+    ensures messages { (before : Progress) (part : Part) → GoesOn stream_message before part }
+    ensures sets { (domain : ℕ) (before : Contents) (part : Part) → GoesOn (message_set domain) before part }
+    ensures templates { (options : Bool) (domain : ℕ) (before : Templates) (part : Part)
+        → GoesOn (template_record options domain) before part }
+    ensures data_records { (domain number : ℕ) (fields : List FieldSpec) (before : List DataRecord) (part : Part)
+        → 0 < least_length fields → GoesOn (data_record domain number fields) before part }
+{}
