@@ -42,7 +42,7 @@ fn append_hex(bytes: &mut Vec<u8>, text: &str) -> Result<(), Fail> {
             match high {
                 None => high = Some(value),
                 Some(upper) => {
-                    bytes.push((upper as u16 * 16 + value as u16) as u8)?;
+                    bytes.push(upper % 16 * 16 + value % 16)?;
                     high = None;
                 }
             }
