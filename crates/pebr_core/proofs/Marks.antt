@@ -1,0 +1,72 @@
+-- Marks, and lists with one place changed.
+use Rattle.std.proofs.Common.{◌≡◌, ◌≢◌, ℕ, ◌<◌, ◌⊎◌, Bool, true, false, List, length, get_or, set, map, replicate, Option, Some, None, cond, is_some, refl, sym, ◌∙◌, ap, subst, inl, inr, arith, get_or-set_same, get_or-set_other, not, ◌&&◌, eqb, zero, suc, [], ◌∷◌, unwrap_or}
+use Rattle.std.proofs.lemmas.Bool.{false≢true, cases_eq, and_parts, not-true, eqb-true, eqb-false}
+use Rattle.std.proofs.lemmas.Option.{same_Some, none-some}
+use Rattle.std.proofs.Math.ListN as listn
+use Rattle.pebr_core.specs.State.{has}
+use Rattle.pebr_core.specs.Steps.{emptied}
+
+-- what is read at a place of a list after a change
+pub set_at : {A : Type 0} (P : A → Type 0) (xs : List A) (i : ℕ) (v d : A) (j : ℕ) → i < length xs → (j ≡ i → P v) → (j ≢ i → P (get_or xs j d)) → P (get_or (set xs i v) j d)
+set_at {A} P xs i v d j inside here there =
+    ⊎_cases (cases_eq j i)
+  where
+    ⊎_cases : ((j ≡ i) ⊎ (j ≡ i → ⊥)) → P (get_or (set xs i v) j d)
+    ⊎_cases (inl e) = subst P (sym (ap (λ k. get_or (set xs i v) k d) e ∙ get_or-set_same xs i v d inside)) (here e)
+    ⊎_cases (inr n) = subst P (sym (get_or-set_other xs i j v d n)) (there n)
+
+-- the same, where it may be past the end
+pub set_anywhere : {A : Type 0} (P : A → Type 0) (xs : List A) (i : ℕ) (v d : A) (j : ℕ) → (j ≡ i → P v) → P (get_or xs j d) → P (get_or (set xs i v) j d)
+set_anywhere P [] i v d j here there = there
+set_anywhere P (x ∷ xs) zero v d zero here there = here refl
+set_anywhere P (x ∷ xs) zero v d (suc j) here there = there
+set_anywhere P (x ∷ xs) (suc i) v d zero here there = there
+set_anywhere P (x ∷ xs) (suc i) v d (suc j) here there = set_anywhere P xs i v d j (λ e. here (ap suc e)) there
+
+pub get_or-map_default : {A B : Type 0} (f : A → B) (xs : List A) (i : ℕ) (d : A) → get_or (map f xs) i (f d) ≡ f (get_or xs i d)
+get_or-map_default f [] i d = refl
+get_or-map_default f (x ∷ xs) zero d = refl
+get_or-map_default f (x ∷ xs) (suc i) d = get_or-map_default f xs i d
+
+pub get_or-replicate_default : {A : Type 0} (n i : ℕ) (d : A) → get_or (replicate n d) i d ≡ d
+get_or-replicate_default zero i d = refl
+get_or-replicate_default (suc n) zero d = refl
+get_or-replicate_default (suc n) (suc i) d = get_or-replicate_default n i d
+
+-- nothing is in an emptied set
+pub has-emptied : (marks : List Bool) (i : ℕ) → has (emptied marks) i ≡ false
+has-emptied marks i = get_or-map_default (λ _. false) marks i false
+
+pub has-replicate : (n i : ℕ) → has (replicate n false) i ≡ false
+has-replicate n i = get_or-replicate_default n i false
+
+-- what was in a set still is, with a number added
+pub has-added : (marks : List Bool) (i j : ℕ) → has marks j ≡ true → has (set marks i true) j ≡ true
+has-added marks i j h = set_anywhere (λ b. b ≡ true) marks i true false j (λ _. refl) h
+
+pub has-here : (marks : List Bool) (i : ℕ) → i < length marks → has (set marks i true) i ≡ true
+has-here marks i h = get_or-set_same marks i true false h
+
+-- what is in a set with a number added is that number, or was in it
+pub has-either : (marks : List Bool) (i j : ℕ) → has (set marks i true) j ≡ true → (j ≡ i) ⊎ (has marks j ≡ true)
+has-either [] i j h = inr h
+has-either (x ∷ xs) zero zero h = inl refl
+has-either (x ∷ xs) zero (suc j) h = inr h
+has-either (x ∷ xs) (suc i) zero h = inr h
+has-either (x ∷ xs) (suc i) (suc j) h = elim (has-either xs i j h) [ inl e ↦ inl (ap suc e) | inr k ↦ inr k ]
+
+-- what isn't in a set with a number added wasn't in it
+pub has-not_added : (marks : List Bool) (i j : ℕ) → has (set marks i true) j ≡ false → has marks j ≡ false
+has-not_added [] i j h = h
+has-not_added (x ∷ xs) zero zero h = absurd (false≢true (sym h))
+has-not_added (x ∷ xs) zero (suc j) h = h
+has-not_added (x ∷ xs) (suc i) zero h = h
+has-not_added (x ∷ xs) (suc i) (suc j) h = has-not_added xs i j h
+
+-- a fact on what stands in a Some
+pub at_some : {A : Type 0} (P : A → Type 0) (a b : A) → Some a ≡ Some b → P a → P b
+at_some P a b e h = subst P (same_Some a b e) h
+
+pub is_some-value : {A : Type 0} (o : Option A) (d : A) → is_some o ≡ true → o ≡ Some (unwrap_or o d)
+is_some-value None d h = absurd (false≢true h)
+is_some-value (Some x) d h = refl

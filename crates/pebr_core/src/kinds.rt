@@ -1,0 +1,92 @@
+//! The plain values that a schedule is made of: the shape of a core, the steps of its seats, their
+//! answers, and what the readers of a core tell.
+
+/// How large a core is. Each seat owns `batch + seats * shields` slots besides the roots' slots.
+#[derive(Clone, Copy, PartialEq, Eq, Debug)]
+pub struct Shape {
+    /// Roots, 1 to 262,144. Each holds one slot.
+    pub roots: usize,
+    /// Seats, 1 to 64.
+    pub seats: usize,
+    /// Shields of each seat, 1 to 8.
+    pub shields: usize,
+    /// Retired slots that a seat gathers before it collects, 1 to 1,024.
+    pub batch: usize,
+    /// Words of each slot, 1 to 16.
+    pub width: usize,
+}
+
+/// One atomic step. The first number is the seat that steps.
+#[derive(Clone, Copy, PartialEq, Eq, Debug)]
+pub enum Step {
+    /// Reads the epoch, tags the seat's retired slots with it, and opens a scan over them.
+    Note(usize),
+    /// Announces the noted epoch: the seat is in.
+    Pin(usize),
+    /// Takes the announcement back: the seat is out.
+    Leave(usize),
+    /// Raises the epoch by one, where it is still the one noted.
+    Advance(usize),
+    /// Looks at the status of another seat.
+    Look(usize, usize),
+    /// Ejects another seat that is still in with the epoch looked at.
+    Eject(usize, usize),
+}
+
+/// What a step answers.
+#[derive(Clone, Copy, PartialEq, Eq, Debug)]
+pub enum Answer {
+    /// The epoch, read or new.
+    Epoch(u64),
+    /// In, with this epoch.
+    In(u64),
+    /// Out.
+    Out,
+    /// Another seat changed the word first.
+    Lost,
+    /// The seat looked at can't be in the way of the scan.
+    Passed,
+    /// The seat is ejected.
+    Ejected,
+}
+
+/// A step that its condition doesn't allow.
+#[derive(Clone, Copy, PartialEq, Eq, Debug)]
+pub struct NotEnabled;
+
+/// No memory was left.
+#[derive(Clone, Copy, PartialEq, Eq, Debug)]
+pub struct NoMemory;
+
+/// The status of a seat.
+#[derive(Clone, Copy, PartialEq, Eq, Debug)]
+pub enum Stance {
+    /// Not reading.
+    Out,
+    /// Reading since this epoch.
+    In(u64),
+    /// Put out by another seat, after it was in with this epoch.
+    Ejected(u64),
+}
+
+/// Whether a seat retired a slot.
+#[derive(Clone, Copy, PartialEq, Eq, Debug)]
+pub enum Retired {
+    /// It holds no such retired slot.
+    No,
+    /// Retired since its last Note.
+    Untagged,
+    /// Retired, and tagged with the epoch of the first Note after it.
+    Tagged(u64),
+}
+
+/// What a shield stands on.
+#[derive(Clone, Copy, PartialEq, Eq, Debug)]
+pub enum ShieldAt {
+    /// Nothing.
+    Down,
+    /// A slot that it doesn't protect yet.
+    Set(usize),
+    /// A slot that it protects.
+    Valid(usize),
+}
