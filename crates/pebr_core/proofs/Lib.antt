@@ -1,3 +1,4 @@
 pub mod Marks
 pub mod SeatChange
 pub mod Pins
+pub mod Tags

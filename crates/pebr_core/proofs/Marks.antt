@@ -1,5 +1,5 @@
 -- Marks, and lists with one place changed.
-use Rattle.std.proofs.Common.{◌≡◌, ◌≢◌, ℕ, ◌<◌, ◌⊎◌, Bool, true, false, List, length, get_or, set, map, replicate, Option, Some, None, cond, is_some, refl, sym, ◌∙◌, ap, subst, inl, inr, arith, get_or-set_same, get_or-set_other, not, ◌&&◌, eqb, zero, suc, [], ◌∷◌, unwrap_or}
+use Rattle.std.proofs.Common.{◌≡◌, ◌≢◌, ℕ, ◌<◌, ◌⊎◌, Bool, true, false, List, length, get_or, set, map, replicate, Option, Some, None, cond, is_some, refl, sym, ◌∙◌, ap, subst, inl, inr, arith, get_or-set_same, get_or-set_other, not, ◌&&◌, eqb, zero, suc, [], ◌∷◌, unwrap_or, take, drop, ◌++◌, ◌+◌, ◌≤◌}
 use Rattle.std.proofs.lemmas.Bool.{false≢true, cases_eq, and_parts, not-true, eqb-true, eqb-false}
 use Rattle.std.proofs.lemmas.Option.{same_Some, none-some}
 use Rattle.std.proofs.Math.ListN as listn
@@ -70,3 +70,30 @@ at_some P a b e h = subst P (same_Some a b e) h
 pub is_some-value : {A : Type 0} (o : Option A) (d : A) → is_some o ≡ true → o ≡ Some (unwrap_or o d)
 is_some-value None d h = absurd (false≢true h)
 is_some-value (Some x) d h = refl
+
+-- a slice of a whole vector, written back
+pub written_back : {A : Type 0} (xs ys : List A) (n : ℕ) → n ≡ length ys → length xs ≡ length ys → take n (xs ++ drop (length xs) ys) ≡ xs
+written_back [] [] n h k = ap (λ m. take m []) h
+written_back [] (y ∷ ys) n h k = absurd (omega arith)
+written_back (x ∷ xs) [] n h k = absurd (omega arith)
+written_back (x ∷ xs) (y ∷ ys) zero h k = absurd (omega arith)
+written_back (x ∷ xs) (y ∷ ys) (suc n) h k = ap (λ l. x ∷ l) (written_back xs ys n (omega arith) (omega arith))
+
+pub filled_with : {A : Type 0} (xs ys : List A) (v : A) → length xs ≡ length ys → ((k : ℕ) → k < length xs → get_or xs k v ≡ v) → xs ≡ map (λ _. v) ys
+filled_with [] [] v h k = refl
+filled_with [] (y ∷ ys) v h k = absurd (omega arith)
+filled_with (x ∷ xs) [] v h k = absurd (omega arith)
+filled_with (x ∷ xs) (y ∷ ys) v h k = ap (λ z. z ∷ xs) (k 0 (omega arith)) ∙ ap (λ l. v ∷ l) (filled_with xs ys v (omega arith) (λ i lt. k (suc i) (omega arith)))
+
+pub rows_filled : {A : Type 0} (xs ys : List (List A)) (f : List A → List A) → length xs ≡ length ys → ((k : ℕ) → k < length xs → get_or xs k [] ≡ f (get_or ys k [])) → xs ≡ map f ys
+rows_filled [] [] f h k = refl
+rows_filled [] (y ∷ ys) f h k = absurd (omega arith)
+rows_filled (x ∷ xs) [] f h k = absurd (omega arith)
+rows_filled (x ∷ xs) (y ∷ ys) f h k = ap (λ z. z ∷ xs) (k 0 (omega arith)) ∙ ap (λ l. f y ∷ l) (rows_filled xs ys f (omega arith) (λ i lt. k (suc i) (omega arith)))
+
+-- a list whose entries are those of another, each by a function
+pub is_mapped : {A B : Type 0} (f : A → B) (xs : List B) (ys : List A) (e : B) (d : A) → length xs ≡ length ys → ((k : ℕ) → k < length xs → get_or xs k e ≡ f (get_or ys k d)) → xs ≡ map f ys
+is_mapped f [] [] e d h k = refl
+is_mapped f [] (y ∷ ys) e d h k = absurd (omega arith)
+is_mapped f (x ∷ xs) [] e d h k = absurd (omega arith)
+is_mapped f (x ∷ xs) (y ∷ ys) e d h k = ap (λ z. z ∷ xs) (k 0 (omega arith)) ∙ ap (λ l. f y ∷ l) (is_mapped f xs ys e d (omega arith) (λ i lt. k (suc i) (omega arith)))

@@ -2,17 +2,10 @@
 #![tactic(auto)]
 
 mod kinds;
+mod machine;
+mod retired;
+mod row;
+mod seats;
 
 pub use kinds::{Answer, NoMemory, NotEnabled, Retired, Shape, ShieldAt, Stance, Step};
-
-ghost use Rattle.std.specs.Prelude.{◌≡◌};
-ghost use Rattle.pebr_core.specs.Kept.{IsSound, IsWithinLimits};
-ghost use Rattle.pebr_core.specs.State.{State, start_state};
-ghost use Rattle.pebr_core.specs.Steps.{is_enabled, next};
-
-fn probe(x: usize) -> usize
-    requires { (st : State) → IsSound st }
-    ensures { result ≡ x }
-{
-    x
-}
+pub use machine::Core;
