@@ -1,4 +1,7 @@
 pub mod Marks
 pub mod SeatChange
-pub mod Pins
+pub mod PinSteps
 pub mod Tags
+pub mod Law
+pub mod Written
+pub mod SeatSteps

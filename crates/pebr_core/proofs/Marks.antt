@@ -97,3 +97,14 @@ is_mapped f [] [] e d h k = refl
 is_mapped f [] (y ∷ ys) e d h k = absurd (omega arith)
 is_mapped f (x ∷ xs) [] e d h k = absurd (omega arith)
 is_mapped f (x ∷ xs) (y ∷ ys) e d h k = ap (λ z. z ∷ xs) (k 0 (omega arith)) ∙ ap (λ l. f y ∷ l) (is_mapped f xs ys e d (omega arith) (λ i lt. k (suc i) (omega arith)))
+
+-- one value at every place
+pub map_same : {A B : Type 0} (xs : List A) (v : B) → map (λ _. v) xs ≡ replicate (length xs) v
+map_same [] v = refl
+map_same (x ∷ xs) v = ap (λ l. v ∷ l) (map_same xs v)
+
+pub map_same_rows : {A B : Type 0} (rows : List (List A)) (v : B) (width : ℕ) → ((j : ℕ) → j < length rows → length (get_or rows j []) ≡ width) → map (map (λ _. v)) rows ≡ replicate (length rows) (replicate width v)
+map_same_rows [] v width h = refl
+map_same_rows (row ∷ rows) v width h =
+    ap (λ r. r ∷ map (map (λ _. v)) rows) (map_same row v ∙ ap (λ n. replicate n v) (h 0 (omega arith)))
+    ∙ ap (λ l. replicate width v ∷ l) (map_same_rows rows v width (λ j lt. h (suc j) (omega arith)))

@@ -26,7 +26,7 @@ shown_seat seat = record {
   shields = seat.shields;
   fresh = seat.fresh;
   retired = seat.retired;
-  scan = if seat.scan.open then Some (scan_parts seat.retired seat.scan) else None
+  scan = if seat.scan.is_open then Some (scan_parts seat.retired seat.scan) else None
 }
 
 abbrev pub shown_state : Inside → State

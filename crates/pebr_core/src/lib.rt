@@ -3,6 +3,7 @@
 
 mod kinds;
 mod machine;
+mod pins;
 mod retired;
 mod row;
 mod seats;
