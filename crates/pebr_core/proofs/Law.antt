@@ -33,16 +33,17 @@ eject_step_sound state i j sound h =
     let p2 = and_parts (a && b) s p3.0 in
     let p1 = and_parts a b p2.0 in
     eject_sound state i j sound (ltb-true i state.shape.seats p1.0) (ltb-true j state.shape.seats p1.1) p2.1 p3.1 (not-true (has (scan_of (seat_at state i)).passed j) p4.1)
-      (with_seat state j (record (seat_at state j) { status = ejected (unwrap_or (found_at (scan_of (seat_at state i)) j) 0) (seat_at state j).status })) refl
+    (with_seat state j (record (seat_at state j) { status = ejected (unwrap_or (found_at (scan_of (seat_at state i)) j) 0) (seat_at state j).status })) refl
 
 advance_step_sound : (state : State) (i : ℕ) → IsSound state → is_enabled state (step.Advance i) ≡ true → IsSound (after state (step.Advance i))
 advance_step_sound state i sound h =
     let noted = (seat_at state i).noted in
     let below = ltb-true noted last_epoch (and_parts (is_seat state i) (ltb noted last_epoch) h).1 in
     let pick : (b : Bool) → eqb state.epoch noted ≡ b → IsSound (cond b (record state { epoch = state.epoch + 1 }) state) =
-      λ b. elim b as (λ v. eqb state.epoch noted ≡ v → IsSound (cond v (record state { epoch = state.epoch + 1 }) state)) [
-          true ↦ λ t. let same = eqb-true state.epoch noted t in advance_sound state sound (omega arith)
-        | false ↦ λ _. sound ] in
+    λ b. elim b as (λ v. eqb state.epoch noted ≡ v → IsSound (cond v (record state { epoch = state.epoch + 1 }) state)) [
+      | true ↦ λ t. let same = eqb-true state.epoch noted t in advance_sound state sound (omega arith)
+      | false ↦ λ _. sound
+    ] in
     pick (eqb state.epoch noted) refl
 
 pub step_sound : (state : State) (s : Step) → IsSound state → is_enabled state s ≡ true → IsSound (after state s)

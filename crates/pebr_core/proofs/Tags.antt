@@ -23,5 +23,5 @@ is_above_all-cons epoch (retire.Tagged tag) rs b h = ap (λ t. t && is_above_all
 
 -- one step through the list
 pub is_above_all-drop : (epoch : ℕ) (rs : List Retired) (i : ℕ) (b : Bool) → i < length rs → is_above_tags (is_retired (get_or rs i retire.No) ∷ []) (get_or rs i retire.No ∷ []) epoch ≡ not b
-  → is_above_all epoch (drop i rs) ≡ (not b && is_above_all epoch (drop (i + 1) rs))
+    → is_above_all epoch (drop i rs) ≡ (not b && is_above_all epoch (drop (i + 1) rs))
 is_above_all-drop epoch rs i b inside h = at_drop_more (is_above_all epoch) rs i retire.No inside ∙ is_above_all-cons epoch (get_or rs i retire.No) (drop (i + 1) rs) b h

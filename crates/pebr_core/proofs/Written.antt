@@ -39,37 +39,41 @@ shown_written core i new = ap (λ seats. record (shown_state core) { seats = sea
 pub room_written : (core : Inside) (i : ℕ) (entry new : SeatData) → IsCore core → HasRoom core.shape new → All (HasRoom core.shape) (set core.seats.items i new)
 room_written core i entry new held room =
     All-from_get_or (HasRoom core.shape) (set core.seats.items i new) entry
-      (λ j lt. set_anywhere (HasRoom core.shape) core.seats.items i new entry j (λ _. room)
-        (All-get_or (HasRoom core.shape) core.seats.items j entry (omega (arith, length-set core.seats.items i new)) held.room))
+    (λ j lt. set_anywhere (HasRoom core.shape) core.seats.items i new entry j (λ _. room)
+    (All-get_or (HasRoom core.shape) core.seats.items j entry (omega (arith, length-set core.seats.items i new)) held.room))
 
 -- A step that is enabled and that makes of the state what the written entry stand for.
 pub step_written : (core : Inside) (i : ℕ) (entry new : SeatData) (s : Step) → IsCore core
-  → is_enabled (shown_state core) s ≡ true
-  → HasRoom core.shape new
-  → after (shown_state core) s ≡ with_seat (shown_state core) i (shown_seat new)
-  → IsCore (written core i new) × (shown_state (written core i new) ≡ (next (shown_state core) s).1)
+    → is_enabled (shown_state core) s ≡ true
+    → HasRoom core.shape new
+    → after (shown_state core) s ≡ with_seat (shown_state core) i (shown_seat new)
+    → IsCore (written core i new) × (shown_state (written core i new) ≡ (next (shown_state core) s).1)
 step_written core i entry new s held enabled room made =
-    let is_after : shown_state (written core i new) ≡ after (shown_state core) s = shown_written core i new ∙ sym made in
-    (record {
-      sound = subst IsSound (sym is_after) (step_sound (shown_state core) s held.sound enabled);
-      limits = held.limits;
-      room = room_written core i entry new held room
-    },
-    is_after ∙ sym (ap (λ n. n.1) (next_enabled (shown_state core) s enabled)))
+    let is_after : shown_state (written core i new) ≡ after (shown_state core) s = shown_written core i new ∙ sym made in (
+      record {
+        sound = subst IsSound (sym is_after) (step_sound (shown_state core) s held.sound enabled);
+        limits = held.limits;
+        room = room_written core i entry new held room;
+      },
+      is_after ∙ sym (ap (λ n. n.1) (next_enabled (shown_state core) s enabled)),
+    )
 
 -- the same, where the core is seen as this state
 pub step_done : (core : Inside) (state : State) (i : ℕ) (entry new : SeatData) (s : Step) → IsCore core → shown_state core ≡ state
-  → is_enabled state s ≡ true
-  → HasRoom core.shape new
-  → after (shown_state core) s ≡ with_seat (shown_state core) i (shown_seat new)
-  → IsCore (written core i new) × (shown_state (written core i new) ≡ (next state s).1)
+    → is_enabled state s ≡ true
+    → HasRoom core.shape new
+    → after (shown_state core) s ≡ with_seat (shown_state core) i (shown_seat new)
+    → IsCore (written core i new) × (shown_state (written core i new) ≡ (next state s).1)
 step_done core state i entry new s held same enabled room made =
     let done = step_written core i entry new s held (subst (λ z. is_enabled z s ≡ true) (sym same) enabled) room made in
     (done.0, done.1 ∙ ap (λ z. (next z s).1) same)
 
 -- what was read of one seat's entry, by what is known of the state
 pub seat_known : (core : Inside) (state : State) (i : ℕ) (entry : SeatData) → IsCore core → shown_state core ≡ state → i < state.shape.seats → entry ≡ get_or core.seats.items i entry
-  → (seat_at (shown_state core) i ≡ shown_seat entry) × HasRoom core.shape entry
+    → (seat_at (shown_state core) i ≡ shown_seat entry) × HasRoom core.shape entry
 seat_known core state i entry held same inside read =
     let here : i < core.shape.seats = subst (λ n. i < n) (sym (ap (λ z. z.shape.seats) same)) inside in
     (seat_read core i entry held here read, room_read core i entry held here read)
+
+pub written_held : (core : Inside) (i : ℕ) (entry new : SeatData) → IsCore core → HasRoom core.shape new → IsSound (shown_state (written core i new)) → IsCore (written core i new)
+written_held core i entry new held room sound = record { sound = sound; limits = held.limits; room = room_written core i entry new held room }

@@ -13,8 +13,8 @@ use Rattle.pebr_core.specs.declared.kinds.ShieldAt.TheVariants as shield
 -- A seat uses a slot where a shield of it is valid on the slot, or it is in and has seen the slot.
 abbrev pub Uses : Seat → ℕ → Type 0
 Uses seat slot =
-  ((place : ℕ) × (shield_at seat place ≡ shield.Valid slot))
-  ⊎ ((epoch : ℕ) × (seat.status ≡ stance.In epoch) × (has seat.seen slot ≡ true))
+    ((place : ℕ) × (shield_at seat place ≡ shield.Valid slot))
+    ⊎ ((epoch : ℕ) × (seat.status ≡ stance.In epoch) × (has seat.seen slot ≡ true))
 
 -- how many times a seat holds a slot, as fresh or as retired
 abbrev pub times_held : ℕ → Seat → ℕ
@@ -50,8 +50,8 @@ pub record EpochsAreBounded (state : State) : Type 0 where
 -- A seat that is in has seen no slot that is retired with a tag below its epoch.
 abbrev pub HasSeenNoOlder : Seat → Seat → Type 0
 HasSeenNoOlder owner reader =
-  (slot tag epoch : ℕ) → reader.status ≡ stance.In epoch → retired_at owner slot ≡ retire.Tagged tag → tag < epoch
-  → has reader.seen slot ≡ false
+    (slot tag epoch : ℕ) → reader.status ≡ stance.In epoch → retired_at owner slot ≡ retire.Tagged tag → tag < epoch
+    → has reader.seen slot ≡ false
 
 abbrev pub PinsSeeNoOlder : State → Type 0
 PinsSeeNoOlder state = (i j : ℕ) → HasSeenNoOlder (seat_at state i) (seat_at state j)
@@ -80,14 +80,14 @@ PassedHasSeenNone scan j seat = has scan.passed j ≡ true → (epoch : ℕ) →
 -- A valid shield of a passed seat on a candidate isn't scanned yet, or the candidate is kept.
 abbrev pub ScannedIsKept : Scan → ℕ → Seat → Type 0
 ScannedIsKept scan j seat =
-  (place slot : ℕ) → has scan.passed j ≡ true → shield_at seat place ≡ shield.Valid slot → has scan.candidates slot ≡ true
-  → has_scanned scan j place ≡ true → has scan.kept slot ≡ true
+    (place slot : ℕ) → has scan.passed j ≡ true → shield_at seat place ≡ shield.Valid slot → has scan.candidates slot ≡ true
+    → has_scanned scan j place ≡ true → has scan.kept slot ≡ true
 
 -- Where a seat was looked at with an epoch and isn't passed, that epoch is at most the greatest tag of a candidate. Such a seat is in with that epoch, or it isn't in, or it has seen no candidate.
 abbrev pub LookedIsOlder : List Retired → Scan → ℕ → Seat → Type 0
 LookedIsOlder retired scan j seat =
-  (found : ℕ) → found_at scan j ≡ Some found → has scan.passed j ≡ false
-  → (is_above_tags scan.candidates retired found ≡ false)
+    (found : ℕ) → found_at scan j ≡ Some found → has scan.passed j ≡ false
+    → (is_above_tags scan.candidates retired found ≡ false)
     × ((epoch : ℕ) → seat.status ≡ stance.In epoch → (epoch ≡ found) ⊎ HasSeenNoCandidate scan seat)
 
 -- these three for each scanning seat by itself

@@ -1,4 +1,6 @@
 pub mod State
 pub mod Steps
 pub mod Kept
+pub mod Runs
 pub mod Shown
+pub mod Entries

@@ -15,7 +15,7 @@ scan_parts retired scan = record {
   looked = scan.looked;
   passed = scan.passed;
   scanned = scan.scanned;
-  kept = scan.kept
+  kept = scan.kept;
 }
 
 abbrev pub shown_seat : SeatData → Seat
@@ -26,7 +26,7 @@ shown_seat seat = record {
   shields = seat.shields;
   fresh = seat.fresh;
   retired = seat.retired;
-  scan = if seat.scan.is_open then Some (scan_parts seat.retired seat.scan) else None
+  scan = if seat.scan.is_open then Some (scan_parts seat.retired seat.scan) else None;
 }
 
 abbrev pub shown_state : Inside → State
@@ -35,7 +35,7 @@ shown_state core = record {
   epoch = core.epoch;
   roots = core.roots;
   words = core.words;
-  seats = map shown_seat core.seats.items
+  seats = map shown_seat core.seats.items;
 }
 
 -- there is room for a scan of this shape

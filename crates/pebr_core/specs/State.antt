@@ -120,7 +120,7 @@ first_seat shape i = record {
   shields = replicate shape.shields shield.Down;
   fresh = map (is_share_of shape i) (range_with_len 0 (slot_count shape));
   retired = replicate (slot_count shape) retire.No;
-  scan = None
+  scan = None;
 }
 
 abbrev pub start_state : Shape → State
@@ -129,5 +129,5 @@ start_state shape = record {
   epoch = 0;
   roots = range_with_len 0 shape.roots;
   words = replicate (slot_count shape) (replicate shape.width 0);
-  seats = map (first_seat shape) (range_with_len 0 shape.seats)
+  seats = map (first_seat shape) (range_with_len 0 shape.seats);
 }

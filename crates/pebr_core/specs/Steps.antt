@@ -33,7 +33,7 @@ new_scan shape slots = record {
   looked = replicate shape.seats None;
   passed = replicate shape.seats false;
   scanned = replicate shape.seats (replicate shape.shields false);
-  kept = replicate (slot_count shape) false
+  kept = replicate (slot_count shape) false;
 }
 
 -- the epoch is above the tag of each candidate
@@ -86,7 +86,7 @@ abbrev pub after_note : Shape → ℕ → Seat → Seat
 after_note shape epoch seat = record seat {
   noted = epoch;
   retired = map (tag_with epoch) seat.retired;
-  scan = Some (new_scan shape (map (tag_with epoch) seat.retired))
+  scan = Some (new_scan shape (map (tag_with epoch) seat.retired));
 }
 
 abbrev pub after_pin : Seat → Seat
@@ -97,9 +97,9 @@ after_leave seat = record seat { status = stance.Out; seen = emptied seat.seen }
 
 abbrev pub after_look : ℕ → Stance → Seat → Seat
 after_look other status seat =
-  if can_pass (scan_of seat).candidates seat.retired status
-  then with_scan seat (with_passed (scan_of seat) other)
-  else with_scan seat (with_look (scan_of seat) other (epoch_of status))
+    if can_pass (scan_of seat).candidates seat.retired status
+    then with_scan seat (with_passed (scan_of seat) other)
+    else with_scan seat (with_look (scan_of seat) other (epoch_of status))
 
 abbrev pub after_pass : ℕ → Seat → Seat
 after_pass other seat = with_scan seat (with_passed (scan_of seat) other)
@@ -121,11 +121,11 @@ is_enabled state (step.Pin i) = is_seat state i && is_out (seat_at state i).stat
 is_enabled state (step.Leave i) = is_seat state i && not (is_out (seat_at state i).status)
 is_enabled state (step.Advance i) = is_seat state i && nat_lt (seat_at state i).noted last_epoch
 is_enabled state (step.Look i j) =
-  is_seat state i && is_seat state j && is_scanning (seat_at state i)
-  && not (j == i) && not (has (scan_of (seat_at state i)).passed j)
+    is_seat state i && is_seat state j && is_scanning (seat_at state i)
+    && not (j == i) && not (has (scan_of (seat_at state i)).passed j)
 is_enabled state (step.Eject i j) =
-  is_seat state i && is_seat state j && is_scanning (seat_at state i)
-  && is_some (found_at (scan_of (seat_at state i)) j) && not (has (scan_of (seat_at state i)).passed j)
+    is_seat state i && is_seat state j && is_scanning (seat_at state i)
+    && is_some (found_at (scan_of (seat_at state i)) j) && not (has (scan_of (seat_at state i)).passed j)
 
 -- what a step changes
 abbrev pub after : State → Step → State
@@ -135,10 +135,10 @@ after state (step.Leave i) = with_seat state i (after_leave (seat_at state i))
 after state (step.Advance i) = if state.epoch == (seat_at state i).noted then record state { epoch = state.epoch + 1 } else state
 after state (step.Look i j) = with_seat state i (after_look j (seat_at state j).status (seat_at state i))
 after state (step.Eject i j) =
-  let other = seat_at state j in
-  let found = found_epoch (seat_at state i) j in
-  let mid = with_seat state j (record other { status = ejected found other.status }) in
-  with_seat mid i (after_pass j (seat_at mid i))
+    let other = seat_at state j in
+    let found = found_epoch (seat_at state i) j in
+    let mid = with_seat state j (record other { status = ejected found other.status }) in
+    with_seat mid i (after_pass j (seat_at mid i))
 
 -- what a step answers
 abbrev pub answer_of : State → Step → Answer
@@ -147,11 +147,11 @@ answer_of state (step.Pin i) = answer.In (seat_at state i).noted
 answer_of state (step.Leave i) = answer.Out
 answer_of state (step.Advance i) = if state.epoch == (seat_at state i).noted then answer.Epoch (state.epoch + 1) else answer.Lost
 answer_of state (step.Look i j) =
-  let seat = seat_at state i in
-  let status = (seat_at state j).status in
-  if can_pass (scan_of seat).candidates seat.retired status then answer.Passed else answer.In (epoch_of status)
+    let seat = seat_at state i in
+    let status = (seat_at state j).status in
+    if can_pass (scan_of seat).candidates seat.retired status then answer.Passed else answer.In (epoch_of status)
 answer_of state (step.Eject i j) =
-  if is_in_at (found_epoch (seat_at state i) j) (seat_at state j).status then answer.Ejected else answer.Lost
+    if is_in_at (found_epoch (seat_at state i) j) (seat_at state j).status then answer.Ejected else answer.Lost
 
 -- a step from a state: the answer and the state after it, or no answer and the same state where it isn't enabled
 abbrev pub next : State → Step → Option Answer × State

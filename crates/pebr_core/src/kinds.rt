@@ -1,6 +1,12 @@
 //! The plain values that a schedule is made of: the shape of a core, the steps of its seats, their
 //! answers, and what the readers of a core tell.
 
+ghost use Rattle.std.specs.Prelude.{◌≡◌};
+ghost use Rattle.pebr_core.specs.Steps.{epoch_of};
+
+/// At this epoch no step raises it any more.
+pub const LAST_EPOCH: u64 = 1 << 60;
+
 /// How large a core is. Each seat owns `batch + seats * shields` slots besides the roots' slots.
 #[derive(Clone, Copy, PartialEq, Eq, Debug)]
 pub struct Shape {
@@ -67,6 +73,18 @@ pub enum Stance {
     In(u64),
     /// Put out by another seat, after it was in with this epoch.
     Ejected(u64),
+}
+
+impl Stance {
+    /// The epoch, 0 for Out.
+    pub(crate) fn epoch(self) -> u64
+        ensures { result ≡ epoch_of self }
+    {
+        match self {
+            Stance::Out => 0,
+            Stance::In(epoch) | Stance::Ejected(epoch) => epoch,
+        }
+    }
 }
 
 /// Whether a seat retired a slot.

@@ -75,12 +75,7 @@ impl<T> Model for Grid<T> {
 
 impl<T: Copy + Drop> Grid<T> {
     /// `count` rows of `width` copies of `value`.
-    pub fn filled(
-        alloc: Global,
-        count: usize,
-        width: usize,
-        value: T,
-    ) -> Result<Grid<T>, NoMemory>
+    pub fn filled(alloc: Global, count: usize, width: usize, value: T) -> Result<Grid<T>, NoMemory>
         ensures { IfOk result (λ grid. grid ≡ replicate count (replicate width value)) }
     {
         let mut rows = Vec::new(alloc);

@@ -1,9 +1,9 @@
 //! What a core keeps of each seat.
 
-ghost use Rattle.std.specs.Prelude.{◌≡◌, ℕ, true, false, List, map, Some, None, slice_set};
-ghost use Rattle.pebr_core.specs.Steps.{emptied, tag_with};
+ghost use Rattle.std.specs.Prelude.{◌≡◌, true, false, if◌then◌else◌};
+ghost use Rattle.pebr_core.specs.Steps.{can_pass, epoch_of, is_in_at};
 
-use crate::kinds::{ShieldAt, Stance};
+use crate::kinds::{Answer, ShieldAt, Stance};
 use crate::retired::RetiredSlots;
 use crate::row::{Grid, Row};
 
@@ -42,14 +42,11 @@ pub struct SeatData {
 }
 
 impl ScanData {
+    ghost use Rattle.pebr_core.specs.Entries.{reopened};
+
     /// Opens a scan that has looked at nobody.
-    pub fn reopen(&mut self)
-        ensures { self.new ≡ record {
-            is_open = true;
-            looked = map (λ _. None) self.old.looked;
-            passed = emptied self.old.passed;
-            scanned = map emptied self.old.scanned;
-            kept = emptied self.old.kept } }
+    fn reopen(&mut self)
+        ensures { self.new ≡ reopened self.old }
     {
         self.is_open = true;
         self.looked.fill(None);
@@ -60,17 +57,11 @@ impl ScanData {
 }
 
 impl SeatData {
+    ghost use Rattle.pebr_core.specs.Entries.{noted_entry, pinned_entry, left_entry, can_pass_entry, looking_entry, ejected_entry, passing_entry};
+
     /// Reads the epoch, tags what is retired with it, and opens a scan.
     pub fn note(&mut self, epoch: u64)
-        ensures { self.new ≡ record self.old {
-            noted = epoch;
-            retired = map (tag_with epoch) self.old.retired;
-            scan = record {
-                is_open = true;
-                looked = map (λ _. None) self.old.scan.looked;
-                passed = emptied self.old.scan.passed;
-                scanned = map emptied self.old.scan.scanned;
-                kept = emptied self.old.scan.kept } } }
+        ensures { self.new ≡ noted_entry epoch self.old }
     {
         self.noted = epoch;
         self.retired.tag(epoch);
@@ -79,10 +70,7 @@ impl SeatData {
 
     /// Announces the noted epoch.
     pub fn pin(&mut self)
-        ensures { self.new ≡ record self.old {
-            status = Stance.In self.old.noted;
-            seen = emptied self.old.seen;
-            scan = record self.old.scan { is_open = false } } }
+        ensures { self.new ≡ pinned_entry self.old }
     {
         self.status = Stance::In(self.noted);
         self.seen.fill(false);
@@ -91,9 +79,54 @@ impl SeatData {
 
     /// Takes the announcement back.
     pub fn leave(&mut self)
-        ensures { self.new ≡ record self.old { status = Stance.Out; seen = emptied self.old.seen } }
+        ensures { self.new ≡ left_entry self.old }
     {
         self.status = Stance::Out;
         self.seen.fill(false);
+    }
+
+    /// Whether a seat with this status can't use a retired slot of this one by its pin.
+    fn can_pass(&self, status: Stance) -> bool
+        ensures { result ≡ can_pass_entry self.now status }
+    {
+        match status {
+            Stance::Out | Stance::Ejected(_) => true,
+            Stance::In(epoch) => self.retired.are_below(epoch),
+        }
+    }
+
+    /// Takes down what another seat's status showed.
+    pub fn look(&mut self, other: usize, status: Stance) -> Answer
+        ensures answer { result ≡ (if can_pass_entry self.old status then Answer.Passed else Answer.In (epoch_of status)) }
+        ensures entry { self.new ≡ looking_entry other status self.old }
+    {
+        if self.can_pass(status) {
+            self.scan.passed.set(other, true);
+            return Answer::Passed;
+        }
+        let epoch = status.epoch();
+        self.scan.looked.set(other, Some(epoch));
+        Answer::In(epoch)
+    }
+
+    /// Ejects the seat, where it is still in with the epoch that it was found with.
+    pub fn eject(&mut self, found: u64) -> bool
+        ensures answer { result ≡ is_in_at found self.old.status }
+        ensures entry { self.new ≡ ejected_entry found self.old }
+    {
+        if let Stance::In(epoch) = self.status {
+            if epoch == found {
+                self.status = Stance::Ejected(found);
+                return true;
+            }
+        }
+        false
+    }
+
+    /// The scan passes another seat.
+    pub fn pass(&mut self, other: usize)
+        ensures { self.new ≡ passing_entry other self.old }
+    {
+        self.scan.passed.set(other, true);
     }
 }

@@ -10,4 +10,4 @@ returns g c =
     let whole : length c.loop-entry.entry-items ≡ length inside.items = len ∙ ap (λ l. length l) same in
     written_back c.loop-entry.entry-items inside.items inside.len inside.ok.0 whole
     ∙ filled_with c.loop-entry.entry-items c.args.self.now c.args.value (whole ∙ ap (λ l. length l) c.self.view_is)
-        (λ k h. c.loop-entry.invariant.1 k (omega arith))
+    (λ k h. c.loop-entry.invariant.1 k (omega arith))
