@@ -1,6 +1,8 @@
 -- Every enabled step leads from a sound state to a sound state.
-use Rattle.std.proofs.Common.{◌≡◌, ◌≢◌, ℕ, ◌<◌, ◌+◌, ◌≤◌, Bool, true, false, not, ◌&&◌, Option, Some, None, cond, is_some, refl, sym, ◌∙◌, ap, subst, arith, eqb, ltb, unwrap_or}
-use Rattle.std.proofs.lemmas.Bool.{false≢true, and_parts, eqb-true, eqb-false, ltb-true, not-true}
+use Rattle.std.proofs.Common.{◌≡◌, ℕ, ◌+◌, Bool, true, false, not, ◌&&◌, Option, Some, None, cond, is_some, refl, sym, ap, arith, eqb, ltb, unwrap_or}
+use Rattle.std.proofs.lemmas.Bool.{and_parts, eqb-true, eqb-false, ltb-true, not-true}
+use Rattle.std.proofs.lemmas.Option.{none-some, same_Some}
+use Rattle.pebr_core.specs.declared.kinds.Answer.{Answer}
 use Rattle.pebr_core.specs.declared.kinds.Step.{Step}
 use Rattle.pebr_core.specs.declared.kinds.Step.TheVariants as step
 use Rattle.pebr_core.specs.State.{State, has, seat_at, scan_of, found_at, is_out}
@@ -66,3 +68,18 @@ next_enabled state s h = ap (λ b. cond b (Some (answer_of state s), after state
 
 pub next_refused : (state : State) (s : Step) → is_enabled state s ≡ false → next state s ≡ (None, state)
 next_refused state s h = ap (λ b. cond b (Some (answer_of state s), after state s) (None, state)) h
+
+-- what the answer of a step tells
+pub next_some : (state : State) (s : Step) (a : Answer) → Some a ≡ (next state s).0 → (is_enabled state s ≡ true) × (a ≡ answer_of state s)
+next_some state s a h = pick (is_enabled state s) h
+  where
+    pick : (b : Bool) → Some a ≡ (cond {A = Option Answer × State} b (Some (answer_of state s), after state s) (None, state)).0 → (b ≡ true) × (a ≡ answer_of state s)
+    pick true e = (refl, same_Some a (answer_of state s) e)
+    pick false e = absurd (none-some a (sym e))
+
+pub next_none : (state : State) (s : Step) → None ≡ (next state s).0 → is_enabled state s ≡ false
+next_none state s h = pick (is_enabled state s) h
+  where
+    pick : (b : Bool) → None ≡ (cond {A = Option Answer × State} b (Some (answer_of state s), after state s) (None, state)).0 → b ≡ false
+    pick true e = absurd (none-some (answer_of state s) e)
+    pick false e = refl

@@ -5,3 +5,5 @@ pub mod Tags
 pub mod Law
 pub mod Written
 pub mod SeatSteps
+pub mod StartState
+pub mod SafeRun

@@ -1,8 +1,7 @@
 -- Marks, and lists with one place changed.
-use Rattle.std.proofs.Common.{◌≡◌, ◌≢◌, ℕ, ◌<◌, ◌⊎◌, Bool, true, false, List, length, get_or, set, map, replicate, Option, Some, None, cond, is_some, refl, sym, ◌∙◌, ap, subst, inl, inr, arith, get_or-set_same, get_or-set_other, not, ◌&&◌, eqb, zero, suc, [], ◌∷◌, unwrap_or, take, drop, ◌++◌, ◌+◌, ◌≤◌}
-use Rattle.std.proofs.lemmas.Bool.{false≢true, cases_eq, and_parts, not-true, eqb-true, eqb-false}
-use Rattle.std.proofs.lemmas.Option.{same_Some, none-some}
-use Rattle.std.proofs.Math.ListN as listn
+use Rattle.std.proofs.Common.{◌≡◌, ◌≢◌, ℕ, ◌<◌, ◌⊎◌, Bool, true, false, List, length, get_or, set, map, replicate, Option, Some, None, is_some, refl, sym, ◌∙◌, ap, subst, inl, inr, arith, get_or-set_same, get_or-set_other, zero, suc, [], ◌∷◌, unwrap_or, take, drop, ◌++◌}
+use Rattle.std.proofs.lemmas.Bool.{false≢true, cases_eq}
+use Rattle.std.proofs.lemmas.Option.{same_Some}
 use Rattle.pebr_core.specs.State.{has}
 use Rattle.pebr_core.specs.Steps.{emptied}
 

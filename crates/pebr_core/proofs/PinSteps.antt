@@ -1,6 +1,6 @@
 -- The steps Note, Pin, Leave, Advance, Look and Eject lead from a sound state to a sound state.
-use Rattle.std.proofs.Common.{◌≡◌, ◌≢◌, ℕ, ◌<◌, ◌+◌, ◌≤◌, ◌⊎◌, zero, suc, Bool, true, false, not, List, [], ◌∷◌, length, get_or, set, map, replicate, Option, Some, None, cond, is_some, refl, sym, ◌∙◌, ap, subst, inl, inr, arith, length-set, get_or-set_other, get_or-set_same, count_by, sum_by, eqb, ltb, leb, unwrap_or, le_refl, le_trans, add-one}
-use Rattle.std.proofs.lemmas.Bool.{false≢true, cases_Bool, cases_eq, and_parts, eqb-true, eqb-false, ltb-true}
+use Rattle.std.proofs.Common.{◌≡◌, ◌≢◌, ℕ, ◌<◌, ◌+◌, ◌≤◌, ◌⊎◌, zero, suc, Bool, true, false, List, [], ◌∷◌, length, get_or, map, replicate, Some, None, cond, is_some, refl, sym, ◌∙◌, ap, subst, inl, inr, arith, length-set, get_or-set_other, get_or-set_same, count_by, eqb, ltb, unwrap_or, le_refl}
+use Rattle.std.proofs.lemmas.Bool.{false≢true, and_parts, eqb-true, eqb-false, ltb-true}
 use Rattle.std.proofs.lemmas.Option.{same_Some, none-some}
 use Rattle.std.proofs.lemmas.List.{length-map, length-replicate, get_or-replicate}
 use Rattle.std.proofs.lemmas.List.Sums.{sum_by-cons}
@@ -9,12 +9,11 @@ use Rattle.pebr_core.specs.declared.kinds.Stance.{Stance}
 use Rattle.pebr_core.specs.declared.kinds.Stance.TheVariants as stance
 use Rattle.pebr_core.specs.declared.kinds.Retired.{Retired}
 use Rattle.pebr_core.specs.declared.kinds.Retired.TheVariants as retire
-use Rattle.pebr_core.specs.declared.kinds.ShieldAt.TheVariants as shield
-use Rattle.pebr_core.specs.State.{Scan, Seat, State, has, seat_at, shield_at, retired_at, found_at, has_scanned, scan_of, slot_count, nobody, no_scan, is_out, is_retired}
-use Rattle.pebr_core.specs.Steps.{with_seat, with_scan, with_passed, with_look, last_epoch, emptied, tag_with, new_scan, is_above_tags, can_pass, epoch_of, is_in_at, ejected, after_note, after_pin, after_leave, after_look, after_pass}
-use Rattle.pebr_core.specs.Kept.{Uses, times_held, times_in, Safe, IsPinnedUpTo, IsTaggedUpTo, EpochsAreBounded, HasSeenNoOlder, IsScanOf, HasSeenNoCandidate, PassedHasSeenNone, ScannedIsKept, LookedIsOlder, Kept, held_count, Holding, IsScanOfShape, IsSeatOfShape, IsOfShape, IsSound}
-use Rattle.pebr_core.proofs.Marks.{get_or-map_default, get_or-replicate_default, has-emptied, has-replicate, has-added, has-either, has-not_added, has-here, at_some, is_some-value, set_at, set_anywhere}
-use Rattle.pebr_core.proofs.SeatChange.{Alone, Between, alone, between, kept_from, seat_kept, shape_kept}
+use Rattle.pebr_core.specs.State.{Scan, Seat, State, has, seat_at, retired_at, found_at, has_scanned, scan_of, slot_count, nobody, no_scan, is_out, is_retired}
+use Rattle.pebr_core.specs.Steps.{with_seat, with_scan, with_passed, with_look, last_epoch, tag_with, new_scan, is_above_tags, can_pass, epoch_of, ejected, after_note, after_pin, after_leave, after_look, after_pass}
+use Rattle.pebr_core.specs.Kept.{Uses, IsPinnedUpTo, IsTaggedUpTo, HasSeenNoOlder, IsScanOf, HasSeenNoCandidate, PassedHasSeenNone, ScannedIsKept, LookedIsOlder, IsScanOfShape, IsSeatOfShape, IsSound}
+use Rattle.pebr_core.proofs.Marks.{get_or-map_default, get_or-replicate_default, has-emptied, has-replicate, has-added, has-either, has-not_added, at_some, is_some-value, set_anywhere}
+use Rattle.pebr_core.proofs.SeatChange.{Alone, Between, alone, between, seat_kept}
 
 -- statuses
 

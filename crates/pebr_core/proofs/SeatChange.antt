@@ -1,9 +1,9 @@
 -- A change of one seat keeps every fact on states, where the seat keeps its own facts and those with each other seat.
-use Rattle.std.proofs.Common.{◌≡◌, ◌≢◌, ℕ, ◌<◌, ◌+◌, ◌≤◌, ◌⊎◌, Bool, true, false, List, length, get_or, set, Option, Some, None, cond, refl, sym, ◌∙◌, ap, subst, arith, length-set, count_by, sum_by, eqb}
+use Rattle.std.proofs.Common.{◌≡◌, ◌≢◌, ℕ, ◌<◌, ◌≤◌, false, length, Some, sym, ◌∙◌, subst, arith, length-set}
 use Rattle.std.proofs.lemmas.List.Sums.{sum_by-set}
-use Rattle.pebr_core.specs.State.{Scan, Seat, State, has, seat_at, root_at, shield_at, retired_at, slot_count, slots_per_seat, nobody}
+use Rattle.pebr_core.specs.State.{Scan, Seat, State, has, seat_at, retired_at, slot_count, slots_per_seat, nobody}
 use Rattle.pebr_core.specs.Steps.{with_seat, last_epoch}
-use Rattle.pebr_core.specs.Kept.{Uses, times_held, times_in, Safe, IsPinnedUpTo, IsTaggedUpTo, EpochsAreBounded, HasSeenNoOlder, IsScanOf, PassedHasSeenNone, ScannedIsKept, LookedIsOlder, Kept, held_count, Holding, IsSeatOfShape, IsOfShape, IsSound}
+use Rattle.pebr_core.specs.Kept.{Uses, times_held, times_in, IsPinnedUpTo, IsTaggedUpTo, HasSeenNoOlder, IsScanOf, PassedHasSeenNone, ScannedIsKept, LookedIsOlder, Kept, held_count, IsSeatOfShape, IsOfShape, IsSound}
 use Rattle.pebr_core.proofs.Marks.{set_at}
 
 -- what is known of one seat by itself, the i-th, at this epoch

@@ -3,15 +3,13 @@ use Rattle.std.proofs.Common.{◌≡◌, ℕ, ◌<◌, Bool, true, false, List, 
 use Rattle.std.proofs.lemmas.List.{length-map, length-set}
 use Rattle.pebr_core.specs.declared.kinds.Shape.{Shape}
 use Rattle.pebr_core.specs.declared.kinds.Stance.{Stance}
-use Rattle.pebr_core.specs.declared.kinds.Retired.{Retired}
-use Rattle.pebr_core.specs.declared.seats.ScanData.{ScanData}
 use Rattle.pebr_core.specs.declared.seats.SeatData.{SeatData}
 use Rattle.pebr_core.specs.declared.kinds.Step.TheVariants as step
 use Rattle.pebr_core.specs.declared.machine.Core.TheInside.{Inside}
-use Rattle.pebr_core.specs.State.{Scan, Seat, State, has, seat_at, scan_of, found_at, no_scan, is_retired, is_out, slot_count}
-use Rattle.pebr_core.specs.Steps.{emptied, tag_with, new_scan, after_note, after_pin, after_leave, after_look, after_pass, found_epoch, can_pass, epoch_of, ejected, is_seat, is_scanning, is_enabled, after, next, with_seat, with_scan, with_passed, with_look}
+use Rattle.pebr_core.specs.State.{Seat, State, has, seat_at, scan_of, found_at, no_scan, is_retired, is_out, slot_count}
+use Rattle.pebr_core.specs.Steps.{emptied, tag_with, after_note, after_pin, after_leave, after_look, after_pass, found_epoch, can_pass, epoch_of, ejected, is_seat, is_scanning, is_enabled, after, next, with_seat, with_scan, with_passed, with_look}
 use Rattle.pebr_core.specs.Entries.{noted_entry, pinned_entry, left_entry, passing_entry, finding_entry, can_pass_entry, looking_entry, ejected_entry}
-use Rattle.pebr_core.specs.Kept.{IsScanOfShape, IsSound}
+use Rattle.pebr_core.specs.Kept.{IsSound}
 use Rattle.pebr_core.specs.Shown.{scan_parts, shown_seat, shown_state, HasRoom, IsCore}
 use Rattle.std.proofs.lemmas.Bool.{false≢true, and_parts, ltb-true}
 use Rattle.std.proofs.lemmas.Option.{none-some}

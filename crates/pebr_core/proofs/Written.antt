@@ -1,18 +1,15 @@
 -- What a core's entries stand for after one seat's entry is written.
-use Rattle.std.proofs.Common.{◌≡◌, ℕ, ◌<◌, Bool, true, false, List, [], length, map, replicate, get_or, set, Option, Some, None, cond, All, refl, sym, ◌∙◌, ap, subst, arith}
+use Rattle.std.proofs.Common.{◌≡◌, ℕ, ◌<◌, true, length, get_or, set, All, sym, ◌∙◌, ap, subst, arith}
 use Rattle.std.specs.Vec.{with_item}
 use Rattle.std.proofs.lemmas.List.{length-map, length-set, map-set, get_or-map}
 use Rattle.std.proofs.lemmas.List.Elements.{All-get_or, All-from_get_or}
-use Rattle.pebr_core.specs.declared.kinds.Shape.{Shape}
-use Rattle.pebr_core.specs.declared.kinds.Retired.{Retired}
 use Rattle.pebr_core.specs.declared.kinds.Step.{Step}
-use Rattle.pebr_core.specs.declared.seats.ScanData.{ScanData}
 use Rattle.pebr_core.specs.declared.seats.SeatData.{SeatData}
 use Rattle.pebr_core.specs.declared.machine.Core.TheInside.{Inside}
-use Rattle.pebr_core.specs.State.{Scan, Seat, State, nobody, seat_at, is_retired, slot_count}
+use Rattle.pebr_core.specs.State.{State, nobody, seat_at}
 use Rattle.pebr_core.specs.Steps.{is_enabled, after, next, with_seat}
-use Rattle.pebr_core.specs.Kept.{IsScanOfShape, IsSound}
-use Rattle.pebr_core.specs.Shown.{scan_parts, shown_seat, shown_state, HasRoom, IsCore}
+use Rattle.pebr_core.specs.Kept.{IsSound}
+use Rattle.pebr_core.specs.Shown.{shown_seat, shown_state, HasRoom, IsCore}
 use Rattle.pebr_core.proofs.Marks.{set_anywhere}
 use Rattle.pebr_core.proofs.Law.{step_sound, next_enabled}
 

@@ -1,5 +1,5 @@
 -- What the steps make of a seat's entry.
-use Rattle.std.specs.Prelude.{◌≡◌, ℕ, Bool, true, false, List, map, Option, Some, None, if◌then◌else◌, slice_set}
+use Rattle.std.specs.Prelude.{ℕ, Bool, true, false, map, Some, None, if◌then◌else◌, slice_set}
 use Rattle.pebr_core.specs.declared.kinds.Stance.{Stance}
 use Rattle.pebr_core.specs.declared.kinds.Stance.TheVariants as stance
 use Rattle.pebr_core.specs.declared.seats.ScanData.{ScanData}

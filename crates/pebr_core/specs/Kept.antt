@@ -1,13 +1,12 @@
 -- What every state that is reached keeps.
-use Rattle.std.specs.Prelude.{◌≡◌, ◌≢◌, ℕ, ◌+◌, ◌*◌, ◌^◌, ◌≤◌, ◌<◌, ◌⊎◌, Bool, true, false, List, [], length, Option, Some, None, IsTrue, count_by, sum_by, cond, ◌==◌, slice_index_or, replicate}
-use Rattle.pebr_core.specs.State.{Scan, Seat, State, has, seat_at, root_at, word_at, shield_at, retired_at, scan_of, found_at, has_scanned, is_retired, slots_per_seat, slot_count}
+use Rattle.std.specs.Prelude.{◌≡◌, ◌≢◌, ℕ, ◌+◌, ◌≤◌, ◌<◌, ◌⊎◌, true, false, List, [], length, Some, None, count_by, sum_by, cond, ◌==◌, slice_index_or}
+use Rattle.pebr_core.specs.State.{Scan, Seat, State, has, seat_at, root_at, shield_at, retired_at, found_at, has_scanned, is_retired, slots_per_seat, slot_count}
 use Rattle.pebr_core.specs.Steps.{is_above_tags, last_epoch}
 use Rattle.pebr_core.specs.declared.kinds.Shape.{Shape}
 use Rattle.pebr_core.specs.declared.kinds.Stance.{Stance}
 use Rattle.pebr_core.specs.declared.kinds.Stance.TheVariants as stance
 use Rattle.pebr_core.specs.declared.kinds.Retired.{Retired}
 use Rattle.pebr_core.specs.declared.kinds.Retired.TheVariants as retire
-use Rattle.pebr_core.specs.declared.kinds.ShieldAt.{ShieldAt}
 use Rattle.pebr_core.specs.declared.kinds.ShieldAt.TheVariants as shield
 
 -- A seat uses a slot where a shield of it is valid on the slot, or it is in and has seen the slot.

@@ -1,5 +1,5 @@
 -- Whole runs: what a list of steps leads through.
-use Rattle.std.specs.Prelude.{◌≡◌, ℕ, suc, Bool, true, false, List, [], ◌∷◌, Option, Some, None, option_map, if◌then◌else◌}
+use Rattle.std.specs.Prelude.{◌≡◌, ℕ, suc, false, List, [], ◌∷◌, Option, Some, None, option_map, if◌then◌else◌}
 use Rattle.pebr_core.specs.State.{State, has, seat_at, word_at}
 use Rattle.pebr_core.specs.Steps.{is_enabled, after, answer_of}
 use Rattle.pebr_core.specs.Kept.{Uses, IsSound}

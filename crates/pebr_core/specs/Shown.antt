@@ -1,5 +1,5 @@
 -- The state that a core's data stand for.
-use Rattle.std.specs.Prelude.{◌≡◌, ℕ, Bool, List, map, Option, Some, None, if◌then◌else◌, All}
+use Rattle.std.specs.Prelude.{List, map, Some, None, if◌then◌else◌, All}
 use Rattle.pebr_core.specs.declared.kinds.Shape.{Shape}
 use Rattle.pebr_core.specs.declared.kinds.Retired.{Retired}
 use Rattle.pebr_core.specs.declared.seats.ScanData.{ScanData}

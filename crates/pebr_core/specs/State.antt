@@ -1,6 +1,6 @@
 -- What a core holds at one moment, as plain data: an epoch, the roots, the slots' words and the seats.
 -- A set of numbers below a bound is a list of marks, one for each number.
-use Rattle.std.specs.Prelude.{◌≡◌, ℕ, ◌+◌, ◌*◌, ◌≤◌, ◌<◌, Bool, true, false, ◌&&◌, List, [], map, replicate, Option, Some, None, unwrap_or, nat_lt, nat_le, slice_index_or}
+use Rattle.std.specs.Prelude.{ℕ, ◌+◌, ◌*◌, Bool, true, false, ◌&&◌, List, [], map, replicate, Option, None, unwrap_or, nat_lt, nat_le, slice_index_or}
 use Rattle.std.specs.List.{range_with_len}
 use Rattle.pebr_core.specs.declared.kinds.Shape.{Shape}
 use Rattle.pebr_core.specs.declared.kinds.Stance.{Stance}

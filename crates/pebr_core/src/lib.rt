@@ -6,7 +6,10 @@ mod machine;
 mod pins;
 mod retired;
 mod row;
+mod runs;
 mod seats;
+mod start;
 
 pub use kinds::{Answer, NoMemory, NotEnabled, Retired, Shape, ShieldAt, Stance, Step};
 pub use machine::Core;
+pub use runs::{ReplayError, Replayed, replay};

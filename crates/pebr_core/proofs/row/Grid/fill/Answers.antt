@@ -1,4 +1,4 @@
-use Rattle.std.proofs.Common.{◌≡◌, ◌∙◌, ap, sym, arith, length, map, get_or, []}
+use Rattle.std.proofs.Common.{◌≡◌, ◌∙◌, ap, arith, length, map, get_or, []}
 use Rattle.pebr_core.proofs.Marks.{written_back, rows_filled}
 use Rattle.pebr_core.proofs.row.Grid.fill.Goals as goal
 

@@ -1,4 +1,4 @@
-use Rattle.std.proofs.Common.{◌≡◌, ◌∙◌, ap, sym, arith, length, map}
+use Rattle.std.proofs.Common.{◌≡◌, ◌∙◌, ap, arith, length}
 use Rattle.pebr_core.proofs.Marks.{written_back, filled_with}
 use Rattle.pebr_core.proofs.row.Row.fill.Goals as goal
 
