@@ -2,6 +2,9 @@ pub mod Marks
 pub mod SeatChange
 pub mod PinSteps
 pub mod Tags
+pub mod ShieldSteps
+pub mod SlotSteps
+pub mod GiveStep
 pub mod Law
 pub mod Written
 pub mod SeatSteps

@@ -1,9 +1,12 @@
 -- Marks, and lists with one place changed.
-use Rattle.std.proofs.Common.{◌≡◌, ◌≢◌, ℕ, ◌<◌, ◌⊎◌, Bool, true, false, List, length, get_or, set, map, replicate, Option, Some, None, is_some, refl, sym, ◌∙◌, ap, subst, inl, inr, arith, get_or-set_same, get_or-set_other, zero, suc, [], ◌∷◌, unwrap_or, take, drop, ◌++◌}
-use Rattle.std.proofs.lemmas.Bool.{false≢true, cases_eq}
+use Rattle.std.proofs.Common.{◌≡◌, ◌≢◌, ℕ, ◌<◌, ◌⊎◌, Bool, true, false, List, length, get_or, set, map, replicate, Option, Some, None, is_some, refl, sym, ◌∙◌, ap, subst, inl, inr, arith, get_or-set_same, get_or-set_other, zero, suc, [], ◌∷◌, unwrap_or, take, drop, ◌++◌, not, ◌&&◌, ◌||◌, cond, ◌+◌, ◌≤◌, zero-le}
+use Rattle.std.proofs.lemmas.Bool.{false≢true, cases_eq, and_parts}
 use Rattle.std.proofs.lemmas.Option.{same_Some}
+use Rattle.std.specs.List.{list_all, range_with_len}
+use Rattle.pebr_core.specs.declared.kinds.Retired.{Retired}
+use Rattle.pebr_core.specs.declared.kinds.Retired.TheVariants as retire
 use Rattle.pebr_core.specs.State.{has}
-use Rattle.pebr_core.specs.Steps.{emptied}
+use Rattle.pebr_core.specs.Steps.{emptied, without, united, released, each_below}
 
 -- what is read at a place of a list after a change
 pub set_at : {A : Type 0} (P : A → Type 0) (xs : List A) (i : ℕ) (v d : A) (j : ℕ) → i < length xs → (j ≡ i → P v) → (j ≢ i → P (get_or xs j d)) → P (get_or (set xs i v) j d)
@@ -107,3 +110,74 @@ map_same_rows [] v width h = refl
 map_same_rows (row ∷ rows) v width h =
     ap (λ r. r ∷ map (map (λ _. v)) rows) (map_same row v ∙ ap (λ n. replicate n v) (h 0 (omega arith)))
     ∙ ap (λ l. replicate width v ∷ l) (map_same_rows rows v width (λ j lt. h (suc j) (omega arith)))
+
+-- what isn't in a set isn't in it with another number added
+pub has-still_not : (marks : List Bool) (i j : ℕ) → (j ≡ i → ⊥) → has marks j ≡ false → has (set marks i true) j ≡ false
+has-still_not marks i j apart h = set_anywhere (λ b. b ≡ false) marks i true false j (λ e. absurd (apart e)) h
+
+-- a number in a set is below its bound
+pub has-inside : (marks : List Bool) (i : ℕ) → has marks i ≡ true → i < length marks
+has-inside [] i h = absurd (false≢true h)
+has-inside (x ∷ xs) zero h = omega arith
+has-inside (x ∷ xs) (suc i) h = let below = has-inside xs i h in omega arith
+
+-- a set with a number taken out
+pub has-removed : (marks : List Bool) (i j : ℕ) → has marks j ≡ false → has (set marks i false) j ≡ false
+has-removed marks i j h = set_anywhere (λ b. b ≡ false) marks i false false j (λ _. refl) h
+
+pub has-without : (marks others : List Bool) (i : ℕ) → has (without marks others) i ≡ (has marks i && not (has others i))
+has-without [] others i = refl
+has-without (m ∷ ms) [] i = sym (and_true (has (m ∷ ms) i))
+  where
+    and_true : (b : Bool) → (b && true) ≡ b
+    and_true true = refl
+    and_true false = refl
+has-without (m ∷ ms) (o ∷ os) zero = refl
+has-without (m ∷ ms) (o ∷ os) (suc i) = has-without ms os i
+
+pub has-united : (marks others : List Bool) (i : ℕ) → has (united marks others) i ≡ (has marks i || has others i)
+has-united [] others i = refl
+has-united (m ∷ ms) [] i = sym (or_false (has (m ∷ ms) i))
+  where
+    or_false : (b : Bool) → (b || false) ≡ b
+    or_false true = refl
+    or_false false = refl
+has-united (m ∷ ms) (o ∷ os) zero = refl
+has-united (m ∷ ms) (o ∷ os) (suc i) = has-united ms os i
+
+pub released-at : (rs : List Retired) (marks : List Bool) (i : ℕ) → get_or (released rs marks) i retire.No ≡ cond (has marks i) retire.No (get_or rs i retire.No)
+released-at [] marks i = sym (same_either (has marks i))
+  where
+    same_either : (b : Bool) → cond b retire.No retire.No ≡ retire.No
+    same_either true = refl
+    same_either false = refl
+released-at (r ∷ rs) [] i = refl
+released-at (r ∷ rs) (m ∷ ms) zero = refl
+released-at (r ∷ rs) (m ∷ ms) (suc i) = released-at rs ms i
+
+pub length-without : (marks others : List Bool) → length (without marks others) ≡ length marks
+length-without [] others = refl
+length-without (m ∷ ms) [] = refl
+length-without (m ∷ ms) (o ∷ os) = ap suc (length-without ms os)
+
+pub length-united : (marks others : List Bool) → length marks ≡ length others → length (united marks others) ≡ length marks
+length-united [] others h = sym h
+length-united (m ∷ ms) [] h = refl
+length-united (m ∷ ms) (o ∷ os) h = ap suc (length-united ms os (omega arith))
+
+pub length-released : (rs : List Retired) (marks : List Bool) → length (released rs marks) ≡ length rs
+length-released [] marks = refl
+length-released (r ∷ rs) [] = refl
+length-released (r ∷ rs) (m ∷ ms) = ap suc (length-released rs ms)
+
+-- a test that each number below a bound passes
+pub each_below-at : (test : ℕ → Bool) (bound i : ℕ) → each_below bound test ≡ true → i < bound → test i ≡ true
+each_below-at test bound i h inside = from 0 bound h i (zero-le {n = i}) (omega arith)
+  where
+    from : (a m : ℕ) → list_all test (range_with_len a m) ≡ true → (k : ℕ) → a ≤ k → k < a + m → test k ≡ true
+    from a zero e k low high = absurd (omega arith)
+    from a (suc m) e k low high =
+      let parts = and_parts (test a) (list_all test (range_with_len (a + 1) m)) e in
+      elim (cases_eq k a) as (λ _. test k ≡ true) [
+        inl here ↦ ap test here ∙ parts.0
+      | inr there ↦ from (a + 1) m parts.1 k (omega arith) (omega arith) ]

@@ -1,6 +1,6 @@
 -- What a core holds at one moment, as plain data: an epoch, the roots, the slots' words and the seats.
 -- A set of numbers below a bound is a list of marks, one for each number.
-use Rattle.std.specs.Prelude.{ℕ, ◌+◌, ◌*◌, Bool, true, false, ◌&&◌, List, [], map, replicate, Option, None, unwrap_or, nat_lt, nat_le, slice_index_or}
+use Rattle.std.specs.Prelude.{ℕ, ◌+◌, ◌*◌, Bool, true, false, ◌&&◌, List, [], map, replicate, Option, None, unwrap_or, nat_lt, nat_le, ◌==◌, slice_index_or, Some}
 use Rattle.std.specs.List.{range_with_len}
 use Rattle.pebr_core.specs.declared.kinds.Shape.{Shape}
 use Rattle.pebr_core.specs.declared.kinds.Stance.{Stance}
@@ -106,6 +106,23 @@ abbrev pub is_out : Stance → Bool
 is_out stance.Out = true
 is_out (stance.In epoch) = false
 is_out (stance.Ejected epoch) = false
+
+-- the slot that a shield stands on
+abbrev pub slot_under : ShieldAt → Option ℕ
+slot_under shield.Down = None
+slot_under (shield.Set slot) = Some slot
+slot_under (shield.Valid slot) = Some slot
+
+-- whether a shield is valid on a slot
+abbrev pub is_valid_on : ℕ → ShieldAt → Bool
+is_valid_on slot shield.Down = false
+is_valid_on slot (shield.Set other) = false
+is_valid_on slot (shield.Valid other) = other == slot
+
+abbrev pub is_down : ShieldAt → Bool
+is_down shield.Down = true
+is_down (shield.Set slot) = false
+is_down (shield.Valid slot) = false
 
 -- At the start each seat has its own share of the slots fresh, the roots have the first slots, all words
 -- are 0, and each seat is out.

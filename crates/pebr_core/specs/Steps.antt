@@ -1,12 +1,15 @@
 -- The steps of the seats. For each kind of step three things: where it is enabled, what it changes, and what it answers. What a row doesn't name stays.
 -- This scheme of pins, ejection and shields is this repository's own, after Kang and Jung, 'A marriage of pointer- and epoch-based reclamation' (PLDI 2020).
-use Rattle.std.specs.Prelude.{ℕ, ◌+◌, ◌^◌, Bool, true, false, not, ◌&&◌, List, [], ◌∷◌, map, replicate, Option, Some, None, is_some, unwrap_or, if◌then◌else◌, ◌==◌, nat_lt, slice_set}
-use Rattle.pebr_core.specs.State.{Scan, Seat, State, has, seat_at, scan_of, found_at, is_retired, is_out, slot_count}
+use Rattle.std.specs.Prelude.{◌≡◌, ℕ, ◌+◌, ◌^◌, Bool, true, false, not, ◌&&◌, ◌||◌, List, [], ◌∷◌, map, replicate, count_by, Option, Some, None, is_some, unwrap_or, if◌then◌else◌, ◌==◌, nat_lt, slice_set, slice_index_or}
+use Rattle.std.specs.List.{range_with_len, list_all, list_any}
+use Rattle.pebr_core.specs.State.{Scan, Seat, State, has, seat_at, root_at, word_at, shield_at, scan_of, found_at, has_scanned, is_retired, is_out, is_down, is_valid_on, slot_under, slot_count}
 use Rattle.pebr_core.specs.declared.kinds.Shape.{Shape}
 use Rattle.pebr_core.specs.declared.kinds.Stance.{Stance}
 use Rattle.pebr_core.specs.declared.kinds.Stance.TheVariants as stance
 use Rattle.pebr_core.specs.declared.kinds.Retired.{Retired}
 use Rattle.pebr_core.specs.declared.kinds.Retired.TheVariants as retire
+use Rattle.pebr_core.specs.declared.kinds.ShieldAt.{ShieldAt}
+use Rattle.pebr_core.specs.declared.kinds.ShieldAt.TheVariants as shield
 use Rattle.pebr_core.specs.declared.kinds.Step.{Step}
 use Rattle.pebr_core.specs.declared.kinds.Step.TheVariants as step
 use Rattle.pebr_core.specs.declared.kinds.Answer.{Answer}
@@ -80,6 +83,54 @@ with_passed scan other = record scan { passed = slice_set scan.passed other true
 abbrev pub with_look : Scan → ℕ → ℕ → Scan
 with_look scan other epoch = record scan { looked = slice_set scan.looked other (Some epoch) }
 
+-- a scan that read a shield of a seat
+abbrev pub with_scanned : Scan → ℕ → ℕ → Scan
+with_scanned scan other place = record scan { scanned = slice_set scan.scanned other (slice_set (slice_index_or scan.scanned other []) place true) }
+
+-- a scan that keeps a slot that a shield was found on, where it is a candidate
+abbrev pub with_kept : Scan → Option ℕ → Scan
+with_kept scan None = scan
+with_kept scan (Some slot) = if has scan.candidates slot then record scan { kept = slice_set scan.kept slot true } else scan
+
+-- a shield that is set on a slot of this set becomes valid
+abbrev pub validated : List Bool → ShieldAt → ShieldAt
+validated seen shield.Down = shield.Down
+validated seen (shield.Set slot) = if has seen slot then shield.Valid slot else shield.Set slot
+validated seen (shield.Valid slot) = shield.Valid slot
+
+-- the shields of a seat with this status after a check
+abbrev pub checked : Stance → List Bool → List ShieldAt → List ShieldAt
+checked stance.Out seen shields = shields
+checked (stance.In epoch) seen shields = map (validated seen) shields
+checked (stance.Ejected epoch) seen shields = shields
+
+-- the numbers of the first set that aren't in the second
+abbrev pub without : List Bool → List Bool → List Bool
+without [] others = []
+without (mark ∷ marks) [] = mark ∷ marks
+without (mark ∷ marks) (other ∷ others) = (mark && not other) ∷ without marks others
+
+-- the numbers of either set
+abbrev pub united : List Bool → List Bool → List Bool
+united [] others = others
+united (mark ∷ marks) [] = mark ∷ marks
+united (mark ∷ marks) (other ∷ others) = (mark || other) ∷ united marks others
+
+-- the retired slots without those of a set
+abbrev pub released : List Retired → List Bool → List Retired
+released [] marks = []
+released (slot ∷ slots) [] = slot ∷ slots
+released (slot ∷ slots) (mark ∷ marks) = (if mark then retire.No else slot) ∷ released slots marks
+
+-- each number below a bound passes
+abbrev pub each_below : ℕ → (ℕ → Bool) → Bool
+each_below bound test = list_all test (range_with_len 0 bound)
+
+-- the scan of a seat has passed each other seat and read all its shields
+abbrev pub is_complete : Shape → ℕ → Scan → Bool
+is_complete shape i scan =
+  each_below shape.seats (λ j. (j == i) || (has scan.passed j && each_below shape.shields (λ place. has_scanned scan j place)))
+
 -- what the steps make of one seat
 
 abbrev pub after_note : Shape → ℕ → Seat → Seat
@@ -104,6 +155,33 @@ after_look other status seat =
 abbrev pub after_pass : ℕ → Seat → Seat
 after_pass other seat = with_scan seat (with_passed (scan_of seat) other)
 
+abbrev pub after_load : ℕ → Seat → Seat
+after_load slot seat = record seat { seen = slice_set seat.seen slot true }
+
+abbrev pub after_shield : ℕ → ShieldAt → Seat → Seat
+after_shield place at seat = record seat { shields = slice_set seat.shields place at }
+
+abbrev pub after_check : Seat → Seat
+after_check seat = record seat { shields = checked seat.status seat.seen seat.shields }
+
+abbrev pub after_replace : ℕ → ℕ → Seat → Seat
+after_replace old new seat = record seat { fresh = slice_set seat.fresh new false; retired = slice_set seat.retired old retire.Untagged }
+
+abbrev pub after_scan : ℕ → ℕ → Option ℕ → Seat → Seat
+after_scan other place slot seat = with_scan seat (with_kept (with_scanned (scan_of seat) other place) slot)
+
+-- the candidates that aren't kept
+abbrev pub given : Seat → List Bool
+given seat = without (scan_of seat).candidates (scan_of seat).kept
+
+abbrev pub after_give : ℕ → Seat → Seat
+after_give epoch seat = record seat {
+  noted = epoch;
+  fresh = united seat.fresh (given seat);
+  retired = released seat.retired (given seat);
+  scan = None
+}
+
 -- the epoch with which the scan of a seat found another seat in
 abbrev pub found_epoch : Seat → ℕ → ℕ
 found_epoch seat other = unwrap_or (found_at (scan_of seat) other) 0
@@ -113,6 +191,22 @@ is_scanning seat = is_some seat.scan
 
 abbrev pub is_seat : State → ℕ → Bool
 is_seat state i = nat_lt i state.shape.seats
+
+abbrev pub is_root : State → ℕ → Bool
+is_root state root = nat_lt root state.shape.roots
+
+abbrev pub is_place : State → ℕ → Bool
+is_place state place = nat_lt place state.shape.shields
+
+abbrev pub is_slot : State → ℕ → Bool
+is_slot state slot = nat_lt slot (slot_count state.shape)
+
+abbrev pub is_word : State → ℕ → Bool
+is_word state word = nat_lt word state.shape.width
+
+-- a shield of the seat is valid on the slot
+abbrev pub is_shielded : Seat → ℕ → Bool
+is_shielded seat slot = list_any (is_valid_on slot) seat.shields
 
 -- where a step is enabled
 abbrev pub is_enabled : State → Step → Bool
@@ -126,6 +220,22 @@ is_enabled state (step.Look i j) =
 is_enabled state (step.Eject i j) =
     is_seat state i && is_seat state j && is_scanning (seat_at state i)
     && is_some (found_at (scan_of (seat_at state i)) j) && not (has (scan_of (seat_at state i)).passed j)
+is_enabled state (step.Load i root) = is_seat state i && is_root state root && not (is_out (seat_at state i).status)
+is_enabled state (step.Shield i place slot) =
+  is_seat state i && is_place state place && is_slot state slot && not (is_out (seat_at state i).status) && has (seat_at state i).seen slot
+is_enabled state (step.Check i) = is_seat state i && not (is_out (seat_at state i).status)
+is_enabled state (step.Unshield i place) = is_seat state i && is_place state place
+is_enabled state (step.Read i slot word) = is_seat state i && is_slot state slot && is_word state word && is_shielded (seat_at state i) slot
+is_enabled state (step.Write i slot word value) = is_seat state i && is_slot state slot && is_word state word && has (seat_at state i).fresh slot
+is_enabled state (step.Replace i root old new) =
+  is_seat state i && is_root state root && is_slot state old && is_slot state new
+  && not (is_out (seat_at state i).status) && is_shielded (seat_at state i) old && has (seat_at state i).fresh new
+is_enabled state (step.Scan i j place) =
+  is_seat state i && is_seat state j && is_place state place && is_scanning (seat_at state i)
+  && has (scan_of (seat_at state i)).passed j && not (has_scanned (scan_of (seat_at state i)) j place)
+is_enabled state (step.Give i) =
+  is_seat state i && is_scanning (seat_at state i)
+  && is_complete state.shape i (scan_of (seat_at state i)) && list_all is_down (seat_at state i).shields
 
 -- what a step changes
 abbrev pub after : State → Step → State
@@ -139,6 +249,30 @@ after state (step.Eject i j) =
     let found = found_epoch (seat_at state i) j in
     let mid = with_seat state j (record other { status = ejected found other.status }) in
     with_seat mid i (after_pass j (seat_at mid i))
+after state (step.Load i root) = with_seat state i (after_load (root_at state root) (seat_at state i))
+after state (step.Shield i place slot) = with_seat state i (after_shield place (shield.Set slot) (seat_at state i))
+after state (step.Check i) = with_seat state i (after_check (seat_at state i))
+after state (step.Unshield i place) = with_seat state i (after_shield place shield.Down (seat_at state i))
+after state (step.Read i slot word) = state
+after state (step.Write i slot word value) =
+  record state { words = slice_set state.words slot (slice_set (slice_index_or state.words slot []) word value) }
+after state (step.Replace i root old new) =
+  if root_at state root == old
+  then record (with_seat state i (after_replace old new (seat_at state i))) { roots = slice_set state.roots root new }
+  else state
+after state (step.Scan i j place) = with_seat state i (after_scan j place (slot_under (shield_at (seat_at state j) place)) (seat_at state i))
+after state (step.Give i) = with_seat state i (after_give state.epoch (seat_at state i))
+
+-- the answer to the read of a shield
+abbrev pub found_under : Option ℕ → Answer
+found_under None = answer.Empty
+found_under (Some slot) = answer.Holds slot
+
+-- the answer to a check of a seat with this status
+abbrev pub check_answer : Stance → Answer
+check_answer stance.Out = answer.Ejected
+check_answer (stance.In epoch) = answer.Valid
+check_answer (stance.Ejected epoch) = answer.Ejected
 
 -- what a step answers
 abbrev pub answer_of : State → Step → Answer
@@ -152,6 +286,17 @@ answer_of state (step.Look i j) =
     if can_pass (scan_of seat).candidates seat.retired status then answer.Passed else answer.In (epoch_of status)
 answer_of state (step.Eject i j) =
     if is_in_at (found_epoch (seat_at state i) j) (seat_at state j).status then answer.Ejected else answer.Lost
+answer_of state (step.Load i root) = answer.Slot (root_at state root)
+answer_of state (step.Shield i place slot) = answer.Set
+answer_of state (step.Check i) = check_answer (seat_at state i).status
+answer_of state (step.Unshield i place) = answer.Cleared
+answer_of state (step.Read i slot word) = answer.Word (word_at state slot word)
+answer_of state (step.Write i slot word value) = answer.Written
+answer_of state (step.Replace i root old new) = if root_at state root == old then answer.Replaced else answer.Other
+answer_of state (step.Scan i j place) = found_under (slot_under (shield_at (seat_at state j) place))
+answer_of state (step.Give i) =
+  let seat = seat_at state i in
+  answer.Given (count_by (λ mark. mark) (given seat)) (count_by is_retired (after_give state.epoch seat).retired)
 
 -- a step from a state: the answer and the state after it, or no answer and the same state where it isn't enabled
 abbrev pub next : State → Step → Option Answer × State

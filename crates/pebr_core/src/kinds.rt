@@ -37,6 +37,24 @@ pub enum Step {
     Look(usize, usize),
     /// Ejects another seat that is still in with the epoch looked at.
     Eject(usize, usize),
+    /// Loads a root.
+    Load(usize, usize),
+    /// Sets a shield, the second number, on a slot, the third.
+    Shield(usize, usize, usize),
+    /// Makes the shields that are set on loaded slots valid, unless the seat was ejected.
+    Check(usize),
+    /// Takes a shield down.
+    Unshield(usize, usize),
+    /// Reads a word, the third number, of a slot under a valid shield.
+    Read(usize, usize, usize),
+    /// Writes a word, the third number, of a fresh slot.
+    Write(usize, usize, usize, u64),
+    /// Puts a fresh slot, the last number, into a root, the second, that still has the slot before it.
+    Replace(usize, usize, usize, usize),
+    /// Reads a shield, the third number, of a passed seat.
+    Scan(usize, usize, usize),
+    /// Makes the candidates that no shield was found on fresh.
+    Give(usize),
 }
 
 /// What a step answers.
@@ -54,6 +72,28 @@ pub enum Answer {
     Passed,
     /// The seat is ejected.
     Ejected,
+    /// The slot of a root.
+    Slot(usize),
+    /// The shield is set.
+    Set,
+    /// The shields are valid.
+    Valid,
+    /// The shield is down.
+    Cleared,
+    /// The word read.
+    Word(u64),
+    /// The word is written.
+    Written,
+    /// The root has the fresh slot now.
+    Replaced,
+    /// The root had another slot.
+    Other,
+    /// The shield read was down.
+    Empty,
+    /// The shield read stood on this slot.
+    Holds(usize),
+    /// How many slots were given, and how many are still retired.
+    Given(usize, usize),
 }
 
 /// A step that its condition doesn't allow.

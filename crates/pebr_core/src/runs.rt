@@ -43,6 +43,7 @@ impl Core {
             Step::Advance(seat) => self.advance(seat),
             Step::Look(seat, other) => self.look(seat, other),
             Step::Eject(seat, other) => self.eject(seat, other),
+            _ => None,
         }
     }
 
