@@ -5,6 +5,8 @@ pub mod Tags
 pub mod ShieldSteps
 pub mod SlotSteps
 pub mod GiveStep
+pub mod Given
+pub mod EntrySteps
 pub mod Law
 pub mod Written
 pub mod SeatSteps

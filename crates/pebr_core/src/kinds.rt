@@ -2,7 +2,9 @@
 //! answers, and what the readers of a core tell.
 
 ghost use Rattle.std.specs.Prelude.{◌≡◌};
+ghost use Rattle.pebr_core.specs.State.{slots_per_seat, slot_count};
 ghost use Rattle.pebr_core.specs.Steps.{epoch_of};
+ghost use Rattle.pebr_core.specs.Kept.{IsWithinLimits};
 
 /// At this epoch no step raises it any more.
 pub const LAST_EPOCH: u64 = 1 << 60;
@@ -20,6 +22,24 @@ pub struct Shape {
     pub batch: usize,
     /// Words of each slot, 1 to 16.
     pub width: usize,
+}
+
+impl Shape {
+    /// How many slots belong to each seat.
+    pub(crate) fn slots_per_seat(&self) -> usize
+        requires { IsWithinLimits self.now }
+        ensures { result ≡ slots_per_seat self.now }
+    {
+        self.batch + self.seats * self.shields
+    }
+
+    /// How many slots there are.
+    pub(crate) fn slot_count(&self) -> usize
+        requires { IsWithinLimits self.now }
+        ensures { result ≡ slot_count self.now }
+    {
+        self.roots + self.seats * self.slots_per_seat()
+    }
 }
 
 /// One atomic step. The first number is the seat that steps.

@@ -7,7 +7,10 @@ mod pins;
 mod retired;
 mod row;
 mod runs;
+mod scans;
 mod seats;
+mod shields;
+mod slots;
 mod start;
 
 pub use kinds::{Answer, NoMemory, NotEnabled, Retired, Shape, ShieldAt, Stance, Step};

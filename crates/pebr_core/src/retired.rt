@@ -1,12 +1,14 @@
 //! The slots that a seat retired, with their tags.
 
-ghost use Rattle.std.specs.Prelude.{◌≡◌, ℕ, ◌^◌, List, [], ◌∷◌, not, map, length, replicate, IfOk, slice_index_or, slice_set};
+ghost use Rattle.std.specs.Prelude.{◌≡◌, ℕ, ◌^◌, List, [], ◌∷◌, not, map, length, replicate, IfOk, slice_index_or, slice_set, count_by, if◌then◌else◌};
 ghost use Rattle.pebr_core.specs.declared.kinds.Retired.{Retired};
 ghost use Rattle.pebr_core.specs.declared.kinds.Retired.TheVariants as retire;
-ghost use Rattle.pebr_core.specs.State.{is_retired};
-ghost use Rattle.pebr_core.specs.Steps.{tag_with, is_above_tags};
+ghost use Rattle.pebr_core.specs.State.{has, is_retired};
+ghost use Rattle.pebr_core.specs.Steps.{tag_with, is_above_tags, united, released};
+ghost use Rattle.pebr_core.specs.Marks.{given_marks};
 
 use crate::kinds::{NoMemory, Retired};
+use crate::row::Row;
 use std::alloc::Global;
 use std::marker::Model;
 
@@ -55,6 +57,80 @@ impl RetiredSlots {
         }
     }
 
+    /// How many slots there are.
+    pub fn len(&self) -> usize
+        ensures { result ≡ length self.now }
+    {
+        self.slots.len()
+    }
+
+    /// How many slots are retired.
+    pub fn count(&self) -> usize
+        ensures { result ≡ count_by is_retired self.now }
+    {
+        let mut count = 0;
+        for slot in &self.slots {
+            if is_retired(*slot) {
+                count += 1;
+            }
+        }
+        count
+    }
+
+    /// Whether a slot is retired and not in a set.
+    #[tactic(auto, using(crate::proofs::Given::given_at))]
+    pub fn is_outside(&self, kept: &Row<bool>, slot: usize) -> bool
+        ensures { result ≡ has (given_marks self.now kept.now) slot }
+    {
+        is_retired(self.at(slot)) && !kept.get(slot, false)
+    }
+
+    /// How many retired slots aren't in a set.
+    pub fn count_outside(&self, kept: &Row<bool>) -> usize
+        ensures { result ≡ count_by (λ mark. mark) (given_marks self.now kept.now) }
+    {
+        let mut count = 0;
+        for slot in 0..self.len() {
+            if self.is_outside(kept, slot) {
+                count += 1;
+            }
+        }
+        count
+    }
+
+    /// Takes out the retired slots that aren't in a set.
+    pub fn release(&mut self, kept: &Row<bool>)
+        ensures { self.new ≡ released self.old (given_marks self.old kept.now) }
+    {
+        for slot in 0..self.len() {
+            let retired = self.released(kept, slot);
+            self.put(slot, retired);
+        }
+    }
+
+    /// What a slot is once the retired slots that aren't in a set are taken out.
+    fn released(&self, kept: &Row<bool>, slot: usize) -> Retired
+        ensures { result ≡ (if has (given_marks self.now kept.now) slot then retire.No else slice_index_or self.now slot retire.No) }
+    {
+        if self.is_outside(kept, slot) {
+            Retired::No
+        } else {
+            self.at(slot)
+        }
+    }
+
+    /// Adds the retired slots that aren't in a set to another.
+    pub fn add_outside(&self, kept: &Row<bool>, marks: &mut Row<bool>)
+        requires { length marks.old ≡ length self.now }
+        ensures { marks.new ≡ united marks.old (given_marks self.now kept.now) }
+    {
+        for slot in 0..self.len() {
+            if self.is_outside(kept, slot) {
+                marks.set(slot, true);
+            }
+        }
+    }
+
     /// Tags each retired slot that has no tag with the epoch.
     pub fn tag(&mut self, epoch: u64)
         ensures { self.new ≡ map (tag_with epoch) self.old }
@@ -72,6 +148,15 @@ impl RetiredSlots {
             }
         }
         true
+    }
+}
+
+fn is_retired(slot: Retired) -> bool
+    ensures { result ≡ is_retired slot }
+{
+    match slot {
+        Retired::No => false,
+        Retired::Untagged | Retired::Tagged(_) => true,
     }
 }
 

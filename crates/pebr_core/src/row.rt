@@ -32,6 +32,13 @@ impl<T: Copy> Row<T> {
         Ok(Row { entries })
     }
 
+    /// How many values it has.
+    pub fn len(&self) -> usize
+        ensures { result ≡ length self.now }
+    {
+        self.entries.len()
+    }
+
     /// The value at a place, or `default` past the end.
     pub fn get(&self, place: usize, default: T) -> T
         ensures { result ≡ slice_index_or self.now place default }

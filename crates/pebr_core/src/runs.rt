@@ -43,7 +43,15 @@ impl Core {
             Step::Advance(seat) => self.advance(seat),
             Step::Look(seat, other) => self.look(seat, other),
             Step::Eject(seat, other) => self.eject(seat, other),
-            _ => None,
+            Step::Load(seat, root) => self.load(seat, root),
+            Step::Shield(seat, place, slot) => self.set_shield(seat, place, slot),
+            Step::Check(seat) => self.check(seat),
+            Step::Unshield(seat, place) => self.unshield(seat, place),
+            Step::Read(seat, slot, word) => self.read(seat, slot, word),
+            Step::Write(seat, slot, word, value) => self.write(seat, slot, word, value),
+            Step::Replace(seat, root, old, new) => self.replace(seat, root, old, new),
+            Step::Scan(seat, other, place) => self.scan(seat, other, place),
+            Step::Give(seat) => self.give(seat),
         }
     }
 

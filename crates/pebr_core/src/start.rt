@@ -13,22 +13,6 @@ use crate::row::{Grid, Row};
 use crate::seats::{ScanData, SeatData};
 use std::alloc::Global;
 
-/// How many slots belong to each seat.
-fn slots_per_seat(shape: &Shape) -> usize
-    requires { IsWithinLimits shape.now }
-    ensures { result ≡ slots_per_seat shape.now }
-{
-    shape.batch + shape.seats * shape.shields
-}
-
-/// How many slots there are.
-fn slot_count(shape: &Shape) -> usize
-    requires { IsWithinLimits shape.now }
-    ensures { result ≡ slot_count shape.now }
-{
-    shape.roots + shape.seats * slots_per_seat(shape)
-}
-
 /// The root of each number holds the slot of that number.
 fn first_roots(alloc: Global, count: usize) -> Result<Row<usize>, NoMemory>
     ensures { IfOk result (λ roots. roots ≡ range_with_len 0 count) }
@@ -46,9 +30,9 @@ fn first_fresh(alloc: Global, shape: &Shape, seat: usize) -> Result<Row<bool>, N
     requires seat { seat < shape.now.seats }
     ensures { IfOk result (λ fresh. fresh ≡ map (is_share_of shape.now seat) (range_with_len 0 (slot_count shape.now))) }
 {
-    let share = slots_per_seat(shape);
+    let share = shape.slots_per_seat();
     let first = shape.roots + seat * share;
-    let mut fresh = Row::filled(alloc, slot_count(shape), false)?;
+    let mut fresh = Row::filled(alloc, shape.slot_count(), false)?;
     for slot in first..first + share {
         fresh.set(slot, true);
     }
@@ -62,7 +46,7 @@ fn first_entry(alloc: Global, shape: &Shape, seat: usize) -> Result<SeatData, No
     ensures shown { IfOk result (λ entry. shown_seat entry ≡ first_seat shape.now seat) }
     ensures room { IfOk result (HasRoom shape.now) }
 {
-    let slots = slot_count(shape);
+    let slots = shape.slot_count();
     Ok(SeatData {
         status: Stance::Out,
         noted: 0,
@@ -113,7 +97,7 @@ impl Core {
         ensures { IfOk result (λ core. core ≡ start_state shape) }
     {
         let roots = first_roots(alloc, shape.roots)?;
-        let words = Grid::filled(alloc, slot_count(&shape), shape.width, 0)?;
+        let words = Grid::filled(alloc, shape.slot_count(), shape.width, 0)?;
         let seats = first_seats(alloc, &shape)?;
         Ok(Core {
             shape,
