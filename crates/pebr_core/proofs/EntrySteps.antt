@@ -1,5 +1,5 @@
 -- What a core's data stand for after the steps of shields, slots and scans.
-use Rattle.std.proofs.Common.{◌≡◌, ℕ, ◌<◌, ◌+◌, Bool, true, false, List, [], length, map, get_or, set, Option, Some, None, cond, All, is_some, unwrap_or, not, ◌&&◌, eqb, count_by, refl, sym, ◌∙◌, ap, subst, arith, length-set}
+use Rattle.std.proofs.Common.{◌≡◌, ◌≢◌, ℕ, ◌<◌, ◌+◌, Bool, true, false, List, [], length, map, get_or, set, Option, Some, None, cond, All, is_some, unwrap_or, not, ◌&&◌, eqb, count_by, refl, sym, ◌∙◌, ap, subst, arith, length-set}
 use Rattle.std.proofs.lemmas.Bool.{false≢true, and_parts, ltb-true, eq-eqb}
 use Rattle.std.proofs.lemmas.List.{length-map}
 use Rattle.pebr_core.specs.declared.kinds.Shape.{Shape}
@@ -7,11 +7,13 @@ use Rattle.pebr_core.specs.declared.kinds.Retired.{Retired}
 use Rattle.pebr_core.specs.declared.kinds.Retired.TheVariants as retire
 use Rattle.pebr_core.specs.declared.kinds.ShieldAt.{ShieldAt}
 use Rattle.pebr_core.specs.declared.kinds.ShieldAt.TheVariants as shield
+use Rattle.pebr_core.specs.declared.kinds.Stance.{Stance}
+use Rattle.pebr_core.specs.declared.kinds.Stance.TheVariants as stance
 use Rattle.pebr_core.specs.declared.kinds.Step.{Step}
 use Rattle.pebr_core.specs.declared.kinds.Step.TheVariants as step
 use Rattle.pebr_core.specs.declared.seats.SeatData.{SeatData}
 use Rattle.pebr_core.specs.declared.machine.Core.TheInside.{Inside}
-use Rattle.pebr_core.specs.State.{Scan, Seat, State, has, seat_at, root_at, shield_at, scan_of, has_scanned, slot_under, is_retired, is_out, is_down, slot_count}
+use Rattle.pebr_core.specs.State.{Scan, Seat, State, has, seat_at, root_at, shield_at, scan_of, has_scanned, slot_under, is_retired, is_out, is_down, no_scan, slot_count}
 use Rattle.pebr_core.specs.Steps.{is_seat, is_root, is_place, is_slot, is_word, is_shielded, is_scanning, is_complete, is_enabled, after, next, with_seat, with_scan, with_scanned, with_kept, given, after_load, after_shield, after_check, after_replace, after_scan, after_give, released, united}
 use Rattle.pebr_core.specs.Kept.{IsScanOfShape, IsSound}
 use Rattle.pebr_core.specs.Marks.{given_marks}
@@ -104,6 +106,20 @@ write_done core state i slot word value words held same enabled made =
 
 -- Replace
 
+-- a seat that isn't out is at no scan
+closed_where : {S : Type 0} {out : S} {status : S} (entry : SeatData) → status ≢ out → ((scan : Scan) → (shown_seat entry).scan ≡ Some scan → status ≡ out) → entry.scan.is_open ≡ false
+closed_where entry engaged scans = pick entry.scan.is_open refl
+  where
+    pick : (b : Bool) → entry.scan.is_open ≡ b → entry.scan.is_open ≡ false
+    pick false e = e
+    pick true e = absurd (engaged (scans (scan_parts entry.retired entry.scan) (ap (λ b. cond b (Some (scan_parts entry.retired entry.scan)) None) e)))
+
+replaced-shown : (old new : ℕ) (entry : SeatData) → entry.scan.is_open ≡ false → shown_seat (replaced_entry old new entry) ≡ after_replace old new (shown_seat entry)
+replaced-shown old new entry closed =
+    let by : Option Scan → Seat = λ scan. record (after_replace old new (shown_seat entry)) { scan = scan } in
+    ap by (ap (λ b. cond b (Some (scan_parts (set entry.retired old retire.Untagged) entry.scan)) None) closed
+      ∙ sym (ap (λ b. cond b (Some (scan_parts entry.retired entry.scan)) None) closed))
+
 abbrev pub with_root : Inside → ℕ → SeatData → List ℕ → Inside
 with_root core i new roots = record { shape = core.shape; epoch = core.epoch; roots = roots; words = core.words; seats = (written core i new).seats }
 
@@ -119,9 +135,12 @@ replace_done core state i root old fresh entry new roots held same enabled at_ro
     let enabled_here : is_enabled shown s ≡ true = subst (λ z. is_enabled z s ≡ true) (sym same) enabled in
     let changed : Seat → List ℕ → State = λ seat rs. record (with_seat shown i seat) { roots = rs } in
     let test : eqb (root_at shown root) old ≡ true = ap (λ z. eqb (root_at z root) old) same ∙ eq-eqb (root_at state root) old at_root in
-    let seat_shown : shown_seat new ≡ after_replace old fresh (seat_at shown i) = ap shown_seat made ∙ ap (after_replace old fresh) (sym known.0) in
+    let closed : entry.scan.is_open ≡ false = closed_where entry (is_engaged (seat_at state i).status (replace_engaged state i root old fresh enabled))
+      (λ scan at. ap (λ z. (seat_at z i).status) (sym same) ∙ (held.sound.kept.scans i scan (ap (λ seat. seat.scan) known.0 ∙ at)).out) in
+    let seat_shown : shown_seat new ≡ after_replace old fresh (seat_at shown i) =
+      ap shown_seat made ∙ (replaced-shown old fresh entry closed ∙ ap (after_replace old fresh) (sym known.0)) in
     let is_after : shown_state (with_root core i new roots) ≡ after shown s =
-      ap (λ z. record z { roots = roots }) (shown_written core i new)
+      ap (λ (z : State). record z { roots = roots }) (shown_written core i new)
       ∙ (ap (λ rs. changed (shown_seat new) rs) roots_made
       ∙ (ap (λ seat. changed seat (set core.roots root fresh)) seat_shown
       ∙ ap (λ b. cond b (changed (after_replace old fresh (seat_at shown i)) (set core.roots root fresh)) shown) (sym test))) in
@@ -132,6 +151,17 @@ replace_done core state i root old fresh entry new roots held same enabled at_ro
      },
      is_after ∙ (sym (ap (λ n. n.1) (next_enabled shown s enabled_here)) ∙ ap (λ z. (next z s).1) same))
   where
+    is_engaged : (status : Stance) → not (is_out status) ≡ true → status ≢ stance.Out
+    is_engaged status h e = false≢true (sym (ap (λ x. not (is_out x)) e) ∙ h)
+    replace_engaged : (z : State) (i' root' old' new' : ℕ) → is_enabled z (step.Replace i' root' old' new') ≡ true → not (is_out (seat_at z i').status) ≡ true
+    replace_engaged z i' root' old' new' h =
+      let a = is_seat z i' in
+      let r = is_root z root' in
+      let o = is_slot z old' in
+      let f = is_slot z new' in
+      let e = not (is_out (seat_at z i').status) in
+      let v = is_shielded (seat_at z i') old' in
+      (and_parts (a && r && o && f) e (and_parts (a && r && o && f && e) v (and_parts (a && r && o && f && e && v) (has (seat_at z i').fresh new') h).0).0).1
     replace_inside : (z : State) (i' root' old' new' : ℕ) → is_enabled z (step.Replace i' root' old' new') ≡ true → i' < z.shape.seats
     replace_inside z i' root' old' new' h =
       let a = is_seat z i' in
@@ -205,6 +235,16 @@ scan_done core state i j place slot entry new held same enabled is_slot read mad
       ∙ ap (λ s. with_scan (shown_seat e) (with_kept (with_scanned s j' place') o)) (sym (open-scan_of e opened)))
 
 -- Give
+
+-- what the entry's test says of the seat that it stands for
+pub can_give_shown : (entry : SeatData) (shape : Shape) (i : ℕ) → (entry.scan.is_open && is_complete shape i (scan_parts [] entry.scan) && list_all is_down entry.shields)
+  ≡ (is_some (shown_seat entry).scan && is_complete shape i (scan_of (shown_seat entry)) && list_all is_down entry.shields)
+can_give_shown entry shape i = pick entry.scan.is_open
+  where
+    pick : (b : Bool) → (b && is_complete shape i (scan_parts [] entry.scan) && list_all is_down entry.shields)
+      ≡ (is_some (cond b (Some (scan_parts entry.retired entry.scan)) None) && is_complete shape i (unwrap_or (cond b (Some (scan_parts entry.retired entry.scan)) None) no_scan) && list_all is_down entry.shields)
+    pick true = refl
+    pick false = refl
 
 pub give_enabled : (state : State) (i : ℕ) → is_enabled state (step.Give i) ≡ true → (i < state.shape.seats) × (is_some (seat_at state i).scan ≡ true)
 give_enabled state i enabled =

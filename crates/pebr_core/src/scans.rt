@@ -65,6 +65,6 @@ impl Core {
             return false;
         }
         let entry = &self.seats[seat];
-        entry.scan.is_open && entry.scan.is_complete(&self.shape, seat) && entry.are_down()
+        entry.can_give(&self.shape, seat)
     }
 }

@@ -1,8 +1,8 @@
 //! What a core keeps of each seat.
 
-ghost use Rattle.std.specs.Prelude.{◌≡◌, true, false, [], ◌&&◌, ◌||◌, ◌==◌, map, length, count_by, if◌then◌else◌};
+ghost use Rattle.std.specs.Prelude.{◌≡◌, true, false, [], ◌&&◌, ◌||◌, ◌==◌, map, length, count_by, is_some, if◌then◌else◌};
 ghost use Rattle.std.specs.List.{list_any, list_all};
-ghost use Rattle.pebr_core.specs.State.{has, has_scanned, is_retired, is_valid_on, is_down};
+ghost use Rattle.pebr_core.specs.State.{has, scan_of, has_scanned, is_retired, is_valid_on, is_down};
 ghost use Rattle.pebr_core.specs.Steps.{can_pass, epoch_of, is_in_at, check_answer, validated, each_below, is_complete};
 ghost use Rattle.pebr_core.specs.Marks.{given_marks};
 
@@ -96,6 +96,7 @@ impl ScanData {
 }
 
 impl SeatData {
+    ghost use Rattle.pebr_core.specs.Shown.{shown_seat};
     ghost use Rattle.pebr_core.specs.Entries.{noted_entry, pinned_entry, left_entry, can_pass_entry, looking_entry, ejected_entry, passing_entry, loaded_entry, shielded_entry, checked_entry, replaced_entry, scanned_entry, given_entry};
 
     /// Reads the epoch, tags what is retired with it, and opens a scan.
@@ -239,6 +240,17 @@ impl SeatData {
                 self.scan.kept.set(slot, true);
             }
         }
+    }
+
+    /// Whether the seat's scan is done with each other seat, and the seat's own shields are down.
+    #[tactic(auto, using(crate::proofs::EntrySteps::can_give_shown))]
+    pub fn can_give(&self, shape: &Shape, seat: usize) -> bool
+        ensures { result ≡ (is_some (shown_seat self.now).scan
+            && is_complete shape.now seat (scan_of (shown_seat self.now)) && list_all is_down self.now.shields) }
+    {
+        let is_complete = self.scan.is_complete(shape, seat);
+        let are_down = self.are_down();
+        self.scan.is_open && is_complete && are_down
     }
 
     /// Makes the retired slots that aren't kept fresh, and ends the scan.

@@ -66,11 +66,17 @@ impl Core {
         ensures answer { result ≡ (next self.old (Step.Unshield seat place)).0 }
         ensures state { self.new ≡ (next self.old (Step.Unshield seat place)).1 }
     {
-        if seat >= self.shape.seats || place >= self.shape.shields {
+        if !self.can_unshield(seat, place) {
             return None;
         }
         let entry = &mut self.seats[seat];
         entry.put_shield(place, ShieldAt::Down);
         Some(Answer::Cleared)
+    }
+
+    fn can_unshield(&self, seat: usize, place: usize) -> bool
+        ensures { result ≡ is_enabled self.now (Step.Unshield seat place) }
+    {
+        seat < self.shape.seats && place < self.shape.shields
     }
 }
