@@ -1,11 +1,10 @@
 -- What a core's data stand for after the steps of shields, slots and scans.
-use Rattle.std.proofs.Common.{◌≡◌, ◌≢◌, ℕ, ◌<◌, ◌+◌, Bool, true, false, List, [], length, map, get_or, set, Option, Some, None, cond, All, is_some, unwrap_or, not, ◌&&◌, eqb, count_by, refl, sym, ◌∙◌, ap, subst, arith, length-set}
+use Rattle.std.proofs.Common.{◌≡◌, ◌≢◌, ℕ, ◌<◌, Bool, true, false, List, [], length, map, get_or, set, Option, Some, None, cond, is_some, unwrap_or, not, ◌&&◌, eqb, refl, sym, ◌∙◌, ap, subst, length-set}
 use Rattle.std.proofs.lemmas.Bool.{false≢true, and_parts, ltb-true, eq-eqb}
 use Rattle.std.proofs.lemmas.List.{length-map}
 use Rattle.pebr_core.specs.declared.kinds.Shape.{Shape}
 use Rattle.pebr_core.specs.declared.kinds.Retired.{Retired}
 use Rattle.pebr_core.specs.declared.kinds.Retired.TheVariants as retire
-use Rattle.pebr_core.specs.declared.kinds.ShieldAt.{ShieldAt}
 use Rattle.pebr_core.specs.declared.kinds.ShieldAt.TheVariants as shield
 use Rattle.pebr_core.specs.declared.kinds.Stance.{Stance}
 use Rattle.pebr_core.specs.declared.kinds.Stance.TheVariants as stance
@@ -13,16 +12,16 @@ use Rattle.pebr_core.specs.declared.kinds.Step.{Step}
 use Rattle.pebr_core.specs.declared.kinds.Step.TheVariants as step
 use Rattle.pebr_core.specs.declared.seats.SeatData.{SeatData}
 use Rattle.pebr_core.specs.declared.machine.Core.TheInside.{Inside}
-use Rattle.pebr_core.specs.State.{Scan, Seat, State, has, seat_at, root_at, shield_at, scan_of, has_scanned, slot_under, is_retired, is_out, is_down, no_scan, slot_count}
-use Rattle.pebr_core.specs.Steps.{is_seat, is_root, is_place, is_slot, is_word, is_shielded, is_scanning, is_complete, is_enabled, after, next, with_seat, with_scan, with_scanned, with_kept, given, after_load, after_shield, after_check, after_replace, after_scan, after_give, released, united}
-use Rattle.pebr_core.specs.Kept.{IsScanOfShape, IsSound}
+use Rattle.pebr_core.specs.State.{Scan, Seat, State, has, seat_at, root_at, shield_at, scan_of, has_scanned, slot_under, is_retired, is_out, is_down, no_scan}
+use Rattle.pebr_core.specs.Steps.{is_seat, is_root, is_place, is_slot, is_shielded, is_scanning, is_complete, is_enabled, after, next, with_seat, with_scan, with_scanned, with_kept, given, after_load, after_shield, after_check, after_replace, after_scan, after_give, released, united}
+use Rattle.pebr_core.specs.Kept.{IsSound}
 use Rattle.pebr_core.specs.Marks.{given_marks}
 use Rattle.pebr_core.specs.Shown.{scan_parts, shown_seat, shown_state, HasRoom, IsCore}
 use Rattle.pebr_core.specs.Entries.{loaded_entry, shielded_entry, checked_entry, replaced_entry, kept_with, scanned_entry, given_entry}
 use Rattle.std.specs.List.{list_all}
 use Rattle.pebr_core.proofs.Marks.{set_anywhere, get_or-map_default, length-released}
 use Rattle.pebr_core.proofs.Law.{step_sound, next_enabled}
-use Rattle.pebr_core.proofs.Written.{written, step_done, seat_known, seats_length, seat_read, room_read, room_written, shown_written}
+use Rattle.pebr_core.proofs.Written.{written, step_done, seat_known, room_written, shown_written}
 use Rattle.pebr_core.proofs.SeatSteps.{open_scan, open-scan_of}
 
 -- the room of an entry whose scan is as before, and which has as many retired slots

@@ -1,22 +1,21 @@
 -- The step Give leads from a sound state to a sound state, and gives no slot that a seat uses.
-use Rattle.std.proofs.Common.{◌≡◌, ◌≢◌, ℕ, ◌<◌, ◌+◌, ◌≤◌, ◌⊎◌, zero, suc, Bool, true, false, not, ◌&&◌, ◌||◌, List, [], ◌∷◌, length, get_or, set, map, Option, Some, None, cond, is_some, refl, sym, ◌∙◌, ap, subst, inl, inr, arith, length-set, count_by, sum_by, eqb}
+use Rattle.std.proofs.Common.{◌≡◌, ◌≢◌, ℕ, ◌<◌, ◌+◌, ◌≤◌, ◌⊎◌, zero, suc, Bool, true, false, not, ◌&&◌, ◌||◌, List, [], ◌∷◌, length, get_or, Some, cond, is_some, refl, sym, ◌∙◌, ap, subst, inl, inr, arith, count_by, eqb}
 use Rattle.std.specs.List.{list_all}
 use Rattle.std.proofs.lemmas.Bool.{false≢true, cases_lt, cases_eq, cases_Bool, and_parts, ne_eqb, not-true}
 use Rattle.std.proofs.lemmas.Option.{none-some}
 use Rattle.std.proofs.lemmas.List.{get_or_past}
 use Rattle.std.proofs.lemmas.List.Sums.{sum_by-cons}
 use Rattle.pebr_core.specs.declared.kinds.Shape.{Shape}
-use Rattle.pebr_core.specs.declared.kinds.Stance.{Stance}
 use Rattle.pebr_core.specs.declared.kinds.Stance.TheVariants as stance
 use Rattle.pebr_core.specs.declared.kinds.Retired.{Retired}
 use Rattle.pebr_core.specs.declared.kinds.Retired.TheVariants as retire
 use Rattle.pebr_core.specs.declared.kinds.ShieldAt.{ShieldAt}
 use Rattle.pebr_core.specs.declared.kinds.ShieldAt.TheVariants as shield
 use Rattle.pebr_core.specs.State.{Scan, Seat, State, has, seat_at, shield_at, retired_at, scan_of, has_scanned, is_retired, is_down, slot_count, nobody, no_scan}
-use Rattle.pebr_core.specs.Steps.{with_seat, without, united, released, each_below, is_complete, given, after_give}
-use Rattle.pebr_core.specs.Kept.{Uses, times_held, IsTaggedUpTo, IsScanOf, held_count, IsScanOfShape, IsSeatOfShape, IsOfShape, IsSound}
+use Rattle.pebr_core.specs.Steps.{with_seat, united, released, each_below, is_complete, given, after_give}
+use Rattle.pebr_core.specs.Kept.{Uses, IsTaggedUpTo, IsSound}
 use Rattle.pebr_core.proofs.Marks.{has-without, has-united, has-inside, released-at, length-without, length-united, length-released, each_below-at, is_some-value}
-use Rattle.pebr_core.proofs.SeatChange.{Alone, Between, alone, between, seat_kept}
+use Rattle.pebr_core.proofs.SeatChange.{Between, alone, between, seat_kept}
 use Rattle.pebr_core.proofs.ShieldSteps.{held_at_most}
 
 -- a given slot is a candidate that isn't kept

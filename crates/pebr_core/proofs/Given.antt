@@ -1,15 +1,14 @@
 -- The retired slots that aren't kept.
-use Rattle.std.proofs.Common.{◌≡◌, ℕ, ◌<◌, ◌+◌, ◌≤◌, zero, suc, Bool, true, false, not, ◌&&◌, ◌||◌, List, [], ◌∷◌, length, get_or, set, map, take, cond, count_by, refl, sym, ◌∙◌, ap, arith, inl, inr}
+use Rattle.std.proofs.Common.{◌≡◌, ℕ, ◌<◌, ◌+◌, ◌≤◌, zero, suc, Bool, true, false, not, ◌&&◌, ◌||◌, List, [], ◌∷◌, length, get_or, map, refl, sym, ◌∙◌, ap, arith, inl, inr}
 use Rattle.std.specs.List.{list_any, list_all, range_with_len}
 use Rattle.std.proofs.lemmas.Bool.{false≢true, cases_Bool, and_from}
-use Rattle.std.proofs.lemmas.List.{length-map, take_all}
-use Rattle.std.proofs.lemmas.List.Sums.{count_by_more_yes, count_by_more_no}
+use Rattle.std.proofs.lemmas.List.{length-map}
 use Rattle.pebr_core.specs.declared.kinds.Retired.{Retired}
 use Rattle.pebr_core.specs.declared.kinds.Retired.TheVariants as retire
 use Rattle.pebr_core.specs.State.{has, is_retired}
-use Rattle.pebr_core.specs.Steps.{each_below, released, united}
+use Rattle.pebr_core.specs.Steps.{each_below}
 use Rattle.pebr_core.specs.Marks.{given_marks}
-use Rattle.pebr_core.proofs.Marks.{get_or-map_default, has-without, has-united, released-at, length-without, length-united, length-released, each_below-at}
+use Rattle.pebr_core.proofs.Marks.{get_or-map_default, has-without, length-without, each_below-at}
 
 pub given_at : (rs : List Retired) (kept : List Bool) (slot : ℕ) → has (given_marks rs kept) slot ≡ (is_retired (get_or rs slot retire.No) && not (has kept slot))
 given_at rs kept slot = has-without (map is_retired rs) kept slot ∙ ap (λ b. b && not (has kept slot)) (get_or-map_default is_retired rs slot retire.No)

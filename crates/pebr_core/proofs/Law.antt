@@ -7,7 +7,7 @@ use Rattle.pebr_core.specs.declared.kinds.Answer.{Answer}
 use Rattle.pebr_core.specs.declared.kinds.Step.{Step}
 use Rattle.pebr_core.specs.declared.kinds.Step.TheVariants as step
 use Rattle.pebr_core.specs.State.{State, has, seat_at, root_at, scan_of, found_at, has_scanned, is_out, is_down, slot_count}
-use Rattle.pebr_core.specs.Steps.{is_seat, is_root, is_place, is_slot, is_word, is_shielded, is_complete, after_replace, is_scanning, is_enabled, after, answer_of, next, last_epoch, with_seat, ejected}
+use Rattle.pebr_core.specs.Steps.{is_seat, is_root, is_place, is_slot, is_shielded, is_complete, after_replace, is_scanning, is_enabled, after, answer_of, next, last_epoch, with_seat, ejected}
 use Rattle.pebr_core.specs.Kept.{IsSound}
 use Rattle.std.specs.List.{list_all}
 use Rattle.pebr_core.specs.declared.kinds.ShieldAt.TheVariants as shield

@@ -1,11 +1,11 @@
 -- No step makes a used slot fresh or changes a word of one, and so for whole runs.
-use Rattle.std.proofs.Common.{◌≡◌, ℕ, ◌<◌, ◌+◌, ◌≤◌, suc, Bool, true, false, List, [], ◌∷◌, ◌++◌, length, get_or, drop, Option, Some, None, option_map, cond, refl, sym, ◌∙◌, ap, arith, eqb, append_assoc, append-nil, set, not, ◌&&◌, ◌||◌}
+use Rattle.std.proofs.Common.{◌≡◌, ℕ, ◌<◌, ◌+◌, ◌≤◌, suc, Bool, true, false, List, [], ◌∷◌, ◌++◌, length, get_or, drop, Option, Some, None, option_map, cond, refl, sym, ◌∙◌, ap, arith, eqb, append_assoc, append-nil, set, ◌&&◌, ◌||◌}
 use Rattle.std.proofs.lemmas.Option.{none-some}
 use Rattle.std.proofs.lemmas.List.{at_drop_more, at_drop_all}
 use Rattle.pebr_core.specs.declared.kinds.Step.{Step}
 use Rattle.pebr_core.specs.declared.kinds.Answer.{Answer}
 use Rattle.pebr_core.specs.declared.kinds.Step.TheVariants as step
-use Rattle.pebr_core.specs.State.{Seat, State, has, word_at, seat_at, scan_of, nobody, root_at, shield_at, slot_under, is_down, is_out}
+use Rattle.pebr_core.specs.State.{Seat, State, has, word_at, seat_at, scan_of, nobody, root_at, shield_at, slot_under, is_down}
 use Rattle.pebr_core.specs.Steps.{is_enabled, after, answer_of, with_seat, with_scan, with_passed, with_look, can_pass, epoch_of, found_epoch, ejected, after_look, after_pass, is_seat, is_slot, is_word, is_scanning, is_complete, given, after_load, after_shield, after_check, after_replace, after_scan, after_give}
 use Rattle.pebr_core.specs.Kept.{IsSound}
 use Rattle.pebr_core.specs.Runs.{state_after, answers_of, first_refused, GivesNoUsed, KeepsUsedWords, IsSafeRun}

@@ -1,7 +1,6 @@
 -- The steps Load, Shield, Check and Unshield lead from a sound state to a sound state.
-use Rattle.std.proofs.Common.{◌≡◌, ◌≢◌, ℕ, ◌<◌, ◌+◌, ◌≤◌, ◌⊎◌, zero, suc, Bool, true, false, not, List, [], ◌∷◌, length, get_or, set, map, Option, Some, None, cond, refl, sym, ◌∙◌, ap, subst, inl, inr, arith, length-set, count_by, sum_by, eqb}
-use Rattle.std.proofs.lemmas.Bool.{false≢true, cases_lt, cases_eq, eq-eqb}
-use Rattle.std.proofs.lemmas.Option.{none-some}
+use Rattle.std.proofs.Common.{◌≡◌, ◌≢◌, ℕ, ◌<◌, ◌+◌, ◌≤◌, ◌⊎◌, Bool, true, false, List, length, get_or, Some, cond, refl, sym, ◌∙◌, ap, inl, inr, arith, length-set, count_by, eqb}
+use Rattle.std.proofs.lemmas.Bool.{false≢true, cases_lt, eq-eqb}
 use Rattle.std.proofs.lemmas.List.{length-map, get_or_past}
 use Rattle.std.proofs.lemmas.List.Sums.{get_or-le-sum_by}
 use Rattle.pebr_core.specs.declared.kinds.Shape.{Shape}
@@ -12,9 +11,9 @@ use Rattle.pebr_core.specs.declared.kinds.ShieldAt.{ShieldAt}
 use Rattle.pebr_core.specs.declared.kinds.ShieldAt.TheVariants as shield
 use Rattle.pebr_core.specs.State.{Scan, Seat, State, has, seat_at, root_at, shield_at, retired_at, is_retired, slot_count, nobody}
 use Rattle.pebr_core.specs.Steps.{with_seat, validated, checked, after_load, after_shield, after_check}
-use Rattle.pebr_core.specs.Kept.{Uses, times_held, times_in, IsScanOf, HasSeenNoCandidate, IsScanOfShape, IsSeatOfShape, IsOfShape, IsSound}
+use Rattle.pebr_core.specs.Kept.{times_held, times_in, IsScanOf, HasSeenNoCandidate, IsSeatOfShape, IsSound}
 use Rattle.pebr_core.proofs.Marks.{set_anywhere, get_or-map_default, has-either, has-still_not}
-use Rattle.pebr_core.proofs.SeatChange.{Alone, Between, alone, between, seat_kept}
+use Rattle.pebr_core.proofs.SeatChange.{Between, alone, between, seat_kept}
 
 -- a scan that the changed seat is still at
 pub same_scan : (i : ℕ) (old new : Seat) (scan : Scan) → new.status ≡ old.status → new.retired ≡ old.retired → IsScanOf i old scan → IsScanOf i new scan

@@ -1,22 +1,17 @@
 -- The steps Write, Replace and Scan lead from a sound state to a sound state.
-use Rattle.std.proofs.Common.{◌≡◌, ◌≢◌, ℕ, ◌<◌, ◌+◌, ◌≤◌, ◌⊎◌, zero, suc, Bool, true, false, not, List, [], ◌∷◌, length, get_or, set, map, Option, Some, None, cond, is_some, refl, sym, ◌∙◌, ap, subst, inl, inr, arith, length-set, get_or-set_same, get_or-set_other, add-zero, count_by, sum_by, eqb}
-use Rattle.std.proofs.lemmas.Bool.{false≢true, cases_eq, eq-eqb, ne_eqb, eqb-true}
-use Rattle.std.proofs.lemmas.Bool.Decides.{nat_tests}
-use Rattle.std.proofs.lemmas.Option.{none-some, same_Some}
+use Rattle.std.proofs.Common.{◌≡◌, ℕ, ◌<◌, ◌+◌, ◌⊎◌, Bool, true, false, List, [], length, get_or, set, Option, Some, None, cond, is_some, refl, sym, ◌∙◌, ap, subst, inl, inr, arith, length-set, get_or-set_same, get_or-set_other, add-zero, eqb}
+use Rattle.std.proofs.lemmas.Bool.{false≢true, cases_eq, eq-eqb, ne_eqb}
 use Rattle.std.proofs.lemmas.List.Sums.{sum_by-set}
 use Rattle.pebr_core.specs.declared.kinds.Shape.{Shape}
-use Rattle.pebr_core.specs.declared.kinds.Stance.{Stance}
 use Rattle.pebr_core.specs.declared.kinds.Stance.TheVariants as stance
 use Rattle.pebr_core.specs.declared.kinds.Retired.{Retired}
 use Rattle.pebr_core.specs.declared.kinds.Retired.TheVariants as retire
-use Rattle.pebr_core.specs.declared.kinds.ShieldAt.{ShieldAt}
-use Rattle.pebr_core.specs.declared.kinds.ShieldAt.TheVariants as shield
 use Rattle.pebr_core.specs.State.{Scan, Seat, State, has, seat_at, root_at, shield_at, retired_at, scan_of, has_scanned, slot_under, is_retired, is_out, slot_count, slots_per_seat, nobody, no_scan}
 use Rattle.pebr_core.specs.Steps.{with_seat, with_scan, with_scanned, with_kept, is_above_tags, after_replace, after_scan}
-use Rattle.pebr_core.specs.Kept.{Uses, times_held, times_in, IsTaggedUpTo, IsScanOf, HasSeenNoCandidate, PassedHasSeenNone, ScannedIsKept, LookedIsOlder, Kept, held_count, IsScanOfShape, IsSeatOfShape, IsOfShape, IsSound}
-use Rattle.pebr_core.proofs.Marks.{set_anywhere, get_or-map_default, has-either, has-added, has-here, has-removed, has-inside, at_some, is_some-value}
+use Rattle.pebr_core.specs.Kept.{times_held, IsTaggedUpTo, IsScanOf, PassedHasSeenNone, ScannedIsKept, LookedIsOlder, held_count, IsScanOfShape, IsSeatOfShape, IsSound}
+use Rattle.pebr_core.proofs.Marks.{set_anywhere, has-either, has-added, has-here, has-removed, has-inside, at_some, is_some-value}
 use Rattle.pebr_core.proofs.SeatChange.{Alone, Between, alone, between, kept_from, seat_changed, seat_kept}
-use Rattle.pebr_core.proofs.ShieldSteps.{same_scan, root_slot}
+use Rattle.pebr_core.proofs.ShieldSteps.{root_slot}
 
 -- Write
 

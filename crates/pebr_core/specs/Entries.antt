@@ -9,7 +9,7 @@ use Rattle.pebr_core.specs.declared.seats.ScanData.{ScanData}
 use Rattle.pebr_core.specs.declared.seats.SeatData.{SeatData}
 use Rattle.pebr_core.specs.State.{is_retired}
 use Rattle.pebr_core.specs.Marks.{given_marks}
-use Rattle.pebr_core.specs.Steps.{emptied, tag_with, can_pass, epoch_of, ejected, checked, without, united, released}
+use Rattle.pebr_core.specs.Steps.{emptied, tag_with, can_pass, epoch_of, ejected, checked, united, released}
 
 -- the room of a scan, emptied for the next
 abbrev pub reopened : ScanData → ScanData

@@ -1,6 +1,6 @@
 -- The steps of the seats. For each kind of step three things: where it is enabled, what it changes, and what it answers. What a row doesn't name stays.
 -- This scheme of pins, ejection and shields is this repository's own, after Kang and Jung, 'A marriage of pointer- and epoch-based reclamation' (PLDI 2020).
-use Rattle.std.specs.Prelude.{◌≡◌, ℕ, ◌+◌, ◌^◌, Bool, true, false, not, ◌&&◌, ◌||◌, List, [], ◌∷◌, map, replicate, count_by, Option, Some, None, is_some, unwrap_or, if◌then◌else◌, ◌==◌, nat_lt, slice_set, slice_index_or}
+use Rattle.std.specs.Prelude.{ℕ, ◌+◌, ◌^◌, Bool, true, false, not, ◌&&◌, ◌||◌, List, [], ◌∷◌, map, replicate, count_by, Option, Some, None, is_some, unwrap_or, if◌then◌else◌, ◌==◌, nat_lt, slice_set, slice_index_or}
 use Rattle.std.specs.List.{range_with_len, list_all, list_any}
 use Rattle.pebr_core.specs.State.{Scan, Seat, State, has, seat_at, root_at, word_at, shield_at, scan_of, found_at, has_scanned, is_retired, is_out, is_down, is_valid_on, slot_under, slot_count}
 use Rattle.pebr_core.specs.declared.kinds.Shape.{Shape}

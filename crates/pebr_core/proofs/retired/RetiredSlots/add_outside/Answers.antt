@@ -1,4 +1,4 @@
-use Rattle.std.proofs.Common.{◌≡◌, ◌∙◌, ◌||◌, false, ap, sym, length, arith}
+use Rattle.std.proofs.Common.{◌≡◌, ◌∙◌, false, sym, length, arith}
 use Rattle.std.proofs.lemmas.List.{ext_get_or}
 use Rattle.pebr_core.specs.Steps.{united}
 use Rattle.pebr_core.specs.Marks.{given_marks}

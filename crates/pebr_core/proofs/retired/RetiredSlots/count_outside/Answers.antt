@@ -1,4 +1,4 @@
-use Rattle.std.proofs.Common.{◌≡◌, ◌∙◌, ◌≤◌, ap, count_by, length, take_all, arith}
+use Rattle.std.proofs.Common.{◌∙◌, ◌≤◌, ap, count_by, length, take_all, arith}
 use Rattle.pebr_core.specs.Marks.{given_marks}
 use Rattle.pebr_core.proofs.Given.{given_length}
 use Rattle.pebr_core.proofs.retired.RetiredSlots.count_outside.Goals as goal
