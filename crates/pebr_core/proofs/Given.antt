@@ -55,5 +55,6 @@ each_passes test bound h = from 0 bound (λ k low high. h k (omega arith))
 
 pub each_fails : (test : ℕ → Bool) (bound i : ℕ) → i < bound → test i ≡ false → each_below bound test ≡ false
 each_fails test bound i inside h = elim (cases_Bool (each_below bound test)) as (λ _. each_below bound test ≡ false) [
-    inl all ↦ absurd (false≢true (sym h ∙ each_below-at test bound i all inside))
-  | inr fails ↦ fails ]
+  | inl all ↦ absurd (false≢true (sym h ∙ each_below-at test bound i all inside))
+  | inr fails ↦ fails
+]

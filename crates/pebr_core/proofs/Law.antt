@@ -72,10 +72,11 @@ shield_step_sound state i place slot sound h =
     let p1 = and_parts a p p2.0 in
     let below = ltb-true slot (slot_count state.shape) p2.1 in
     shield_sound state i place (shield.Set slot) sound (ltb-true i state.shape.seats p1.0)
-      (λ other e. let same : slot ≡ other = set_slot slot other e in omega arith) (λ other e. set_valid slot other e)
+    (λ other e. let same : slot ≡ other = set_slot slot other e in omega arith) (λ other e. set_valid slot other e)
   where
     set_slot : (m n : ℕ) → shield.Set m ≡ shield.Set n → m ≡ n
     set_slot m n e = cc
+
     set_valid : (m n : ℕ) → shield.Set m ≡ shield.Valid n → ⊥
     set_valid m n e = cc
 
@@ -95,10 +96,11 @@ replace_step_sound state i root old new sound h =
     let p1 = and_parts a r p2.0 in
     let changed : State = record (with_seat state i (after_replace old new (seat_at state i))) { roots = slice_set state.roots root new } in
     let pick : (b : Bool) → eqb (root_at state root) old ≡ b → IsSound (cond b changed state) =
-      λ b. elim b as (λ v. eqb (root_at state root) old ≡ v → IsSound (cond v changed state)) [
-          true ↦ λ t. replace_sound state i root old new sound (ltb-true i state.shape.seats p1.0) (ltb-true root state.shape.roots p1.1)
-            (ltb-true new (slot_count state.shape) p3.1) (not-true (is_out (seat_at state i).status) p4.1) p6.1 (eqb-true (root_at state root) old t)
-        | false ↦ λ _. sound ] in
+    λ b. elim b as (λ v. eqb (root_at state root) old ≡ v → IsSound (cond v changed state)) [
+      | true ↦ λ t. replace_sound state i root old new sound (ltb-true i state.shape.seats p1.0) (ltb-true root state.shape.roots p1.1)
+          (ltb-true new (slot_count state.shape) p3.1) (not-true (is_out (seat_at state i).status) p4.1) p6.1 (eqb-true (root_at state root) old t)
+      | false ↦ λ _. sound
+    ] in
     pick (eqb (root_at state root) old) refl
 
 scan_step_sound : (state : State) (i j place : ℕ) → IsSound state → is_enabled state (step.Scan i j place) ≡ true → IsSound (after state (step.Scan i j place))

@@ -177,7 +177,8 @@ each_below-at test bound i h inside = from 0 bound h i (zero-le {n = i}) (omega 
     from : (a m : ℕ) → list_all test (range_with_len a m) ≡ true → (k : ℕ) → a ≤ k → k < a + m → test k ≡ true
     from a zero e k low high = absurd (omega arith)
     from a (suc m) e k low high =
-      let parts = and_parts (test a) (list_all test (range_with_len (a + 1) m)) e in
-      elim (cases_eq k a) as (λ _. test k ≡ true) [
-        inl here ↦ ap test here ∙ parts.0
-      | inr there ↦ from (a + 1) m parts.1 k (omega arith) (omega arith) ]
+        let parts = and_parts (test a) (list_all test (range_with_len (a + 1) m)) e in
+        elim (cases_eq k a) as (λ _. test k ≡ true) [
+          | inl here ↦ ap test here ∙ parts.0
+          | inr there ↦ from (a + 1) m parts.1 k (omega arith) (omega arith)
+        ]

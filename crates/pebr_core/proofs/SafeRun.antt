@@ -43,11 +43,13 @@ replace_gives state i root old new sound k j slot uses = pick (eqb (root_at stat
   where
     changed : State
     changed = record (with_seat state i (after_replace old new (seat_at state i))) { roots = set state.roots root new }
+
     before : (m : ℕ) → has (seat_at state m).fresh slot ≡ false
     before m = sound.kept.safe.unused m j slot uses
+
     pick : (b : Bool) → has (seat_at (cond b (record (with_seat state i (after_replace old new (seat_at state i))) { roots = set state.roots root new }) state) k).fresh slot ≡ false
     pick true = set_anywhere (λ s. has s.fresh slot ≡ false) state.seats i (after_replace old new (seat_at state i)) nobody k
-      (λ _. has-removed (seat_at state i).fresh new slot (sound.kept.safe.unused i j slot uses)) (sound.kept.safe.unused k j slot uses)
+        (λ _. has-removed (seat_at state i).fresh new slot (sound.kept.safe.unused i j slot uses)) (sound.kept.safe.unused k j slot uses)
     pick false = sound.kept.safe.unused k j slot uses
 
 -- what is given is used by nobody
@@ -62,8 +64,8 @@ give_gives state i sound h k j slot uses =
     let p1 = and_parts a s p2.0 in
     let free = given_unused state i sound (ltb-true i state.shape.seats p1.0) p1.1 p2.1 p3.1 j slot uses in
     set_anywhere (λ s. has s.fresh slot ≡ false) state.seats i (after_give state.epoch owner) nobody k
-      (λ _. has-united owner.fresh (given owner) slot ∙ (ap (λ b. b || has (given owner) slot) (sound.kept.safe.unused i j slot uses) ∙ free))
-      (sound.kept.safe.unused k j slot uses)
+    (λ _. has-united owner.fresh (given owner) slot ∙ (ap (λ b. b || has (given owner) slot) (sound.kept.safe.unused i j slot uses) ∙ free))
+    (sound.kept.safe.unused k j slot uses)
 
 pub step_gives_no_used : (state : State) (s : Step) → IsSound state → is_enabled state s ≡ true → GivesNoUsed state (after state s)
 step_gives_no_used state (step.Note i) sound h = none_given state (after state (step.Note i)) sound (fresh_kept state i _ refl)
@@ -98,8 +100,8 @@ replace_words state changed false same = refl
 write_keeps : (state : State) (i slot word value : ℕ) → IsSound state → has (seat_at state i).fresh slot ≡ true → KeepsUsedWords state (after state (step.Write i slot word value))
 write_keeps state i slot word value sound is_fresh j used at uses =
     set_anywhere (λ row. get_or row at 0 ≡ word_at state used at) state.words slot (set (get_or state.words slot []) word value) [] used
-      (λ here. absurd (false≢true (sym (sound.kept.safe.unused i j used uses) ∙ (ap (has (seat_at state i).fresh) here ∙ is_fresh))))
-      refl
+    (λ here. absurd (false≢true (sym (sound.kept.safe.unused i j used uses) ∙ (ap (has (seat_at state i).fresh) here ∙ is_fresh))))
+    refl
 
 pub step_keeps_used_words : (state : State) (s : Step) → IsSound state → is_enabled state s ≡ true → KeepsUsedWords state (after state s)
 step_keeps_used_words state (step.Note i) sound h j slot word uses = refl
@@ -117,7 +119,7 @@ step_keeps_used_words state (step.Write i s x value) sound h j slot word uses =
     write_keeps state i s x value sound (and_parts (is_seat state i && is_slot state s && is_word state x) (has (seat_at state i).fresh s) h).1 j slot word uses
 step_keeps_used_words state (step.Replace i root old new) sound h j slot word uses =
     ap (λ w. get_or (get_or w slot []) word 0)
-      (replace_words state (record (with_seat state i (after_replace old new (seat_at state i))) { roots = set state.roots root new }) (eqb (root_at state root) old) refl)
+    (replace_words state (record (with_seat state i (after_replace old new (seat_at state i))) { roots = set state.roots root new }) (eqb (root_at state root) old) refl)
 step_keeps_used_words state (step.Scan i k place) sound h j slot word uses = refl
 step_keeps_used_words state (step.Give i) sound h j slot word uses = refl
 

@@ -69,8 +69,8 @@ abbrev pub scanned_entry : ℕ → ℕ → Option ℕ → SeatData → SeatData
 scanned_entry other place slot seat = record seat {
   scan = record seat.scan {
     scanned = slice_set seat.scan.scanned other (slice_set (slice_index_or seat.scan.scanned other []) place true);
-    kept = kept_with seat.retired seat.scan.kept slot
-  }
+    kept = kept_with seat.retired seat.scan.kept slot;
+  };
 }
 
 abbrev pub given_entry : ℕ → SeatData → SeatData
@@ -78,5 +78,5 @@ given_entry epoch seat = record seat {
   noted = epoch;
   fresh = united seat.fresh (given_marks seat.retired seat.scan.kept);
   retired = released seat.retired (given_marks seat.retired seat.scan.kept);
-  scan = record seat.scan { is_open = false }
+  scan = record seat.scan { is_open = false };
 }

@@ -129,7 +129,7 @@ each_below bound test = list_all test (range_with_len 0 bound)
 -- the scan of a seat has passed each other seat and read all its shields
 abbrev pub is_complete : Shape → ℕ → Scan → Bool
 is_complete shape i scan =
-  each_below shape.seats (λ j. (j == i) || (has scan.passed j && each_below shape.shields (λ place. has_scanned scan j place)))
+    each_below shape.seats (λ j. (j == i) || (has scan.passed j && each_below shape.shields (λ place. has_scanned scan j place)))
 
 -- what the steps make of one seat
 
@@ -179,7 +179,7 @@ after_give epoch seat = record seat {
   noted = epoch;
   fresh = united seat.fresh (given seat);
   retired = released seat.retired (given seat);
-  scan = None
+  scan = None;
 }
 
 -- the epoch with which the scan of a seat found another seat in
@@ -222,20 +222,20 @@ is_enabled state (step.Eject i j) =
     && is_some (found_at (scan_of (seat_at state i)) j) && not (has (scan_of (seat_at state i)).passed j)
 is_enabled state (step.Load i root) = is_seat state i && is_root state root && not (is_out (seat_at state i).status)
 is_enabled state (step.Shield i place slot) =
-  is_seat state i && is_place state place && is_slot state slot && not (is_out (seat_at state i).status) && has (seat_at state i).seen slot
+    is_seat state i && is_place state place && is_slot state slot && not (is_out (seat_at state i).status) && has (seat_at state i).seen slot
 is_enabled state (step.Check i) = is_seat state i && not (is_out (seat_at state i).status)
 is_enabled state (step.Unshield i place) = is_seat state i && is_place state place
 is_enabled state (step.Read i slot word) = is_seat state i && is_slot state slot && is_word state word && is_shielded (seat_at state i) slot
 is_enabled state (step.Write i slot word value) = is_seat state i && is_slot state slot && is_word state word && has (seat_at state i).fresh slot
 is_enabled state (step.Replace i root old new) =
-  is_seat state i && is_root state root && is_slot state old && is_slot state new
-  && not (is_out (seat_at state i).status) && is_shielded (seat_at state i) old && has (seat_at state i).fresh new
+    is_seat state i && is_root state root && is_slot state old && is_slot state new
+    && not (is_out (seat_at state i).status) && is_shielded (seat_at state i) old && has (seat_at state i).fresh new
 is_enabled state (step.Scan i j place) =
-  is_seat state i && is_seat state j && is_place state place && is_scanning (seat_at state i)
-  && has (scan_of (seat_at state i)).passed j && not (has_scanned (scan_of (seat_at state i)) j place)
+    is_seat state i && is_seat state j && is_place state place && is_scanning (seat_at state i)
+    && has (scan_of (seat_at state i)).passed j && not (has_scanned (scan_of (seat_at state i)) j place)
 is_enabled state (step.Give i) =
-  is_seat state i && is_scanning (seat_at state i)
-  && is_complete state.shape i (scan_of (seat_at state i)) && list_all is_down (seat_at state i).shields
+    is_seat state i && is_scanning (seat_at state i)
+    && is_complete state.shape i (scan_of (seat_at state i)) && list_all is_down (seat_at state i).shields
 
 -- what a step changes
 abbrev pub after : State → Step → State
@@ -255,11 +255,11 @@ after state (step.Check i) = with_seat state i (after_check (seat_at state i))
 after state (step.Unshield i place) = with_seat state i (after_shield place shield.Down (seat_at state i))
 after state (step.Read i slot word) = state
 after state (step.Write i slot word value) =
-  record state { words = slice_set state.words slot (slice_set (slice_index_or state.words slot []) word value) }
+    record state { words = slice_set state.words slot (slice_set (slice_index_or state.words slot []) word value) }
 after state (step.Replace i root old new) =
-  if root_at state root == old
-  then record (with_seat state i (after_replace old new (seat_at state i))) { roots = slice_set state.roots root new }
-  else state
+    if root_at state root == old
+    then record (with_seat state i (after_replace old new (seat_at state i))) { roots = slice_set state.roots root new }
+    else state
 after state (step.Scan i j place) = with_seat state i (after_scan j place (slot_under (shield_at (seat_at state j) place)) (seat_at state i))
 after state (step.Give i) = with_seat state i (after_give state.epoch (seat_at state i))
 
@@ -295,8 +295,8 @@ answer_of state (step.Write i slot word value) = answer.Written
 answer_of state (step.Replace i root old new) = if root_at state root == old then answer.Replaced else answer.Other
 answer_of state (step.Scan i j place) = found_under (slot_under (shield_at (seat_at state j) place))
 answer_of state (step.Give i) =
-  let seat = seat_at state i in
-  answer.Given (count_by (λ mark. mark) (given seat)) (count_by is_retired (after_give state.epoch seat).retired)
+    let seat = seat_at state i in
+    answer.Given (count_by (λ mark. mark) (given seat)) (count_by is_retired (after_give state.epoch seat).retired)
 
 -- a step from a state: the answer and the state after it, or no answer and the same state where it isn't enabled
 abbrev pub next : State → Step → Option Answer × State

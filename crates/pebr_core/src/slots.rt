@@ -28,7 +28,13 @@ impl Core {
     }
 
     /// The step Write.
-    pub(crate) fn write(&mut self, seat: usize, slot: usize, word: usize, value: u64) -> Option<Answer>
+    pub(crate) fn write(
+        &mut self,
+        seat: usize,
+        slot: usize,
+        word: usize,
+        value: u64,
+    ) -> Option<Answer>
         ensures answer { result ≡ (next self.old (Step.Write seat slot word value)).0 }
         ensures state { self.new ≡ (next self.old (Step.Write seat slot word value)).1 }
     {
@@ -49,7 +55,13 @@ impl Core {
     }
 
     /// The step Replace.
-    pub(crate) fn replace(&mut self, seat: usize, root: usize, old: usize, new: usize) -> Option<Answer>
+    pub(crate) fn replace(
+        &mut self,
+        seat: usize,
+        root: usize,
+        old: usize,
+        new: usize,
+    ) -> Option<Answer>
         ensures answer { result ≡ (next self.old (Step.Replace seat root old new)).0 }
         ensures state { self.new ≡ (next self.old (Step.Replace seat root old new)).1 }
     {
