@@ -113,7 +113,7 @@ impl SeatData {
         ensures { self.new ≡ pinned_entry self.old }
     {
         self.status = Stance::In(self.noted);
-        self.seen.fill(false);
+        self.seen.fill(false); // nothing is loaded yet
         self.scan.is_open = false;
     }
 
