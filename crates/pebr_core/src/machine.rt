@@ -40,6 +40,13 @@ impl Core {
         self.shape
     }
 
+    /// How many slots it has: those of the roots, and those of each seat.
+    pub fn slot_count(&self) -> usize
+        ensures { result ≡ slot_count self.now.shape }
+    {
+        self.shape.slot_count()
+    }
+
     /// The epoch.
     pub fn epoch(&self) -> u64
         ensures { result ≡ self.now.epoch }

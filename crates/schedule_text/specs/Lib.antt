@@ -1,0 +1,4 @@
+pub mod Numbers
+pub mod Rest
+pub mod Grammar
+pub mod Printed
