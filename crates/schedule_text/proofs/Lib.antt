@@ -1,2 +1,4 @@
 pub mod Cuts
 pub mod Values
+pub mod Texts
+pub mod Lines

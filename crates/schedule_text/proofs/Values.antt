@@ -1,7 +1,7 @@
 -- What decimal digits stand for.
-use Rattle.std.proofs.Common.{◌≡◌, ℕ, ◌<◌, ◌+◌, ◌-◌, ◌*◌, ◌^◌, ◌≤◌, zero, suc, Bool, true, false, not, ◌&&◌, List, [], ◌∷◌, ◌++◌, length, get_or, take, drop, Option, Some, None, cond, fold, refl, sym, ◌∙◌, ap, arith, ltb, eqb, leb, take-append-drop, le_refl}
+use Rattle.std.proofs.Common.{◌≡◌, ℕ, ◌<◌, ◌+◌, ◌-◌, ◌*◌, ◌^◌, ◌≤◌, zero, suc, Bool, true, false, not, ◌&&◌, ◌||◌, inl, inr, List, [], ◌∷◌, ◌++◌, length, get_or, take, drop, Option, Some, None, cond, fold, refl, sym, ◌∙◌, ap, arith, ltb, eqb, leb, take-append-drop, le_refl}
 use Rattle.std.specs.List.{list_all}
-use Rattle.std.proofs.lemmas.Bool.{false≢true, and_parts, le-ltb, lt-ltb, leb-true, ltb-true}
+use Rattle.std.proofs.lemmas.Bool.{false≢true, and_parts, ne_eqb, cases_Bool, le-ltb, lt-ltb, leb-true, ltb-true}
 use Rattle.std.proofs.lemmas.List.Sums.{fold_more, fold-append}
 use Rattle.schedule_text.specs.Numbers.{is_digit, is_numeral, value_of, number_of}
 
@@ -53,3 +53,33 @@ pub number_small : (word : List ℕ) → is_numeral word ≡ true → value_of w
 number_small word h low =
     ap (λ t. cond (t && ltb (value_of word) (2 ^ 64)) (Some (value_of word)) None) h
     ∙ ap (λ t. cond t (Some (value_of word)) None) (lt-ltb (value_of word) (2 ^ 64) low)
+
+every_digit : (digits : List ℕ) → ((k : ℕ) → k < length digits → is_digit (get_or digits k 0) ≡ true) → list_all is_digit digits ≡ true
+every_digit [] h = refl
+every_digit (d ∷ ds) h = ap (λ b. b && list_all is_digit ds) (h 0 (omega arith)) ∙ every_digit ds (λ k lt. h (suc k) (omega arith))
+
+-- digits are a numeral where there is one, or the first isn't 0
+pub numeral_by : (word : List ℕ) → ((k : ℕ) → k < length word → is_digit (get_or word k 0) ≡ true) → 0 < length word → is_numeral word ≡ (eqb (length word) 1 || not (eqb (get_or word 0 0) 48))
+numeral_by [] h inside = absurd (omega arith)
+numeral_by (d ∷ []) h inside = h 0 (omega arith)
+numeral_by (d ∷ e ∷ ds) h inside =
+    ap (λ b. b && not (eqb d 48) && list_all is_digit (e ∷ ds)) (h 0 (omega arith))
+    ∙ (ap (λ b. not (eqb d 48) && b) (every_digit (e ∷ ds) (λ k lt. h (suc k) (omega arith)))
+    ∙ (and_true (not (eqb d 48)) ∙ sym (ap (λ b. b || not (eqb d 48)) (ne_eqb (length (d ∷ e ∷ ds)) 1 (λ k. omega arith)))))
+  where
+    and_true : (b : Bool) → (b && true) ≡ b
+    and_true true = refl
+    and_true false = refl
+
+pub no_numeral : (word : List ℕ) → length word ≡ 0 → is_numeral word ≡ false
+no_numeral [] h = refl
+no_numeral (d ∷ ds) h = absurd (omega arith)
+
+pub not_numeral : (word : List ℕ) → is_numeral word ≡ false → number_of word ≡ None
+not_numeral word h = ap (λ b. cond (b && ltb (value_of word) (2 ^ 64)) (Some (value_of word)) None) h
+
+-- a byte that is no digit spoils a numeral
+pub numeral_spoiled : (word : List ℕ) (i : ℕ) → i < length word → is_digit (get_or word i 0) ≡ false → is_numeral word ≡ false
+numeral_spoiled word i inside h = elim (cases_Bool (is_numeral word)) as (λ _. is_numeral word ≡ false) [
+    inl holds ↦ absurd (false≢true (sym h ∙ numeral_digit word i holds inside))
+  | inr fails ↦ fails ]

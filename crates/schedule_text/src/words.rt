@@ -1,6 +1,6 @@
 //! Pieces of a text, and numbers.
 
-ghost use Rattle.std.specs.Prelude.{◌≡◌, ℕ, ◌<◌, ◌∷◌, ◌++◌, [], OnOk, IfOk, IfSome, option_copied, option_map, length};
+ghost use Rattle.std.specs.Prelude.{◌≡◌, ℕ, ◌+◌, ◌-◌, ◌*◌, ◌^◌, ◌<◌, ◌≤◌, ◌∷◌, ◌++◌, [], OnOk, IfOk, IfSome, MatchOption, option_copied, option_map, length};
 ghost use Rattle.schedule_text.specs.Numbers.{is_digit, is_numeral, number_of, numbers_of, pieces_of};
 ghost use Rattle.schedule_text.specs.Rest.{pieces_after};
 
@@ -35,11 +35,7 @@ fn is_numeral(word: &[u8]) -> bool
             return false;
         }
     }
-    match word {
-        [] => false,
-        [_] => true,
-        [first, ..] => *first != 48,
-    }
+    !word.is_empty() && (word.len() == 1 || word[0] != 48)
 }
 
 /// The number that a word stands for.
@@ -51,9 +47,21 @@ pub fn number(word: &[u8]) -> Option<u64>
     }
     let mut number = 0u64;
     for byte in word {
-        number = number.checked_mul(10)?.checked_add(u64::from(*byte - 48))?;
+        match shifted(number, *byte) {
+            Some(more) => number = more,
+            None => return None,
+        }
     }
     Some(number)
+}
+
+/// A number with one more digit, where it fits.
+fn shifted(number: u64, digit: u8) -> Option<u64>
+    requires { 48 ≤ digit }
+    ensures { MatchOption result (2 ^ 64 ≤ number * 10 + (digit - 48)) (λ more. more ≡ number * 10 + (digit - 48)) }
+{
+    let tens = number.checked_mul(10)?;
+    tens.checked_add(u64::from(digit - 48))
 }
 
 /// The numbers that the words of a text stand for, with one space between them.
