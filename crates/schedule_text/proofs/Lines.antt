@@ -17,6 +17,10 @@ behind-more : (front : List Step) (s : Step) (number : ℕ) (r : Result (List St
 behind-more front s number (Ok steps) = ap (λ l. Ok l) (sym (append_assoc front (s ∷ []) steps))
 behind-more front s number (Err other) = refl
 
+with_some : (b : ℕ) (ps : List (List ℕ)) → with_front b ps ≡ [] → ⊥
+with_some b [] e = cc
+with_some b (p ∷ ps) e = cc
+
 -- the pieces of a text are one at least
 some_piece : (at : ℕ) (text : List ℕ) → (piece : List ℕ) × (pieces : List (List ℕ)) × (pieces_of at text ≡ piece ∷ pieces)
 some_piece at text = first (pieces_of at text) (never_none at text)
@@ -24,20 +28,18 @@ some_piece at text = first (pieces_of at text) (never_none at text)
     first : (ps : List (List ℕ)) → (ps ≡ [] → ⊥) → (piece : List ℕ) × (pieces : List (List ℕ)) × (ps ≡ piece ∷ pieces)
     first [] h = absurd (h refl)
     first (p ∷ ps) h = (p, ps, refl)
-    front_some : (b : ℕ) (ps : List (List ℕ)) → with_front b ps ≡ [] → ⊥
-    front_some b [] e = cc
-    front_some b (p ∷ ps) e = cc
+
     never_none : (a : ℕ) (t : List ℕ) → pieces_of a t ≡ [] → ⊥
     never_none a [] e = cc
-    never_none a (b ∷ bs) = pick (eqb b a)
+    never_none a (b ∷ bs) e = pick (eqb b a) e
       where
         pick : (t : Bool) → cond t ([] ∷ pieces_of a bs) (with_front b (pieces_of a bs)) ≡ [] → ⊥
-        pick true e = cc
-        pick false e = front_some b (pieces_of a bs) e
+        pick true k = cc
+        pick false k = with_some b (pieces_of a bs) k
 
 -- the first line is a step's
 pub lines_more : (front : List Step) (number : ℕ) (line rest : List ℕ) (pieces : List (List ℕ)) (s : Step) → pieces ≡ line ∷ pieces_of 10 rest → step_of line ≡ Some s
-  → behind front (steps_of number pieces) ≡ behind (front ++ s ∷ []) (steps_of (number + 1) (pieces_of 10 rest))
+    → behind front (steps_of number pieces) ≡ behind (front ++ s ∷ []) (steps_of (number + 1) (pieces_of 10 rest))
 lines_more front number line rest pieces s cut known =
     let next = some_piece 10 rest in
     ap (λ ps. behind front (steps_of number ps)) (cut ∙ ap (λ ps. line ∷ ps) next.2)

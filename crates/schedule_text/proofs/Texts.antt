@@ -1,8 +1,8 @@
 -- Texts made of a piece for each number of a range.
-use Rattle.std.proofs.Common.{◌≡◌, ℕ, ◌+◌, zero, suc, List, [], ◌∷◌, ◌++◌, length, get_or, take, flat_map, refl, sym, ◌∙◌, ap, arith, append_assoc, append-nil, add-zero}
+use Rattle.std.proofs.Common.{◌≡◌, ℕ, ◌+◌, zero, suc, List, [], ◌∷◌, ◌++◌, length, get_or, take, flat_map, refl, sym, ◌∙◌, ap, arith, append_assoc, append-nil, add-zero, add-one}
 use Rattle.std.specs.List.{range_with_len}
 
-flat_range_from : {A : Type 0} (f : ℕ → List A) (a n : ℕ) → flat_map f (range_with_len a (n + 1)) ≡ flat_map f (range_with_len a n) ++ f (a + n)
+flat_range_from : {A : Type 0} (f : ℕ → List A) (a n : ℕ) → flat_map f (range_with_len a (suc n)) ≡ flat_map f (range_with_len a n) ++ f (a + n)
 flat_range_from f a zero = append-nil (f a) ∙ ap f (sym (add-zero a))
 flat_range_from f a (suc n) =
     ap (λ l. f a ++ l) (flat_range_from f (a + 1) n)
@@ -11,7 +11,7 @@ flat_range_from f a (suc n) =
 
 -- one piece more
 pub flat_range : {A : Type 0} (f : ℕ → List A) (n : ℕ) → flat_map f (range_with_len 0 (n + 1)) ≡ flat_map f (range_with_len 0 n) ++ f n
-flat_range f n = flat_range_from f 0 n ∙ ap (λ k. flat_map f (range_with_len 0 n) ++ f k) (let e : 0 + n ≡ n = omega arith in e)
+flat_range f n = ap (λ k. flat_map f (range_with_len 0 k)) (add-one n) ∙ (flat_range_from f 0 n ∙ ap (λ k. flat_map f (range_with_len 0 n) ++ f k) (let e : 0 + n ≡ n = omega arith in e))
 
 -- a text that has grown by the next piece
 pub text_more : {A : Type 0} (f : ℕ → List A) (n : ℕ) (start now next : List A) → now ≡ start ++ flat_map f (range_with_len 0 n) → next ≡ now ++ f n → next ≡ start ++ flat_map f (range_with_len 0 (n + 1))

@@ -19,7 +19,7 @@ fold_rises a (d ∷ ds) = let rest = fold_rises (a * 10 + (d - 48)) ds in omega 
 pub value_front : (digits : List ℕ) (i : ℕ) → value_of (take i digits) ≤ value_of digits
 value_front digits i =
     let split : fold shifted 0 digits ≡ fold shifted (fold shifted 0 (take i digits)) (drop i digits) =
-      ap (fold shifted 0) (sym (take-append-drop i digits)) ∙ fold-append shifted 0 (take i digits) (drop i digits) in
+    ap (fold shifted 0) (sym (take-append-drop i digits)) ∙ fold-append shifted 0 (take i digits) (drop i digits) in
     let rises = fold_rises (fold shifted 0 (take i digits)) (drop i digits) in
     omega (arith, split, rises)
 
@@ -45,6 +45,7 @@ number_large word h = pick (is_numeral word)
   where
     large : ltb (value_of word) (2 ^ 64) ≡ false
     large = le-ltb (value_of word) (2 ^ 64) h
+
     pick : (b : Bool) → cond (b && ltb (value_of word) (2 ^ 64)) (Some (value_of word)) None ≡ None
     pick true = ap (λ t. cond t (Some (value_of word)) None) large
     pick false = refl
@@ -81,5 +82,6 @@ not_numeral word h = ap (λ b. cond (b && ltb (value_of word) (2 ^ 64)) (Some (v
 -- a byte that is no digit spoils a numeral
 pub numeral_spoiled : (word : List ℕ) (i : ℕ) → i < length word → is_digit (get_or word i 0) ≡ false → is_numeral word ≡ false
 numeral_spoiled word i inside h = elim (cases_Bool (is_numeral word)) as (λ _. is_numeral word ≡ false) [
-    inl holds ↦ absurd (false≢true (sym h ∙ numeral_digit word i holds inside))
-  | inr fails ↦ fails ]
+  | inl holds ↦ absurd (false≢true (sym h ∙ numeral_digit word i holds inside))
+  | inr fails ↦ fails
+]

@@ -12,37 +12,37 @@ is_small number = nat_le number 65535
 -- steps with one number
 abbrev pub step_of_one : List ℕ → ℕ → Option Step
 step_of_one name i =
-  if bytes_eq name (codes "note") then Some (step.Note i)
-  else (if bytes_eq name (codes "pin") then Some (step.Pin i)
-  else (if bytes_eq name (codes "leave") then Some (step.Leave i)
-  else (if bytes_eq name (codes "advance") then Some (step.Advance i)
-  else (if bytes_eq name (codes "check") then Some (step.Check i)
-  else (if bytes_eq name (codes "give") then Some (step.Give i)
-  else None)))))
+    if bytes_eq name (codes "note") then Some (step.Note i)
+    else (if bytes_eq name (codes "pin") then Some (step.Pin i)
+    else (if bytes_eq name (codes "leave") then Some (step.Leave i)
+    else (if bytes_eq name (codes "advance") then Some (step.Advance i)
+    else (if bytes_eq name (codes "check") then Some (step.Check i)
+    else (if bytes_eq name (codes "give") then Some (step.Give i)
+    else None)))))
 
 -- steps with two
 abbrev pub step_of_two : List ℕ → ℕ → ℕ → Option Step
 step_of_two name i j =
-  if bytes_eq name (codes "look") then Some (step.Look i j)
-  else (if bytes_eq name (codes "eject") then Some (step.Eject i j)
-  else (if bytes_eq name (codes "load") then Some (step.Load i j)
-  else (if bytes_eq name (codes "unshield") then Some (step.Unshield i j)
-  else None)))
+    if bytes_eq name (codes "look") then Some (step.Look i j)
+    else (if bytes_eq name (codes "eject") then Some (step.Eject i j)
+    else (if bytes_eq name (codes "load") then Some (step.Load i j)
+    else (if bytes_eq name (codes "unshield") then Some (step.Unshield i j)
+    else None)))
 
 -- steps with three
 abbrev pub step_of_three : List ℕ → ℕ → ℕ → ℕ → Option Step
 step_of_three name i j k =
-  if bytes_eq name (codes "shield") then Some (step.Shield i j k)
-  else (if bytes_eq name (codes "read") then Some (step.Read i j k)
-  else (if bytes_eq name (codes "scan") then Some (step.Scan i j k)
-  else None))
+    if bytes_eq name (codes "shield") then Some (step.Shield i j k)
+    else (if bytes_eq name (codes "read") then Some (step.Read i j k)
+    else (if bytes_eq name (codes "scan") then Some (step.Scan i j k)
+    else None))
 
 -- steps with four, of which the last of write is any number
 abbrev pub step_of_four : List ℕ → ℕ → ℕ → ℕ → ℕ → Option Step
 step_of_four name i j k value =
-  if bytes_eq name (codes "write") then Some (step.Write i j k value)
-  else (if bytes_eq name (codes "replace") && is_small value then Some (step.Replace i j k value)
-  else None)
+    if bytes_eq name (codes "write") then Some (step.Write i j k value)
+    else (if bytes_eq name (codes "replace") && is_small value then Some (step.Replace i j k value)
+    else None)
 
 abbrev pub step_with : List ℕ → List ℕ → Option Step
 step_with name [] = None
@@ -60,11 +60,11 @@ shape_with name (roots ∷ seats ∷ []) = None
 shape_with name (roots ∷ seats ∷ shields ∷ []) = None
 shape_with name (roots ∷ seats ∷ shields ∷ batch ∷ []) = None
 shape_with name (roots ∷ seats ∷ shields ∷ batch ∷ width ∷ []) =
-  if bytes_eq name (codes "core")
+    if bytes_eq name (codes "core")
     && (nat_le 1 roots && nat_le roots 64) && (nat_le 1 seats && nat_le seats 16) && (nat_le 1 shields && nat_le shields 8)
     && (nat_le 1 batch && nat_le batch 64) && (nat_le 1 width && nat_le width 10)
-  then Some (record { roots = roots; seats = seats; shields = shields; batch = batch; width = width })
-  else None
+    then Some (record { roots = roots; seats = seats; shields = shields; batch = batch; width = width })
+    else None
 shape_with name (roots ∷ seats ∷ shields ∷ batch ∷ width ∷ more ∷ others) = None
 
 -- a line of a word and numbers

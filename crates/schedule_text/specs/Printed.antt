@@ -69,17 +69,17 @@ root_line state root = line (codes "root " ++ decimal root ++ codes " slot " ++ 
 
 abbrev pub seat_line : State → ℕ → List ℕ
 seat_line state i =
-  let seat = seat_at state i in
-  let slots = slot_count state.shape in
-  line (codes "seat " ++ decimal i ++ codes " " ++ status_text seat.status ++ codes " noted " ++ decimal seat.noted
+    let seat = seat_at state i in
+    let slots = slot_count state.shape in
+    line (codes "seat " ++ decimal i ++ codes " " ++ status_text seat.status ++ codes " noted " ++ decimal seat.noted
     ++ codes " fresh" ++ fresh_list slots seat ++ codes " retired" ++ retired_list slots seat
     ++ codes " shields" ++ shield_list state.shape.shields seat)
 
 abbrev pub state_text : State → List ℕ
 state_text state =
-  line (codes "epoch " ++ decimal state.epoch)
-  ++ flat_map (root_line state) (range_with_len 0 state.shape.roots)
-  ++ flat_map (seat_line state) (range_with_len 0 state.shape.seats)
+    line (codes "epoch " ++ decimal state.epoch)
+    ++ flat_map (root_line state) (range_with_len 0 state.shape.roots)
+    ++ flat_map (seat_line state) (range_with_len 0 state.shape.seats)
 
 -- the answers, a line for each, and then the state
 abbrev pub printed : List Answer → State → List ℕ

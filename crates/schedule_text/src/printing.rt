@@ -1,6 +1,6 @@
 //! The text of a replay.
 
-ghost use Rattle.std.specs.Prelude.{◌≡◌, ℕ, ◌<◌, ◌++◌, decimal, flat_map, codes, IfOk, OnOk};
+ghost use Rattle.std.specs.Prelude.{◌≡◌, ℕ, ◌<◌, ◌++◌, decimal, flat_map, codes, IfOk, OnOk, [], if◌then◌else◌};
 ghost use Rattle.std.specs.List.{range_with_len};
 ghost use Rattle.pebr_core.specs.State.{slot_count, seat_at};
 ghost use Rattle.schedule_text.specs.Printed.{answer_text, line, status_text, fresh_item, retired_item, shield_item, fresh_list, retired_list, shield_list, root_line, seat_line, state_text, printed};
@@ -69,7 +69,12 @@ fn put_status(alloc: Global, out: &mut Vec<u8>, status: Stance) -> Result<(), No
 }
 
 /// Adds a slot, if it is retired, and its tag.
-fn put_retired(alloc: Global, out: &mut Vec<u8>, slot: usize, retired: Retired) -> Result<(), NoMemory>
+fn put_retired(
+    alloc: Global,
+    out: &mut Vec<u8>,
+    slot: usize,
+    retired: Retired,
+) -> Result<(), NoMemory>
     ensures { OnOk result (out.new.items ≡ out.old.items ++ retired_item slot retired) }
 {
     match retired {
@@ -104,21 +109,40 @@ fn put_answers(alloc: Global, out: &mut Vec<u8>, answers: &[Answer]) -> Result<(
     Ok(())
 }
 
+/// Adds a slot, if it is fresh.
+fn put_fresh_item(
+    alloc: Global,
+    out: &mut Vec<u8>,
+    slot: usize,
+    is_fresh: bool,
+) -> Result<(), NoMemory>
+    ensures { OnOk result (out.new.items ≡ out.old.items ++ (if is_fresh then codes " " ++ decimal slot else [])) }
+{
+    if is_fresh {
+        put_number(alloc, out, b" ", slot as u64)
+    } else {
+        Ok(())
+    }
+}
+
 /// Adds the fresh slots of a seat.
 fn put_fresh(alloc: Global, out: &mut Vec<u8>, core: &Core, seat: usize) -> Result<(), NoMemory>
     requires { seat < core.now.shape.seats }
     ensures { OnOk result (out.new.items ≡ out.old.items ++ fresh_list (slot_count core.now.shape) (seat_at core.now seat)) }
 {
     for slot in 0..core.slot_count() {
-        if core.is_fresh(seat, slot) {
-            put_number(alloc, out, b" ", slot as u64)?;
-        }
+        put_fresh_item(alloc, out, slot, core.is_fresh(seat, slot))?;
     }
     Ok(())
 }
 
 /// Adds the retired slots of a seat.
-fn put_retired_list(alloc: Global, out: &mut Vec<u8>, core: &Core, seat: usize) -> Result<(), NoMemory>
+fn put_retired_list(
+    alloc: Global,
+    out: &mut Vec<u8>,
+    core: &Core,
+    seat: usize,
+) -> Result<(), NoMemory>
     requires { seat < core.now.shape.seats }
     ensures { OnOk result (out.new.items ≡ out.old.items ++ retired_list (slot_count core.now.shape) (seat_at core.now seat)) }
 {

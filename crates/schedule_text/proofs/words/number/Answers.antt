@@ -7,7 +7,7 @@ use Rattle.schedule_text.proofs.words.number.Goals as goal
 pub shifted-requires : goal.shifted-requires
 shifted-requires c =
     digit_low (get_or c.args.word.now c.loop-byte.byte-index 0)
-      (numeral_digit c.args.word.now c.loop-byte.byte-index (sym c.is_numeral.ensures ∙ c.if-not-is_numeral.false) c.loop-byte-test.true)
+    (numeral_digit c.args.word.now c.loop-byte.byte-index (sym c.is_numeral.ensures ∙ c.if-not-is_numeral.false) c.loop-byte-test.true)
 
 pub returns-in-None : goal.returns-in-None
 returns-in-None c =
