@@ -9,6 +9,8 @@
 mod grammar;
 mod printing;
 mod reading;
+#[cfg(test)]
+mod tests;
 mod words;
 
 pub use pebr_core::NoMemory;
