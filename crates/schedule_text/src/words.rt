@@ -23,7 +23,7 @@ pub fn cut(text: &[u8], at: u8) -> (&[u8], Option<&[u8]>)
 fn is_digit(byte: u8) -> bool
     ensures { result ≡ is_digit byte }
 {
-    48 <= byte && byte <= 57
+    b'0' <= byte && byte <= b'9'
 }
 
 /// Whether a word has decimal digits alone, and no leading zero.
@@ -35,7 +35,7 @@ fn is_numeral(word: &[u8]) -> bool
             return false;
         }
     }
-    !word.is_empty() && (word.len() == 1 || word[0] != 48)
+    !word.is_empty() && (word.len() == 1 || word[0] != b'0')
 }
 
 /// The number that a word stands for.
@@ -61,7 +61,7 @@ fn shifted(number: u64, digit: u8) -> Option<u64>
     ensures { MatchOption result (2 ^ 64 ≤ number * 10 + (digit - 48)) (λ more. more ≡ number * 10 + (digit - 48)) }
 {
     let tens = number.checked_mul(10)?;
-    tens.checked_add(u64::from(digit - 48))
+    tens.checked_add(u64::from(digit - b'0'))
 }
 
 /// The numbers that the words of a text stand for, with one space between them.
