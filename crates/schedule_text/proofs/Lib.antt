@@ -2,3 +2,4 @@ pub mod Cuts
 pub mod Values
 pub mod Texts
 pub mod Lines
+pub mod Decimals

@@ -5,7 +5,7 @@ use Rattle.std.proofs.lemmas.Bool.{false≢true, and_parts, ne_eqb, cases_Bool, 
 use Rattle.std.proofs.lemmas.List.Sums.{fold_more, fold-append}
 use Rattle.schedule_text.specs.Numbers.{is_digit, is_numeral, value_of, number_of}
 
-abbrev shifted : ℕ → ℕ → ℕ
+abbrev pub shifted : ℕ → ℕ → ℕ
 shifted number digit = number * 10 + (digit - 48)
 
 pub value_more : (digits : List ℕ) (i : ℕ) → i < length digits → value_of (take (i + 1) digits) ≡ value_of (take i digits) * 10 + (get_or digits i 0 - 48)
