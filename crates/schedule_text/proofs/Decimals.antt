@@ -5,7 +5,9 @@ use Rattle.std.proofs.lemmas.Bool.{false≢true, and_parts, and_from, not-true, 
 use Rattle.std.proofs.lemmas.Option.{none-some, same_Some}
 use Rattle.std.proofs.lemmas.List.Sums.{fold-append}
 use Rattle.std.proofs.lemmas.List.Folds.{list_all-append}
-use Rattle.std.proofs.lemmas.Fmt.{decimal_by_steps, decimal_digit, decimal_step}
+use Rattle.std.proofs.lemmas.Fmt.{decimal_by_steps, decimal-digits_value}
+use Rattle.std.proofs.lemmas.Str.Parse.{IsNumeralModel, numerals_by_fold}
+use Rattle.std.proofs.Common.{rules}
 use Rattle.schedule_text.specs.Numbers.{is_digit, is_numeral, value_of, number_of}
 use Rattle.schedule_text.proofs.Values.{shifted, number_small, not_numeral, numeral_by, numeral_digit, digit_low}
 
@@ -65,3 +67,31 @@ number_decimal n low =
     or_true : (b : Bool) → (b || true) ≡ true
     or_true true = refl
     or_true false = refl
+
+own : IsNumeralModel (λ ds. list_all is_digit ds ≡ true) (λ ds. fold shifted 0 ds)
+own = numerals_by_fold (λ ds. list_all is_digit ds ≡ true) (search rules) (λ n ds. fold shifted n ds) (search rules)
+
+numeral_parts : (word : List ℕ) → is_numeral word ≡ true → (list_all is_digit word ≡ true) × (0 < length word) × (get_or word 0 0 ≡ 48 → length word ≡ 1)
+numeral_parts [] h = absurd (false≢true h)
+numeral_parts (d ∷ []) h = (and_from (is_digit d) true h refl, omega arith, λ _. refl)
+numeral_parts (d ∷ e ∷ ds) h =
+    let outer = and_parts (is_digit d && not (eqb d 48)) (list_all is_digit (e ∷ ds)) h in
+    let inner = and_parts (is_digit d) (not (eqb d 48)) outer.0 in
+    (and_from (is_digit d) (list_all is_digit (e ∷ ds)) inner.0 outer.1, omega arith, λ zero_first. absurd (eqb-false d 48 (not-true (eqb d 48) inner.1) zero_first))
+
+-- a word that stands for a number is the number in decimal
+pub decimal_number : (word : List ℕ) (n : ℕ) → number_of word ≡ Some n → (word ≡ decimal n) × (n < 2 ^ 64)
+decimal_number word n h = pick (is_numeral word) (ltb (value_of word) (2 ^ 64)) refl refl h
+  where
+    pick : (a b : Bool) → is_numeral word ≡ a → ltb (value_of word) (2 ^ 64) ≡ b → cond (a && b) (Some (value_of word)) None ≡ Some n → (word ≡ decimal n) × (n < 2 ^ 64)
+    pick true true numeral low e =
+      let same : value_of word ≡ n = same_Some (value_of word) n e in
+      let below = ltb-true (value_of word) (2 ^ 64) low in
+      let parts = numeral_parts word numeral in
+      (sym (decimal-digits_value own word parts.0 parts.1 parts.2 below) ∙ ap decimal same, omega arith)
+    pick true false numeral low e = absurd (none-some n e)
+    pick false b numeral low e = absurd (none-some n e)
+
+-- the bytes of a number are digits
+pub decimal_digits : (n : ℕ) → n < 2 ^ 64 → list_all is_digit (decimal n) ≡ true
+decimal_digits n low = (decimal_numeral n low).digits

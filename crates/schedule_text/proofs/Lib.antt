@@ -3,3 +3,4 @@ pub mod Values
 pub mod Texts
 pub mod Lines
 pub mod Decimals
+pub mod Spelling

@@ -22,7 +22,7 @@ with_some b [] e = cc
 with_some b (p ∷ ps) e = cc
 
 -- the pieces of a text are one at least
-some_piece : (at : ℕ) (text : List ℕ) → (piece : List ℕ) × (pieces : List (List ℕ)) × (pieces_of at text ≡ piece ∷ pieces)
+pub some_piece : (at : ℕ) (text : List ℕ) → (piece : List ℕ) × (pieces : List (List ℕ)) × (pieces_of at text ≡ piece ∷ pieces)
 some_piece at text = first (pieces_of at text) (never_none at text)
   where
     first : (ps : List (List ℕ)) → (ps ≡ [] → ⊥) → (piece : List ℕ) × (pieces : List (List ℕ)) × (ps ≡ piece ∷ pieces)
