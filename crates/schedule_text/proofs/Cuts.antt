@@ -1,8 +1,7 @@
 -- Pieces of a text, by the first place of a byte.
-use Rattle.std.proofs.Common.{◌≡◌, ◌≢◌, ℕ, ◌<◌, ◌+◌, ◌≤◌, zero, suc, Bool, true, false, List, [], ◌∷◌, ◌++◌, length, get_or, take, drop, Option, Some, None, option_map, option_and_then, cond, refl, sym, ◌∙◌, ap, arith, eqb, append_assoc, append-nil, add-one}
+use Rattle.std.proofs.Common.{◌≡◌, ◌≢◌, ℕ, ◌<◌, zero, suc, List, [], ◌∷◌, ◌++◌, length, get_or, take, drop, Option, Some, None, option_map, option_and_then, cond, refl, sym, ◌∙◌, ap, arith, append_assoc}
 use Rattle.std.proofs.lemmas.Bool.{eq-eqb, ne_eqb}
 use Rattle.schedule_text.specs.Numbers.{with_front, pieces_of, number_of, numbers_of}
-use Rattle.schedule_text.specs.Rest.{pieces_after}
 
 -- where the byte isn't there, the text is one piece
 pub cut_none : (at : ℕ) (text : List ℕ) → ((k : ℕ) → k < length text → get_or text k 0 ≢ at) → pieces_of at text ≡ text ∷ []

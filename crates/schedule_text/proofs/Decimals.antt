@@ -1,7 +1,7 @@
 -- A number has one numeral.
-use Rattle.std.proofs.Common.{◌≡◌, ◌≢◌, ℕ, ◌<◌, ◌+◌, ◌-◌, ◌*◌, ◌/◌, ◌%◌, ◌^◌, ◌≤◌, ◌⊎◌, inl, inr, zero, suc, Bool, true, false, not, ◌&&◌, ◌||◌, List, [], ◌∷◌, ◌++◌, length, get_or, take, drop, Option, Some, None, cond, fold, refl, sym, ◌∙◌, ap, subst, arith, ltb, eqb, leb, decimal, length-append, le_refl}
+use Rattle.std.proofs.Common.{◌≡◌, ◌≢◌, ℕ, ◌<◌, ◌+◌, ◌-◌, ◌*◌, ◌/◌, ◌%◌, ◌^◌, ◌≤◌, inl, inr, zero, suc, Bool, true, false, not, ◌&&◌, ◌||◌, List, [], ◌∷◌, ◌++◌, length, get_or, Some, None, cond, fold, refl, sym, ◌∙◌, ap, arith, ltb, eqb, leb, decimal, length-append}
 use Rattle.std.specs.List.{list_all}
-use Rattle.std.proofs.lemmas.Bool.{false≢true, and_parts, and_from, not-true, le-leb, leb-true, eqb-false, ne_eqb, lt-ltb, ltb-true, cases_lt, cases_Bool}
+use Rattle.std.proofs.lemmas.Bool.{false≢true, and_parts, and_from, not-true, le-leb, eqb-false, ne_eqb, ltb-true, cases_lt}
 use Rattle.std.proofs.lemmas.Option.{none-some, same_Some}
 use Rattle.std.proofs.lemmas.List.Sums.{fold-append}
 use Rattle.std.proofs.lemmas.List.Folds.{list_all-append}
@@ -9,7 +9,7 @@ use Rattle.std.proofs.lemmas.Fmt.{decimal_by_steps, decimal-digits_value}
 use Rattle.std.proofs.lemmas.Str.Parse.{IsNumeralModel, numerals_by_fold}
 use Rattle.std.proofs.Common.{rules}
 use Rattle.schedule_text.specs.Numbers.{is_digit, is_numeral, value_of, number_of}
-use Rattle.schedule_text.proofs.Values.{shifted, number_small, not_numeral, numeral_by, numeral_digit, digit_low}
+use Rattle.schedule_text.proofs.Values.{shifted, number_small, numeral_by}
 
 -- digits that stand for a number, the first not 0 unless the number is
 record IsNumeralOf (n : ℕ) (ds : List ℕ) : Type 0 where
@@ -34,20 +34,21 @@ decimal_numeral n low = decimal_by_steps IsNumeralOf one more n low
   where
     one : (m : ℕ) → m < 10 → IsNumeralOf m ((48 + m) ∷ [])
     one m small = record {
-        digits = and_from (is_digit (48 + m)) true (digit_is m small) refl;
-        some = omega arith;
-        value = omega arith;
-        first = λ h e. omega arith;
-        single = λ _. refl
-      }
+      digits = and_from (is_digit (48 + m)) true (digit_is m small) refl;
+      some = omega arith;
+      value = omega arith;
+      first = λ h e. omega arith;
+      single = λ _. refl;
+    }
+
     more : (m : ℕ) (ds : List ℕ) → 10 ≤ m → IsNumeralOf (m / 10) ds → IsNumeralOf m (ds ++ ((48 + m % 10) ∷ []))
     more m ds large h = record {
-        digits = list_all-append is_digit ds ((48 + m % 10) ∷ []) ∙ and_from (list_all is_digit ds) (is_digit (48 + m % 10) && true) h.digits (and_from (is_digit (48 + m % 10)) true (digit_is (m % 10) (omega arith)) refl);
-        some = omega (arith, length-append ds ((48 + m % 10) ∷ []), h.some);
-        value = value_last ds (48 + m % 10) ∙ (let v = h.value in omega arith);
-        first = λ _ e. h.first (omega arith) (sym (front_kept ds ((48 + m % 10) ∷ []) h.some) ∙ e);
-        single = λ small. absurd (omega arith)
-      }
+      digits = list_all-append is_digit ds ((48 + m % 10) ∷ []) ∙ and_from (list_all is_digit ds) (is_digit (48 + m % 10) && true) h.digits (and_from (is_digit (48 + m % 10)) true (digit_is (m % 10) (omega arith)) refl);
+      some = omega (arith, length-append ds ((48 + m % 10) ∷ []), h.some);
+      value = value_last ds (48 + m % 10) ∙ (let v = h.value in omega arith);
+      first = λ _ e. h.first (omega arith) (sym (front_kept ds ((48 + m % 10) ∷ []) h.some) ∙ e);
+      single = λ small. absurd (omega arith);
+    }
 
 all_at : (ds : List ℕ) (k : ℕ) → list_all is_digit ds ≡ true → k < length ds → is_digit (get_or ds k 0) ≡ true
 all_at [] k h inside = absurd (omega arith)
@@ -58,10 +59,10 @@ pub number_decimal : (n : ℕ) → n < 2 ^ 64 → number_of (decimal n) ≡ Some
 number_decimal n low =
     let h = decimal_numeral n low in
     let numeral : is_numeral (decimal n) ≡ true =
-      numeral_by (decimal n) (λ k lt. all_at (decimal n) k h.digits lt) h.some ∙ (elim (cases_lt n 10) as (λ _. (eqb (length (decimal n)) 1 || not (eqb (get_or (decimal n) 0 0) 48)) ≡ true) [
-          inl small ↦ ap (λ m. eqb m 1 || not (eqb (get_or (decimal n) 0 0) 48)) (h.single small)
-        | inr large ↦ ap (λ b. eqb (length (decimal n)) 1 || not b) (ne_eqb (get_or (decimal n) 0 0) 48 (h.first (omega arith))) ∙ or_true (eqb (length (decimal n)) 1)
-        ]) in
+    numeral_by (decimal n) (λ k lt. all_at (decimal n) k h.digits lt) h.some ∙ (elim (cases_lt n 10) as (λ _. (eqb (length (decimal n)) 1 || not (eqb (get_or (decimal n) 0 0) 48)) ≡ true) [
+      | inl small ↦ ap (λ m. eqb m 1 || not (eqb (get_or (decimal n) 0 0) 48)) (h.single small)
+      | inr large ↦ ap (λ b. eqb (length (decimal n)) 1 || not b) (ne_eqb (get_or (decimal n) 0 0) 48 (h.first (omega arith))) ∙ or_true (eqb (length (decimal n)) 1)
+    ]) in
     number_small (decimal n) numeral (let v = h.value in omega arith) ∙ ap (λ m. Some m) h.value
   where
     or_true : (b : Bool) → (b || true) ≡ true
@@ -85,10 +86,10 @@ decimal_number word n h = pick (is_numeral word) (ltb (value_of word) (2 ^ 64)) 
   where
     pick : (a b : Bool) → is_numeral word ≡ a → ltb (value_of word) (2 ^ 64) ≡ b → cond (a && b) (Some (value_of word)) None ≡ Some n → (word ≡ decimal n) × (n < 2 ^ 64)
     pick true true numeral low e =
-      let same : value_of word ≡ n = same_Some (value_of word) n e in
-      let below = ltb-true (value_of word) (2 ^ 64) low in
-      let parts = numeral_parts word numeral in
-      (sym (decimal-digits_value own word parts.0 parts.1 parts.2 below) ∙ ap decimal same, omega arith)
+        let same : value_of word ≡ n = same_Some (value_of word) n e in
+        let below = ltb-true (value_of word) (2 ^ 64) low in
+        let parts = numeral_parts word numeral in
+        (sym (decimal-digits_value own word parts.0 parts.1 parts.2 below) ∙ ap decimal same, omega arith)
     pick true false numeral low e = absurd (none-some n e)
     pick false b numeral low e = absurd (none-some n e)
 

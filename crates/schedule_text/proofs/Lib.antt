@@ -4,3 +4,4 @@ pub mod Texts
 pub mod Lines
 pub mod Decimals
 pub mod Spelling
+pub mod Whole

@@ -1,5 +1,5 @@
 -- Steps of lines, one line at a time.
-use Rattle.std.proofs.Common.{◌≡◌, ℕ, ◌+◌, Bool, true, false, cond, eqb, List, [], ◌∷◌, ◌++◌, Option, Some, None, Result, Ok, Err, refl, sym, ◌∙◌, ap, append_assoc, append-nil}
+use Rattle.std.proofs.Common.{◌≡◌, ℕ, ◌+◌, Bool, true, false, cond, eqb, List, [], ◌∷◌, ◌++◌, Some, None, Result, Ok, Err, refl, sym, ◌∙◌, ap, append_assoc}
 use Rattle.pebr_core.specs.declared.kinds.Step.{Step}
 use Rattle.schedule_text.specs.Numbers.{with_front, pieces_of}
 use Rattle.schedule_text.specs.Grammar.{step_of, shape_of, with_step, with_shape, steps_of, lines_of}

@@ -1,23 +1,21 @@
 -- What is read is spelled so, and what is spelled so is read.
-use Rattle.std.proofs.Common.{◌≡◌, ◌≢◌, ℕ, ◌<◌, ◌+◌, ◌^◌, ◌≤◌, zero, suc, Bool, true, false, not, ◌&&◌, ◌||◌, List, [], ◌∷◌, ◌++◌, length, map, flat_map, Option, Some, None, option_map, option_and_then, Result, Ok, Err, cond, codes, decimal, bytes_eq, refl, sym, ◌∙◌, ap, subst, arith, eqb, leb, append_assoc, append-nil}
+use Rattle.std.proofs.Common.{◌≡◌, ℕ, ◌<◌, ◌^◌, ◌≤◌, Bool, true, false, not, ◌&&◌, List, [], ◌∷◌, ◌++◌, map, Option, Some, None, option_map, option_and_then, cond, codes, decimal, bytes_eq, refl, sym, ◌∙◌, ap, subst, arith, eqb, leb, append-nil}
 use Rattle.std.specs.List.{list_all}
-use Rattle.std.proofs.lemmas.Bool.{false≢true, and_parts, and_from, le-leb, leb-true, ne_eqb, eqb-true, eq-eqb, not-true}
+use Rattle.std.proofs.lemmas.Bool.{and_parts, and_from, le-leb, leb-true, ne_eqb, eqb-true, eq-eqb, not-true}
 use Rattle.std.proofs.lemmas.Option.{none-some, same_Some}
 use Rattle.std.proofs.lemmas.Slice.Eq.{bytes_eq-Decides}
 use Rattle.std.proofs.lemmas.List.Folds.{list_all-append}
-use Rattle.pebr_core.specs.declared.kinds.Shape.{Shape}
 use Rattle.pebr_core.specs.declared.kinds.Step.{Step}
 use Rattle.pebr_core.specs.declared.kinds.Step.TheVariants as step
 use Rattle.schedule_text.specs.Numbers.{is_digit, with_front, pieces_of, number_of, numbers_of}
-use Rattle.schedule_text.specs.Grammar.{is_small, step_of_one, step_of_two, step_of_three, step_of_four, step_with, shape_with, line_with, step_of, shape_of, with_step, ended, steps_of, with_shape, lines_of, schedule_of}
-use Rattle.schedule_text.specs.Printed.{line}
-use Rattle.schedule_text.specs.Spelled.{numbers_text, name_of, numbers_in, AreSmall, IsWritable, AreWritable, IsPrintable, step_text, shape_text, spelled}
+use Rattle.schedule_text.specs.Grammar.{is_small, step_of_one, step_of_two, step_of_three, step_of_four, step_with, line_with, step_of}
+use Rattle.schedule_text.specs.Spelled.{numbers_text, name_of, numbers_in, AreSmall, IsWritable, step_text}
 use Rattle.schedule_text.proofs.Decimals.{number_decimal, decimal_number, decimal_digits}
 use Rattle.schedule_text.proofs.Lines.{some_piece}
 
 -- Pieces, joined again
 
-abbrev joined_by : ℕ → List (List ℕ) → List ℕ
+abbrev pub joined_by : ℕ → List (List ℕ) → List ℕ
 joined_by at [] = []
 joined_by at (piece ∷ []) = piece
 joined_by at (piece ∷ next ∷ pieces) = piece ++ at ∷ joined_by at (next ∷ pieces)
@@ -31,20 +29,20 @@ joined_step at b bs next whole = pick (eqb b at) refl
   where
     pick : (t : Bool) → eqb b at ≡ t → joined_by at (cond t ([] ∷ pieces_of at bs) (with_front b (pieces_of at bs))) ≡ b ∷ bs
     pick true is =
-      ap (λ ps. joined_by at ([] ∷ ps)) next.2
-      ∙ (ap (λ l. at ∷ l) (ap (joined_by at) (sym next.2) ∙ whole) ∙ ap (λ c. c ∷ bs) (sym (eqb-true b at is)))
+        ap (λ ps. joined_by at ([] ∷ ps)) next.2
+        ∙ (ap (λ l. at ∷ l) (ap (joined_by at) (sym next.2) ∙ whole) ∙ ap (λ c. c ∷ bs) (sym (eqb-true b at is)))
     pick false is =
-      ap (λ ps. joined_by at (with_front b ps)) next.2
-      ∙ (joined-front at b next.0 next.1 ∙ ap (λ l. b ∷ l) (ap (joined_by at) (sym next.2) ∙ whole))
+        ap (λ ps. joined_by at (with_front b ps)) next.2
+        ∙ (joined-front at b next.0 next.1 ∙ ap (λ l. b ∷ l) (ap (joined_by at) (sym next.2) ∙ whole))
 
-joined-pieces : (at : ℕ) (text : List ℕ) → joined_by at (pieces_of at text) ≡ text
+pub joined-pieces : (at : ℕ) (text : List ℕ) → joined_by at (pieces_of at text) ≡ text
 joined-pieces at [] = refl
 joined-pieces at (b ∷ bs) = joined_step at b bs (some_piece at bs) (joined-pieces at bs)
 
 -- Pieces of a text that is written out
 
 -- the byte isn't among these
-abbrev lacks : ℕ → List ℕ → Bool
+abbrev pub lacks : ℕ → List ℕ → Bool
 lacks at word = list_all (λ b. not (eqb b at)) word
 
 pieces-lacking : (at : ℕ) (word : List ℕ) → lacks at word ≡ true → pieces_of at word ≡ word ∷ []
@@ -54,7 +52,7 @@ pieces-lacking at (b ∷ bs) h =
     ap (λ t. cond t ([] ∷ pieces_of at bs) (with_front b (pieces_of at bs))) (not-true (eqb b at) parts.0)
     ∙ ap (with_front b) (pieces-lacking at bs parts.1)
 
-pieces-at : (at : ℕ) (word rest : List ℕ) → lacks at word ≡ true → pieces_of at (word ++ at ∷ rest) ≡ word ∷ pieces_of at rest
+pub pieces-at : (at : ℕ) (word rest : List ℕ) → lacks at word ≡ true → pieces_of at (word ++ at ∷ rest) ≡ word ∷ pieces_of at rest
 pieces-at at [] rest h = ap (λ t. cond t ([] ∷ pieces_of at rest) (with_front at (pieces_of at rest))) (eq-eqb at at refl)
 pieces-at at (b ∷ bs) rest h =
     let parts = and_parts (not (eqb b at)) (lacks at bs) h in
@@ -74,7 +72,7 @@ digits-lack at (b ∷ bs) low h =
 
 -- Numbers
 
-abbrev AreNumbers : List ℕ → Type 0
+abbrev pub AreNumbers : List ℕ → Type 0
 AreNumbers [] = Unit {0}
 AreNumbers (n ∷ ns) = (n < 2 ^ 64) × AreNumbers ns
 
@@ -97,10 +95,11 @@ numbers-read (w ∷ ws) ns h = first (numbers-read ws) (number_of w) refl h
     second : (n : ℕ) → number_of w ≡ Some n → (o : Option (List ℕ)) → ((more : List ℕ) → o ≡ Some more → (ws ≡ map decimal more) × AreNumbers more) → option_map (λ numbers. n ∷ numbers) o ≡ Some ns → (w ∷ ws ≡ map decimal ns) × AreNumbers ns
     second n is None k e = absurd (none-some ns e)
     second n is (Some more) k e =
-      let rest = k more refl in
-      let one = decimal_number w n is in
-      subst (λ l. (w ∷ ws ≡ map decimal l) × AreNumbers l) (same_Some (n ∷ more) ns e)
+        let rest = k more refl in
+        let one = decimal_number w n is in
+        subst (λ l. (w ∷ ws ≡ map decimal l) × AreNumbers l) (same_Some (n ∷ more) ns e)
         (ap (λ x. x ∷ ws) one.0 ∙ ap (λ l. decimal n ∷ l) rest.0, (one.1, rest.1))
+
     first : ((more : List ℕ) → numbers_of ws ≡ Some more → (ws ≡ map decimal more) × AreNumbers more) → (o : Option ℕ) → number_of w ≡ o → option_and_then (λ number. option_map (λ numbers. number ∷ numbers) (numbers_of ws)) o ≡ Some ns → (w ∷ ws ≡ map decimal ns) × AreNumbers ns
     first others None is e = absurd (none-some ns e)
     first others (Some n) is e = second n is (numbers_of ws) others e
@@ -109,31 +108,32 @@ joined-words : (word : List ℕ) (ns : List ℕ) → joined_by 32 (word ∷ map 
 joined-words word [] = sym (append-nil word)
 joined-words word (n ∷ ns) = ap (λ l. word ++ 32 ∷ l) (joined-words (decimal n) ns)
 
-words-lack : (word : List ℕ) (ns : List ℕ) → lacks 10 word ≡ true → AreNumbers ns → lacks 10 (word ++ numbers_text ns) ≡ true
+pub words-lack : (word : List ℕ) (ns : List ℕ) → lacks 10 word ≡ true → AreNumbers ns → lacks 10 (word ++ numbers_text ns) ≡ true
 words-lack word [] h k = ap (lacks 10) (append-nil word) ∙ h
 words-lack word (n ∷ ns) h k =
     list_all-append (λ b. not (eqb b 10)) word (32 ∷ (decimal n ++ numbers_text ns))
     ∙ and_from (lacks 10 word) (lacks 10 (32 ∷ (decimal n ++ numbers_text ns))) h
-        (words-lack (decimal n) ns (digits-lack 10 (decimal n) (omega arith) (decimal_digits n k.0)) k.1)
+    (words-lack (decimal n) ns (digits-lack 10 (decimal n) (omega arith) (decimal_digits n k.0)) k.1)
 
 -- A line of a word and numbers
 
-line-read : {A : Type 0} (known : List ℕ → List ℕ → Option A) (text : List ℕ) (a : A) → line_with known (pieces_of 32 text) ≡ Some a
-  → (name : List ℕ) × (ns : List ℕ) × (text ≡ name ++ numbers_text ns) × AreNumbers ns × (known name ns ≡ Some a)
+pub line-read : {A : Type 0} (known : List ℕ → List ℕ → Option A) (text : List ℕ) (a : A) → line_with known (pieces_of 32 text) ≡ Some a
+    → (name : List ℕ) × (ns : List ℕ) × (text ≡ name ++ numbers_text ns) × AreNumbers ns × (known name ns ≡ Some a)
 line-read {A} known text a h = pick (pieces_of 32 text) (joined-pieces 32 text) h
   where
     found : (name : List ℕ) (words : List (List ℕ)) → joined_by 32 (name ∷ words) ≡ text → (o : Option (List ℕ)) → numbers_of words ≡ o → option_and_then (known name) o ≡ Some a
-      → (n : List ℕ) × (ns : List ℕ) × (text ≡ n ++ numbers_text ns) × AreNumbers ns × (known n ns ≡ Some a)
+        → (n : List ℕ) × (ns : List ℕ) × (text ≡ n ++ numbers_text ns) × AreNumbers ns × (known n ns ≡ Some a)
     found name words whole None is e = absurd (none-some a e)
     found name words whole (Some ns) is e =
-      let read = numbers-read words ns is in
-      (name, ns, sym whole ∙ (ap (λ ws. joined_by 32 (name ∷ ws)) read.0 ∙ joined-words name ns), read.1, e)
+        let read = numbers-read words ns is in
+        (name, ns, sym whole ∙ (ap (λ ws. joined_by 32 (name ∷ ws)) read.0 ∙ joined-words name ns), read.1, e)
+
     pick : (ps : List (List ℕ)) → joined_by 32 ps ≡ text → line_with known ps ≡ Some a → (n : List ℕ) × (ns : List ℕ) × (text ≡ n ++ numbers_text ns) × AreNumbers ns × (known n ns ≡ Some a)
     pick [] whole e = absurd (none-some a e)
     pick (name ∷ words) whole e = found name words whole (numbers_of words) refl e
 
-line-written : {A : Type 0} (known : List ℕ → List ℕ → Option A) (name : List ℕ) (ns : List ℕ) (a : A) → lacks 32 name ≡ true → AreNumbers ns → known name ns ≡ Some a
-  → line_with known (pieces_of 32 (name ++ numbers_text ns)) ≡ Some a
+pub line-written : {A : Type 0} (known : List ℕ → List ℕ → Option A) (name : List ℕ) (ns : List ℕ) (a : A) → lacks 32 name ≡ true → AreNumbers ns → known name ns ≡ Some a
+    → line_with known (pieces_of 32 (name ++ numbers_text ns)) ≡ Some a
 line-written known name ns a h k e =
     ap (line_with known) (pieces-words name ns h k) ∙ (ap (option_and_then (known name)) (numbers-decimals ns k) ∙ e)
 
@@ -182,7 +182,7 @@ step-known (step.Replace i root old new) h =
     ap (λ b. cond b (step_of_four (codes "replace") i root old new) None) (three-small i root old (h.0, (h.1.0, (h.1.1.0, tt))))
     ∙ ap (λ b. cond b (Some (step.Replace i root old new)) None) (small-from new h.1.1.1.0)
 
-writable-numbers : (s : Step) → IsWritable s → AreNumbers (numbers_in s)
+pub writable-numbers : (s : Step) → IsWritable s → AreNumbers (numbers_in s)
 writable-numbers (step.Write i slot word value) h = (small-number i h.0.0, (small-number slot h.0.1.0, (small-number word h.0.1.1.0, (h.1, tt))))
 writable-numbers (step.Note i) h = are-numbers (i ∷ []) h
 writable-numbers (step.Pin i) h = are-numbers (i ∷ []) h
@@ -199,7 +199,7 @@ writable-numbers (step.Read i slot word) h = are-numbers (i ∷ slot ∷ word �
 writable-numbers (step.Scan i j place) h = are-numbers (i ∷ j ∷ place ∷ []) h
 writable-numbers (step.Replace i root old new) h = are-numbers (i ∷ root ∷ old ∷ new ∷ []) h
 
-name-lacks : (s : Step) → (lacks 32 (name_of s) ≡ true) × (lacks 10 (name_of s) ≡ true)
+pub name-lacks : (s : Step) → (lacks 32 (name_of s) ≡ true) × (lacks 10 (name_of s) ≡ true)
 name-lacks (step.Note i) = (refl, refl)
 name-lacks (step.Pin i) = (refl, refl)
 name-lacks (step.Leave i) = (refl, refl)
@@ -216,7 +216,7 @@ name-lacks (step.Scan i j place) = (refl, refl)
 name-lacks (step.Write i slot word value) = (refl, refl)
 name-lacks (step.Replace i root old new) = (refl, refl)
 
-step-written : (s : Step) → IsWritable s → step_of (step_text s) ≡ Some s
+pub step-written : (s : Step) → IsWritable s → step_of (step_text s) ≡ Some s
 step-written s h = line-written step_with (name_of s) (numbers_in s) s (name-lacks s).0 (writable-numbers s h) (step-known s h)
 
 -- what a known word and numbers tell of the step
@@ -232,7 +232,7 @@ when_small : (b : Bool) (o : Option Step) (s : Step) → cond b o None ≡ Some 
 when_small true o s e = (refl, e)
 when_small false o s e = absurd (none-some s e)
 
-named : (name word : List ℕ) → bytes_eq name word ≡ true → name ≡ word
+pub named : (name word : List ℕ) → bytes_eq name word ≡ true → name ≡ word
 named name word h = (bytes_eq-Decides name word).0 h
 
 one-tells : (name : List ℕ) (i : ℕ) (s : Step) → AreSmall (i ∷ []) → step_of_one name i ≡ Some s → Tells name (i ∷ []) s
@@ -264,8 +264,8 @@ four-tells : (name : List ℕ) (i j k value : ℕ) (s : Step) → AreSmall (i �
 four-tells name i j k value s h low =
     pick_if (Tells name (i ∷ j ∷ k ∷ value ∷ [])) (bytes_eq name (codes "write")) (step.Write i j k value) _ s (λ t. (named name (codes "write") t, refl, (h, low)))
     (pick_if (Tells name (i ∷ j ∷ k ∷ value ∷ [])) (bytes_eq name (codes "replace") && is_small value) (step.Replace i j k value) None s
-      (λ t. let parts = and_parts (bytes_eq name (codes "replace")) (is_small value) t in
-        (named name (codes "replace") parts.0, refl, (h.0, (h.1.0, (h.1.1.0, (leb-true value 65535 parts.1, tt))))))
+    (λ t. let parts = and_parts (bytes_eq name (codes "replace")) (is_small value) t in
+    (named name (codes "replace") parts.0, refl, (h.0, (h.1.0, (h.1.1.0, (leb-true value 65535 parts.1, tt))))))
     (λ e. absurd (none-some s e)))
 
 three-parts : (i j k : ℕ) → (is_small i && is_small j && is_small k) ≡ true → AreSmall (i ∷ j ∷ k ∷ [])
@@ -291,7 +291,7 @@ step-tells name (i ∷ j ∷ m ∷ value ∷ []) s k e =
     four-tells name i j m value s (three-parts i j m w.0) k.1.1.1.0 w.1
 step-tells name (i ∷ j ∷ m ∷ value ∷ more ∷ others) s k e = absurd (none-some s e)
 
-step-read : (text : List ℕ) (s : Step) → step_of text ≡ Some s → (text ≡ step_text s) × IsWritable s
+pub step-read : (text : List ℕ) (s : Step) → step_of text ≡ Some s → (text ≡ step_text s) × IsWritable s
 step-read text s h =
     let r = line-read step_with text s h in
     let t = step-tells r.0 r.1 s r.3 r.4 in

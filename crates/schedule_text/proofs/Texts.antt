@@ -1,5 +1,5 @@
 -- Texts made of a piece for each number of a range.
-use Rattle.std.proofs.Common.{◌≡◌, ℕ, ◌+◌, zero, suc, List, [], ◌∷◌, ◌++◌, length, get_or, take, flat_map, refl, sym, ◌∙◌, ap, arith, append_assoc, append-nil, add-zero, add-one}
+use Rattle.std.proofs.Common.{◌≡◌, ℕ, ◌+◌, zero, suc, List, ◌++◌, flat_map, sym, ◌∙◌, ap, arith, append_assoc, append-nil, add-zero, add-one}
 use Rattle.std.specs.List.{range_with_len}
 
 flat_range_from : {A : Type 0} (f : ℕ → List A) (a n : ℕ) → flat_map f (range_with_len a (suc n)) ≡ flat_map f (range_with_len a n) ++ f (a + n)

@@ -1,7 +1,7 @@
 -- What decimal digits stand for.
-use Rattle.std.proofs.Common.{◌≡◌, ℕ, ◌<◌, ◌+◌, ◌-◌, ◌*◌, ◌^◌, ◌≤◌, zero, suc, Bool, true, false, not, ◌&&◌, ◌||◌, inl, inr, List, [], ◌∷◌, ◌++◌, length, get_or, take, drop, Option, Some, None, cond, fold, refl, sym, ◌∙◌, ap, arith, ltb, eqb, leb, take-append-drop, le_refl}
+use Rattle.std.proofs.Common.{◌≡◌, ℕ, ◌<◌, ◌+◌, ◌-◌, ◌*◌, ◌^◌, ◌≤◌, zero, suc, Bool, true, false, not, ◌&&◌, ◌||◌, inl, inr, List, [], ◌∷◌, length, get_or, take, drop, Some, None, cond, fold, refl, sym, ◌∙◌, ap, arith, ltb, eqb, leb, take-append-drop, le_refl}
 use Rattle.std.specs.List.{list_all}
-use Rattle.std.proofs.lemmas.Bool.{false≢true, and_parts, ne_eqb, cases_Bool, le-ltb, lt-ltb, leb-true, ltb-true}
+use Rattle.std.proofs.lemmas.Bool.{false≢true, and_parts, ne_eqb, cases_Bool, le-ltb, lt-ltb, leb-true}
 use Rattle.std.proofs.lemmas.List.Sums.{fold_more, fold-append}
 use Rattle.schedule_text.specs.Numbers.{is_digit, is_numeral, value_of, number_of}
 

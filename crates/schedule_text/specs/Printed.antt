@@ -1,5 +1,5 @@
 -- The text of a replay: a line for each answer, and then the state.
-use Rattle.std.specs.Prelude.{ℕ, Bool, true, false, List, [], ◌∷◌, ◌++◌, flat_map, if◌then◌else◌, codes, decimal}
+use Rattle.std.specs.Prelude.{ℕ, Bool, List, [], ◌∷◌, ◌++◌, flat_map, if◌then◌else◌, codes, decimal}
 use Rattle.std.specs.List.{range_with_len}
 use Rattle.pebr_core.specs.State.{Seat, State, has, seat_at, root_at, shield_at, retired_at, slot_count}
 use Rattle.pebr_core.specs.declared.kinds.Answer.{Answer}

@@ -1,7 +1,10 @@
 //! Whole schedules.
 
-ghost use Rattle.std.specs.Prelude.{◌≡◌, ℕ, ◌++◌, ◌∷◌, [], Ok, Err, IfOk, OnOk};
+ghost use Rattle.std.specs.Prelude.{◌≡◌, ℕ, ◌++◌, ◌∷◌, [], Ok, Err, List, IfOk, OnOk, MatchResult};
 ghost use Rattle.pebr_core.specs.Kept.{IsWithinLimits};
+ghost use Rattle.pebr_core.specs.declared.kinds.Shape.{Shape};
+ghost use Rattle.pebr_core.specs.declared.kinds.Step.{Step};
+ghost use Rattle.schedule_text.specs.Spelled.{IsPrintable, AreWritable, spelled};
 ghost use Rattle.schedule_text.specs.Numbers.{pieces_of};
 ghost use Rattle.schedule_text.specs.Grammar.{steps_of, schedule_of};
 
@@ -28,8 +31,32 @@ pub enum ScheduleError {
     NoMemory,
 }
 
-/// Reads a schedule. Whether its steps are enabled plays no part.
+/// Reads a schedule. Each has one text: a line `core R N H B W`, and a line for each step, of its word
+/// and its numbers, in decimal and with one space between them; each line ends with a line feed. The
+/// numbers of a step are at most 65,535, but a value to write is any number below 2^64; those of the
+/// shape are at most 64 roots, 16 seats, 8 shields, a batch of 64 and 10 words. Whether the steps are
+/// enabled plays no part.
+///
+/// # Errors
+///
+/// `BadLine(n)` where line n, counted from 1, is the first that is no such line; an empty text lacks
+/// line 1, and a rest without a line feed is no line.
 pub fn read_schedule(alloc: Global, text: &[u8]) -> Result<Schedule, ScheduleError>
+    ensures read { IfOk result (λ schedule. schedule_of text.now ≡ Ok (schedule.shape, schedule.steps.items)) }
+    ensures bad { (number : ℕ) → result ≡ Err (ScheduleError.BadLine number) → schedule_of text.now ≡ Err number }
+
+    // What is read is spelled so, and what is spelled so is read.
+    ensures spelled { IfOk result (λ schedule. text.now ≡ spelled schedule.shape schedule.steps.items) }
+    ensures printable { IfOk result (λ schedule. IsPrintable schedule.shape) }
+    ensures writable { IfOk result (λ schedule. AreWritable schedule.steps.items) }
+    ensures only { (shape : Shape) (steps : List Step) → IsPrintable shape → AreWritable steps → text.now ≡ spelled shape steps
+        → MatchResult result (λ schedule. (schedule.shape ≡ shape) × (schedule.steps.items ≡ steps)) (λ error. error ≡ ScheduleError.NoMemory) }
+    ensures limits { IfOk result (λ schedule. IsWithinLimits schedule.shape) }
+{
+    read_lines(alloc, text)
+}
+
+fn read_lines(alloc: Global, text: &[u8]) -> Result<Schedule, ScheduleError>
     ensures read { IfOk result (λ schedule. schedule_of text.now ≡ Ok (schedule.shape, schedule.steps.items)) }
     ensures bad { (number : ℕ) → result ≡ Err (ScheduleError.BadLine number) → schedule_of text.now ≡ Err number }
     ensures limits { IfOk result (λ schedule. IsWithinLimits schedule.shape) }

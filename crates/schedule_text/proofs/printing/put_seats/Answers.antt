@@ -1,4 +1,3 @@
-use Rattle.std.proofs.Common.{◌∙◌, ◌++◌, ap}
 use Rattle.schedule_text.specs.Printed.{seat_line}
 use Rattle.schedule_text.proofs.Texts.{text_more}
 use Rattle.schedule_text.proofs.printing.put_seats.Goals as goal

@@ -1,18 +1,47 @@
-use Rattle.std.proofs.Common.{◌≡◌, ◌∙◌, ◌∷◌, ℕ, ap, sym, Err, Result, Some, option_copied}
-use Rattle.schedule_text.specs.Numbers.{pieces_of}
-use Rattle.schedule_text.specs.Rest.{pieces_after}
-use Rattle.schedule_text.specs.Grammar.{with_shape, steps_of}
-use Rattle.schedule_text.specs.declared.reading.ScheduleError.TheVariants.{BadLine}
-use Rattle.schedule_text.proofs.Lines.{lines_first}
+use Rattle.std.proofs.Common.{◌≡◌, ◌∙◌, ℕ, List, Result, Ok, Err, IfOk, MatchResult, refl, sym, ap}
+use Rattle.pebr_core.specs.declared.kinds.Shape.{Shape}
+use Rattle.pebr_core.specs.declared.kinds.Step.{Step}
+use Rattle.schedule_text.specs.declared.reading.Schedule.{Schedule}
+use Rattle.schedule_text.specs.declared.reading.ScheduleError.{ScheduleError}
+use Rattle.schedule_text.specs.declared.reading.ScheduleError.TheVariants as error
+use Rattle.schedule_text.specs.Grammar.{schedule_of}
+use Rattle.schedule_text.specs.Spelled.{IsPrintable, AreWritable, spelled}
+use Rattle.schedule_text.proofs.Whole.{whole-read, whole-written, same_pair, err_ok}
 use Rattle.schedule_text.proofs.reading.read_schedule.Goals as goal
 
-pub returns-in-Err-read_steps-clause-bad : goal.returns-in-Err-read_steps-clause-bad
-returns-in-Err-read_steps-clause-bad c = λ number e.
-    let line = c.cut.result.0.now in
-    let rest = c.in-Some.rest.now in
-    let cuts = c.cut.ensures.pieces ∙ ap (λ o. line ∷ pieces_after 10 (option_copied o)) c.in-Some.is in
-    let same : c.in-Err-read_steps.error ≡ BadLine number = cc in
-    let steps = c.in-Err-read_steps.ensures.bad number (ap (λ x. Err x) same) in
-    lines_first line rest (pieces_of 10 c.args.text.now) cuts
-    ∙ (ap (λ s. with_shape s (steps_of 2 (pieces_of 10 rest))) (sym c.in-Ok-Some.ensures.shape ∙ c.in-Ok-Some.field-0-is)
-    ∙ ap (with_shape (Some c.in-Ok-Some.shape)) steps)
+-- a schedule that was read
+abbrev IsReadAs : List ℕ → Result Schedule ScheduleError → Type 0
+IsReadAs text r = IfOk r (λ z. schedule_of text ≡ Ok (z.shape, z.steps.items))
+
+read_spelled : (text : List ℕ) (r : Result Schedule ScheduleError) → IsReadAs text r → IfOk r (λ z. text ≡ spelled z.shape z.steps.items)
+read_spelled text (Ok z) h = (whole-read text z.shape z.steps.items h).0
+read_spelled text (Err e) h = tt
+
+read_printable : (text : List ℕ) (r : Result Schedule ScheduleError) → IsReadAs text r → IfOk r (λ z. IsPrintable z.shape)
+read_printable text (Ok z) h = (whole-read text z.shape z.steps.items h).1
+read_printable text (Err e) h = tt
+
+read_writable : (text : List ℕ) (r : Result Schedule ScheduleError) → IsReadAs text r → IfOk r (λ z. AreWritable z.steps.items)
+read_writable text (Ok z) h = (whole-read text z.shape z.steps.items h).2
+read_writable text (Err e) h = tt
+
+read_only : (text : List ℕ) (r : Result Schedule ScheduleError) → IsReadAs text r → ((n : ℕ) → r ≡ Err (error.BadLine n) → schedule_of text ≡ Err n)
+    → (shape : Shape) (steps : List Step) → schedule_of text ≡ Ok (shape, steps)
+    → MatchResult r (λ z. (z.shape ≡ shape) × (z.steps.items ≡ steps)) (λ e. e ≡ error.NoMemory)
+read_only text (Ok z) h k shape steps e = same_pair z.shape shape z.steps.items steps (sym h ∙ e)
+read_only text (Err error.NoMemory) h k shape steps e = refl
+read_only text (Err (error.BadLine n)) h k shape steps e = absurd (err_ok n (shape, steps) (sym (k n refl) ∙ e))
+
+pub returns-clause-spelled : goal.returns-clause-spelled
+returns-clause-spelled c = read_spelled c.args.text.now c.read_lines.result c.read_lines.ensures.read
+
+pub returns-clause-printable : goal.returns-clause-printable
+returns-clause-printable c = read_printable c.args.text.now c.read_lines.result c.read_lines.ensures.read
+
+pub returns-clause-writable : goal.returns-clause-writable
+returns-clause-writable c = read_writable c.args.text.now c.read_lines.result c.read_lines.ensures.read
+
+pub returns-clause-only : goal.returns-clause-only
+returns-clause-only c = λ shape steps printable writable same.
+    read_only c.args.text.now c.read_lines.result c.read_lines.ensures.read c.read_lines.ensures.bad shape steps
+    (ap schedule_of same ∙ whole-written shape steps printable writable)

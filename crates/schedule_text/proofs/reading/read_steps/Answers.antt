@@ -1,4 +1,4 @@
-use Rattle.std.proofs.Common.{◌≡◌, ◌∙◌, ◌+◌, ◌<◌, ◌∷◌, ◌++◌, [], ℕ, List, length, ap, sym, Err, arith, option_copied, IfSome}
+use Rattle.std.proofs.Common.{◌≡◌, ◌∙◌, ◌+◌, ◌∷◌, ap, sym, Err, arith, option_copied}
 use Rattle.schedule_text.specs.Numbers.{pieces_of}
 use Rattle.schedule_text.specs.Rest.{pieces_after}
 use Rattle.schedule_text.specs.Grammar.{steps_of}

@@ -1,4 +1,4 @@
-use Rattle.std.proofs.Common.{◌≡◌, ◌∙◌, ◌∷◌, ◌+◌, ap, sym, take, drop, length, arith, add-one}
+use Rattle.std.proofs.Common.{◌∙◌, ◌∷◌, ◌+◌, ap, sym, take, drop, arith, add-one}
 use Rattle.std.proofs.lemmas.List.{take_rest}
 use Rattle.schedule_text.specs.Numbers.{pieces_of}
 use Rattle.schedule_text.proofs.Cuts.{cut_at, cut_none}

@@ -1,4 +1,4 @@
-use Rattle.std.proofs.Common.{◌≡◌, ◌∙◌, ◌<◌, not, ◌||◌, eqb, get_or, length, ap, sym, arith}
+use Rattle.std.proofs.Common.{◌∙◌, not, ◌||◌, eqb, get_or, length, ap, sym, arith}
 use Rattle.std.proofs.lemmas.Bool.{eqb-false, ne_eqb}
 use Rattle.schedule_text.proofs.Values.{numeral_by}
 use Rattle.schedule_text.proofs.words.is_numeral.Goals as goal

@@ -1,4 +1,4 @@
-use Rattle.std.proofs.Common.{◌≡◌, ◌∙◌, ◌+◌, ◌-◌, ◌*◌, ◌^◌, ◌<◌, ◌≤◌, ℕ, ap, sym, take, get_or, length, arith, Some, None}
+use Rattle.std.proofs.Common.{◌≡◌, ◌∙◌, ◌+◌, ◌^◌, ◌<◌, ap, sym, get_or, arith, Some}
 use Rattle.std.proofs.lemmas.List.{take_all}
 use Rattle.schedule_text.specs.Numbers.{value_of}
 use Rattle.schedule_text.proofs.Values.{value_more, value_front, numeral_digit, digit_low, number_large, number_small}
