@@ -42,38 +42,57 @@ impl Shape {
     }
 }
 
-/// One atomic step. The first number is the seat that steps.
+/// One atomic step. The first number is the seat that steps; seats, roots, shields, slots and words
+/// are counted from 0. A step with a number out of range isn't enabled.
 #[derive(Clone, Copy, PartialEq, Eq, Debug)]
 pub enum Step {
-    /// Reads the epoch, tags the seat's retired slots with it, and opens a scan over them.
+    /// Reads the epoch, tags the seat's untagged retired slots with it, and opens a scan with all its
+    /// retired slots as candidates. Enabled where the seat is out. Answers `Epoch`.
     Note(usize),
-    /// Announces the noted epoch: the seat is in.
+    /// Announces the noted epoch: the seat is in, has seen no slot, and is at no scan. Enabled where
+    /// it is out. Answers `In`.
     Pin(usize),
-    /// Takes the announcement back: the seat is out.
+    /// Takes the announcement back: the seat is out, and has seen no slot. Enabled where it isn't out.
+    /// Answers `Out`.
     Leave(usize),
-    /// Raises the epoch by one, where it is still the one noted.
+    /// Raises the epoch by one, where it is still the noted one. Enabled where that is below
+    /// [`LAST_EPOCH`]. Answers `Epoch` with the new epoch, or `Lost`.
     Advance(usize),
-    /// Looks at the status of another seat.
+    /// Looks at the status of another seat. A seat that is out or ejected, or in with an epoch above
+    /// each candidate's tag, is passed. Enabled where the seat scans and the other isn't passed yet.
+    /// Answers `Passed`, or `In` with the epoch found.
     Look(usize, usize),
-    /// Ejects another seat that is still in with the epoch looked at.
+    /// Ejects another seat that is still in with the epoch found, and passes it in any case. Enabled
+    /// where the other was looked at and isn't passed yet. Answers `Ejected` or `Lost`.
     Eject(usize, usize),
-    /// Loads a root.
+    /// Loads a root, the second number: its slot is seen. Enabled where the seat isn't out. Answers
+    /// `Slot`.
     Load(usize, usize),
-    /// Sets a shield, the second number, on a slot, the third.
+    /// Sets a shield, the second number, on a slot, the third. Enabled where the seat isn't out and
+    /// has seen the slot. Answers `Set`.
     Shield(usize, usize, usize),
-    /// Makes the shields that are set on loaded slots valid, unless the seat was ejected.
+    /// Makes each shield that is set on a slot that the seat has seen valid, where the seat is in.
+    /// Enabled where it isn't out. Answers `Valid`, or `Ejected`.
     Check(usize),
-    /// Takes a shield down.
+    /// Takes a shield down. Always enabled. Answers `Cleared`.
     Unshield(usize, usize),
-    /// Reads a word, the third number, of a slot under a valid shield.
+    /// Reads a word, the third number, of a slot. Enabled where a shield of the seat is valid on the
+    /// slot. Answers `Word`.
     Read(usize, usize, usize),
-    /// Writes a word, the third number, of a fresh slot.
+    /// Writes a value, the last number, into a word of a slot. Enabled where the slot is fresh at the
+    /// seat. Answers `Written`.
     Write(usize, usize, usize, u64),
-    /// Puts a fresh slot, the last number, into a root, the second, that still has the slot before it.
+    /// Where a root, the second number, has a slot, the third, it gets a fresh slot, the last, and the
+    /// old slot is retired. Enabled where the seat isn't out, a shield of it is valid on the old slot,
+    /// and the new one is fresh at it. Answers `Replaced` or `Other`.
     Replace(usize, usize, usize, usize),
-    /// Reads a shield, the third number, of a passed seat.
+    /// Reads a shield, the third number, of another seat: a candidate that it stands on is kept.
+    /// Enabled where the seat scans, the other is passed, and this shield isn't read yet. Answers
+    /// `Holds` with the slot, or `Empty`.
     Scan(usize, usize, usize),
-    /// Makes the candidates that no shield was found on fresh.
+    /// Makes the candidates that aren't kept fresh, notes the epoch, and ends the scan. Enabled where
+    /// the scan has passed each other seat and read all its shields, and all shields of the seat are
+    /// down. Answers `Given`.
     Give(usize),
 }
 

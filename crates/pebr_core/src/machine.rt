@@ -10,7 +10,8 @@ use crate::row::{Grid, Row};
 use crate::seats::SeatData;
 use std::marker::Model;
 
-/// A core of reclamation.
+/// A core of reclamation, seen as its state: the epoch, the roots, the words and the seats. Every core
+/// is sound, since [`Core::start`] makes a sound one and each step keeps it so.
 #[derive(Debug, Drop)]
 pub struct Core {
     pub(crate) shape: Shape,

@@ -55,8 +55,12 @@ impl Core {
         }
     }
 
-    /// Makes one step. It takes no memory. Where the step isn't enabled, which is so too where a
-    /// number is out of range, the core is handed back unchanged.
+    /// Makes one step. It takes no memory.
+    ///
+    /// # Errors
+    ///
+    /// `NotEnabled` exactly where the step's condition doesn't hold, a number out of range included.
+    /// The core is handed back unchanged.
     pub fn step(self, step: Step) -> Result<(Core, Answer), (Core, NotEnabled)>
         ensures enabled { IsTrue (is_enabled self step) ↔ IsOk result }
         ensures made { IfOk result (λ done. done.0 ≡ after self step) }
@@ -76,7 +80,12 @@ impl Core {
     }
 }
 
-/// Makes the steps in order, up to the first that isn't enabled.
+/// Makes the steps in order, and gives the core after them with one answer for each.
+///
+/// # Errors
+///
+/// `NotEnabled(place)` exactly at the first step that isn't enabled, the one at this place, counted
+/// from 0. The core is given up.
 pub fn replay(alloc: Global, core: Core, steps: &[Step]) -> Result<Replayed, ReplayError>
     ensures whole { IsOk result → first_refused core steps.now ≡ None }
     ensures refused { (place : ℕ) → result ≡ Err (ReplayError.NotEnabled place) → first_refused core steps.now ≡ Some place }

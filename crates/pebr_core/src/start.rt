@@ -92,6 +92,10 @@ impl Core {
     /// A core of this shape in which nothing has happened: the epoch is 0, the root of each number
     /// holds the slot of that number, each seat is out and has its share of the other slots fresh,
     /// and all words are 0. This takes all the memory that the core ever needs.
+    ///
+    /// # Errors
+    ///
+    /// `NoMemory` where no memory was left.
     pub fn start(alloc: Global, shape: Shape) -> Result<Core, NoMemory>
         requires { IsWithinLimits shape }
         ensures { IfOk result (λ core. core ≡ start_state shape) }
