@@ -1,0 +1,14 @@
+pub mod Marks
+pub mod SeatChange
+pub mod PinSteps
+pub mod Tags
+pub mod ShieldSteps
+pub mod SlotSteps
+pub mod GiveStep
+pub mod Given
+pub mod EntrySteps
+pub mod Law
+pub mod Written
+pub mod SeatSteps
+pub mod StartState
+pub mod SafeRun

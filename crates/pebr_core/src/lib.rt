@@ -1,0 +1,43 @@
+//! The core of reclamation: who may use a slot, and when it can be written again.
+//!
+//! Readers reach slots through roots. A seat, the part that one thread plays, replaces the slot in a
+//! root by a fresh one of its own, and then holds the old slot as retired: some other seat may still
+//! read it. The question is when it is fresh again. After Kang and Jung, 'A marriage of pointer- and
+//! epoch-based reclamation' (PLDI 2020); every rule here is this repository's own.
+//!
+//! - **Pins.** Before it loads a root a seat notes the epoch and pins: its status is In with that
+//!   epoch. A slot that it loads since then is seen, and a seat that is in uses what it has seen.
+//! - **Tags.** A retired slot gets the epoch of the owner's next Note as its tag. A seat that pinned
+//!   a later epoch can't have seen the slot.
+//! - **Ejection.** A seat that stays in with an old epoch is ejected: its status says so, and from
+//!   then on it uses only what its valid shields stand on.
+//! - **Shields.** A seat sets a shield on a slot that it has seen, and checks that it is still in:
+//!   then the shield is valid, and it protects the slot also after an ejection.
+//! - **Scans.** A Note opens a scan over the owner's retired slots, the candidates. The scan passes
+//!   each other seat, by a look or an ejection, and only then reads its shields. Give makes the
+//!   candidates that no shield was found on fresh.
+//!
+//! A step is one load, store or compare and exchange of one word. [`Core::step`] makes one,
+//! [`replay`] a list. Each core is sound: [`start_is_sound`], [`steps_are_safe`] and
+//! [`runs_are_safe`] say so of every state.
+#![tactic(auto)]
+
+mod kinds;
+mod laws;
+mod machine;
+mod pins;
+mod retired;
+mod row;
+mod runs;
+mod scans;
+mod seats;
+mod shields;
+mod slots;
+mod start;
+#[cfg(test)]
+mod tests;
+
+pub use kinds::{Answer, LAST_EPOCH, NoMemory, NotEnabled, Retired, Shape, ShieldAt, Stance, Step};
+pub use laws::{runs_are_safe, start_is_sound, steps_are_safe};
+pub use machine::Core;
+pub use runs::{ReplayError, Replayed, replay};

@@ -1,0 +1,5 @@
+pub mod Numbers
+pub mod Rest
+pub mod Grammar
+pub mod Printed
+pub mod Spelled

@@ -1,0 +1,36 @@
+-- Lines, words and numbers of a schedule.
+use Rattle.std.specs.Prelude.{ℕ, ◌+◌, ◌*◌, ◌-◌, ◌^◌, Bool, false, not, ◌&&◌, List, [], ◌∷◌, Option, Some, None, option_map, option_and_then, if◌then◌else◌, ◌==◌, nat_lt, nat_le, fold}
+use Rattle.std.specs.List.{list_all}
+
+-- byte is 0 to 9 in ASCII
+abbrev pub is_digit : ℕ → Bool
+is_digit byte = nat_le 48 byte && nat_le byte 57
+
+-- decimal digits without a leading zero
+abbrev pub is_numeral : List ℕ → Bool
+is_numeral [] = false
+is_numeral (digit ∷ []) = is_digit digit
+is_numeral (digit ∷ other ∷ digits) = is_digit digit && not (digit == 48) && list_all is_digit (other ∷ digits)
+
+-- what decimal digits stand for
+abbrev pub value_of : List ℕ → ℕ
+value_of digits = fold (λ number digit. number * 10 + (digit - 48)) 0 digits
+
+-- a number: decimal digits without a leading zero, below 2 ^ 64
+abbrev pub number_of : List ℕ → Option ℕ
+number_of word = if is_numeral word && nat_lt (value_of word) (2 ^ 64) then Some (value_of word) else None
+
+-- the words are numbers
+abbrev pub numbers_of : List (List ℕ) → Option (List ℕ)
+numbers_of [] = Some []
+numbers_of (word ∷ words) = option_and_then (λ number. option_map (λ numbers. number ∷ numbers) (numbers_of words)) (number_of word)
+
+-- a byte before some pieces belongs to the first of them
+abbrev pub with_front : ℕ → List (List ℕ) → List (List ℕ)
+with_front byte [] = (byte ∷ []) ∷ []
+with_front byte (piece ∷ pieces) = (byte ∷ piece) ∷ pieces
+
+-- the pieces of a text between the places of a byte: one more than there are such places
+abbrev pub pieces_of : ℕ → List ℕ → List (List ℕ)
+pieces_of at [] = [] ∷ []
+pieces_of at (byte ∷ bytes) = if byte == at then [] ∷ pieces_of at bytes else with_front byte (pieces_of at bytes)
