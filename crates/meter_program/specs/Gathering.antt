@@ -1,5 +1,5 @@
 -- What is known of the packets that were metered so far.
-use Rattle.std.specs.Prelude.{◌≡◌, ℕ, ◌*◌, ◌<◌, ◌≤◌, ◌^◌, ◌/◌, List, length, sum_by, Option, Some, None, IfSome}
+use Rattle.std.specs.Prelude.{ℕ, ◌*◌, ◌<◌, ◌≤◌, ◌^◌, ◌/◌, List, length, sum_by, Option, Some, None, IfSome}
 use Rattle.packet_accept.specs.declared.packet.Packet.{Packet}
 use Rattle.packet_accept.specs.Clock.{IsClock}
 use Rattle.flow_parts.specs.declared.fragment.Fragment.{Fragment}

@@ -1,4 +1,4 @@
-use Rattle.std.proofs.Common.{◌≡◌, subst, sym}
+use Rattle.std.proofs.Common.{subst, sym}
 use Rattle.pcap_reader.specs.Views.{file_of}
 use Rattle.packet_accept.specs.Packets.{packets_of}
 use Rattle.flow_parts.specs.Sharing.{SharesOut}

@@ -1,4 +1,4 @@
-use Rattle.std.proofs.Common.{◌≡◌, ◌∙◌, ◌≤◌, ap, sym, subst, arith, length, take}
+use Rattle.std.proofs.Common.{◌≤◌, subst, arith, length, take}
 use Rattle.std.proofs.lemmas.List.{take_all}
 use Rattle.pcap_reader.specs.Views.{file_of, record_read}
 use Rattle.packet_accept.specs.Packets.{answers_of, packets_in}
