@@ -4,7 +4,7 @@ ghost use Rattle.std.specs.Prelude.{◌<◌, ◌≤◌};
 
 use crate::{Status, run};
 use ipfix_reader::StreamFault;
-use meter_io::{MemSink, MemSource};
+use meter_io::{MemSink, MemSource, ReadError, read_all};
 use std::alloc::Global;
 use std::test::Fail;
 use std::thread::Threads;
@@ -77,6 +77,16 @@ fn capture_of(alloc: Global, packets: &[(u32, u32, u16)]) -> Result<Vec<u8>, Fai
         append_hex(&mut bytes, FRAME_END)?;
     }
     Ok(bytes)
+}
+
+/// The number in the four bytes from a place on, in network order; none where they aren't there.
+fn number_at(bytes: &[u8], place: usize) -> Option<u32> {
+    match bytes.get(place..) {
+        Some([first, second, third, last, ..]) => Some(u32::from_be_bytes([
+            *first, *second, *third, *last,
+        ])),
+        _ => None,
+    }
 }
 
 /// The words of a command line.
@@ -412,6 +422,26 @@ fn streams_are_shown_or_refused(rt: HostRuntime) -> Result<(), Fail> {
     let many = capture_of(alloc, capture.as_slice())?;
     let (status, stream) = run_over(&rt, alloc, "meter", many.as_slice())?;
     assert_eq!(rt; (status, stream.len()), (Status::Done, 1548));
+    assert_eq!(rt;
+        number_at(stream.as_slice(), 116),
+        Some(0x000a_0554),
+        "a message of 1,364 bytes"
+    );
+    assert_eq!(rt;
+        number_at(stream.as_slice(), 124),
+        Some(0),
+        "its sequence number"
+    );
+    assert_eq!(rt;
+        number_at(stream.as_slice(), 1480),
+        Some(0x000a_0044),
+        "a message of 68 bytes"
+    );
+    assert_eq!(rt;
+        number_at(stream.as_slice(), 1488),
+        Some(28),
+        "its sequence number"
+    );
     let (status, text) = run_over(&rt, alloc, "show", stream.as_slice())?;
     let lines = text.iter().filter(|byte| **byte == b'\n').count();
     assert_eq!(rt; (status, lines), (Status::Done, 29));
@@ -434,6 +464,34 @@ fn streams_are_shown_or_refused(rt: HostRuntime) -> Result<(), Fail> {
     assert_eq!(rt; (status, text.len()), (Status::Done, 0));
     let (status, text) = run_over(&rt, alloc, "meter --size 115", two.as_slice())?;
     assert_eq!(rt; (status, text.len()), (Status::Usage, 0));
+    Ok(())
+}
+
+#[test]
+fn few_bytes_are_read_within_a_limit(rt: HostRuntime) -> Result<(), Fail> {
+    let alloc = rt.alloc();
+    let one = hex(
+        alloc,
+        "d4c3b2a1 02000400 00000000 00000000 00000400 01000000 e8030000 00000000 2a000000 2a000000 \
+        020000000002 020000000001 0800 4500001c 00000000 40110000 c0000201 c0000202 0fa0 0035 0008 0000",
+    )?;
+    let (status, stream) = run_over(&rt, alloc, "meter", one.as_slice())?;
+    let (status_shown, text) = run_over(&rt, alloc, "show", stream.as_slice())?;
+    let line =
+        "256 8=192.0.2.1 12=192.0.2.2 7=4000 11=53 4=17 6=0 2=1 1=28 152=1000000 153=1000000 136=4\n";
+    assert_eq!(rt;
+        (status, status_shown, stream.len()),
+        (Status::Done, Status::Done, 184)
+    );
+    assert_eq!(rt; text.as_slice(), line.as_bytes());
+    assert_eq!(rt; number_at(stream.as_slice(), 4), Some(1000));
+    assert_eq!(rt; number_at(stream.as_slice(), 120), Some(1000));
+    for (count, read) in [(8, Ok(8)), (9, Err(ReadError::TooLarge))] {
+        let (bytes, _) = b"nine byte".split_at(count);
+        let mut source = MemSource::new(bytes, 100, &[]);
+        let length = read_all(alloc, &mut source, 8).map(|bytes| bytes.len());
+        assert_eq!(rt; length, read, "{count} bytes with limit 8");
+    }
     Ok(())
 }
 
