@@ -223,6 +223,10 @@ fn put_state(alloc: Global, out: &mut Vec<u8>, core: &Core) -> Result<(), NoMemo
 
 /// The text of a replay: a line for each answer; then a line for the epoch, a line for each root, and
 /// a line for each seat with its status, its noted epoch, its fresh and retired slots and its shields.
+///
+/// # Errors
+///
+/// `NoMemory` where no memory was left.
 pub fn print(alloc: Global, replayed: &Replayed) -> Result<Vec<u8>, NoMemory>
     ensures { IfOk result (λ text. text.items ≡ printed replayed.now.answers.items replayed.now.core) }
 {

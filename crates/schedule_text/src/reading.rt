@@ -40,7 +40,7 @@ pub enum ScheduleError {
 /// # Errors
 ///
 /// `BadLine(n)` where line n, counted from 1, is the first that is no such line; an empty text lacks
-/// line 1, and a rest without a line feed is no line.
+/// line 1, and a rest without a line feed is no line. `NoMemory` where no memory was left.
 pub fn read_schedule(alloc: Global, text: &[u8]) -> Result<Schedule, ScheduleError>
     ensures read { IfOk result (λ schedule. schedule_of text.now ≡ Ok (schedule.shape, schedule.steps.items)) }
     ensures bad { (number : ℕ) → result ≡ Err (ScheduleError.BadLine number) → schedule_of text.now ≡ Err number }
