@@ -1,2 +1,3 @@
+pub mod KeyFields
 pub mod KeyOrder
 pub mod KeyWords

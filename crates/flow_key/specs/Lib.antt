@@ -1,2 +1,4 @@
 pub mod Key
+pub mod Fields
+pub mod KeyWith
 pub mod Laws

@@ -1,3 +1,5 @@
+//! A flow's key, its words, its set and its order.
+
 ghost use Rattle.std.specs.Prelude.{◌≡◌, ◌≢◌, ℕ, ◌+◌, ◌<◌, ◌≤◌, ◌^◌, ◌*◌, ◌/◌, ◌%◌, Some, IfSome, IsNone};
 
 use std::cmp::Ordering;
@@ -32,6 +34,8 @@ const MULTIPLIER: u64 = 0x9E37_79B9_7F4A_7C15;
 
 impl FlowKey {
     ghost use Rattle.flow_key.specs.Key.{words_of, set_number, key_order};
+    ghost use Rattle.flow_key.specs.Fields.{fields_in, IsKeyOf};
+    ghost use Rattle.flow_key.specs.KeyWith.{key_with};
 
     /// The key as five words: version, protocol and ports packed into the first, then the upper and the
     /// lower half of the source address, then those of the destination address.
@@ -51,6 +55,7 @@ impl FlowKey {
 
     /// The key that has these words, as [`FlowKey::to_words`] gives them; `None` where no key has them.
     pub fn of_words(words: &[u64; 5]) -> Option<FlowKey>
+        ensures fields { IsKeyOf (fields_in words.now) result }
         ensures some { IfSome result (λ key. words_of key ≡ words.now) }
         ensures none { IsNone result → (key : FlowKey) → words_of key ≢ words.now }
         ensures round_trip { (key : FlowKey) → words_of key ≡ words.now → result ≡ Some key }

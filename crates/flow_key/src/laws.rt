@@ -1,5 +1,5 @@
 //! Laws about keys. These functions do nothing; each contract is a law.
-ghost use Rattle.flow_key.specs.Laws.{OrdersTotally, TiesOnlyItself, WordsTell};
+ghost use Rattle.flow_key.specs.Laws.{OrdersTotally, TiesOnlyItself, WordsTell, FieldsTell, KeysFit, AnswersOnce, KeyOfItsFields, NoneWhereUnfit};
 
 /// The order of keys is total, and a key ties with itself alone.
 pub fn keys_are_ordered()
@@ -10,4 +10,13 @@ pub fn keys_are_ordered()
 /// A key is known by its words.
 pub fn keys_have_words()
     ensures { WordsTell }
+{}
+
+/// A key is known by its fields: six numbers that fit the fields are those of one key, and others are of none.
+pub fn keys_have_fields()
+    ensures tell { FieldsTell }
+    ensures fit { KeysFit }
+    ensures once { AnswersOnce }
+    ensures key { KeyOfItsFields }
+    ensures none { NoneWhereUnfit }
 {}
