@@ -12,3 +12,5 @@ pub mod Written
 pub mod SeatSteps
 pub mod StartState
 pub mod SafeRun
+pub mod Frames
+pub mod KeptSlots

@@ -5,3 +5,4 @@ pub mod Runs
 pub mod Marks
 pub mod Shown
 pub mod Entries
+pub mod Frames

@@ -26,7 +26,7 @@ pub struct Shape {
 
 impl Shape {
     /// How many slots belong to each seat.
-    pub(crate) fn slots_per_seat(&self) -> usize
+    pub fn slots_per_seat(&self) -> usize
         requires { IsWithinLimits self.now }
         ensures { result ≡ slots_per_seat self.now }
     {
@@ -34,7 +34,7 @@ impl Shape {
     }
 
     /// How many slots there are.
-    pub(crate) fn slot_count(&self) -> usize
+    pub fn slot_count(&self) -> usize
         requires { IsWithinLimits self.now }
         ensures { result ≡ slot_count self.now }
     {

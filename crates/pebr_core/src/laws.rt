@@ -1,11 +1,14 @@
 //! What holds of every state, and not only of the states of cores.
 
-ghost use Rattle.std.specs.Prelude.{◌≡◌, List, None, IsTrue};
+ghost use Rattle.std.specs.Prelude.{◌≡◌, ℕ, ◌+◌, ◌<◌, ◌≤◌, List, [], length, Option, Some, None, IsTrue, true, false, count_by, slice_index_or};
+ghost use Rattle.pebr_core.specs.declared.kinds.Retired.TheVariants as retire;
 ghost use Rattle.pebr_core.specs.declared.kinds.Shape.{Shape};
 ghost use Rattle.pebr_core.specs.declared.kinds.Step.{Step};
-ghost use Rattle.pebr_core.specs.State.{State, start_state};
-ghost use Rattle.pebr_core.specs.Steps.{is_enabled, after};
+ghost use Rattle.pebr_core.specs.declared.kinds.Step.TheVariants as step;
+ghost use Rattle.pebr_core.specs.State.{State, Seat, start_state, slot_count, seat_at, has, scan_of, found_at, retired_at};
+ghost use Rattle.pebr_core.specs.Steps.{is_enabled, after, given, after_note, after_look, after_pass, after_scan, after_give};
 ghost use Rattle.pebr_core.specs.Kept.{IsSound};
+ghost use Rattle.pebr_core.specs.Frames.{seat_of, LeavesTheRest, UsesBeginAtLoad, LeavesShields, IsFreshAlone, kept_count, fresh_count, retired_count};
 ghost use Rattle.pebr_core.specs.Runs.{first_refused, GivesNoUsed, KeepsUsedWords, IsSafeRun};
 
 /// The state at the start is sound.
@@ -31,4 +34,62 @@ pub fn runs_are_safe()
         → IsSafeRun (start_state shape) steps }
     ensures any { (state : State) (steps : List Step) → IsSound state → first_refused state steps ≡ None
         → IsSafeRun state steps }
+{}
+
+/// Whether a step is enabled hangs on the shape and the seat that steps alone.
+pub fn enabled_by_own_seat()
+    ensures { (a b : State) (step : Step) → a.shape ≡ b.shape → seat_at a (seat_of step) ≡ seat_at b (seat_of step)
+        → is_enabled a step ≡ is_enabled b step }
+{}
+
+/// What a step doesn't name it leaves as it was.
+pub fn steps_leave_the_rest()
+    ensures { (state : State) (step : Step) → LeavesTheRest state step (after state step) }
+{}
+
+/// A use of a slot begins only where the seat loads it, and no other seat's step takes a shield down.
+pub fn uses_begin_at_load()
+    ensures begin { (state : State) (step : Step) → UsesBeginAtLoad state step (after state step) }
+    ensures shields { (state : State) (step : Step) → LeavesShields state step (after state step) }
+{}
+
+/// A seat that was looked at and isn't passed has an epoch at most the tag of some candidate.
+pub fn looked_reaches_a_tag()
+    ensures { (state : State) (i j found : ℕ) → IsSound state → found_at (scan_of (seat_at state i)) j ≡ Some found
+        → has (scan_of (seat_at state i)).passed j ≡ false
+        → (slot : ℕ) × (tag : ℕ) × (has (scan_of (seat_at state i)).candidates slot ≡ true)
+        × (retired_at (seat_at state i) slot ≡ retire.Tagged tag) × (found ≤ tag) }
+{}
+
+/// How many slots a scan keeps, and so how many stay retired.
+pub fn kept_slots_are_counted()
+    // A Note keeps none, and a look or an ejection leaves them.
+    ensures note { (shape : Shape) (epoch : ℕ) (seat : Seat) → kept_count (after_note shape epoch seat) ≡ 0 }
+    ensures pass { (other : ℕ) (seat : Seat) → kept_count (after_pass other seat) ≡ kept_count seat }
+    // A Scan keeps at most one more, and none where the shield was down.
+    ensures scan { (other place : ℕ) (slot : Option ℕ) (seat : Seat) → kept_count (after_scan other place slot seat) ≤ kept_count seat + 1 }
+    ensures empty { (other place : ℕ) (seat : Seat) → kept_count (after_scan other place None seat) ≡ kept_count seat }
+    // What a Give leaves retired is what was kept, and what it gives is the rest.
+    ensures left { (state : State) (i epoch : ℕ) → IsSound state → IsTrue (is_enabled state (step.Give i))
+        → retired_count (after_give epoch (seat_at state i)) ≡ kept_count (seat_at state i) }
+    ensures given { (state : State) (i epoch : ℕ) → IsSound state → IsTrue (is_enabled state (step.Give i))
+        → count_by (λ mark. mark) (given (seat_at state i)) + kept_count (seat_at state i) ≡ retired_count (seat_at state i) }
+    ensures fresh { (state : State) (i epoch : ℕ) → IsSound state → IsTrue (is_enabled state (step.Give i))
+        → fresh_count (after_give epoch (seat_at state i)) ≡ fresh_count (seat_at state i) + count_by (λ mark. mark) (given (seat_at state i)) }
+{}
+
+/// Other words of the same lengths keep a state sound. So a start with given contents is sound.
+pub fn other_words_are_sound()
+    ensures words { (state : State) (words : List (List ℕ)) → IsSound state → length words ≡ slot_count state.shape
+        → ((slot : ℕ) → slot < slot_count state.shape → length (slice_index_or words slot []) ≡ state.shape.width)
+        → IsSound (record state { words = words }) }
+    ensures start { (shape : Shape) (words : List (List ℕ)) → length words ≡ slot_count shape
+        → ((slot : ℕ) → slot < slot_count shape → length (slice_index_or words slot []) ≡ shape.width)
+        → IsSound (record (start_state shape) { words = words }) }
+{}
+
+/// A slot that is fresh at a seat is in no root, fresh at no other seat, and retired at none.
+pub fn fresh_slots_are_alone()
+    ensures { (state : State) (i slot : ℕ) → IsSound state → slot < slot_count state.shape
+        → has (seat_at state i).fresh slot ≡ true → IsFreshAlone state i slot }
 {}
