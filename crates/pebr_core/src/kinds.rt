@@ -139,10 +139,6 @@ pub enum Answer {
 #[derive(Clone, Copy, PartialEq, Eq, Debug)]
 pub struct NotEnabled;
 
-/// No memory was left.
-#[derive(Clone, Copy, PartialEq, Eq, Debug)]
-pub struct NoMemory;
-
 /// The status of a seat.
 #[derive(Clone, Copy, PartialEq, Eq, Debug)]
 pub enum Stance {

@@ -7,8 +7,9 @@ ghost use Rattle.pebr_core.specs.State.{has, is_retired};
 ghost use Rattle.pebr_core.specs.Steps.{tag_with, is_above_tags, united, released};
 ghost use Rattle.pebr_core.specs.Marks.{given_marks};
 
-use crate::kinds::{NoMemory, Retired};
+use crate::kinds::Retired;
 use crate::row::Row;
+use no_memory::NoMemory;
 use std::alloc::Global;
 use std::marker::Model;
 
@@ -32,10 +33,8 @@ impl RetiredSlots {
     pub fn none(alloc: Global, count: usize) -> Result<RetiredSlots, NoMemory>
         ensures { IfOk result (λ r. r ≡ replicate count retire.No) }
     {
-        match vec![in alloc; Retired::No; count] {
-            Ok(slots) => Ok(RetiredSlots { slots }),
-            Err(_) => Err(NoMemory),
-        }
+        let slots = vec![in alloc; Retired::No; count]?;
+        Ok(RetiredSlots { slots })
     }
 
     /// What a slot is; no slot past the end is retired.

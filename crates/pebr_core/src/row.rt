@@ -2,7 +2,7 @@
 
 ghost use Rattle.std.specs.Prelude.{◌≡◌, ℕ, List, [], map, length, replicate, IfOk, slice_index_or, slice_set};
 
-use crate::kinds::NoMemory;
+use no_memory::NoMemory;
 use std::alloc::Global;
 use std::marker::Model;
 
@@ -25,9 +25,7 @@ impl<T: Copy> Row<T> {
     {
         let mut entries = Vec::new(alloc);
         for _ in 0..count {
-            if entries.push(value).is_err() {
-                return Err(NoMemory);
-            }
+            entries.push(value)?;
         }
         Ok(Row { entries })
     }
@@ -88,9 +86,7 @@ impl<T: Copy + Drop> Grid<T> {
         let mut rows = Vec::new(alloc);
         for _ in 0..count {
             let row = Row::filled(alloc, width, value)?;
-            if rows.push(row).is_err() {
-                return Err(NoMemory);
-            }
+            rows.push(row)?;
         }
         Ok(Grid { rows })
     }

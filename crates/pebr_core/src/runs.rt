@@ -6,8 +6,9 @@ ghost use Rattle.pebr_core.specs.Steps.{is_enabled, after, answer_of, next};
 ghost use Rattle.pebr_core.specs.Kept.{IsSound};
 ghost use Rattle.pebr_core.specs.Runs.{state_after, answers_of, first_refused, GivesNoUsed, KeepsUsedWords, IsSafeRun};
 
-use crate::kinds::{Answer, NoMemory, NotEnabled, Step};
+use crate::kinds::{Answer, NotEnabled, Step};
 use crate::machine::Core;
+use no_memory::NoMemory;
 use std::alloc::Global;
 
 /// A core after a list of steps, with an answer to each.
@@ -26,6 +27,16 @@ pub enum ReplayError {
     NotEnabled(usize),
     /// No memory was left.
     NoMemory,
+}
+
+impl From<NoMemory> for ReplayError {
+    ghost use Rattle.pebr_core.specs.declared.runs.ReplayError.TheVariants as error;
+
+    ghost from_gives = { λ _ e. e ≡ error.NoMemory };
+
+    fn from(_error: NoMemory) -> ReplayError {
+        ReplayError::NoMemory
+    }
 }
 
 impl Core {
@@ -101,10 +112,7 @@ pub fn replay(alloc: Global, core: Core, steps: &[Step]) -> Result<Replayed, Rep
         let Some(answer) = core.make(*step) else {
             return Err(ReplayError::NotEnabled(place));
         };
-        match push_answer(&mut answers, answer) {
-            Ok(()) => {}
-            Err(NoMemory) => return Err(ReplayError::NoMemory),
-        }
+        push_answer(&mut answers, answer)?;
     }
     Ok(Replayed { core, answers })
 }
@@ -112,8 +120,6 @@ pub fn replay(alloc: Global, core: Core, steps: &[Step]) -> Result<Replayed, Rep
 fn push_answer(answers: &mut Vec<Answer>, answer: Answer) -> Result<(), NoMemory>
     ensures { OnOk result (answers.new.items ≡ answers.old.items ++ answer ∷ []) }
 {
-    match answers.push(answer) {
-        Ok(()) => Ok(()),
-        Err(_) => Err(NoMemory),
-    }
+    answers.push(answer)?;
+    Ok(())
 }

@@ -6,11 +6,12 @@ ghost use Rattle.pebr_core.specs.State.{slots_per_seat, slot_count, is_share_of,
 ghost use Rattle.pebr_core.specs.Kept.{IsWithinLimits};
 ghost use Rattle.pebr_core.specs.Shown.{shown_seat, HasRoom};
 
-use crate::kinds::{NoMemory, Shape, ShieldAt, Stance};
+use crate::kinds::{Shape, ShieldAt, Stance};
 use crate::machine::Core;
 use crate::retired::RetiredSlots;
 use crate::row::{Grid, Row};
 use crate::seats::{ScanData, SeatData};
+use no_memory::NoMemory;
 use std::alloc::Global;
 
 /// The root of each number holds the slot of that number.
@@ -82,10 +83,8 @@ fn first_seats(alloc: Global, shape: &Shape) -> Result<Vec<SeatData>, NoMemory>
 fn push_seat(seats: &mut Vec<SeatData>, entry: SeatData) -> Result<(), NoMemory>
     ensures { OnOk result (seats.new.items ≡ seats.old.items ++ entry ∷ []) }
 {
-    match seats.push(entry) {
-        Ok(()) => Ok(()),
-        Err(_) => Err(NoMemory),
-    }
+    seats.push(entry)?;
+    Ok(())
 }
 
 impl Core {

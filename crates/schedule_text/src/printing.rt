@@ -12,10 +12,8 @@ use std::alloc::Global;
 fn put(out: &mut Vec<u8>, bytes: &[u8]) -> Result<(), NoMemory>
     ensures { OnOk result (out.new.items ≡ out.old.items ++ bytes.now) }
 {
-    match out.extend_from_slice(bytes) {
-        Ok(()) => Ok(()),
-        Err(_) => Err(NoMemory),
-    }
+    out.extend_from_slice(bytes)?;
+    Ok(())
 }
 
 /// Adds a word and a number in decimal.
@@ -23,10 +21,8 @@ fn put_number(alloc: Global, out: &mut Vec<u8>, word: &[u8], number: u64) -> Res
     ensures { OnOk result (out.new.items ≡ out.old.items ++ (word.now ++ decimal number)) }
 {
     put(out, word)?;
-    match format!(in alloc; "{number}") {
-        Ok(digits) => put(out, digits.as_bytes()),
-        Err(_) => Err(NoMemory),
-    }
+    let digits = format!(in alloc; "{number}")?;
+    put(out, digits.as_bytes())
 }
 
 /// Adds what is printed of an answer.

@@ -108,8 +108,6 @@ fn read_steps(alloc: Global, text: &[u8]) -> Result<Vec<Step>, ScheduleError>
 fn push(steps: &mut Vec<Step>, step: Step) -> Result<(), NoMemory>
     ensures { OnOk result (steps.new.items ≡ steps.old.items ++ step ∷ []) }
 {
-    match steps.push(step) {
-        Ok(()) => Ok(()),
-        Err(_) => Err(NoMemory),
-    }
+    steps.push(step)?;
+    Ok(())
 }

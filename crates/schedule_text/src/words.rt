@@ -84,8 +84,6 @@ pub fn numbers(alloc: Global, text: Option<&[u8]>) -> Result<Option<Vec<u64>>, N
 fn push(numbers: &mut Vec<u64>, value: u64) -> Result<(), NoMemory>
     ensures { OnOk result (numbers.new.items ≡ numbers.old.items ++ value ∷ []) }
 {
-    match numbers.push(value) {
-        Ok(()) => Ok(()),
-        Err(_) => Err(NoMemory),
-    }
+    numbers.push(value)?;
+    Ok(())
 }

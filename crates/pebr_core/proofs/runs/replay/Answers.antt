@@ -15,7 +15,7 @@ loop-place-preserved c =
     subst (λ z. IsRunFrom c.args.core c.args.steps.now (c.loop-place.place + 1) z c.push_answer.new.answers.items)
     (sym (c.make.ensures.state ∙ ap (λ n. n.1) (next_enabled core s told.0)))
     (subst (λ l. IsRunFrom c.args.core c.args.steps.now (c.loop-place.place + 1) (after core s) l)
-    (sym (c.in-Ok.ensures ∙ ap (λ a. c.loop-place.answers.items ++ a ∷ []) told.1)) more)
+    (sym (c.in_ok-push_answer.ensures ∙ ap (λ a. c.loop-place.answers.items ++ a ∷ []) told.1)) more)
 
 pub returns-clause-safe : goal.returns-clause-safe
 returns-clause-safe c = λ _. safe_run c.args.core c.args.steps.now (subst IsSound c.core.view_is c.core.invariant.sound) (run_ended c.args.core c.args.steps.now c.loop-place.place c.loop-place.core c.loop-place.answers.items c.loop-place.invariant c.loop-place-test.false).2
