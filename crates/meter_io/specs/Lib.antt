@@ -1,3 +1,4 @@
 pub mod Causes
 pub mod Edge
 pub mod Memory
+pub mod Reading

@@ -1,7 +1,8 @@
 -- What contracts see of a source and of a sink in memory.
-use Rattle.std.specs.Prelude.{ℕ, ◌+◌, ◌-◌, ◌^◌, min, List, length}
+use Rattle.std.specs.Prelude.{ℕ, ◌-◌, min, List, length}
+use Rattle.meter_io.specs.Causes.{one_more}
 
--- bytes to be read in pieces; the calls that `fails` names, counted from 1, fail
+-- bytes to be read in pieces; the calls that `fails` names, counted from 1, fail, and `faults` counts the failed ones
 pub record SourceState : Type 0 where
   pub left : List ℕ
   pub piece : ℕ
@@ -9,7 +10,8 @@ pub record SourceState : Type 0 where
   pub calls : ℕ
   pub faults : ℕ
 
--- bytes taken in pieces up to `room` of them; the calls that `fails` names, counted from 1, fail
+-- bytes taken in pieces up to `room` of them; the calls that `fails` names, counted from 1, fail, and those that find
+-- no room; `faults` counts the failed ones
 pub record SinkState : Type 0 where
   pub held : List ℕ
   pub room : ℕ
@@ -20,7 +22,7 @@ pub record SinkState : Type 0 where
 
 -- the number of the next call, which stands still at the last value of its type
 abbrev pub next_call : ℕ → ℕ
-next_call calls = min (calls + 1) (2 ^ 64 - 1)
+next_call calls = one_more calls
 
 -- how many bytes one read of a source gives into a buffer
 abbrev pub given : SourceState → ℕ → ℕ

@@ -5,10 +5,11 @@
 //! [`read_all`] reads a source to its end, and [`write_all`] writes a piece whole. [`MemSource`] and [`MemSink`] stand
 //! in memory and can fail at chosen calls; [`StdSource`] and [`StdSink`] are the edge to the standard library's streams.
 //!
-//! [`NoMemory`] is the one answer for want of memory, here and in the crates above.
+//! [`NoMemory`] is the one answer for out of memory, here and in the crates above.
 #![tactic(auto)]
 
 mod edge;
+mod fault;
 mod reading;
 mod sink;
 mod source;
@@ -17,15 +18,9 @@ mod tests;
 mod writing;
 
 pub use edge::{StdSink, StdSource};
+pub use fault::Failed;
+pub use no_memory::NoMemory;
 pub use reading::{ReadError, read_all};
 pub use sink::{MemSink, Sink};
 pub use source::{MemSource, Source};
 pub use writing::write_all;
-
-/// A call of a source or of a sink that failed. The object counted the fault.
-#[derive(Clone, Copy, Debug, PartialEq, Eq)]
-pub struct Failed;
-
-/// Want of memory. It is merged with no other answer.
-#[derive(Clone, Copy, Debug, PartialEq, Eq)]
-pub struct NoMemory;

@@ -1,8 +1,9 @@
 //! Reading a source to its end.
 
-ghost use Rattle.std.specs.Prelude.{◌≡◌, ◌+◌, ◌≤◌, ◌⊎◌, List, ℕ, length, IfOk, IsErrOf};
+ghost use Rattle.std.specs.Prelude.{◌≡◌, ◌+◌, ◌≤◌, ◌⊎◌, length, IfOk, IsErrOf};
 ghost use Rattle.std.specs.Io.KnownBytes.{Consumes, IsAtEnd};
 ghost use Rattle.meter_io.specs.Causes.{Rose};
+ghost use Rattle.meter_io.specs.Reading.{Takes, TakesAtMost};
 
 use crate::{Failed, Source};
 use std::alloc::Global;
@@ -14,7 +15,7 @@ pub enum ReadError {
     Failed = 1,
     /// More bytes came than the limit.
     TooLarge = 2,
-    /// Want of memory.
+    /// Out of memory.
     NoMemory = 3,
 }
 
@@ -23,14 +24,16 @@ const CHUNK: usize = 65_536;
 
 /// All bytes that the source has left, where they are at most `limit`.
 ///
-/// - `Failed`: only where the source's count of faults rose.
+/// - `Failed`: only where the source's count of faults rose, after at most `limit` bytes were taken.
 /// - `TooLarge`: exactly where more than `limit` bytes came, after `limit + 1` were taken.
-/// - `NoMemory`: want of memory.
+/// - `NoMemory`: out of memory, after at most `limit + 1` bytes were taken.
 pub fn read_all<S: Source>(alloc: Global, source: &mut S, limit: u64) -> Result<Vec<u8>, ReadError>
     ensures all { IfOk result (λ bytes. Consumes (S.left source.old) (S.left source.new) bytes.items × IsAtEnd (S.left source.new)) }
     ensures within { IfOk result (λ bytes. length bytes.items ≤ limit) }
     ensures failed { IsErrOf result ReadError.Failed → Rose (S.faults source.old) (S.faults source.new) }
-    ensures large { IsErrOf result ReadError.TooLarge → (bytes : List ℕ) × (length bytes ≡ limit + 1) × Consumes (S.left source.old) (S.left source.new) bytes }
+    ensures failed_within { IsErrOf result ReadError.Failed → TakesAtMost limit (S.left source.old) (S.left source.new) }
+    ensures large { IsErrOf result ReadError.TooLarge → Takes (limit + 1) (S.left source.old) (S.left source.new) }
+    ensures memory_within { IsErrOf result ReadError.NoMemory → TakesAtMost (limit + 1) (S.left source.old) (S.left source.new) }
     ensures quiet { IsErrOf result ReadError.Failed ⊎ (S.faults source.new ≡ S.faults source.old) }
     ensures later { S.faults source.old ≤ S.faults source.new }
 {

@@ -5,9 +5,10 @@ ghost use Rattle.std.specs.declared.option.Option.{Option};
 ghost use Rattle.std.specs.Io.{WritesAtMost};
 ghost use Rattle.std.specs.Io.KnownBytes.{WriteAppends};
 ghost use Rattle.std.specs.Vec.{vec_capacity};
-ghost use Rattle.meter_io.specs.Causes.{HasCause};
+ghost use Rattle.meter_io.specs.Causes.{HasCause, CountsCall};
 ghost use Rattle.meter_io.specs.Memory.{SinkState, next_call, taken};
 
+use crate::fault::count_fault;
 use crate::{Failed, NoMemory};
 use std::alloc::Global;
 use std::marker::Model;
@@ -34,7 +35,7 @@ pub trait Sink {
 /// A sink in memory, for tests and for runs in memory.
 ///
 /// A call takes at most `piece` bytes. The k-th call, counted from 1, fails where `fails` holds k, and every call fails
-/// once `room` bytes are held.
+/// once `room` bytes are held. The count of faults is the number of failed calls.
 #[derive(Drop)]
 pub struct MemSink<'a> {
     held: Vec<u8>,
@@ -72,17 +73,15 @@ impl<'a> MemSink<'a> {
         requires { 0 < piece }
         ensures { IfOk result (λ sink. sink ≡ record { held = []; room = room; piece = piece; fails = fails.now; calls = 0; faults = 0 }) }
     {
-        match Vec::with_capacity(alloc, room) {
-            Ok(held) => Ok(MemSink {
-                held,
-                room,
-                piece,
-                fails,
-                calls: 0,
-                faults: 0,
-            }),
-            Err(_) => Err(NoMemory),
-        }
+        let held = Vec::with_capacity(alloc, room)?;
+        Ok(MemSink {
+            held,
+            room,
+            piece,
+            fails,
+            calls: 0,
+            faults: 0,
+        })
     }
 
     /// The bytes taken so far.
@@ -104,6 +103,7 @@ impl<'a> Sink for MemSink<'a> {
         ensures some { IfOk result (λ count. 0 < count) }
         ensures bytes { WriteAppends (Some self.old.held) (Some self.new.held) result piece.now }
         ensures cause { HasCause self.old.faults self.new.faults result }
+        ensures counted { CountsCall self.old.faults self.new.faults result }
         ensures fails { IsErr result ↔ (Contains self.old.fails (next_call self.old.calls) ⊎ (length self.old.held ≡ self.old.room)) }
         ensures taken { IfOk result (λ count. count ≡ taken self.old (length piece.now)) }
         ensures calls { self.new.calls ≡ next_call self.old.calls }
@@ -112,8 +112,7 @@ impl<'a> Sink for MemSink<'a> {
         self.calls = self.calls.saturating_add(1);
         let call = self.calls;
         if self.fails.contains(&call) || self.held.len() == self.room {
-            self.faults = self.faults.saturating_add(1);
-            return Err(Failed);
+            return Err(count_fault(&mut self.faults));
         }
         let count = self.piece.min(piece.len()).min(self.room - self.held.len());
         self.held.extend_from_slice(&piece[..count]).unwrap();

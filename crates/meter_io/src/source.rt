@@ -4,10 +4,11 @@ ghost use Rattle.std.specs.Prelude.{◌≡◌, ◌<◌, ◌↔◌, List, ℕ, le
 ghost use Rattle.std.specs.declared.option.Option.{Option};
 ghost use Rattle.std.specs.Io.{ReadsAtMost};
 ghost use Rattle.std.specs.Io.KnownBytes.{ReadConsumes};
-ghost use Rattle.meter_io.specs.Causes.{HasCause};
+ghost use Rattle.meter_io.specs.Causes.{HasCause, CountsCall};
 ghost use Rattle.meter_io.specs.Memory.{SourceState, next_call, given};
 
 use crate::Failed;
+use crate::fault::count_fault;
 use std::marker::Model;
 
 /// Where bytes come from.
@@ -31,7 +32,8 @@ pub trait Source {
 
 /// Bytes in memory as a source, for tests and for runs in memory.
 ///
-/// A call gives at most `piece` bytes. The k-th call, counted from 1, fails where `fails` holds k.
+/// A call gives at most `piece` bytes. The k-th call, counted from 1, fails where `fails` holds k. The count of faults is
+/// the number of failed calls.
 #[derive(Drop)]
 pub struct MemSource<'a> {
     bytes: &'a [u8],
@@ -75,6 +77,7 @@ impl<'a> Source for MemSource<'a> {
         ensures bound { ReadsAtMost result buf.new }
         ensures bytes { ReadConsumes (Some self.old.left) (Some self.new.left) result buf.new }
         ensures cause { HasCause self.old.faults self.new.faults result }
+        ensures counted { CountsCall self.old.faults self.new.faults result }
         ensures fails { IsErr result ↔ Contains self.old.fails (next_call self.old.calls) }
         ensures given { IfOk result (λ count. count ≡ given self.old (length buf.old)) }
         ensures calls { self.new.calls ≡ next_call self.old.calls }
@@ -83,8 +86,7 @@ impl<'a> Source for MemSource<'a> {
         self.calls = self.calls.saturating_add(1);
         let call = self.calls;
         if self.fails.contains(&call) {
-            self.faults = self.faults.saturating_add(1);
-            return Err(Failed);
+            return Err(count_fault(&mut self.faults));
         }
         let count = self.piece.min(buf.len()).min(self.bytes.len());
         let (first, rest) = self.bytes.split_at(count);

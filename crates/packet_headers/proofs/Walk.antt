@@ -2,7 +2,7 @@
 use Rattle.std.proofs.Common.{not, ◌≡◌, ◌<◌, ◌≤◌, ℕ, zero, suc, Bool, true, false, List, length, drop, Ok, Err, refl, ◌∙◌, arith, if◌then◌else◌, length-drop}
 use Rattle.std.proofs.lemmas.Grind.{common_steps}
 use Rattle.packet_headers.specs.declared.fault.HeaderFault.TheVariants.{Short}
-use Rattle.packet_headers.specs.Fields.{octet_at}
+use Rattle.octets.specs.Numbers.{octet_at}
 use Rattle.packet_headers.specs.Extensions.{is_extension, extension_length, is_whole, is_later_fragment, over_at_most, upper_part, WalksOn}
 
 -- an extension header has at least eight octets
@@ -61,7 +61,7 @@ upper_part-cut next headers more cut = walks_on next headers ∙ rw (more, cut) 
 
 pub upper_part-later : (next : ℕ) (headers behind : List ℕ) (octets : ℕ) → is_extension next ≡ true → is_whole next headers ≡ true → is_later_fragment next headers ≡ true
     → octets ≡ extension_length next headers → behind ≡ drop octets headers
-    → upper_part next headers ≡ Ok (record { protocol = 0; later = true; payload = behind })
+    → upper_part next headers ≡ Ok (record { protocol = octet_at 0 headers; later = true; payload = behind })
 upper_part-later next headers behind octets more whole later long rest =
     let eight : extension_length next headers ≡ 8 = grind (arith, common_steps) in
     walks_on next headers ∙ rw (more, whole, later, rest, long, eight) refl

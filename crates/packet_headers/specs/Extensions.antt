@@ -2,10 +2,10 @@
 use Rattle.std.specs.Prelude.{◌≡◌, ◌+◌, ◌*◌, ◌/◌, ◌==◌, ◌&&◌, ◌||◌, ℕ, zero, suc, Bool, true, false, List, length, drop, Result, Ok, Err, nat_lt, nat_le, not, if◌then◌else◌}
 use Rattle.packet_headers.specs.declared.fault.HeaderFault.{HeaderFault}
 use Rattle.packet_headers.specs.declared.fault.HeaderFault.TheVariants.{Short}
-use Rattle.packet_headers.specs.Fields.{octet_at, number_at}
+use Rattle.octets.specs.Numbers.{octet_at, number_at}
 
--- What lies behind the extension headers: its protocol, whether it is a fragment other than the first,
--- whose protocol is 0 here, and the octets up to the packet's end.
+-- What lies behind the extension headers: its protocol, whether it is a fragment other than the first, and
+-- the octets up to the packet's end.
 pub record Upper : Type 0 where
   pub protocol : ℕ
   pub later : Bool
@@ -33,15 +33,17 @@ abbrev pub is_later_fragment : ℕ → List ℕ → Bool
 is_later_fragment next headers = (next == 44) && nat_lt 0 (number_at 2 2 headers / 8)
 
 -- One header: none of these, or a later fragment's, or one behind which `walk` goes on. The first octet of
--- a header names the next one.
+-- a header names the next one. Behind a later fragment's header there is no other header, whatever it names:
+-- what it names is the protocol of the whole packet's payload.
 abbrev pub over_one : (ℕ → List ℕ → Result Upper HeaderFault) → ℕ → List ℕ → Result Upper HeaderFault
 over_one walk next headers =
     if not (is_extension next) then Ok (record { protocol = next; later = false; payload = headers })
     else if not (is_whole next headers) then Err Short
-    else if is_later_fragment next headers then Ok (record { protocol = 0; later = true; payload = drop 8 headers })
+    else if is_later_fragment next headers then Ok (record { protocol = octet_at 0 headers; later = true; payload = drop 8 headers })
     else walk (octet_at 0 headers) (drop (extension_length next headers) headers)
 
--- At most so many extension headers.
+-- At most so many extension headers. (The bound gives the recursion its end. It is never met, as the law
+-- `WalksOn` below says.)
 unfoldable pub over_at_most : ℕ → ℕ → List ℕ → Result Upper HeaderFault
 over_at_most zero = λ next headers. Err Short
 over_at_most (suc more) = over_one (over_at_most more)
@@ -51,6 +53,6 @@ over_at_most (suc more) = over_one (over_at_most more)
 unfoldable pub upper_part : ℕ → List ℕ → Result Upper HeaderFault
 upper_part next headers = over_at_most (suc (length headers)) next headers
 
--- So the bound plays no part: the walk goes over one header, and then over what is left.
+-- The law: the bound plays no part. The walk goes over one header, and then over what is left.
 abbrev pub WalksOn : ℕ → List ℕ → Type 0
 WalksOn next headers = upper_part next headers ≡ over_one upper_part next headers

@@ -2,8 +2,8 @@
 use Rattle.std.specs.Prelude.{◌*◌, ◌/◌, ◌%◌, ◌==◌, ◌||◌, ℕ, max, List, length, Result, Ok, Err, nat_lt, not, if◌then◌else◌}
 use Rattle.packet_headers.specs.declared.fault.HeaderFault.{HeaderFault}
 use Rattle.packet_headers.specs.declared.fault.HeaderFault.TheVariants.{Short, BadHeader}
-use Rattle.packet_headers.specs.Fields.{octet_at, number_at}
-use Rattle.packet_headers.specs.Outcome.{◌>>=◌}
+use Rattle.octets.specs.Numbers.{octet_at, number_at}
+use Rattle.octets.specs.Outcome.{◌>>=◌}
 use Rattle.packet_headers.specs.Packet.{IpPart, limited, behind_header}
 
 -- The version, and the header's length in words of four octets: the upper and the lower four bits of
@@ -42,6 +42,7 @@ ipv4_part rest original = do
   header ← header_length rest
   octets ← packet_length rest original header
   Ok (record {
+    version = 4;
     octets = octets;
     source = number_at 12 4 rest;
     destination = number_at 16 4 rest;

@@ -2,8 +2,8 @@
 use Rattle.std.specs.Prelude.{◌+◌, ◌/◌, ◌==◌, ◌&&◌, ℕ, max, List, length, Result, Ok, Err, nat_lt, not, if◌then◌else◌}
 use Rattle.packet_headers.specs.declared.fault.HeaderFault.{HeaderFault}
 use Rattle.packet_headers.specs.declared.fault.HeaderFault.TheVariants.{Short, BadHeader}
-use Rattle.packet_headers.specs.Fields.{octet_at, number_at}
-use Rattle.packet_headers.specs.Outcome.{◌>>=◌}
+use Rattle.octets.specs.Numbers.{octet_at, number_at}
+use Rattle.octets.specs.Outcome.{◌>>=◌}
 use Rattle.packet_headers.specs.Packet.{IpPart, limited, behind_header}
 use Rattle.packet_headers.specs.Extensions.{upper_part}
 
@@ -30,6 +30,7 @@ ipv6_part rest original = do
   octets ← checked_length rest original
   upper ← upper_part (octet_at 6 rest) (behind_header 40 octets rest)
   Ok (record {
+    version = 6;
     octets = octets;
     source = number_at 8 16 rest;
     destination = number_at 24 16 rest;

@@ -1,14 +1,13 @@
 -- The link part: what stands in front of the IP header of a captured frame.
-use Rattle.std.specs.Prelude.{◌≡◌, ◌+◌, ◌/◌, ◌⊎◌, ◌==◌, ◌||◌, ℕ, Bool, List, length, Result, Ok, Err, nat_lt, not, if◌then◌else◌}
+use Rattle.std.specs.Prelude.{◌≡◌, ◌+◌, ◌/◌, ◌⊎◌, ◌==◌, ◌||◌, ℕ, Bool, List, length, Option, Some, None, Result, Ok, Err, nat_lt, not, if◌then◌else◌}
+use Rattle.link_types.specs.declared.link.LinkType.{LinkType}
+use Rattle.link_types.specs.declared.link.LinkType.TheVariants.{Ethernet, RawIp, LinuxCooked}
+use Rattle.link_types.specs.Links.{link_of}
 use Rattle.packet_headers.specs.declared.fault.HeaderFault.{HeaderFault}
 use Rattle.packet_headers.specs.declared.fault.HeaderFault.TheVariants.{Short, NotIp}
 use Rattle.packet_headers.specs.declared.link.Announced.{Announced}
-use Rattle.packet_headers.specs.Fields.{octet_at, number_at}
-use Rattle.packet_headers.specs.Outcome.{◌>>=◌}
-
--- The link types that are read: Ethernet, IP with nothing in front of it, and Linux cooked version 1.
-abbrev pub IsLinkType : ℕ → Type 0
-IsLinkType link = (link ≡ 1) ⊎ ((link ≡ 101) ⊎ (link ≡ 113))
+use Rattle.octets.specs.Numbers.{octet_at, number_at}
+use Rattle.octets.specs.Outcome.{◌>>=◌}
 
 -- The versions of IP.
 abbrev pub IsIpVersion : ℕ → Type 0
@@ -59,8 +58,15 @@ raw_part captured =
 
 -- The link part of what was captured, by its link type. The header of Ethernet has 14 octets, that of
 -- Linux cooked version 1 has 16.
+abbrev pub part_of_link : LinkType → List ℕ → Result LinkPart HeaderFault
+part_of_link Ethernet captured = typed_part 12 captured
+part_of_link RawIp captured = raw_part captured
+part_of_link LinuxCooked captured = typed_part 14 captured
+
+-- The same by the number of a link type. Behind another link no IP packet is known.
+abbrev pub part_of_number : Option LinkType → List ℕ → Result LinkPart HeaderFault
+part_of_number (Some link) captured = part_of_link link captured
+part_of_number None captured = Err NotIp
+
 abbrev pub link_part : ℕ → List ℕ → Result LinkPart HeaderFault
-link_part link captured =
-    if link == 101 then raw_part captured
-    else if link == 113 then typed_part 14 captured
-    else typed_part 12 captured
+link_part number captured = part_of_number (link_of number) captured

@@ -3,6 +3,7 @@ use Rattle.std.specs.Prelude.{◌≡◌, ◌<◌, ℕ, List, length, Ok}
 use Rattle.packet_headers.specs.declared.link.LinkView.{LinkView}
 use Rattle.packet_headers.specs.declared.ipv4.Ipv4View.{Ipv4View}
 use Rattle.packet_headers.specs.declared.ipv6.Ipv6View.{Ipv6View}
+use Rattle.packet_headers.specs.declared.ip.IpView.{IpView}
 use Rattle.packet_headers.specs.declared.extensions.UpperView.{UpperView}
 use Rattle.packet_headers.specs.declared.extensions.Step.{Step}
 use Rattle.packet_headers.specs.declared.extensions.Step.TheVariants.{Ends, GoesOn}
@@ -15,6 +16,7 @@ link_shown view = record { version = view.version; offset = view.offset }
 
 abbrev pub ipv4_shown : Ipv4View → IpPart
 ipv4_shown view = record {
+  version = 4;
   octets = view.octets;
   source = view.source;
   destination = view.destination;
@@ -25,6 +27,18 @@ ipv4_shown view = record {
 
 abbrev pub ipv6_shown : Ipv6View → IpPart
 ipv6_shown view = record {
+  version = 6;
+  octets = view.octets;
+  source = view.source;
+  destination = view.destination;
+  protocol = view.protocol;
+  later = view.later;
+  payload = view.payload.now;
+}
+
+abbrev pub ip_shown : IpView → IpPart
+ip_shown view = record {
+  version = view.version;
   octets = view.octets;
   source = view.source;
   destination = view.destination;

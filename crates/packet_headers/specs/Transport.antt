@@ -2,7 +2,7 @@
 use Rattle.std.specs.Prelude.{◌%◌, ℕ, List, length, Result, Ok, Err, nat_lt, if◌then◌else◌}
 use Rattle.packet_headers.specs.declared.fault.HeaderFault.{HeaderFault}
 use Rattle.packet_headers.specs.declared.fault.HeaderFault.TheVariants.{Short}
-use Rattle.packet_headers.specs.Fields.{number_at}
+use Rattle.octets.specs.Numbers.{number_at}
 
 -- The ports of both ends, and the control bits of TCP.
 pub record TransportPart : Type 0 where

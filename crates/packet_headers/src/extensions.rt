@@ -1,11 +1,11 @@
-//! The extension headers of IPv6.
+//! The extension headers of IPv6 (RFC 8200, section 4; RFC 4302, section 2).
 
 ghost use Rattle.std.specs.Prelude.{◌≡◌, ◌≢◌, ◌≤◌, ℕ, List, true, false, IfOk, IfErr, length};
 ghost use Rattle.packet_headers.specs.Extensions.{is_extension, extension_length, is_whole, is_later_fragment, upper_part, WalksOn};
 ghost use Rattle.packet_headers.specs.Shown.{upper_shown, StepGives};
 
 use crate::fault::HeaderFault;
-use crate::fields::u16_at;
+use octets::u16_at;
 
 /// Hop-by-hop options.
 const HOP_BY_HOP: u8 = 0;
@@ -23,7 +23,7 @@ const AUTHENTICATION: u8 = 51;
 const DESTINATION_OPTIONS: u8 = 60;
 
 /// What lies behind the extension headers: its protocol, whether it is a fragment other than the first,
-/// whose protocol is 0 here, and the octets up to the packet's end.
+/// and the octets up to the packet's end.
 #[derive(Clone, Copy, Debug)]
 pub struct UpperView<'a> {
     pub protocol: u8,
@@ -81,7 +81,7 @@ fn go_over(next: u8, headers: &[u8]) -> Result<Step<'_>, HeaderFault>
     let (_, behind) = headers.split_at(length);
     if is_later_fragment(next, headers) {
         return Ok(Step::Ends(UpperView {
-            protocol: 0,
+            protocol: headers[0],
             later: true,
             payload: behind,
         }));

@@ -5,8 +5,8 @@ ghost use Rattle.packet_headers.specs.Ipv4.{header_length, packet_length, ipv4_p
 ghost use Rattle.packet_headers.specs.Shown.{ipv4_shown};
 
 use crate::fault::HeaderFault;
-use crate::fields::{u16_at, u32_at};
 use crate::packet::{captured_behind, limited_length};
+use octets::{u16_at, u32_at};
 
 /// The least length of a header, in octets.
 const LEAST_HEADER: usize = 20;

@@ -1,4 +1,4 @@
-//! The IPv6 header with its extension headers.
+//! The IPv6 header with its extension headers (RFC 8200).
 
 ghost use Rattle.std.specs.Prelude.{◌≡◌, ◌≢◌, ◌^◌, ◌<◌, ◌≤◌, IfOk, IfErr, length};
 ghost use Rattle.packet_headers.specs.Ipv6.{checked_length, packet_length, ipv6_part};
@@ -6,8 +6,8 @@ ghost use Rattle.packet_headers.specs.Shown.{ipv6_shown};
 
 use crate::extensions::upper_of;
 use crate::fault::HeaderFault;
-use crate::fields::{u16_at, u128_at};
 use crate::packet::{captured_behind, limited_length};
+use octets::{u16_at, u128_at};
 
 /// The length of the header, in octets.
 const HEADER: usize = 40;
@@ -23,8 +23,8 @@ pub struct Ipv6View<'a> {
     pub source: u128,
     /// The address of the receiver.
     pub destination: u128,
-    /// The protocol of the payload: the first next header that names no extension header, and 0 in a
-    /// fragment other than the first.
+    /// The protocol of the payload: the first next header that names no extension header, and in a fragment
+    /// other than the first the next header that its fragment header names.
     pub protocol: u8,
     /// Whether the packet is a fragment other than the first.
     pub later: bool,

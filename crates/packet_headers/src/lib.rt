@@ -2,8 +2,8 @@
 //! link part with its tags, IPv4 with its options, IPv6 with its extension headers, TCP and UDP.
 //!
 //! A view is made by `of`, which checks the header and hands out its fields, or answers the first
-//! fault that it meets. Views nest: `LinkView::rest` is what `Ipv4View::of` and `Ipv6View::of` take,
-//! and their `payload` is what `TcpView::of` and `UdpView::of` take. Nothing is copied, no call takes
+//! fault that it meets. Views nest: `LinkView::rest` is what `Ipv4View::of` and `Ipv6View::of` take, or
+//! `IpView::of` for the version that the link part tells, and their `payload` is what `TcpView::of` and `UdpView::of` take. Nothing is copied, no call takes
 //! memory, and no checksum is looked at.
 //!
 //! Each table of the formats is a definition of its own in `specs/`: the fields by their places in the
@@ -13,7 +13,7 @@
 
 mod extensions;
 mod fault;
-mod fields;
+mod ip;
 mod ipv4;
 mod ipv6;
 mod link;
@@ -23,6 +23,7 @@ mod udp;
 
 pub use extensions::walk_law;
 pub use fault::HeaderFault;
+pub use ip::IpView;
 pub use ipv4::Ipv4View;
 pub use ipv6::Ipv6View;
 pub use link::LinkView;

@@ -1,17 +1,13 @@
 //! The link part of a captured frame.
 
 ghost use Rattle.std.specs.Prelude.{◌≡◌, ◌≢◌, ◌≤◌, IfOk, IfErr, length, drop};
-ghost use Rattle.packet_headers.specs.Link.{IsLinkType, IsIpVersion, after_tag, ip_announced, typed_part, raw_part, link_part};
+ghost use Rattle.link_types.specs.Links.{IsKnownLink};
+ghost use Rattle.packet_headers.specs.Link.{IsIpVersion, after_tag, ip_announced, typed_part, raw_part, link_part};
 ghost use Rattle.packet_headers.specs.Shown.{link_shown};
 
 use crate::fault::HeaderFault;
-use crate::fields::u16_at;
-
-/// The link type of raw IP, which has no link header.
-const RAW: u32 = 101;
-
-/// The link type of Linux cooked version 1.
-const COOKED: u32 = 113;
+use link_types::LinkType;
+use octets::u16_at;
 
 /// The place of the type in the header of Ethernet.
 const ETHERNET_TYPE: usize = 12;
@@ -57,7 +53,7 @@ impl<'a> LinkView<'a> {
     /// where the last type, or the version of raw IP, is neither IPv4's nor IPv6's. A third tag is
     /// `NotIp`, whatever lies behind it.
     pub fn of(link: u32, captured: &'a [u8]) -> Result<LinkView<'a>, HeaderFault>
-        requires known { IsLinkType link }
+        requires known { IsKnownLink link }
         ensures fields { IfOk result (λ view. link_part link captured.now ≡ Ok (link_shown view)) }
         ensures fault { IfErr result (λ fault. link_part link captured.now ≡ Err fault) }
         ensures version { IfOk result (λ view. IsIpVersion view.version) }
@@ -65,10 +61,11 @@ impl<'a> LinkView<'a> {
         ensures rest { IfOk result (λ view. view.rest.now ≡ drop view.offset captured.now) }
         ensures never_bad_header { result ≢ Err HeaderFault.BadHeader }
     {
-        match link {
-            RAW => raw(captured),
-            COOKED => typed(captured, COOKED_TYPE),
-            _ => typed(captured, ETHERNET_TYPE),
+        match LinkType::of(link) {
+            Some(LinkType::Ethernet) => typed(captured, ETHERNET_TYPE),
+            Some(LinkType::RawIp) => raw(captured),
+            Some(LinkType::LinuxCooked) => typed(captured, COOKED_TYPE),
+            None => unreachable!(),
         }
     }
 }

@@ -4,7 +4,7 @@ ghost use Rattle.std.specs.Prelude.{◌≡◌, ◌<◌, ◌↔◌, IsErr, IfOk, 
 ghost use Rattle.packet_headers.specs.Transport.{tcp_part};
 
 use crate::fault::HeaderFault;
-use crate::fields::u16_at;
+use octets::u16_at;
 use std::marker::Model;
 
 /// The octets that the fields lie in.
@@ -57,7 +57,7 @@ impl<'a> TcpView<'a> {
     }
 
     /// The control bits (RFC 7125): the lower 12 bits of the octets 12 and 13.
-    #[tactic(auto, unfolding(crate::specs::Fields::number_at))]
+    #[tactic(auto, unfolding(octets::specs::Numbers::number_at))]
     pub fn flags(&self) -> u16
         ensures { result ≡ self.now.flags }
     {

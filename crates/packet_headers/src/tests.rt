@@ -1,8 +1,9 @@
 //! Frames made by hand from the standards, with the answers that their tables give.
 
-ghost use Rattle.packet_headers.specs.Link.{IsLinkType};
+ghost use Rattle.link_types.specs.Links.{IsKnownLink};
+ghost use Rattle.packet_headers.specs.Link.{IsIpVersion};
 
-use crate::{HeaderFault, Ipv4View, Ipv6View, LinkView, TcpView, UdpView};
+use crate::{HeaderFault, IpView, LinkView, TcpView, UdpView};
 use HeaderFault::{BadHeader, NotIp, Short};
 use Want::{Ip, Link, Packet, Transport};
 use std::alloc::{AllocError, Global};
@@ -230,12 +231,15 @@ const CHAINS: &[Row] = frames! {
     // Fragments: the upper 13 bits of the field are the offset, the lower 3 are flags.
     101 [V6, b"\0\x10\x2c\x40", V6_ADDRESSES, b"\x11\0\0\x01\0\0\0\x09", UDP] 56 of 56 => Packet(56, 17, false, 48, 56, 4000, 53, 0);
     101 [V6, b"\0\x10\x2c\x40", V6_ADDRESSES, b"\x11\0\0\x07\0\0\0\x09", UDP] 56 of 56 => Packet(56, 17, false, 48, 56, 4000, 53, 0);
-    101 [V6, b"\0\x10\x2c\x40", V6_ADDRESSES, b"\x11\0\0\x08\0\0\0\x09", UDP] 56 of 56 => Packet(56, 0, true, 48, 56, 0, 0, 0);
-    101 [V6, b"\0\x10\x2c\x40", V6_ADDRESSES, b"\x11\0\xff\xf8\0\0\0\x09", UDP] 56 of 56 => Packet(56, 0, true, 48, 56, 0, 0, 0);
-    101 [V6, b"\0\x10\x2c\x40", V6_ADDRESSES, b"\x11\0\x01\0\0\0\0\x09", UDP] 56 of 56 => Packet(56, 0, true, 48, 56, 0, 0, 0);
-    101 [V6, b"\0\x08\x2c\x40", V6_ADDRESSES, b"\x06\0\0\x08\0\0\0\x09"] 48 of 48 => Packet(48, 0, true, 48, 48, 0, 0, 0);
+    101 [V6, b"\0\x10\x2c\x40", V6_ADDRESSES, b"\x11\0\0\x08\0\0\0\x09", UDP] 56 of 56 => Packet(56, 17, true, 48, 56, 0, 0, 0);
+    101 [V6, b"\0\x10\x2c\x40", V6_ADDRESSES, b"\x11\0\xff\xf8\0\0\0\x09", UDP] 56 of 56 => Packet(56, 17, true, 48, 56, 0, 0, 0);
+    101 [V6, b"\0\x10\x2c\x40", V6_ADDRESSES, b"\x11\0\x01\0\0\0\0\x09", UDP] 56 of 56 => Packet(56, 17, true, 48, 56, 0, 0, 0);
+    101 [V6, b"\0\x08\x2c\x40", V6_ADDRESSES, b"\x06\0\0\x08\0\0\0\x09"] 48 of 48 => Packet(48, 6, true, 48, 48, 0, 0, 0);
     101 [V6, b"\0\x07\x2c\x40", V6_ADDRESSES, b"\x06\0\0\x08\0\0\0\x09"] 48 of 48 => Ip(Short);
     101 [V6, b"\0\x08\x2c\x40", V6_ADDRESSES, b"\x06\0\0\x08\0\0\0\x09"] 47 of 48 => Ip(Short);
+    // The protocol of a later fragment is what its header names: ESP, and 41, which isn't gone over either.
+    101 [V6, b"\0\x10\x2c\x40", V6_ADDRESSES, b"\x32\0\0\x08\0\0\0\x09", UDP] 56 of 56 => Packet(56, 50, true, 48, 56, 0, 0, 0);
+    101 [V6, b"\0\x10\x2c\x40", V6_ADDRESSES, b"\x29\0\x10\x01\0\0\0\x09", UDP] 56 of 56 => Packet(56, 41, true, 48, 56, 0, 0, 0);
     // The second octet of a fragment header is no length.
     101 [V6, b"\0\x10\x2c\x40", V6_ADDRESSES, b"\x11\xff\0\0\0\0\0\x09", UDP] 56 of 56 => Packet(56, 17, false, 48, 56, 4000, 53, 0);
     // Chains: all five kinds, a kind again, and what follows a later fragment's header isn't looked at.
@@ -252,19 +256,8 @@ const CHAINS: &[Row] = frames! {
     101 [V6, b"\0\0\0\x40", V6_ADDRESSES, b"\x11\0\x01\x04\0\0\0\0", UDP] 56 of 9000 => Packet(9000, 17, false, 48, 56, 4000, 53, 0);
     101 [V6, b"\0\0\0\x40", V6_ADDRESSES, b"\x11\0\x01\x04\0\0\0\0", UDP] 56 of 47 => Ip(Short);
     101 [V6, b"\0\x24\0\x40", V6_ADDRESSES, b"\x2c\0\x01\x04\0\0\0\0", b"\x06\0\0\x01\0\0\0\x09", TCP_PORTS, b"\x50\x10", ZEROS] 76 of 76 => Packet(76, 6, false, 56, 76, 1025, 443, 16);
-    101 [V6, b"\0\x74\0\x40", V6_ADDRESSES, b"\x2c\0\x01\x04\0\0\0\0", b"\x06\0\0\x20\0\0\0\x09", ZEROS, ZEROS, ZEROS, ZEROS] 156 of 156 => Packet(156, 0, true, 56, 156, 0, 0, 0);
+    101 [V6, b"\0\x74\0\x40", V6_ADDRESSES, b"\x2c\0\x01\x04\0\0\0\0", b"\x06\0\0\x20\0\0\0\x09", ZEROS, ZEROS, ZEROS, ZEROS] 156 of 156 => Packet(156, 6, true, 56, 156, 0, 0, 0);
 };
-
-/// What the views tell of a packet.
-#[derive(Clone, Copy)]
-struct Found<'a> {
-    octets: u32,
-    source: u128,
-    destination: u128,
-    protocol: u8,
-    later: bool,
-    payload: &'a [u8],
-}
 
 /// The captured part of a row's frame.
 fn frame_of(alloc: Global, row: &Row) -> Result<Vec<u8>, AllocError> {
@@ -277,32 +270,15 @@ fn frame_of(alloc: Global, row: &Row) -> Result<Vec<u8>, AllocError> {
 }
 
 /// The packet behind a link part, or the fault of its header.
-fn packet_of(link: LinkView<'_>, original: u64) -> Result<Found<'_>, HeaderFault> {
+fn packet_of(link: LinkView<'_>, original: u64) -> Result<IpView<'_>, HeaderFault>
+    requires { IsIpVersion link.version }
+{
     let original = original.saturating_sub(link.offset as u64);
-    if link.version == 4 {
-        let ip = Ipv4View::of(link.rest, original)?;
-        return Ok(Found {
-            octets: ip.octets,
-            source: u128::from(ip.source),
-            destination: u128::from(ip.destination),
-            protocol: ip.protocol,
-            later: ip.later,
-            payload: ip.payload,
-        });
-    }
-    let ip = Ipv6View::of(link.rest, original)?;
-    Ok(Found {
-        octets: ip.octets,
-        source: ip.source,
-        destination: ip.destination,
-        protocol: ip.protocol,
-        later: ip.later,
-        payload: ip.payload,
-    })
+    IpView::of(link.version, link.rest, original)
 }
 
 /// The ports and the flags of a packet.
-fn ports_of(found: &Found<'_>) -> Result<(u16, u16, u16), HeaderFault> {
+fn ports_of(found: &IpView<'_>) -> Result<(u16, u16, u16), HeaderFault> {
     if found.later {
         return Ok((0, 0, 0));
     }
@@ -321,7 +297,7 @@ fn ports_of(found: &Found<'_>) -> Result<(u16, u16, u16), HeaderFault> {
 
 /// Whether the views tell of a frame what is wanted.
 fn is_wanted(frame: &[u8], row: &Row) -> bool
-    requires { IsLinkType row.now.link }
+    requires { IsKnownLink row.now.link }
 {
     let link = match LinkView::of(row.link, frame) {
         Ok(link) => link,
@@ -347,7 +323,8 @@ fn is_wanted(frame: &[u8], row: &Row) -> bool
         Packet(_, _, _, begin, end, _, _, _) => (begin, end),
         _ => return false,
     };
-    found.source == source
+    found.version == link.version
+        && found.source == source
         && found.destination == destination
         && frame.get(begin..end) == Some(found.payload)
         && row.want

@@ -4,7 +4,7 @@ ghost use Rattle.std.specs.Prelude.{◌≡◌, ◌<◌, ◌↔◌, IsErr, IfOk, 
 ghost use Rattle.packet_headers.specs.Transport.{udp_part};
 
 use crate::fault::HeaderFault;
-use crate::fields::u16_at;
+use octets::u16_at;
 use std::marker::Model;
 
 /// The octets that the fields lie in.

@@ -5,11 +5,11 @@ use Rattle.std.proofs.Math.Seq.{take-add}
 use Rattle.std.proofs.lemmas.List.{take-append-drop, length-append, length-take, length-drop, take_at, drop_at}
 use Rattle.std.proofs.lemmas.Bool.{cases_Bool}
 use Rattle.std.proofs.lemmas.Bool.Decides.{nat_tests}
-use Rattle.pcap_reader.specs.declared.endianness.Endianness.{Endianness}
+use Rattle.octets.specs.declared.endianness.Endianness.{Endianness}
 use Rattle.pcap_reader.specs.File.{CaptureFile}
 use Rattle.pcap_reader.specs.Records.{claimed_len, most_captured, begins_with_record, record_parts, parts_of, rest_of, IsRecord, IsCutInto, IsOnlyCut}
 use Rattle.pcap_reader.specs.Front.{EndsAt}
-use Rattle.pcap_reader.proofs.Numbers.{number-drop-append}
+use Rattle.octets.proofs.Reading.{number-drop-append}
 use Rattle.pcap_reader.proofs.Parts.{record_parts-record, record_parts-rest}
 
 -- what the bytes of a record hold

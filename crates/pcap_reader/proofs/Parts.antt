@@ -1,7 +1,7 @@
 -- The records that stand one behind the other from a place on: the first of them, and none.
 use Rattle.std.proofs.Common.{◌≡◌, ℕ, zero, suc, ◌+◌, true, false, List, [], ◌∷◌, take, drop, refl, sym, ap, ◌∙◌, arith}
 use Rattle.std.proofs.lemmas.List.{drop-drop}
-use Rattle.pcap_reader.specs.declared.endianness.Endianness.{Endianness}
+use Rattle.octets.specs.declared.endianness.Endianness.{Endianness}
 use Rattle.pcap_reader.specs.Records.{claimed_len, begins_with_record, record_parts}
 use Rattle.pcap_reader.specs.Front.{EndsAt}
 

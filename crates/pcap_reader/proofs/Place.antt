@@ -4,12 +4,12 @@ use Rattle.std.specs.List.{concat, AllByRecursion, slice_get}
 use Rattle.std.specs.Option.{option_map}
 use Rattle.std.proofs.lemmas.List.{length-append, length-drop, length-take, take_at, drop_at, drop-drop, drop-append-le, length-map}
 use Rattle.std.proofs.lemmas.Option.{slice_get-get_or, slice_get-map}
-use Rattle.pcap_reader.specs.declared.endianness.Endianness.{Endianness}
+use Rattle.octets.specs.declared.endianness.Endianness.{Endianness}
 use Rattle.pcap_reader.specs.File.{CaptureFile}
-use Rattle.pcap_reader.specs.Number.{number}
+use Rattle.octets.specs.Numbers.{number}
 use Rattle.pcap_reader.specs.Records.{claimed_len, most_captured, parts_of, rest_of, records_of, offsets_from, PacketRecord, packet_record, IsRecord}
 use Rattle.pcap_reader.specs.Index.{Offsets, IsIndexOf}
-use Rattle.pcap_reader.proofs.Numbers.{number-drop-append}
+use Rattle.octets.proofs.Reading.{number-drop-append}
 use Rattle.pcap_reader.proofs.Cutting.{file_is_cut}
 
 -- a record stands at a place of some bytes, with more behind it

@@ -3,7 +3,7 @@ use Rattle.std.proofs.Common.{◌≡◌, ℕ, suc, ◌+◌, ◌*◌, ◌-◌, �
 use Rattle.std.specs.List.{concat}
 use Rattle.std.proofs.lemmas.List.{length-append, length-take, length-drop, length-map, append-nil}
 use Rattle.std.proofs.lemmas.Bool.Decides.{nat_tests}
-use Rattle.pcap_reader.specs.declared.endianness.Endianness.{Endianness}
+use Rattle.octets.specs.declared.endianness.Endianness.{Endianness}
 use Rattle.pcap_reader.specs.File.{CaptureFile}
 use Rattle.pcap_reader.specs.Records.{claimed_len, begins_with_record, begins_with_damage, record_parts, parts_of, damage_of, packet_record, offsets_from}
 use Rattle.pcap_reader.specs.Index.{Offsets, IsIndexOf}

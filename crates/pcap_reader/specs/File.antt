@@ -1,9 +1,9 @@
 -- The file header (draft-ietf-opsawg-pcap, section 4).
-use Rattle.std.specs.Prelude.{ℕ, ◌≡◌, ◌==◌, ◌&&◌, ◌||◌, ◌⊎◌, Bool, true, false, List, length, drop, nat_lt, if◌then◌else◌, Option, Some, None}
+use Rattle.std.specs.Prelude.{ℕ, ◌==◌, ◌&&◌, Bool, true, false, List, length, nat_lt, if◌then◌else◌, Option, Some, None}
 use Rattle.std.specs.Option.{option_and_then}
-use Rattle.pcap_reader.specs.Number.{number}
-use Rattle.pcap_reader.specs.declared.endianness.Endianness.{Endianness}
-use Rattle.pcap_reader.specs.declared.endianness.Endianness.TheVariants.{Little, Big}
+use Rattle.octets.specs.Numbers.{ordered_number_at}
+use Rattle.octets.specs.declared.endianness.Endianness.{Endianness}
+use Rattle.octets.specs.declared.endianness.Endianness.TheVariants.{Little, Big}
 
 -- A capture file: all its bytes, the order of the bytes in its fields, whether its fractions of a second are
 -- nanoseconds, and its link type.
@@ -28,7 +28,7 @@ told_by_magic magic =
 
 -- The major version, two bytes from 4 on, is 2, and the minor version, two bytes from 6 on, is 4.
 abbrev pub is_version_2_4 : Endianness → List ℕ → Bool
-is_version_2_4 order bytes = number order 2 (drop 4 bytes) == 2 && number order 2 (drop 6 bytes) == 4
+is_version_2_4 order bytes = ordered_number_at order 4 2 bytes == 2 && ordered_number_at order 6 2 bytes == 4
 
 -- The capture file that the bytes are, where they begin with a file header. The link type is the whole last
 -- field, four bytes from 20 on. The fields between the version and it say nothing here.
@@ -37,14 +37,6 @@ capture_file bytes =
     if nat_lt (length bytes) file_header_len then None else
     option_and_then
     (λ m. if is_version_2_4 m.0 bytes
-    then Some (record { bytes = bytes; order = m.0; nanos = m.1; link = number m.0 4 (drop 20 bytes) })
+    then Some (record { bytes = bytes; order = m.0; nanos = m.1; link = ordered_number_at m.0 20 4 bytes })
     else None)
-    (told_by_magic (number Big 4 bytes))
-
--- The link types that are read: Ethernet, raw IP, Linux cooked version 1.
-abbrev pub IsKnownLink : ℕ → Type 0
-IsKnownLink link = (link ≡ 1) ⊎ ((link ≡ 101) ⊎ (link ≡ 113))
-
--- the same as a test
-abbrev pub is_known_link : ℕ → Bool
-is_known_link link = link == 1 || (link == 101 || link == 113)
+    (told_by_magic (ordered_number_at Big 0 4 bytes))

@@ -1,6 +1,6 @@
 -- What stands at a place of a file, as the search for records finds it.
 use Rattle.std.specs.Prelude.{ℕ, ◌≡◌, ◌+◌, ◌≤◌, true, false, List, length, drop}
-use Rattle.pcap_reader.specs.declared.endianness.Endianness.{Endianness}
+use Rattle.octets.specs.declared.endianness.Endianness.{Endianness}
 use Rattle.pcap_reader.specs.declared.front.Front.{Front}
 use Rattle.pcap_reader.specs.declared.front.Front.TheVariants.{Record, Damage, Rest}
 use Rattle.pcap_reader.specs.Records.{claimed_len, begins_with_record, begins_with_damage}

@@ -1,4 +1,5 @@
-pub mod Number
+pub use Rattle.octets.specs.Numbers
+pub use Rattle.link_types.specs.Links
 pub mod File
 pub mod Records
 pub mod Index

@@ -1,8 +1,8 @@
 -- The packet records of a file (draft-ietf-opsawg-pcap, section 5).
 use Rattle.std.specs.Prelude.{ℕ, zero, suc, ◌≡◌, ◌+◌, ◌≤◌, ◌&&◌, Bool, false, List, [], ◌∷◌, ◌++◌, length, take, drop, map, nat_le, nat_lt, if◌then◌else◌, Option, Some, None}
 use Rattle.std.specs.List.{concat, AllByRecursion}
-use Rattle.pcap_reader.specs.declared.endianness.Endianness.{Endianness}
-use Rattle.pcap_reader.specs.Number.{number}
+use Rattle.octets.specs.declared.endianness.Endianness.{Endianness}
+use Rattle.octets.specs.Numbers.{ordered_number_at}
 use Rattle.pcap_reader.specs.File.{CaptureFile, file_header_len}
 
 -- A record has at most so many captured bytes.
@@ -12,7 +12,7 @@ most_captured = 262144
 -- A record's header has 16 bytes: seconds, fraction, captured length and original length, four bytes each.
 -- The captured length is what the header claims to stand behind it.
 abbrev pub claimed_len : Endianness → List ℕ → ℕ
-claimed_len order bytes = number order 4 (drop 8 bytes)
+claimed_len order bytes = ordered_number_at order 8 4 bytes
 
 -- The bytes begin with a record: a whole record header that claims at most 262,144 captured bytes, and as many
 -- bytes behind it.
@@ -63,9 +63,9 @@ pub record PacketRecord : Type 0 where
 -- What the bytes of a record say.
 abbrev pub packet_record : Endianness → List ℕ → PacketRecord
 packet_record order part = record {
-  seconds = number order 4 part;
-  fraction = number order 4 (drop 4 part);
-  original = number order 4 (drop 12 part);
+  seconds = ordered_number_at order 0 4 part;
+  fraction = ordered_number_at order 4 4 part;
+  original = ordered_number_at order 12 4 part;
   captured = drop 16 part;
 }
 

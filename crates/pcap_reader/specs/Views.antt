@@ -1,5 +1,6 @@
 -- What contracts see of a capture and of a record that is read from it.
 use Rattle.std.specs.Prelude.{ℕ, List}
+use Rattle.link_types.specs.Links.{number_of}
 use Rattle.pcap_reader.specs.File.{CaptureFile}
 use Rattle.pcap_reader.specs.Records.{PacketRecord}
 use Rattle.pcap_reader.specs.declared.header.FileHeader.{FileHeader}
@@ -12,7 +13,7 @@ file_with bytes h = record { bytes = bytes; order = h.order; nanos = h.nanos; li
 
 -- the file that a capture reads
 abbrev pub file_of : Capture → CaptureFile
-file_of c = record { bytes = c.bytes.now; order = c.order; nanos = c.nanos; link = c.link }
+file_of c = record { bytes = c.bytes.now; order = c.order; nanos = c.nanos; link = number_of c.link }
 
 -- the packet record that was read
 abbrev pub record_read : Record → PacketRecord

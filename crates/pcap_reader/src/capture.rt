@@ -1,11 +1,14 @@
-ghost use Rattle.std.specs.Prelude.{◌≡◌, ◌≤◌, IsTrue, length};
-ghost use Rattle.pcap_reader.specs.File.{file_header_len, is_known_link};
+//! A capture: its header read, its records found and read.
 
-use crate::endianness::Endianness;
+ghost use Rattle.std.specs.Prelude.{◌≤◌, length};
+ghost use Rattle.pcap_reader.specs.File.{file_header_len};
+
 use crate::front::{Front, front_at};
 use crate::header::{FILE_HEADER, FileHeader, read_header};
 use crate::index::{IndexError, RecordIndex};
 use crate::record::{Record, record_at};
+use link_types::LinkType;
+use octets::Endianness;
 use std::alloc::Global;
 
 /// Why some bytes are no capture that can be read.
@@ -24,14 +27,14 @@ pub struct Capture<'a> {
     bytes: &'a [u8],
     order: Endianness,
     nanos: bool,
-    link: u32,
+    link: LinkType,
     ghost whole: { file_header_len ≤ length bytes.now },
-    ghost known: { IsTrue (is_known_link link) },
 }
 
 impl<'a> Capture<'a> {
     ghost use Rattle.std.specs.Prelude.{◌≡◌, ◌<◌, ◌≤◌, ◌^◌, ◌↔◌, ℕ, None, Some, Ok, Err, IfOk, OnOk, IsSomeAnd, ◌+◌, ◌*◌, length, slice_get, slice_index, slice_range};
-    ghost use Rattle.pcap_reader.specs.File.{capture_file, IsKnownLink};
+    ghost use Rattle.link_types.specs.Links.{IsKnownLink};
+    ghost use Rattle.pcap_reader.specs.File.{capture_file};
     ghost use Rattle.pcap_reader.specs.Records.{IsOnlyCut, parts_of, rest_of, damage_of, records_of, most_captured};
     ghost use Rattle.pcap_reader.specs.Index.{IsIndexOf};
     ghost use Rattle.pcap_reader.specs.Views.{file_of, record_read};
@@ -49,14 +52,14 @@ impl<'a> Capture<'a> {
             return Err(CaptureError::NotCapture);
         };
         let FileHeader { order, nanos, link } = header;
-        match link {
-            1 | 101 | 113 => Ok(Capture {
+        match LinkType::of(link) {
+            Some(link) => Ok(Capture {
                 bytes,
                 order,
                 nanos,
                 link,
             }),
-            _ => Err(CaptureError::LinkUnknown(link)),
+            None => Err(CaptureError::LinkUnknown(link)),
         }
     }
 
@@ -114,7 +117,7 @@ impl<'a> Capture<'a> {
         ensures link { result ≡ (file_of self.now).link }
         ensures known { IsKnownLink result }
     {
-        self.link
+        self.link.number()
     }
 
     /// Whether fractions of a second are nanoseconds, and not microseconds.

@@ -1,7 +1,9 @@
+//! What stands at a place of a file: a record, a damaged header, or less.
+
 ghost use Rattle.std.specs.Prelude.{◌≤◌, length};
 ghost use Rattle.pcap_reader.specs.Front.{IsFront};
 
-use crate::endianness::Endianness;
+use octets::Endianness;
 
 /// The length of a record's header.
 pub(crate) const RECORD_HEADER: usize = 16;
@@ -31,7 +33,7 @@ pub(crate) fn front_at(order: Endianness, bytes: &[u8], at: usize) -> Front
     if left.len() < RECORD_HEADER {
         return Front::Rest;
     }
-    let claimed = order.read_u32(&left[8..]);
+    let claimed = order.u32_at(left, 8);
     if claimed > MOST_CAPTURED {
         return Front::Damage;
     }

@@ -1,9 +1,11 @@
+//! The file header.
+
 ghost use Rattle.std.specs.Prelude.{◌≡◌, ◌≤◌, IfSome, length};
 ghost use Rattle.std.specs.Option.{option_map};
 ghost use Rattle.pcap_reader.specs.File.{capture_file, told_by_magic, is_version_2_4};
 ghost use Rattle.pcap_reader.specs.Views.{file_with};
 
-use crate::endianness::Endianness;
+use octets::Endianness;
 
 /// The length of the file header.
 pub(crate) const FILE_HEADER: usize = 24;
@@ -34,7 +36,7 @@ fn has_version_2_4(order: Endianness, bytes: &[u8]) -> bool
     requires { 24 ≤ length bytes.now }
     ensures { result ≡ is_version_2_4 order bytes.now }
 {
-    order.read_u16(&bytes[4..]) == 2 && order.read_u16(&bytes[6..]) == 4
+    order.u16_at(bytes, 4) == 2 && order.u16_at(bytes, 6) == 4
 }
 
 /// The file header at the beginning of the bytes, if there is one.
@@ -46,10 +48,10 @@ pub(crate) fn read_header(bytes: &[u8]) -> Option<FileHeader>
     if bytes.len() < FILE_HEADER {
         return None;
     }
-    let (order, nanos) = told_by(Endianness::Big.read_u32(bytes))?;
+    let (order, nanos) = told_by(Endianness::Big.u32_at(bytes, 0))?;
     if !has_version_2_4(order, bytes) {
         return None;
     }
-    let link = order.read_u32(&bytes[20..]);
+    let link = order.u32_at(bytes, 20);
     Some(FileHeader { order, nanos, link })
 }

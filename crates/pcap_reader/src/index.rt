@@ -1,3 +1,5 @@
+//! Where the records of a capture begin.
+
 ghost use Rattle.std.specs.Prelude.{◌≡◌, ◌<◌, length, slice_index};
 
 use std::marker::Model;

@@ -9,15 +9,14 @@
 #![tactic(auto)]
 
 mod capture;
-mod endianness;
 mod front;
 mod header;
 mod index;
 mod record;
 
 pub use capture::{Capture, CaptureError};
-pub use endianness::Endianness;
 pub use index::{IndexError, RecordIndex};
+pub use octets::Endianness;
 pub use record::Record;
 
 #[cfg(test)]

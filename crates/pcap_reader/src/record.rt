@@ -1,9 +1,11 @@
+//! A record of a capture.
+
 ghost use Rattle.std.specs.Prelude.{◌≡◌, ◌+◌, ◌≤◌, drop, take, length};
-ghost use Rattle.pcap_reader.specs.Number.{number};
+ghost use Rattle.octets.specs.Numbers.{number};
 ghost use Rattle.pcap_reader.specs.Records.{claimed_len};
 
-use crate::endianness::Endianness;
 use crate::front::RECORD_HEADER;
+use octets::Endianness;
 
 /// A packet record of a capture. Its captured bytes are a part of the file.
 #[derive(Clone, Copy, Debug, PartialEq, Eq)]
@@ -31,12 +33,12 @@ pub(crate) fn record_at(order: Endianness, bytes: &[u8], at: usize) -> Record<'_
     ensures len { length result.captured.now ≡ claimed_len order (drop at bytes.now) }
 {
     let header = &bytes[at..];
-    let captured = order.read_u32(&header[8..]) as usize;
+    let captured = order.u32_at(header, 8) as usize;
     let from = at + RECORD_HEADER;
     Record {
-        seconds: order.read_u32(header),
-        fraction: order.read_u32(&header[4..]),
-        original: order.read_u32(&header[12..]),
+        seconds: order.u32_at(header, 0),
+        fraction: order.u32_at(header, 4),
+        original: order.u32_at(header, 12),
         captured: &bytes[from..from + captured],
     }
 }

@@ -1,3 +1,5 @@
+//! File headers, cuts of a file into records, and fields in both orders.
+
 use super::*;
 use std::alloc::Global;
 use std::process::Abort;

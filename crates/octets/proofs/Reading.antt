@@ -2,11 +2,11 @@
 use Rattle.std.proofs.Common.{◌≡◌, ℕ, ◌≤◌, ◌+◌, List, ◌++◌, length, drop, ap, ◌∙◌, arith}
 use Rattle.std.proofs.lemmas.List.{drop-append-le, length-drop}
 use Rattle.byteorder.specs.Numbers.{big_from-append, little_from-append}
-use Rattle.pcap_reader.specs.declared.endianness.Endianness.{Endianness}
-use Rattle.pcap_reader.specs.declared.endianness.Endianness.TheVariants.{Little, Big}
-use Rattle.pcap_reader.specs.Number.{number}
+use Rattle.octets.specs.declared.endianness.Endianness.{Endianness}
+use Rattle.octets.specs.declared.endianness.Endianness.TheVariants.{Little, Big}
+use Rattle.octets.specs.Numbers.{number}
 
-number-append : (order : Endianness) (width : ℕ) (xs ys : List ℕ) → width ≤ length xs → number order width (xs ++ ys) ≡ number order width xs
+pub number-append : (order : Endianness) (width : ℕ) (xs ys : List ℕ) → width ≤ length xs → number order width (xs ++ ys) ≡ number order width xs
 unfolding number
 number-append Little width xs ys h = little_from-append width xs ys h
 number-append Big width xs ys h = big_from-append width xs ys h
