@@ -1,11 +1,13 @@
--- The clock of two lists of packets together.
-use Rattle.std.proofs.Common.{◌≡◌, ◌∙◌, ℕ, ◌+◌, ◌≤◌, ◌⊎◌, inl, inr, max, List, ◌++◌, Option, Some, None, All, Any, length, length-append, sym, subst, arith}
+-- The clock of two lists of packets together, and of a permuted list.
+use Rattle.std.proofs.Common.{◌≡◌, ◌∙◌, ℕ, ◌+◌, ◌≤◌, ◌⊎◌, inl, inr, max, List, [], ◌∷◌, ◌++◌, Option, Some, None, All, Any, IsPermutation, length, length-append, refl, ap, sym, subst, arith}
 use Rattle.std.proofs.lemmas.Bool.{cases_order}
 use Rattle.std.proofs.lemmas.List.Elements.{All-append, All-weaker}
+use Rattle.std.proofs.lemmas.List.Sorted.{All-permutation, Contains-permutation, length_permutation}
 use Rattle.std.proofs.Math.ListN.{get_or-append}
 use Rattle.std.proofs.lemmas.List.{get_or-append-add, append-nil}
 use Rattle.packet_accept.specs.declared.packet.Packet.{Packet}
-use Rattle.packet_accept.specs.Clock.{IsGreatest, IsClock, later}
+use Rattle.packet_accept.specs.Extremes.{IsGreatest}
+use Rattle.packet_accept.specs.Clock.{IsClock, later}
 
 module _ {X : Type 0} (f : X → ℕ) where
   -- none is above a greater number either
@@ -37,3 +39,17 @@ clock_together packets others None two one_is two_is = subst (λ ps. IsClock (ps
 clock_together packets others (Some time) None one_is two_is =
     subst (λ ps. IsClock (packets ++ ps) (Some time)) (sym two_is) (rw append-nil one_is)
 clock_together packets others (Some time) (Some other) one_is two_is = greatest_together (λ (p : Packet). p.time) packets others time other one_is two_is
+
+-- an element of a list is one of the permuted list
+Any-permutation : {X : Type 0} (P : X → Type 0) (xs ys : List X) → IsPermutation xs ys → Any P xs → Any P ys
+Any-permutation P xs ys s (k, x, within, is, p) =
+    let there = Contains-permutation xs ys x s (k, within, is) in
+    (there.0, x, there.1, there.2, p)
+
+pub clock_permuted : (packets others : List Packet) (clock : Option ℕ) → IsPermutation packets others → IsClock packets clock → IsClock others clock
+clock_permuted packets [] None s none = refl
+clock_permuted packets (p ∷ others) None s none = absurd (omega (arith, length_permutation packets (p ∷ others) s, ap length none))
+clock_permuted packets others (Some time) s is = record {
+  bound = All-permutation (λ (p : Packet). p.time ≤ time) packets others s is.bound;
+  reached = Any-permutation (λ (p : Packet). p.time ≡ time) packets others s is.reached;
+}

@@ -1,4 +1,3 @@
-pub mod Keys
 pub mod FileAnswers
 pub mod Permuted
 pub mod Clocks

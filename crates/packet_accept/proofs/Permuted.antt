@@ -1,9 +1,9 @@
--- What a choice of elements gives of a permuted list is permuted too.
-use Rattle.std.proofs.Common.{◌≡◌, ℕ, suc, ◌<◌, inl, inr, List, [], ◌∷◌, ◌++◌, length, get_or, set, take, drop, Option, Some, None, refl, sym, ap, ◌∙◌, subst, arith, IsPermutation}
+-- What is made of the elements of a permuted list, one behind the other, is permuted too.
+use Rattle.std.proofs.Common.{◌≡◌, ℕ, suc, ◌<◌, inl, inr, List, [], ◌∷◌, ◌++◌, length, get_or, set, take, drop, Option, Some, None, refl, sym, ap, ◌∙◌, subst, arith, flat_map, IsPermutation}
 use Rattle.std.specs.List.{filter_map, cons_option, swap}
 use Rattle.std.proofs.lemmas.Bool.{cases_order}
 use Rattle.std.proofs.lemmas.List.{set_split, set_at, set_comm, set-append_left, set-get_or, get_or-take, length-set, length-take, append_assoc}
-use Rattle.std.proofs.lemmas.List.Elements.{filter_map-append}
+use Rattle.std.proofs.lemmas.List.Concat.{flat_map-append}
 use Rattle.std.proofs.lemmas.List.Sorted.{IsPermutation-refl, IsPermutation-trans, IsPermutation-append_left, IsPermutation-append_right, IsPermutation-append_comm, IsPermutation-keeps}
 
 module _ {B : Type 0} where
@@ -24,47 +24,34 @@ module _ {B : Type 0} where
       IsPermutation-trans _ _ _ (same ((a ++ (x ++ b)) ++ (y ++ c)) (a ++ (x ++ (b ++ (y ++ c)))) (simp append_assoc))
       (IsPermutation-trans _ _ _ (IsPermutation-append_right a _ _ all) (same (a ++ (y ++ (b ++ (x ++ c)))) ((a ++ (y ++ b)) ++ (x ++ c)) (simp append_assoc)))
 
-module _ {A B : Type 0} (h : A → Option B) where
+module _ {A B : Type 0} (f : A → List B) where
   F : List A → List B
-  F l = filter_map h l
-
-  -- what one element gives
-  one : A → List B
-  one x = cons_option (h x) []
-
-  put : (o : Option B) (l : List B) → cons_option o l ≡ cons_option o [] ++ l
-  put None l = refl
-  put (Some y) l = refl
+  F l = flat_map f l
 
   -- a list with its element at i written anew, and as it was
-  written : (l : List A) (i : ℕ) (y : A) → i < length l → F (set l i y) ≡ F (take i l) ++ (one y ++ F (drop (suc i) l))
-  unfolding F one
-  written l i y p = ap F (set_split l i y p) ∙ filter_map-append h (take i l) (y ∷ drop (suc i) l)
-      ∙ ap (λ rest. F (take i l) ++ rest) (put (h y) (F (drop (suc i) l)))
+  written : (l : List A) (i : ℕ) (y : A) → i < length l → F (set l i y) ≡ F (take i l) ++ (f y ++ F (drop (suc i) l))
+  unfolding F
+  written l i y p = ap F (set_split l i y p) ∙ flat_map-append f (take i l) (y ∷ drop (suc i) l)
 
-  cut : (l : List A) (i : ℕ) (d : A) → i < length l → F l ≡ F (take i l) ++ (one (get_or l i d) ++ F (drop (suc i) l))
+  cut : (l : List A) (i : ℕ) (d : A) → i < length l → F l ≡ F (take i l) ++ (f (get_or l i d) ++ F (drop (suc i) l))
   cut l i d p = ap F (sym (set-get_or l i d)) ∙ written l i (get_or l i d) p
-
-  -- two lists with an element between them
-  between : (xs : List A) (y : A) (ys : List A) → F (xs ++ y ∷ ys) ≡ F xs ++ (one y ++ F ys)
-  unfolding F one
-  between xs y ys = filter_map-append h xs (y ∷ ys) ∙ ap (λ rest. F xs ++ rest) (put (h y) (F ys))
 
   -- the list xs, y, ys with its element at i and y in each other's place
   exchanged : (xs : List A) (y : A) (ys : List A) (i j : ℕ) (d : A) → i < length xs → length xs ≡ j
       → IsPermutation (F (xs ++ y ∷ ys)) (F (set (set (xs ++ y ∷ ys) i y) j (get_or xs i d)))
+  unfolding F
   exchanged xs y ys i j d p long =
       let x : A = get_or xs i d in
-      let before : F (xs ++ y ∷ ys) ≡ (F (take i xs) ++ (one x ++ F (drop (suc i) xs))) ++ (one y ++ F ys)
-      = between xs y ys ∙ ap (λ l. l ++ (one y ++ F ys)) (cut xs i d p) in
+      let before : F (xs ++ y ∷ ys) ≡ (F (take i xs) ++ (f x ++ F (drop (suc i) xs))) ++ (f y ++ F ys)
+      = flat_map-append f xs (y ∷ ys) ∙ ap (λ l. l ++ (f y ++ F ys)) (cut xs i d p) in
       let long' : length (set xs i y) ≡ j = length-set xs i y ∙ long in
       let set' : set (set (xs ++ y ∷ ys) i y) j x ≡ set xs i y ++ x ∷ ys
       = ap (λ l. set l j x) (set-append_left xs (y ∷ ys) i y p) ∙ set_at (set xs i y) y ys x j long' in
-      let after : F (set (set (xs ++ y ∷ ys) i y) j x) ≡ (F (take i xs) ++ (one y ++ F (drop (suc i) xs))) ++ (one x ++ F ys)
-      = ap F set' ∙ between (set xs i y) x ys ∙ ap (λ l. l ++ (one x ++ F ys)) (written xs i y p) in
+      let after : F (set (set (xs ++ y ∷ ys) i y) j x) ≡ (F (take i xs) ++ (f y ++ F (drop (suc i) xs))) ++ (f x ++ F ys)
+      = ap F set' ∙ flat_map-append f (set xs i y) (x ∷ ys) ∙ ap (λ l. l ++ (f x ++ F ys)) (written xs i y p) in
       subst (λ l. IsPermutation l (F (set (set (xs ++ y ∷ ys) i y) j x))) (sym before)
-      (subst (λ l. IsPermutation ((F (take i xs) ++ (one x ++ F (drop (suc i) xs))) ++ (one y ++ F ys)) l) (sym after)
-      (crossed (F (take i xs)) (one x) (F (drop (suc i) xs)) (one y) (F ys)))
+      (subst (λ l. IsPermutation ((F (take i xs) ++ (f x ++ F (drop (suc i) xs))) ++ (f y ++ F ys)) l) (sym after)
+      (crossed (F (take i xs)) (f x) (F (drop (suc i) xs)) (f y) (F ys)))
 
   -- two elements of a list in each other's place
   turned : (l : List A) (i j : ℕ) (d : A) → i < j → j < length l → IsPermutation (F l) (F (set (set l i (get_or l j d)) j (get_or l i d)))
@@ -91,7 +78,20 @@ module _ {A B : Type 0} (h : A → Option B) where
         | inr (inr more) ↦ subst (λ m. IsPermutation (F l) (F m)) (sym (set_comm l i j (get_or l j d) x (omega arith))) (turned l j i d more p)
       ]
 
-  pub filter_map-permutation : (xs ys : List A) → IsPermutation xs ys → IsPermutation (filter_map h xs) (filter_map h ys)
+  pub flat_map-permutation : (xs ys : List A) → IsPermutation xs ys → IsPermutation (flat_map f xs) (flat_map f ys)
   unfolding F
-  filter_map-permutation xs ys s = IsPermutation-keeps xs (λ l. IsPermutation (F xs) (F l)) (IsPermutation-refl (F xs))
+  flat_map-permutation xs ys s = IsPermutation-keeps xs (λ l. IsPermutation (F xs) (F l)) (IsPermutation-refl (F xs))
       (λ l i j p q h. IsPermutation-trans (F xs) (F l) (F (swap l i j)) h (swapped l i j p q)) ys s
+
+-- A choice of elements is such a list: of each element none or one.
+module _ {A B : Type 0} (h : A → Option B) where
+  put : (o : Option B) (l : List B) → cons_option o l ≡ cons_option o [] ++ l
+  put None l = refl
+  put (Some y) l = refl
+
+  chosen : (l : List A) → filter_map h l ≡ flat_map (λ x. cons_option (h x) []) l
+  chosen [] = refl
+  chosen (x ∷ l) = put (h x) (filter_map h l) ∙ ap (λ rest. cons_option (h x) [] ++ rest) (chosen l)
+
+  pub filter_map-permutation : (xs ys : List A) → IsPermutation xs ys → IsPermutation (filter_map h xs) (filter_map h ys)
+  filter_map-permutation xs ys s = rw (chosen xs, chosen ys) (flat_map-permutation (λ x. cons_option (h x) []) xs ys s)

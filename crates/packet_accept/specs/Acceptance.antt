@@ -2,15 +2,15 @@
 use Rattle.std.specs.Prelude.{◌==◌, ◌+◌, ◌-◌, ◌*◌, ◌/◌, ℕ, Bool, List, drop, Result, Ok, Err, nat_lt, if◌then◌else◌}
 use Rattle.packet_headers.specs.Link.{link_part}
 use Rattle.packet_headers.specs.Packet.{IpPart}
-use Rattle.packet_headers.specs.Ipv4.{ipv4_part}
-use Rattle.packet_headers.specs.Ipv6.{ipv6_part}
+use Rattle.packet_headers.specs.Ip.{ip_part}
 use Rattle.packet_headers.specs.Transport.{TransportPart, tcp_part, udp_part}
 use Rattle.pcap_reader.specs.Records.{PacketRecord}
 use Rattle.packet_accept.specs.declared.packet.Packet.{Packet}
 use Rattle.packet_accept.specs.declared.ignored.Ignored.{Ignored}
 use Rattle.packet_accept.specs.declared.ignored.Ignored.TheVariants.{BadTime}
-use Rattle.packet_accept.specs.Cause.{◌>>=◌, or_cause, or_short_transport}
-use Rattle.packet_accept.specs.Key.{key_of}
+use Rattle.octets.specs.Outcome.{◌>>=◌}
+use Rattle.packet_accept.specs.Cause.{or_cause, or_short_transport}
+use Rattle.packet_accept.specs.Key.{Headers, key_of}
 
 -- A second has 1,000,000 microseconds and a millisecond 1,000; in nanoseconds they have a thousand times as many.
 abbrev pub per_second : Bool → ℕ
@@ -25,10 +25,6 @@ time_of nanos seconds fraction =
     if nat_lt fraction (per_second nanos) then Ok (seconds * 1000 + fraction / per_millisecond nanos)
     else Err BadTime
 
--- The IP packet at the front of `rest`, of the version that the link part tells.
-unfoldable pub ip_part : ℕ → List ℕ → ℕ → Result IpPart Ignored
-ip_part version rest original = or_cause (if version == 4 then ipv4_part rest original else ipv6_part rest original)
-
 -- No ports and no control bits are zeros.
 abbrev pub no_ports : TransportPart
 no_ports = record { source_port = 0; destination_port = 0; flags = 0 }
@@ -42,20 +38,27 @@ transport_part ip =
     else if ip.protocol == 17 then or_short_transport (udp_part ip.payload)
     else Ok no_ports
 
+-- The headers of a record's frame: the link part, the IP packet behind it, and the transport header behind that.
+-- The original length that is left for the IP packet is that of the frame less the link part, and 0 where the link
+-- part is longer.
+unfoldable pub headers_of : ℕ → PacketRecord → Result Headers Ignored
+headers_of link rec = do
+  frame ← or_cause (link_part link rec.captured)
+  ip ← or_cause (ip_part frame.version (drop frame.offset rec.captured) (rec.original - frame.offset))
+  transport ← transport_part ip
+  Ok (record { ip = ip; transport = transport })
+
 -- The answer to the record with number `n` of a capture of this link type, whose fractions of a second are
--- nanoseconds or microseconds: the time, the link part, the IP packet behind it, and the transport header behind
--- that. The original length that is left for the IP packet is that of the frame less the link part, and 0 where the
--- link part is longer.
+-- nanoseconds or microseconds: the time is looked at first, then the headers.
 unfoldable pub accepted : ℕ → Bool → PacketRecord → ℕ → Result Packet Ignored
 accepted link nanos rec n = do
   time ← time_of nanos rec.seconds rec.fraction
-  frame ← or_cause (link_part link rec.captured)
-  ip ← ip_part frame.version (drop frame.offset rec.captured) (rec.original - frame.offset)
-  transport ← transport_part ip
+  headers ← headers_of link rec
+  key ← key_of headers
   Ok (record {
     number = n;
-    key = key_of frame.version ip transport;
+    key = key;
     time = time;
-    octets = ip.octets;
-    flags = transport.flags;
+    octets = headers.ip.octets;
+    flags = headers.transport.flags;
   })

@@ -19,9 +19,3 @@ or_cause (Err fault) = Err (cause_of fault)
 abbrev pub or_short_transport : {A : Type 0} → Result A HeaderFault → Result A Ignored
 or_short_transport (Ok part) = Ok part
 or_short_transport (Err fault) = Err ShortTransport
-
--- One check behind another: the second is looked at only where the first has no fault.
-infixl 10 ◌>>=◌
-abbrev pub ◌>>=◌ : {A B : Type 0} → Result A Ignored → (A → Result B Ignored) → Result B Ignored
-(Ok x) >>= check = check x
-(Err cause) >>= check = Err cause

@@ -1,20 +1,18 @@
 //! The acceptance of a record.
 
-ghost use Rattle.std.specs.Prelude.{◌≡◌, ◌*◌, ◌^◌, ◌<◌, IfOk, IfErr, drop};
-ghost use Rattle.packet_headers.specs.Link.{IsLinkType, IsIpVersion, link_part};
-ghost use Rattle.packet_headers.specs.Shown.{link_shown};
+ghost use Rattle.std.specs.Prelude.{◌≡◌, ◌*◌, ◌^◌, ◌<◌, ℕ, Ok, Some, IsOk, IfOk};
+ghost use Rattle.link_types.specs.Links.{IsKnownLink};
+ghost use Rattle.flow_key.specs.KeyWith.{key_with};
+ghost use Rattle.packet_headers.specs.Link.{IsIpVersion};
 ghost use Rattle.pcap_reader.specs.Views.{file_of, record_read};
-ghost use Rattle.packet_accept.specs.Cause.{or_cause};
-ghost use Rattle.packet_accept.specs.Key.{key_of};
-ghost use Rattle.packet_accept.specs.Acceptance.{accepted, time_of};
-ghost use Rattle.packet_accept.specs.Shown.{ip_shown, transport_shown};
+ghost use Rattle.packet_accept.specs.Key.{Headers, key_fields};
+ghost use Rattle.packet_accept.specs.Acceptance.{accepted, headers_of, time_of};
+ghost use Rattle.packet_accept.specs.Shown.{headers_shown};
 
+use crate::headers::{HeaderViews, headers_of};
 use crate::ignored::Ignored;
-use crate::ip::{Ip, ip_of};
 use crate::packet::Packet;
-use crate::transport::{Transport, transport_of};
 use flow_key::FlowKey;
-use packet_headers::LinkView;
 use pcap_reader::{Capture, Record};
 
 /// The packet that a record of the capture gives, with the number `n`, or the first cause for which the record is
@@ -29,26 +27,42 @@ use pcap_reader::{Capture, Record};
 ///
 /// Takes no memory, and copies no captured byte.
 #[inline]
-#[tactic(auto, unfolding(crate::specs::Acceptance::accepted))]
 pub fn accept(capture: &Capture<'_>, rec: &Record<'_>, n: u64) -> Result<Packet, Ignored>
     ensures answer { let file = file_of capture.now in result ≡ accepted file.link file.nanos (record_read rec.now) n }
+    // Where the time and the headers have no fault there is a packet: what octets hold fits the fields of a key.
+    ensures complete { let file = file_of capture.now in let read = record_read rec.now in (time : ℕ) (headers : Headers)
+        → time_of file.nanos read.seconds read.fraction ≡ Ok time → headers_of file.link read ≡ Ok headers → IsOk result }
     ensures number { IfOk result (λ packet. packet.number ≡ n) }
     ensures octets { IfOk result (λ packet. packet.octets < 2 ^ 24) }
     ensures time { IfOk result (λ packet. packet.time < 2 ^ 43) }
     // In whole seconds the time has 32 bits.
     ensures seconds { IfOk result (λ packet. packet.time < 1000 * 2 ^ 32) }
 {
-    let time = time_of(capture.nanos(), rec.seconds, rec.fraction)?;
-    let link = link_of(capture.link(), rec.captured)?;
-    let original = u64::from(rec.original).saturating_sub(link.offset as u64);
-    let ip = ip_of(link.version, link.rest, original)?;
-    let transport = transport_of(&ip)?;
+    accept_linked(capture.link(), capture.nanos(), rec, n)
+}
+
+/// The same for a record of frames with this link type, 1, 101 or 113, whose fractions of a second are nanoseconds or
+/// microseconds.
+#[inline]
+#[tactic(auto, unfolding(crate::specs::Acceptance::accepted))]
+pub fn accept_linked(link: u32, nanos: bool, rec: &Record<'_>, n: u64) -> Result<Packet, Ignored>
+    requires { IsKnownLink link }
+    ensures answer { result ≡ accepted link nanos (record_read rec.now) n }
+    ensures complete { let read = record_read rec.now in (time : ℕ) (headers : Headers)
+        → time_of nanos read.seconds read.fraction ≡ Ok time → headers_of link read ≡ Ok headers → IsOk result }
+    ensures number { IfOk result (λ packet. packet.number ≡ n) }
+    ensures octets { IfOk result (λ packet. packet.octets < 2 ^ 24) }
+    ensures time { IfOk result (λ packet. packet.time < 2 ^ 43) }
+    ensures seconds { IfOk result (λ packet. packet.time < 1000 * 2 ^ 32) }
+{
+    let time = time_of(nanos, rec.seconds, rec.fraction)?;
+    let headers = headers_of(link, rec)?;
     Ok(Packet {
         number: n,
-        key: key_of(ip, transport),
+        key: key_of(headers),
         time,
-        octets: ip.octets,
-        flags: transport.flags,
+        octets: headers.ip.octets,
+        flags: headers.transport.flags,
     })
 }
 
@@ -70,32 +84,19 @@ fn time_of(nanos: bool, seconds: u32, fraction: u32) -> Result<u64, Ignored>
     Ok(u64::from(seconds) * 1000 + u64::from(milliseconds))
 }
 
-/// The link part of a frame.
-#[inline]
-fn link_of(link: u32, captured: &[u8]) -> Result<LinkView<'_>, Ignored>
-    requires { IsLinkType link }
-    ensures fields { IfOk result (λ view. or_cause (link_part link captured.now) ≡ Ok (link_shown view)) }
-    ensures fault { IfErr result (λ cause. or_cause (link_part link captured.now) ≡ Err cause) }
-    ensures version { IfOk result (λ view. IsIpVersion view.version) }
-    ensures rest { IfOk result (λ view. view.rest.now ≡ drop view.offset captured.now) }
-{
-    let view = LinkView::of(link, captured)?;
-    Ok(view)
-}
-
 /// The key of a packet.
 #[inline]
-fn key_of(ip: Ip<'_>, transport: Transport) -> FlowKey
-    requires version { IsIpVersion ip.version }
-    requires narrow { ip.version ≡ 4 → (ip.source < 2 ^ 32) × (ip.destination < 2 ^ 32) }
-    ensures { result ≡ key_of ip.entry.version (ip_shown ip.entry) (transport_shown transport) }
+fn key_of(headers: HeaderViews<'_>) -> FlowKey
+    requires version { IsIpVersion headers.ip.version }
+    requires narrow { headers.ip.version ≡ 4 → (headers.ip.source < 2 ^ 32) × (headers.ip.destination < 2 ^ 32) }
+    ensures { key_with (key_fields (headers_shown headers.entry)) ≡ Some result }
 {
     FlowKey {
-        version: ip.version,
-        source: ip.source,
-        destination: ip.destination,
-        protocol: ip.protocol,
-        source_port: transport.source_port,
-        destination_port: transport.destination_port,
+        version: headers.ip.version,
+        source: headers.ip.source,
+        destination: headers.ip.destination,
+        protocol: headers.ip.protocol,
+        source_port: headers.transport.source_port,
+        destination_port: headers.transport.destination_port,
     }
 }

@@ -1,3 +1,5 @@
+//! Why a record gives no packet.
+
 ghost use Rattle.std.specs.Prelude.{◌≡◌};
 ghost use Rattle.packet_accept.specs.Cause.{cause_of};
 

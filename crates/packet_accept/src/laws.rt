@@ -25,8 +25,10 @@ pub fn packets_law()
         → IsPermutation (packets_in answers) (packets_in others) }
 {}
 
-/// The clock of two lists of packets together is the later of theirs.
+/// The clock of two lists of packets together is the later of theirs, and the clock of a permuted list is the clock.
 pub fn clock_law()
-    ensures { (packets others : List Packet) (one two : Option ℕ) → IsClock packets one → IsClock others two
+    ensures together { (packets others : List Packet) (one two : Option ℕ) → IsClock packets one → IsClock others two
         → IsClock (packets ++ others) (later one two) }
+    ensures permuted { (packets others : List Packet) (clock : Option ℕ) → IsPermutation packets others
+        → IsClock packets clock → IsClock others clock }
 {}

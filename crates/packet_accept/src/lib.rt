@@ -10,13 +10,13 @@
 #![tactic(auto)]
 
 mod acceptance;
+mod headers;
 mod ignored;
-mod ip;
 mod laws;
 mod packet;
 mod transport;
 
-pub use acceptance::accept;
+pub use acceptance::{accept, accept_linked};
 pub use ignored::Ignored;
 pub use laws::{clock_law, packets_law};
 pub use packet::Packet;

@@ -1,3 +1,5 @@
+//! A packet.
+
 use flow_key::FlowKey;
 
 /// One accepted packet.
@@ -13,4 +15,26 @@ pub struct Packet {
     pub octets: u32,
     /// The TCP control bits (RFC 7125), or 0.
     pub flags: u16,
+}
+
+/// The protocol number of TCP.
+const TCP: u8 = 6;
+
+/// The control bit of TCP by which a sender ends its stream.
+const FIN: u16 = 0x001;
+
+/// The control bit of TCP by which a sender resets the connection.
+const RST: u16 = 0x004;
+
+impl Packet {
+    ghost use Rattle.std.specs.Prelude.{◌≡◌};
+    ghost use Rattle.packet_accept.specs.Ending.{ends_flow};
+
+    /// Whether the packet ends its flow: a TCP segment with FIN or RST (RFC 9293, section 3.1).
+    #[inline]
+    pub fn ends(&self) -> bool
+        ensures { result ≡ ends_flow self.now }
+    {
+        self.key.protocol == TCP && (self.flags & FIN != 0 || self.flags & RST != 0)
+    }
 }

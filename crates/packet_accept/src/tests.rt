@@ -1,6 +1,6 @@
 //! Records of captures that are made byte by byte, with the answers that the formats' tables give.
 
-use crate::{Ignored, Packet, accept};
+use crate::{Ignored, Packet, accept, accept_linked};
 use Ignored::{BadHeader, BadTime, NotIp, Short, ShortTransport};
 use Kind::{BigMicros, BigNanos, LittleMicros, LittleNanos};
 use Want::{Gives, No};
@@ -147,7 +147,7 @@ const PACKETS: &[Row] = records! {
     LittleMicros 1 at 1000, 0 [ETHERNET, IPV4, V4_OFFLOADED, UDP] 42 of 16_777_230 => No(BadHeader);
     // Two IPv6 packets behind a hop-by-hop and a fragment header: a first and a later fragment.
     LittleMicros 101 at 5, 0 [V6, b"\0\x24\0\x40", V6_ADDRESSES, b"\x2c\0\x01\x04\0\0\0\0", b"\x06\0\0\x01\0\0\0\x09", TCP] 76 of 76 => Gives(6, 6, 1025, 443, 5000, 76, 16);
-    LittleMicros 101 at 5, 0 [V6, b"\0\x74\0\x40", V6_ADDRESSES, b"\x2c\0\x01\x04\0\0\0\0", b"\x06\0\0\x20\0\0\0\x09", ZEROS, ZEROS, ZEROS, ZEROS] 156 of 156 => Gives(6, 0, 0, 0, 5000, 156, 0);
+    LittleMicros 101 at 5, 0 [V6, b"\0\x74\0\x40", V6_ADDRESSES, b"\x2c\0\x01\x04\0\0\0\0", b"\x06\0\0\x20\0\0\0\x09", ZEROS, ZEROS, ZEROS, ZEROS] 156 of 156 => Gives(6, 6, 0, 0, 5000, 156, 0);
 };
 
 /// The magic number of a capture.
@@ -242,6 +242,8 @@ fn check(rt: &impl Abort, alloc: Global, rows: &[Row]) -> Result<(), Fail> {
             let record = capture.record(&index, n);
             let answer = accept(&capture, &record, n);
             assert!(rt; answer == wanted(row.want, n), "record {place}");
+            let linked = accept_linked(capture.link(), capture.nanos(), &record, n);
+            assert!(rt; linked == answer, "record {place}");
         }
     }
     Ok(())
@@ -292,4 +294,37 @@ fn two_packets_of_a_flow(rt: HostRuntime) -> Result<(), Fail> {
         assert!(rt; accept(&capture, &record, n) == wanted(want, n));
     }
     Ok(())
+}
+
+#[test]
+fn packets_that_end_their_flow(rt: HostRuntime) {
+    for (protocol, flags, ends) in [
+        (6, 0x001, true),
+        (6, 0x004, true),
+        (6, 0x005, true),
+        (6, 0x011, true),
+        (6, 0xfff, true),
+        (6, 0x002, false),
+        (6, 0xffa, false),
+        (6, 0, false),
+        (17, 0x001, false),
+        (7, 0x005, false),
+        (0, 0x005, false),
+    ] {
+        let packet = Packet {
+            number: 0,
+            key: FlowKey {
+                version: 4,
+                source: 1,
+                destination: 2,
+                protocol,
+                source_port: 3,
+                destination_port: 4,
+            },
+            time: 0,
+            octets: 20,
+            flags,
+        };
+        assert!(rt; packet.ends() == ends, "protocol {protocol}, flags {flags}");
+    }
 }

@@ -4,11 +4,11 @@ ghost use Rattle.std.specs.Prelude.{◌≡◌, Ok, Err, IfOk, IfErr};
 ghost use Rattle.packet_headers.specs.Transport.{tcp_part, udp_part};
 ghost use Rattle.packet_accept.specs.Cause.{or_short_transport};
 ghost use Rattle.packet_accept.specs.Acceptance.{transport_part};
-ghost use Rattle.packet_accept.specs.Shown.{ip_shown, transport_shown};
+ghost use Rattle.packet_headers.specs.Shown.{ip_shown};
+ghost use Rattle.packet_accept.specs.Shown.{transport_shown};
 
 use crate::ignored::Ignored;
-use crate::ip::Ip;
-use packet_headers::{TcpView, UdpView};
+use packet_headers::{IpView, TcpView, UdpView};
 
 /// The protocol number of TCP.
 const TCP: u8 = 6;
@@ -34,7 +34,7 @@ pub struct Transport {
 /// The ports and the control bits, each 0 where the packet has none.
 #[inline]
 #[tactic(auto, unfolding(crate::specs::Acceptance::transport_part))]
-pub fn transport_of(ip: &Ip<'_>) -> Result<Transport, Ignored>
+pub fn transport_of(ip: &IpView<'_>) -> Result<Transport, Ignored>
     ensures fields { IfOk result (λ transport. transport_part (ip_shown ip.now) ≡ Ok (transport_shown transport)) }
     ensures fault { IfErr result (λ cause. transport_part (ip_shown ip.now) ≡ Err cause) }
 {
