@@ -13,7 +13,7 @@ use Rattle.flow_parts.specs.declared.fragment.Fragment.{Fragment}
 use Rattle.flow_parts.specs.declared.timeouts.Timeouts.{Timeouts}
 use Rattle.flow_parts.specs.Sharing.{SharesOut}
 use Rattle.flow_parts.specs.Laws.{StandsPermuted}
-use Rattle.meter_io.specs.declared.NoMemory.{NoMemory}
+use Rattle.no_memory.specs.declared.NoMemory.{NoMemory}
 use Rattle.meter_program.specs.Gathering.{Meter, AreFew}
 
 take-one-more : {X : Type 0} (xs : List X) (n : ℕ) (x : X) → slice_get xs n ≡ Some x → take (n + 1) xs ≡ take n xs ++ x ∷ []

@@ -2,6 +2,7 @@
 use Rattle.std.specs.Prelude.{ℕ, ◌==◌, ◌&&◌, Bool, true, false, List, length, nat_lt, if◌then◌else◌, Option, Some, None}
 use Rattle.std.specs.Option.{option_and_then}
 use Rattle.octets.specs.Numbers.{ordered_number_at}
+pub use Rattle.link_types.specs.Links.{IsKnownLink}
 use Rattle.octets.specs.declared.endianness.Endianness.{Endianness}
 use Rattle.octets.specs.declared.endianness.Endianness.TheVariants.{Little, Big}
 
