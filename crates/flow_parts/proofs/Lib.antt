@@ -1,5 +1,8 @@
+pub mod Endings
 pub mod Heaps
 pub mod Members
+pub mod Own
+pub mod PartFields
 pub mod PartWords
 pub mod Permuted
 pub mod Shares

@@ -1,6 +1,9 @@
+pub mod Ending
 pub mod Extremes
+pub mod Fields
 pub mod Heap
 pub mod Joining
 pub mod Laws
 pub mod Parts
+pub mod PartWith
 pub mod Sharing

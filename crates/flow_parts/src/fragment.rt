@@ -1,7 +1,9 @@
-ghost use Rattle.std.specs.Prelude.{◌≡◌, ◌≢◌, ℕ, ◌+◌, ◌<◌, ◌≤◌, ◌^◌, List, [], ◌∷◌, ◌++◌, Some, None, IfSome, IsNone, slice_index};
+//! A fragment: what is known of some packets of one flow, and its words.
+
+ghost use Rattle.std.specs.Prelude.{◌≡◌, ◌≢◌, ℕ, ◌+◌, ◌<◌, ◌≤◌, ◌^◌, List, [], ◌∷◌, ◌++◌, Some, None, IfSome, IsNone, IsTrue, ◌↔◌, slice_index};
 
 use flow_key::FlowKey;
-use packet_accept::Packet;
+use packet_accept::{Packet, ends_flow};
 
 /// What is known of some packets of one flow, taken together.
 #[derive(Clone, Copy, PartialEq, Eq, Debug)]
@@ -27,6 +29,8 @@ pub struct Fragment {
 impl Fragment {
     ghost use Rattle.flow_parts.specs.declared.timeouts.Timeouts.{Timeouts};
     ghost use Rattle.packet_accept.specs.declared.packet.Packet.{Packet};
+    ghost use Rattle.flow_parts.specs.Ending.{IsClosed};
+    ghost use Rattle.flow_parts.specs.Fields.{IsPartOf, part_fields_in};
     ghost use Rattle.flow_parts.specs.Parts.{IsAlone, part_words};
     ghost use Rattle.flow_parts.specs.Heap.{IsHeap};
     ghost use Rattle.flow_parts.specs.Sharing.{SharesOut};
@@ -39,6 +43,13 @@ impl Fragment {
             → SharesOut limits (others ++ packet.now ∷ []) (result ∷ rest) }
     {
         alone(packet.key, packet.time, packet.octets, packet.flags)
+    }
+
+    /// Whether the fragment is closed: one of its packets ends its flow ([`Packet::ends`]).
+    pub fn closed(&self) -> bool
+        ensures { IsTrue result ↔ IsClosed self.now }
+    {
+        ends_flow(&self.key, self.flags)
     }
 
     /// The fragment as ten words: the five of its key, then packets, octets, first, last and flags.
@@ -69,6 +80,7 @@ impl Fragment {
     /// The fragment that has these words, as [`Fragment::to_words`] gives them; `None` where no fragment has
     /// them, so wherever the word of packets is 0.
     pub fn of_words(words: &[u64; 10]) -> Option<Fragment>
+        ensures fields { IsPartOf (part_fields_in words.now) result }
         ensures some { IfSome result (λ fragment. part_words fragment ≡ words.now) }
         ensures none { IsNone result → (fragment : Fragment) → part_words fragment ≢ words.now }
         ensures round_trip { (fragment : Fragment) → part_words fragment ≡ words.now → result ≡ Some fragment }

@@ -1,6 +1,6 @@
-//! The laws of sharing out, for any lists of packets and fragments. These functions do nothing; each
+//! Laws of fragments, and of sharing out for any lists of packets and fragments. These functions do nothing; each
 //! contract is a law.
-ghost use Rattle.flow_parts.specs.Laws.{NothingIsShared, StandsTogether, StandsPermuted, CountsAll, CoversTimes};
+ghost use Rattle.flow_parts.specs.Laws.{NothingIsShared, StandsTogether, StandsPermuted, CountsAll, CoversTimes, StandsOpened, StandsAbsorbed, StandsJoined, OwnIsOne, FitsAsJoinable, AbsorbsAsJoins, JoinsEitherWay, ClosedByPackets, WordsTell, FieldsTell, PartsFit, AnswersOnce, PartOfItsFields, NoneWhereUnfit};
 
 /// Sharing out stands when two lists are put together, and when the packets or the fragments are permuted.
 /// No fragments share out no packets, and nothing else.
@@ -15,4 +15,40 @@ pub fn sharing_out_stands()
 pub fn sharing_out_counts()
     ensures counts { CountsAll }
     ensures times { CoversTimes }
+{}
+
+/// Sharing out goes on when a packet is opened as a fragment of its own, absorbed where it fits, and when joinable
+/// fragments are joined, wherever in their lists these stand.
+pub fn sharing_out_goes_on()
+    ensures opened { StandsOpened }
+    ensures absorbed { StandsAbsorbed }
+    ensures joined { StandsJoined }
+{}
+
+/// A packet fits a fragment exactly where the packet's own fragment is joinable with it, and absorbing it is joining.
+/// Joining goes either way round.
+pub fn packets_are_fragments()
+    ensures own { OwnIsOne }
+    ensures fits { FitsAsJoinable }
+    ensures absorbs { AbsorbsAsJoins }
+    ensures either_way { JoinsEitherWay }
+{}
+
+/// A fragment is closed exactly where one of its packets ends its flow.
+pub fn fragments_are_closed_by_packets()
+    ensures { ClosedByPackets }
+{}
+
+/// A fragment is known by its words.
+pub fn fragments_have_words()
+    ensures { WordsTell }
+{}
+
+/// A fragment is known by its fields: numbers that fit the fields are those of one fragment, and others are of none.
+pub fn fragments_have_fields()
+    ensures tell { FieldsTell }
+    ensures fit { PartsFit }
+    ensures once { AnswersOnce }
+    ensures part { PartOfItsFields }
+    ensures none { NoneWhereUnfit }
 {}

@@ -1,3 +1,5 @@
+//! Worked fragments: words, bounds of the time-outs, ends of flows, sums.
+
 ghost use Rattle.std.specs.Prelude.{◌+◌, ◌<◌, ◌^◌};
 
 use crate::{Fragment, Timeouts};

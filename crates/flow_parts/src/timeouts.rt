@@ -1,3 +1,5 @@
+//! The time-outs, and by them which packets and fragments a fragment takes in.
+
 ghost use Rattle.std.specs.Prelude.{◌≡◌, ℕ, ◌+◌, ◌*◌, ◌<◌, ◌≤◌, ◌^◌, List, [], ◌∷◌, ◌++◌, IsTrue, ◌↔◌};
 
 use crate::fragment::Fragment;
@@ -54,11 +56,18 @@ impl Timeouts {
     }
 
     /// Whether the fragment can take the packet in: it has the same key, its time is at most idle before the
-    /// fragment's first and at most idle after its last, and the joined span is at most active.
+    /// fragment's first and at most idle after its last, the joined span is at most active, a closed fragment
+    /// takes no later packet, and a packet that ends its flow isn't earlier than the fragment's last.
     pub fn fits(&self, fragment: &Fragment, packet: &Packet) -> bool
         ensures { IsTrue result ↔ TakesIn self.now fragment.now packet.now }
     {
         if !is_same(&fragment.key, &packet.key) {
+            return false;
+        }
+        if fragment.closed() && packet.time > fragment.last {
+            return false;
+        }
+        if packet.ends() && packet.time < fragment.last {
             return false;
         }
         let early = fragment.first.saturating_sub(packet.time);
@@ -91,11 +100,18 @@ impl Timeouts {
     }
 
     /// Whether two fragments can be one: they have the same key, the gap between their spans, 0 where they
-    /// overlap, is at most idle, and the joined span is at most active.
+    /// overlap, is at most idle, the joined span is at most active, and neither that is closed ends before the
+    /// other.
     pub fn joinable(&self, one: &Fragment, other: &Fragment) -> bool
         ensures { IsTrue result ↔ IsJoinable self.now one.now other.now }
     {
         if !is_same(&one.key, &other.key) {
+            return false;
+        }
+        if one.closed() && one.last < other.last {
+            return false;
+        }
+        if other.closed() && other.last < one.last {
             return false;
         }
         let before = one.first.saturating_sub(other.last);
