@@ -80,7 +80,7 @@ module _ (limits : Timeouts) where
       let last = tied_numbers g.last f.last (tied_second (key_order g.key f.key) (nat_cmp g.last f.last) e) in
       let low = f.spanned in
       let low' = g.spanned in
-      record { one_key = sym key; near = omega arith; short = omega arith }
+      record { one_key = sym key; near = omega arith; short = omega arith; one_closed = λ closed. omega arith; other_closed = λ closed. omega arith }
 
   less_next : (f g : Fragment) → f.last - f.first ≤ limits.active → g.last - g.first ≤ limits.active → ¬ IsJoinable limits f g
       → (q : Ordering) → key_then_last g f ≡ q → is_lt q ≡ false → key_then_last f g ≡ Less
@@ -95,14 +95,14 @@ module _ (limits : Timeouts) where
       (less_next f g (s 0 f (omega arith)) (s 1 f (omega arith)) (k 0 f (omega arith)) (key_then_last g f) refl (h.0 0 f (omega arith)))
       (strictly (g ∷ W) h.1 (none_tail f (g ∷ W) k) (All-tail (λ f. f.last - f.first ≤ limits.active) f (g ∷ W) s))
 
-abbrev has_key : FlowKey → FlowRecord → Bool
+abbrev pub has_key : FlowKey → FlowRecord → Bool
 has_key key r = is_eq (key_order r.part.key key)
 
-key_from_test : (key : FlowKey) (r : FlowRecord) → has_key key r ≡ true → r.part.key ≡ key
+pub key_from_test : (key : FlowKey) (r : FlowRecord) → has_key key r ≡ true → r.part.key ≡ key
 key_from_test key r e = tied_keys r.part.key key (tie_from_test (key_order r.part.key key) e)
 
 -- records of one key tie by key
-same_keys : (key : FlowKey) (a b : FlowRecord) → has_key key a ≡ true → has_key key b ≡ true → key_order a.part.key b.part.key ≡ Equal
+pub same_keys : (key : FlowKey) (a b : FlowRecord) → has_key key a ≡ true → has_key key b ≡ true → key_order a.part.key b.part.key ≡ Equal
 same_keys key a b e f = keys_tie a.part.key b.part.key (key_from_test key a e ∙ sym (key_from_test key b f))
 
 none_left : (key : FlowKey) (xs : List FlowRecord) → All (λ m. has_key key m ≡ false) xs → of_key key xs ≡ []
@@ -135,6 +135,15 @@ next_first r (n ∷ rest) h k = next_is r n rest (has_key r.part.key n) refl
     (λ e. none_left r.part.key rest (none_later r n rest (h 0 r.part (omega arith)) k.0 e))
 
 module _ (R : FlowRecord → Option Fragment → Type 0) where
+  -- what holds of the records of a key with their next ones, where the first of a list may be of the key
+  pub head_holds : (r : FlowRecord) (F : List FlowRecord) (b : Bool) → b ≡ true → EachWithNext R (cond b (r ∷ F) F) → R r (first_part F)
+  head_holds r F true e h = h.0
+  head_holds r F false e h = absurd (let e' : false ≡ true = e in cc)
+
+  pub tail_holds : (r : FlowRecord) (F : List FlowRecord) (b : Bool) → EachWithNext R (cond b (r ∷ F) F) → EachWithNext R F
+  tail_holds r F true h = h.1
+  tail_holds r F false h = h
+
   keyed_at : (key : FlowKey) (r : FlowRecord) (rest : List FlowRecord) → (b : Bool) → has_key key r ≡ b → (has_key key r ≡ true → R r (first_part (of_key key rest)))
       → EachWithNext R (of_key key rest) → EachWithNext R (cond b (r ∷ of_key key rest) (of_key key rest))
   keyed_at key r rest true e h k = (h e, k)
@@ -152,7 +161,7 @@ up_gathered : (key : FlowKey) (T : List FlowRecord) → Rises (λ (a b : FlowRec
 up_gathered key T h = rises_filter (has_key key) (λ (a b : FlowRecord). key_then_last a.part b.part ≡ Less) (λ (a b : FlowRecord). a.part.last < b.part.last)
     (λ a b e f l. less_numbers a.part.last b.part.last (second_less (key_order a.part.key b.part.key) (nat_cmp a.part.last b.part.last) (same_keys key a b e f) l)) T h
 
-up_written : (key : FlowKey) (L : List FlowRecord) → Rises (λ (a b : FlowRecord). written_order a b ≡ Less) L → Rises (λ (a b : FlowRecord). a.part.last < b.part.last) (of_key key L)
+pub up_written : (key : FlowKey) (L : List FlowRecord) → Rises (λ (a b : FlowRecord). written_order a b ≡ Less) L → Rises (λ (a b : FlowRecord). a.part.last < b.part.last) (of_key key L)
 up_written key L h = rises_filter (has_key key) (λ (a b : FlowRecord). written_order a b ≡ Less) (λ (a b : FlowRecord). a.part.last < b.part.last)
     (λ a b e f l. less_numbers a.part.last b.part.last (first_less (nat_cmp a.part.last b.part.last) (key_order a.part.key b.part.key) (same_keys key a b e f) l)) L h
 
@@ -177,7 +186,7 @@ module _ (T L : List FlowRecord) (perm : IsPermutation T L) (up : Rises (λ (a b
       (λ a b l. no_tie a b l (written_order a b) refl) T up)))
 
   same_of_key : (key : FlowKey) → of_key key T ≡ of_key key L
-  same_of_key key = same_rising (λ (r : FlowRecord). r.part.last) (of_key key T) (of_key key L) (up_gathered key T up) (up_written key L written)
+  same_of_key key = same_rising (λ (a b : FlowRecord). a.part.last < b.part.last) (λ a b l m. omega arith) (of_key key T) (of_key key L) (up_gathered key T up) (up_written key L written)
       (λ z c. let k = filter_contains (has_key key) T z c in contains_filter (has_key key) L z (Contains-permutation T L z perm k.0) k.1)
       (λ z c. let k = filter_contains (has_key key) L z c in contains_filter (has_key key) T z (Contains-permutation L T z (IsPermutation-sym T L perm) k.0) k.1)
 
@@ -243,11 +252,7 @@ module _ (limits : Timeouts) where
   apart_of_two a c F true false h e e' = absurd (cc)
   apart_of_two a c F false b' h e e' = absurd (cc)
 
-  apart_tail : (a : FlowRecord) (F : List FlowRecord) (b : Bool) → EachWithNext (StandsApart limits) (cond b (a ∷ F) F) → EachWithNext (StandsApart limits) F
-  apart_tail a F true h = h.1
-  apart_tail a F false h = h
-
-  itself : (key : FlowKey) (r : FlowRecord) → r.part.key ≡ key → has_key key r ≡ true
+  pub itself : (key : FlowKey) (r : FlowRecord) → r.part.key ≡ key → has_key key r ≡ true
   itself key r e = ap is_eq (keys_tie r.part.key key e)
 
   less_written : (a c : FlowRecord) → a.part.last - a.part.first ≤ limits.active → c.part.last - c.part.first ≤ limits.active
@@ -270,10 +275,12 @@ module _ (limits : Timeouts) where
       (λ tie. apart_of_two a c (of_key a.part.key L) (has_key a.part.key a) (has_key a.part.key c) (k a.part.key) (itself a.part.key a refl)
       (itself a.part.key c (tied_keys c.part.key a.part.key (tied_first (key_order c.part.key a.part.key) (nat_cmp c.part.last a.part.last) tie))))
       (written_order c a) refl (h.0 0 a (omega arith)))
-      (no_ties_at (c ∷ L) h.1 (λ key. apart_tail a (of_key key (c ∷ L)) (has_key key a) (k key)) (All-tail (λ (r : FlowRecord). r.part.last - r.part.first ≤ limits.active) a (c ∷ L) s))
+      (no_ties_at (c ∷ L) h.1 (λ key. tail_holds (StandsApart limits) a (of_key key (c ∷ L)) (has_key key a) (k key)) (All-tail (λ (r : FlowRecord). r.part.last - r.part.first ≤ limits.active) a (c ∷ L) s))
+
+pub rises_written : (limits : Timeouts) (packets : List Packet) (L : List FlowRecord) → IsLawful limits packets L → Rises (λ (a b : FlowRecord). written_order a b ≡ Less) L
+rises_written limits packets L lawful =
+    no_ties_at limits L (rises_from_sorted (λ (a b : FlowRecord). is_lt (written_order a b)) written_weak L lawful.ordered) lawful.apart
+    (All-unmap part_of (λ f. f.last - f.first ≤ limits.active) L (short_at limits lawful.shared.heaps (map part_of L) lawful.shared.each))
 
 pub no_ties : HasNoTies
-no_ties limits packets L lawful =
-    pairs_from_rises (λ (a b : FlowRecord). written_order a b ≡ Less) L
-    (no_ties_at limits L (rises_from_sorted (λ (a b : FlowRecord). is_lt (written_order a b)) written_weak L lawful.ordered) lawful.apart
-    (All-unmap part_of (λ f. f.last - f.first ≤ limits.active) L (short_at limits lawful.shared.heaps (map part_of L) lawful.shared.each)))
+no_ties limits packets L lawful = pairs_from_rises (λ (a b : FlowRecord). written_order a b ≡ Less) L (rises_written limits packets L lawful)

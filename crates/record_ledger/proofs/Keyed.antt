@@ -132,22 +132,19 @@ module _ {X : Type 0} where
       rises_filter (x ∷ xs) h = rises_kept (p x) x xs refl h.0 (rises_filter xs h.1)
 
   -- two rising lists with the same elements are one list
-  module _ (n : X → ℕ) where
-    abbrev Up : X → X → Type 0
-    Up a b = n a < n b
-
+  module _ (Up : X → X → Type 0) (asym : (a b : X) → Up a b → Up b a → ⊥) where
     heads : (x : X) (xs : List X) (y : X) (ys : List X) → All (Up x) xs → All (Up y) ys → Contains (y ∷ ys) x → Contains (x ∷ xs) y → y ≡ x
     heads x xs y ys h k c c' = elim (cons_cases y ys x c) [
       | inl e ↦ e
       | inr in_ys ↦ elim (cons_cases x xs y c') [
         | inl e ↦ sym e
-        | inr in_xs ↦ absurd (let a = All-contains (Up y) ys x k in_ys in let b = All-contains (Up x) xs y h in_xs in omega arith)
+        | inr in_xs ↦ absurd (asym x y (All-contains (Up x) xs y h in_xs) (All-contains (Up y) ys x k in_ys))
       ]
     ]
 
     tails : (x : X) (xs : List X) (y : X) (ys : List X) → y ≡ x → All (Up x) xs → ((z : X) → Contains (x ∷ xs) z → Contains (y ∷ ys) z) → (z : X) → Contains xs z → Contains ys z
     tails x xs y ys e h into z c = elim (cons_cases y ys z (into z (contains_more x xs z c))) [
-      | inl e' ↦ absurd (let a : n x < n z = All-contains (Up x) xs z h c in let same : n x ≡ n z = ap n (sym e ∙ e') in omega arith)
+      | inl e' ↦ absurd (let up : Up x x = subst (Up x) (sym e' ∙ e) (All-contains (Up x) xs z h c) in asym x x up up)
       | inr c' ↦ c'
     ]
 

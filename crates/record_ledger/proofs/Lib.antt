@@ -1,4 +1,10 @@
+pub mod Alone
 pub mod Gathered
 pub mod Keyed
+pub mod Lying
+pub mod Made
+pub mod Matched
+pub mod Meeting
 pub mod Reaching
 pub mod Rising
+pub mod Unique

@@ -7,6 +7,7 @@ use Rattle.packet_accept.specs.declared.packet.Packet.{Packet}
 use Rattle.flow_parts.specs.declared.fragment.Fragment.{Fragment}
 use Rattle.flow_parts.specs.declared.timeouts.Timeouts.{Timeouts}
 use Rattle.packet_accept.specs.Clock.{IsClock}
+use Rattle.packet_accept.specs.Ending.{finishes}
 use Rattle.flow_parts.specs.Joining.{IsJoinable}
 use Rattle.flow_parts.specs.Sharing.{SharesOut}
 use Rattle.record_ledger.specs.declared.record.FlowRecord.{FlowRecord}
@@ -30,11 +31,16 @@ EachWithNext R (r ∷ rest) = R r (first_part rest) × EachWithNext R rest
 abbrev pub StandsApart : Timeouts → FlowRecord → Option Fragment → Type 0
 StandsApart limits r next = MatchOption next ⊤ (λ n. ¬ IsJoinable limits r.part n)
 
--- The reason why a fragment's flow ended, by the next fragment of its key and the clock: 1 where the flow was idle for
--- longer than the idle time-out after it, 2 where the next one follows sooner, and 4 where nothing is known.
+-- The reason why the flow of a fragment that isn't closed ended, by the next fragment of its key and the clock: 1 where
+-- the flow was idle for longer than the idle time-out after it, 2 where the next one follows sooner, and 4 where nothing
+-- is known.
+abbrev pub open_reason : Timeouts → ℕ → Fragment → Option Fragment → ℕ
+open_reason limits clock part (Some next) = if nat_lt (part.last + limits.idle) next.first then 1 else 2
+open_reason limits clock part None = if nat_lt (part.last + limits.idle) clock then 1 else 4
+
+-- The reason why a fragment's flow ended: 3 where the fragment is closed.
 abbrev pub reason_of : Timeouts → ℕ → Fragment → Option Fragment → ℕ
-reason_of limits clock part (Some next) = if nat_lt (part.last + limits.idle) next.first then 1 else 2
-reason_of limits clock part None = if nat_lt (part.last + limits.idle) clock then 1 else 4
+reason_of limits clock part next = if finishes part.key part.flags then 3 else open_reason limits clock part next
 
 -- The record has that reason.
 abbrev pub HasReason : Timeouts → ℕ → FlowRecord → Option Fragment → Type 0

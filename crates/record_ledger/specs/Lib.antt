@@ -2,4 +2,5 @@ pub mod Laws
 pub mod Lawful
 pub mod Order
 pub mod Regrouping
+pub mod Sessions
 pub mod Steps

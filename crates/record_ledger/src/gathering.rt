@@ -1,10 +1,11 @@
-ghost use Rattle.std.specs.Prelude.{◌<◌, ◌^◌, List, IfOk, sum_by};
+ghost use Rattle.std.specs.Prelude.{◌<◌, ◌^◌, List, All, IfOk, sum_by};
 ghost use Rattle.packet_accept.specs.declared.packet.Packet.{Packet};
 ghost use Rattle.flow_parts.specs.declared.fragment.Fragment.{Fragment};
 ghost use Rattle.flow_parts.specs.Sharing.{SharesOut};
 ghost use Rattle.record_ledger.specs.Regrouping.{Regroups};
 ghost use Rattle.packet_accept.specs.Clock.{IsClock};
 ghost use Rattle.record_ledger.specs.Lawful.{IsLawful};
+ghost use Rattle.record_ledger.specs.Sessions.{IsSessions, IsUncut, AreRecordsOf};
 
 use crate::joining::joined;
 use crate::orders::by_last;
@@ -38,6 +39,9 @@ pub fn gather(
     ensures regroups { IfOk result (λ records. Regroups parts.now records.items) }
     ensures lawful { IfOk result (λ records. (packets : List Packet) → SharesOut timeouts packets parts.now
         → IsClock packets clock → IsLawful timeouts packets records.items) }
+    ensures sessions { IfOk result (λ records. (packets : List Packet) → SharesOut timeouts packets parts.now
+        → IsClock packets clock → (sessions : List (List Packet)) → IsSessions timeouts.idle packets sessions
+        → All (IsUncut timeouts) sessions → AreRecordsOf timeouts packets sessions records.items) }
 {
     let wholes = joined(alloc, parts, &timeouts)?;
     let mut records = with_reasons(alloc, &wholes, &timeouts, clock.unwrap_or(0))?;

@@ -19,4 +19,4 @@ mod tests;
 
 pub use gathering::gather;
 pub use meter_io::NoMemory;
-pub use record::{ACTIVE_TIMEOUT, FORCED_END, FlowRecord, IDLE_TIMEOUT};
+pub use record::{ACTIVE_TIMEOUT, END_OF_FLOW, FORCED_END, FlowRecord, IDLE_TIMEOUT};

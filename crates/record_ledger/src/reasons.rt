@@ -3,7 +3,7 @@ ghost use Rattle.record_ledger.specs.declared.record.FlowRecord.{FlowRecord};
 ghost use Rattle.record_ledger.specs.Lawful.{reason_of};
 ghost use Rattle.record_ledger.specs.Steps.{next_of_key};
 
-use crate::record::{ACTIVE_TIMEOUT, FORCED_END, FlowRecord, IDLE_TIMEOUT};
+use crate::record::{ACTIVE_TIMEOUT, END_OF_FLOW, FORCED_END, FlowRecord, IDLE_TIMEOUT};
 use flow_parts::{Fragment, Timeouts};
 use meter_io::NoMemory;
 use std::alloc::Global;
@@ -41,6 +41,9 @@ pub fn with_reasons(
 fn reason(part: &Fragment, rest: &[Fragment], timeouts: &Timeouts, clock: u64) -> u8
     ensures { result ≡ reason_of timeouts.now clock part.now (next_of_key part.now rest.now) }
 {
+    if part.closed() {
+        return END_OF_FLOW;
+    }
     let next = rest.first().filter(|next| next.key == part.key);
     match next {
         Some(next) if next.first.saturating_sub(part.last) > timeouts.idle => IDLE_TIMEOUT,

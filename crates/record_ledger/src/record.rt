@@ -6,6 +6,8 @@ use flow_parts::Fragment;
 pub const IDLE_TIMEOUT: u8 = 1;
 /// The flow went on, but was cut by the active time-out (flowEndReason 2).
 pub const ACTIVE_TIMEOUT: u8 = 2;
+/// The end of the flow was seen (flowEndReason 3): one of its packets ends it.
+pub const END_OF_FLOW: u8 = 3;
 /// The metering ended before the flow was known to have ended (flowEndReason 4).
 pub const FORCED_END: u8 = 4;
 
@@ -14,7 +16,8 @@ pub const FORCED_END: u8 = 4;
 pub struct FlowRecord {
     /// The packets of the record, taken together.
     pub part: Fragment,
-    /// Why the flow ended: [`IDLE_TIMEOUT`], [`ACTIVE_TIMEOUT`] or [`FORCED_END`] in a record that was gathered here.
+    /// Why the flow ended: [`IDLE_TIMEOUT`], [`ACTIVE_TIMEOUT`], [`END_OF_FLOW`] or
+    /// [`FORCED_END`] in a record that was gathered here.
     pub reason: u8,
     // The width of the reason, for a reader of clauses, where a number has none.
     pub ghost sized: { reason < 2 ^ 8 },

@@ -1,5 +1,6 @@
 ghost use Rattle.std.specs.Prelude.{◌+◌, ◌<◌, ◌≤◌, ◌^◌, IsTrue, sum_by};
 ghost use Rattle.flow_parts.specs.declared.fragment.Fragment.{Fragment};
+ghost use Rattle.flow_parts.specs.Joining.{TakesIn};
 
 use crate::gather;
 use flow_key::FlowKey;
@@ -219,19 +220,99 @@ fn web_exchange(rt: HostRuntime) -> Result<(), Fail> {
     )?;
     assert!(rt; records.len() == 4);
     let wanted = [
-        (query(), 1, 60, 0, start + 10, start + 10),
-        (reply(), 1, 76, 0, start + 25, start + 25),
-        (response(), 3, 1612, 0x01A, start + 50, start + 80),
-        (request(), 4, 304, 0x01E, start + 30, start + 90),
+        (query(), 1, 60, 0, start + 10, start + 10, 4),
+        (reply(), 1, 76, 0, start + 25, start + 25, 4),
+        (response(), 3, 1612, 0x01A, start + 50, start + 80, 4),
+        (request(), 4, 304, 0x01E, start + 30, start + 90, 3),
     ];
-    for (found, (key, packets, octets, flags, first, last)) in records.iter().zip(wanted) {
+    for (found, (key, packets, octets, flags, first, last, reason)) in records.iter().zip(wanted) {
         assert!(rt;
             found.part.key == key && found.part.packets == packets && found.part.octets == octets
         );
-        assert!(rt; found.part.flags == flags && found.reason == 4);
+        assert!(rt; found.part.flags == flags && found.reason == reason);
         assert!(rt; found.part.first == first && found.part.last == last);
     }
     Ok(())
+}
+
+/// Takes packets of these times and flags of one key in file order, each into the latest fragment where it fits, gathers
+/// them, and compares packets, first, last and reason of each record.
+fn ended(
+    rt: &impl Abort,
+    alloc: Global,
+    key: FlowKey,
+    packets: &[(u64, u16)],
+    records: &[(u64, u64, u64, u8)],
+) -> Result<(), Fail> {
+    let timeouts = Timeouts::new(300, 1800);
+    let mut parts = Vec::new(alloc);
+    for (time, flags) in packets {
+        let packet = Packet {
+            number: 0,
+            key,
+            time: *time,
+            octets: 40,
+            flags: *flags,
+        };
+        match parts.pop() {
+            Some(part) => {
+                if taken(&timeouts, &part, &packet) {
+                    parts.push(timeouts.absorb(part, &packet))?;
+                } else {
+                    parts.push(part)?;
+                    parts.push(Fragment::of(&packet))?;
+                }
+            }
+            None => parts.push(Fragment::of(&packet))?,
+        }
+    }
+    let clock = packets.iter().map(|packet| packet.0).max();
+    assert!(rt; are_few(&parts));
+    let gathered = gather(alloc, &parts, timeouts, clock)?;
+    assert!(rt; gathered.len() == records.len());
+    for (found, wanted) in gathered.iter().zip(records) {
+        assert!(rt; found.part.packets == wanted.0);
+        assert!(rt; found.part.first == wanted.1 && found.part.last == wanted.2);
+        assert!(rt; found.reason == wanted.3);
+    }
+    Ok(())
+}
+
+/// Whether the packet fits and the fragment has room for it.
+fn taken(timeouts: &Timeouts, part: &Fragment, packet: &Packet) -> bool
+    ensures fits { IsTrue result → TakesIn timeouts.now part.now packet.now }
+    ensures packets { IsTrue result → part.now.packets + 1 < 2 ^ 64 }
+    ensures octets { IsTrue result → part.now.octets + packet.now.octets < 2 ^ 64 }
+{
+    part.packets < 1000
+        && part.octets < 1_000_000
+        && packet.octets < 100
+        && timeouts.fits(part, packet)
+}
+
+#[test]
+fn end_of_flow(rt: HostRuntime) -> Result<(), Fail> {
+    // FIN ends the flow: the packet after it begins a record of its own.
+    let cut = [(2, 1000, 2000, 3), (1, 3000, 3000, 4)];
+    let late = [(1000, 0x002), (2000, 0x011), (3000, 0x010)];
+    ended(&rt, rt.alloc(), request(), &late, &cut)?;
+    // So does RST.
+    let reset = [(1000, 0x002), (2000, 0x014), (3000, 0x010)];
+    ended(&rt, rt.alloc(), request(), &reset, &cut)?;
+    // An earlier packet that comes after it in the file is taken in.
+    let early = [(2000, 0x011), (1000, 0x010)];
+    ended(&rt, rt.alloc(), request(), &early, &[(2, 1000, 2000, 3)])?;
+    // A packet that ends the flow before the last time that is known stands alone.
+    let between = [(1000, 0x010), (3000, 0x010), (2000, 0x011)];
+    ended(
+        &rt,
+        rt.alloc(),
+        request(),
+        &between,
+        &[(1, 2000, 2000, 3), (2, 1000, 3000, 4)],
+    )?;
+    // The same flags of UDP end nothing.
+    ended(&rt, rt.alloc(), query(), &late, &[(3, 1000, 3000, 4)])
 }
 
 /// A fragment of two packets of 50 octets each over this span.

@@ -9,6 +9,7 @@ use Rattle.record_ledger.specs.Lawful.{reason_of}
 use Rattle.record_ledger.specs.Steps.{Reaches, Rises, NotAfter, NoneJoinable, next_of_key}
 use Rattle.record_ledger.proofs.Rising.{written_weak}
 use Rattle.record_ledger.proofs.Gathered.{regrouped, lawful}
+use Rattle.record_ledger.proofs.Matched.{lawful_are_sessions}
 use Rattle.record_ledger.proofs.gathering.gather.Goals as goal
 
 pub returns-clause-regroups : goal.returns-clause-regroups
@@ -28,3 +29,7 @@ returns-clause-lawful c =
     ≡ reason_of c.args.timeouts n (get_or c.in_ok-records.records.items k d).part (next_of_key (get_or c.in_ok-records.records.items k d).part (drop (k + 1) c.deref.result.now)))
     c.unwrap_or.ensures c.in_ok-records.ensures.reasons)
     c.sort_unstable_by.ensures.permutation sorted
+
+pub returns-clause-sessions : goal.returns-clause-sessions
+returns-clause-sessions c = λ packets shares at sessions is uncut.
+    lawful_are_sessions c.args.timeouts packets sessions is uncut _ (returns-clause-lawful c packets shares at)
