@@ -136,13 +136,25 @@ def packets_of(capture: bytes) -> list[Packet]:
     return packets
 
 
+def ends(key: tuple, flags: int) -> bool:
+    """Whether FIN or RST of TCP is among the flags."""
+    return key[3] == 6 and flags & 0x005 != 0
+
+
+def takes(flow: list, packet: Packet, idle: int, active: int) -> bool:
+    """Whether the flow, none of whose packets is later, goes on with the packet."""
+    if packet.time - flow[4] > idle or packet.time - flow[3] > active:
+        return False
+    return packet.time == flow[4] or not ends(flow[0], flow[5])
+
+
 def flows_of(packets: list[Packet], idle: int, active: int) -> list[list]:
     """Per flow: key, packets, octets, first, last, flags, reason; from each key's first packet on, as long as may be."""
     clock = max((packet.time for packet in packets), default=0)
     by_key: dict[tuple, list[list]] = {}
     for packet in sorted(packets, key=lambda packet: packet.time):
         flows = by_key.setdefault(packet.key, [])
-        if flows and packet.time - flows[-1][4] <= idle and packet.time - flows[-1][3] <= active:
+        if flows and takes(flows[-1], packet, idle, active):
             flow = flows[-1]
             flow[1:6] = flow[1] + 1, flow[2] + packet.octets, flow[3], packet.time, flow[5] | packet.flags
         else:
@@ -151,6 +163,9 @@ def flows_of(packets: list[Packet], idle: int, active: int) -> list[list]:
         for flow, later in zip(flows, flows[1:]):
             flow[6] = 1 if later[3] - flow[4] > idle else 2
         flows[-1][6] = 1 if clock - flows[-1][4] > idle else 4
+        for flow in flows:
+            if ends(flow[0], flow[5]):
+                flow[6] = 3
     return sorted((flow for flows in by_key.values() for flow in flows), key=lambda flow: (flow[4], flow[0]))
 
 
@@ -197,7 +212,7 @@ def random_ip(chance: random.Random) -> bytes:
     ports = 53, chance.choice((1, 1, 1, 2))
     kind = chance.choice((6, 6, 6, 17, 17, 1))
     data = bytes(chance.choice((0, 0, 5, 40)))
-    control = chance.randrange(1 << 12)
+    control = chance.randrange(1 << 12) & (0xFFF if chance.random() < 0.2 else 0xFFA)
     payload = {6: generate.segment(*ports, control, data), 17: generate.datagram(*ports, data), 1: data}[kind]
     if chance.random() < 0.1:
         payload = payload[:chance.randrange(len(payload) + 1)]

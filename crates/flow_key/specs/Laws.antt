@@ -32,9 +32,10 @@ abbrev pub AnswersOnce : Type 0
 AnswersOnce = (fields : KeyFields) → IsKeyOf fields (key_with fields)
     × ((answer : Option FlowKey) → IsKeyOf fields answer → answer ≡ key_with fields)
 
--- So a key is the key with its fields, and where numbers don't fit there is none.
+-- So a key is the key with its fields.
 abbrev pub KeyOfItsFields : Type 0
 KeyOfItsFields = (key : FlowKey) → key_with (fields_of key) ≡ Some key
 
+-- And where six numbers don't fit there is none.
 abbrev pub NoneWhereUnfit : Type 0
 NoneWhereUnfit = (fields : KeyFields) → ¬ AreFit fields → key_with fields ≡ None

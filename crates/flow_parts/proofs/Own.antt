@@ -1,14 +1,12 @@
 -- A packet as a fragment of its own: it fits where that is joinable, and absorbing it is joining.
-use Rattle.std.proofs.Common.{◌≡◌, ◌≤◌, ◌↔◌, List, [], ◌∷◌, ◌++◌, sym, ap, ◌∙◌, subst, arith, IsPermutation}
+use Rattle.std.proofs.Common.{[], ◌∷◌, ◌++◌, sym, ap, ◌∙◌, arith}
 use Rattle.std.proofs.lemmas.Nat.{or_comm}
 use Rattle.std.proofs.lemmas.List.Sorted.{IsPermutation-refl, IsPermutation-sym, IsPermutation-trans, IsPermutation-to_front}
 use Rattle.packet_accept.specs.declared.packet.Packet.{Packet}
 use Rattle.packet_accept.specs.Ending.{finishes, Ends}
 use Rattle.flow_parts.specs.declared.fragment.Fragment.{Fragment}
-use Rattle.flow_parts.specs.declared.timeouts.Timeouts.{Timeouts}
 use Rattle.flow_parts.specs.Ending.{IsClosed}
-use Rattle.flow_parts.specs.Joining.{TakesIn, IsJoinable}
-use Rattle.flow_parts.specs.Parts.{IsAlone, IsAbsorbed, IsJoined}
+use Rattle.flow_parts.specs.Parts.{IsAlone}
 use Rattle.flow_parts.specs.Laws.{FitsAsJoinable, AbsorbsAsJoins, JoinsEitherWay, OwnIsOne, ClosedByPackets, StandsOpened, StandsAbsorbed, StandsJoined}
 use Rattle.flow_parts.proofs.Endings.{closed_ender, ender_closes}
 use Rattle.flow_parts.proofs.PartWords.{part_same}

@@ -2,7 +2,7 @@
 use Rattle.std.proofs.Common.{◌≡◌, Option, Some, None, refl, ap, sym, ◌∙◌, subst}
 use Rattle.std.specs.Option.{option_and_then}
 use Rattle.flow_key.specs.declared.key.FlowKey.{FlowKey}
-use Rattle.flow_key.specs.Fields.{KeyFields, fields_of, AreFit, IsKeyOf}
+use Rattle.flow_key.specs.Fields.{KeyFields, AreFit, IsKeyOf}
 use Rattle.flow_key.specs.KeyWith.{key_with}
 use Rattle.flow_key.proofs.KeyFields.{same_fields, fields_fit, key_with-is}
 use Rattle.flow_parts.specs.declared.fragment.Fragment.{Fragment}

@@ -1,6 +1,6 @@
 -- The laws of sharing out.
 use Rattle.std.proofs.Common.{◌≡◌, ℕ, ◌≤◌, List, [], ◌∷◌, ◌++◌, length, sum_by, flat_map, sym, ◌∙◌, subst, refl, arith, length-append, All, Any, Contains, IsPermutation, append_assoc}
-use Rattle.std.proofs.lemmas.List.{nil_from_length}
+use Rattle.std.proofs.lemmas.List.{append-nil, nil_from_length}
 use Rattle.std.specs.List.{AllZip}
 use Rattle.std.proofs.lemmas.List.Concat.{flat_map-append}
 use Rattle.std.proofs.lemmas.List.Elements.{All-append, All-weaker, All-nil, All-cons, All-contains, All-contains_itself}
@@ -11,10 +11,10 @@ use Rattle.flow_parts.specs.declared.fragment.Fragment.{Fragment}
 use Rattle.flow_parts.specs.declared.timeouts.Timeouts.{Timeouts}
 use Rattle.flow_parts.specs.Heap.{IsHeap}
 use Rattle.flow_parts.specs.Sharing.{SharesOut}
-use Rattle.flow_parts.specs.Laws.{NothingIsShared, StandsTogether, StandsPermuted, CountsAll, CoversTimes}
+use Rattle.flow_parts.specs.Laws.{NothingIsShared, StandsTogether, StandsPermuted, SharesItsHeap, CountsAll, CoversTimes}
 use Rattle.flow_parts.specs.Joining.{TakesIn, IsJoinable}
 use Rattle.flow_parts.specs.Parts.{IsAlone, IsAbsorbed, IsJoined}
-use Rattle.flow_parts.proofs.Heaps.{IsHeap-one, IsHeap-joined, IsHeap-absorbed}
+use Rattle.flow_parts.proofs.Heaps.{IsHeap-permutation, IsHeap-one, IsHeap-joined, IsHeap-absorbed}
 use Rattle.flow_parts.proofs.Members.{found, among, Any-one, Any-append_left, Any-append_right, Any-permutation}
 use Rattle.flow_parts.proofs.Permuted.{AllZip-append, AllZip-permutation, flat_map-permutation}
 
@@ -91,6 +91,18 @@ nothing = (
   λ limits. record { heaps = []; whole = IsPermutation-refl []; each = tt },
   λ limits P a. nil_from_length P (sym (length_permutation P (flat a.heaps) a.whole) ∙ none_at limits a.heaps a.each),
   λ limits F a. empty_at limits a.heaps F (length_permutation [] (flat a.heaps) a.whole) a.each,
+)
+
+-- one fragment and its heap
+heap_at : (limits : Timeouts) (P : List Packet) (f : Fragment) (heaps : List (List Packet)) → IsPermutation P (flat heaps) → AllZip (IsHeap limits) heaps (f ∷ []) → IsHeap limits P f
+heap_at limits P f [] s h = absurd h
+heap_at limits P f (x ∷ []) s h = IsHeap-permutation limits x P f (subst (λ l. IsPermutation l P) (append-nil x) (IsPermutation-sym P (x ++ []) s)) h.0
+heap_at limits P f (x ∷ y ∷ heaps) s h = absurd h.1
+
+pub its_heap : SharesItsHeap
+its_heap limits P f = (
+  λ h. record { heaps = P ∷ []; whole = subst (IsPermutation P) (sym (append-nil P)) (IsPermutation-refl P); each = (h, tt) },
+  λ a. heap_at limits P f a.heaps a.whole a.each,
 )
 
 abbrev packets_in : Fragment → ℕ

@@ -31,6 +31,11 @@ StandsPermuted = (limits : Timeouts) (packets others : List Packet) (parts rest 
     → IsPermutation packets others → IsPermutation parts rest
     → SharesOut limits packets parts → SharesOut limits others rest
 
+-- One fragment shares out the packets that are a heap of it, and no others.
+abbrev pub SharesItsHeap : Type 0
+SharesItsHeap = (limits : Timeouts) (packets : List Packet) (fragment : Fragment)
+    → IsHeap limits packets fragment ↔ SharesOut limits packets (fragment ∷ [])
+
 -- The fragments have as many packets and octets as the packets that they share out.
 abbrev pub CountsAll : Type 0
 CountsAll = (limits : Timeouts) (packets : List Packet) (parts : List Fragment) → SharesOut limits packets parts
@@ -105,9 +110,10 @@ abbrev pub AnswersOnce : Type 0
 AnswersOnce = (fields : PartFields) → IsPartOf fields (part_with fields)
     × ((answer : Option Fragment) → IsPartOf fields answer → answer ≡ part_with fields)
 
--- So a fragment is the one with its fields, and where numbers don't fit there is none.
+-- So a fragment is the one with its fields.
 abbrev pub PartOfItsFields : Type 0
 PartOfItsFields = (f : Fragment) → part_with (part_fields f) ≡ Some f
 
+-- And where such numbers don't fit there is none.
 abbrev pub NoneWhereUnfit : Type 0
 NoneWhereUnfit = (fields : PartFields) → ¬ (AreFit fields.key × AreCounts fields) → part_with fields ≡ None

@@ -1,6 +1,6 @@
 -- The fragment with some fields as a function: the one answer that `IsPartOf` allows, as the law `fragments_have_fields`
 -- says.
-use Rattle.std.specs.Prelude.{ℕ, ◌<◌, ◌≤◌, ◌^◌, Option, Some, None, option_and_then}
+use Rattle.std.specs.Prelude.{◌<◌, ◌≤◌, ◌^◌, Option, Some, None, option_and_then}
 use native.Mathlib.Decide.{dec_lt, dec_le}
 use Rattle.flow_key.specs.declared.key.FlowKey.{FlowKey}
 use Rattle.flow_key.specs.KeyWith.{key_with}

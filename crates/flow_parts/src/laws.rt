@@ -1,13 +1,14 @@
 //! Laws of fragments, and of sharing out for any lists of packets and fragments. These functions do nothing; each
 //! contract is a law.
-ghost use Rattle.flow_parts.specs.Laws.{NothingIsShared, StandsTogether, StandsPermuted, CountsAll, CoversTimes, StandsOpened, StandsAbsorbed, StandsJoined, OwnIsOne, FitsAsJoinable, AbsorbsAsJoins, JoinsEitherWay, ClosedByPackets, WordsTell, FieldsTell, PartsFit, AnswersOnce, PartOfItsFields, NoneWhereUnfit};
+ghost use Rattle.flow_parts.specs.Laws.{NothingIsShared, StandsTogether, StandsPermuted, SharesItsHeap, CountsAll, CoversTimes, StandsOpened, StandsAbsorbed, StandsJoined, OwnIsOne, FitsAsJoinable, AbsorbsAsJoins, JoinsEitherWay, ClosedByPackets, WordsTell, FieldsTell, PartsFit, AnswersOnce, PartOfItsFields, NoneWhereUnfit};
 
 /// Sharing out stands when two lists are put together, and when the packets or the fragments are permuted.
-/// No fragments share out no packets, and nothing else.
+/// No fragments share out no packets, and nothing else; one fragment shares out its heaps.
 pub fn sharing_out_stands()
     ensures nothing { NothingIsShared }
     ensures together { StandsTogether }
     ensures permuted { StandsPermuted }
+    ensures alone { SharesItsHeap }
 {}
 
 /// Fragments that share out a list of packets have as many packets and octets as it, and each packet lies in

@@ -150,3 +150,66 @@ fn sums_and_spans(rt: HostRuntime) {
     assert!(rt; both.packets == 7 && both.octets == 228 && both.flags == 0x12);
     assert!(rt; both.first == 1_000_000 && both.last == 1_300_000 && both.key == key(4000));
 }
+
+/// TCP or UDP from 192.0.2.1:40000 to 192.0.2.2:80, by the protocol number.
+fn web(protocol: u8) -> FlowKey {
+    FlowKey {
+        version: 4,
+        source: 0xC000_0201,
+        destination: 0xC000_0202,
+        protocol,
+        source_port: 40000,
+        destination_port: 80,
+    }
+}
+
+/// A fragment of two packets from 1 s to 2 s.
+fn second(protocol: u8, flags: u16) -> Fragment {
+    Fragment {
+        key: web(protocol),
+        packets: 2,
+        octets: 80,
+        first: 1000,
+        last: 2000,
+        flags,
+    }
+}
+
+#[test]
+fn ends_of_flows(rt: HostRuntime) {
+    let timeouts = Timeouts::new(300, 1800);
+    // Protocol and flags of a fragment from 1 s to 2 s, whether it is closed, time and flags of a packet, and whether that fits.
+    for (protocol, flags, closed, time, more, fits) in [
+        // A closed fragment takes no later packet, by FIN or by RST.
+        (6, 0x011, true, 2001, 0x010, false),
+        (6, 0x011, true, 2000, 0x010, true),
+        (6, 0x011, true, 999, 0x010, true),
+        (6, 0x014, true, 3000, 0x010, false),
+        // Nor does a packet that ends the flow go before the last time that is known.
+        (6, 0x012, false, 1999, 0x011, false),
+        (6, 0x012, false, 1999, 0x004, false),
+        (6, 0x012, false, 2000, 0x011, true),
+        (6, 0x012, false, 3000, 0x011, true),
+        (6, 0x012, false, 3000, 0x010, true),
+        // Two ends at one time are one end.
+        (6, 0x011, true, 2000, 0x011, true),
+        (6, 0x011, true, 2001, 0x011, false),
+        // The same flags of UDP end nothing.
+        (17, 0x015, false, 3000, 0x010, true),
+        (17, 0x010, false, 1500, 0x015, true),
+    ] {
+        let part = second(protocol, flags);
+        let packet = Packet {
+            number: 3,
+            key: web(protocol),
+            time,
+            octets: 40,
+            flags: more,
+        };
+        assert!(rt; part.closed() == closed);
+        assert!(rt; packet.ends() == Fragment::of(&packet).closed());
+        assert!(rt; timeouts.fits(&part, &packet) == fits);
+        assert!(rt; timeouts.joinable(&part, &Fragment::of(&packet)) == fits);
+        assert!(rt; timeouts.joinable(&Fragment::of(&packet), &part) == fits);
+    }
+}

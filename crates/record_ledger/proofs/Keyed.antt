@@ -173,6 +173,14 @@ module _ {X Y : Type 0} (f : X → Y) where
   All-unmap P [] h = All-nil (λ x. P (f x))
   All-unmap P (x ∷ xs) h = All-cons (λ z. P (f z)) x xs (All-head P (f x) (map f xs) h) (All-unmap P xs (All-tail P (f x) (map f xs) h))
 
+  pub All-of_map : (P : Y → Type 0) (xs : List X) → All (λ x. P (f x)) xs → All P (map f xs)
+  All-of_map P [] h = All-nil P
+  All-of_map P (x ∷ xs) h = All-cons P (f x) (map f xs) (All-head (λ z. P (f z)) x xs h) (All-of_map P xs (All-tail (λ z. P (f z)) x xs h))
+
+  pub rises_of_map : (R : Y → Y → Type 0) (xs : List X) → Rises (λ a b. R (f a) (f b)) xs → Rises R (map f xs)
+  rises_of_map R [] h = tt
+  rises_of_map R (x ∷ xs) h = (All-of_map (R (f x)) xs h.0, rises_of_map R xs h.1)
+
   pub rises_unmap : (R : Y → Y → Type 0) (xs : List X) → Rises R (map f xs) → Rises (λ a b. R (f a) (f b)) xs
   rises_unmap R [] h = tt
   rises_unmap R (x ∷ xs) h = (All-unmap (R (f x)) xs h.0, rises_unmap R xs h.1)

@@ -1,5 +1,6 @@
 pub mod Alone
 pub mod Gathered
+pub mod InPlace
 pub mod Keyed
 pub mod Lying
 pub mod Made
@@ -7,4 +8,5 @@ pub mod Matched
 pub mod Meeting
 pub mod Reaching
 pub mod Rising
+pub mod Stacking
 pub mod Unique

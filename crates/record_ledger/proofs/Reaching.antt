@@ -1,7 +1,6 @@
 -- What stands when fragments are permuted and joined.
-use Rattle.std.proofs.Common.{◌≡◌, ℕ, ◌+◌, ◌<◌, ◌≤◌, List, [], ◌∷◌, ◌++◌, length, take, sum_by, flat_map, map, refl, sym, ap, ◌∙◌, subst, arith, append_assoc, length-append, All, IsPermutation}
+use Rattle.std.proofs.Common.{◌≡◌, ℕ, ◌+◌, ◌<◌, List, [], ◌∷◌, ◌++◌, length, take, sum_by, flat_map, map, refl, sym, ap, ◌∙◌, subst, arith, append_assoc, length-append, All, IsPermutation}
 use Rattle.std.specs.List.{AllZip}
-use Rattle.std.proofs.lemmas.List.{take-take, take_at}
 use Rattle.std.proofs.lemmas.List.Elements.{All-append, All-weaker, All-contains, All-take, Contains-push}
 use Rattle.std.proofs.lemmas.List.Sums.{sum_by-append, sum_by-cons}
 use Rattle.std.proofs.lemmas.List.Sorted.{sum_by-IsPermutation, IsPermutation-refl, IsPermutation-sym, IsPermutation-trans, IsPermutation-to_front, IsPermutation-append_left}
@@ -146,13 +145,7 @@ module _ (limits : Timeouts) where
       (onward ((part ∷ S) ++ rest) ((w ∷ s) ++ rest) ((s ++ w ∷ []) ++ rest) (beside (part ∷ S) (w ∷ s) rest q)
       (moved ((w ∷ s) ++ rest) ((s ++ w ∷ []) ++ rest) after)))
 
--- a stack that lost its top is still the front of the list that it was the front of, which holds the top
-pub still_front : (S s t : List Fragment) (top : Fragment) (n : ℕ) → s ≡ t ++ top ∷ [] → s ≡ take n S → n ≡ length s → t ≡ take (length t) S
-still_front S s t top n e front long =
-    let m : ℕ = length t in
-    let le : m ≤ n = (let x = ap length e in omega (arith, length-append t (top ∷ []))) in
-    sym (take_at t (top ∷ []) m refl) ∙ ap (take m) (sym e ∙ front) ∙ take-take m n S le
-
+-- what holds of each element of a list holds of the top of its front
 pub front_holds : (P : Fragment → Type 0) (S s t : List Fragment) (top : Fragment) (n : ℕ) → s ≡ t ++ top ∷ [] → s ≡ take n S → All P S → P top
 front_holds P S s t top n e front h = All-contains P (t ++ top ∷ []) top (subst (All P) (sym front ∙ e) (All-take P n S h)) (Contains-push t top)
 

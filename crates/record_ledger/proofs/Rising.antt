@@ -26,8 +26,8 @@ gathering_total = then_total (on_total (λ (f : Fragment). f.key) key_order_tota
 pub written_total : IsTotalOrder written_order
 written_total = then_total (on_total (λ (r : FlowRecord). r.part.last) nat_cmp_total) (on_total (λ (r : FlowRecord). r.part.key) key_order_total)
 
-pub gathering_weak : IsStrictWeakOrder (λ (x y : Fragment). is_lt (key_then_last x y))
-gathering_weak = ranks_by gathering_total (λ (f : Fragment). f)
+pub by_key_weak : IsStrictWeakOrder (λ (x y : FlowRecord). is_lt (key_then_last x.part y.part))
+by_key_weak = ranks_by gathering_total (λ (r : FlowRecord). r.part)
 
 pub written_weak : IsStrictWeakOrder (λ (x y : FlowRecord). is_lt (written_order x y))
 written_weak = ranks_by written_total (λ (r : FlowRecord). r)

@@ -1,5 +1,5 @@
 -- Sessions have one list of records.
-use Rattle.std.proofs.Common.{◌≡◌, ℕ, suc, ◌<◌, ◌≤◌, ◌^◌, Bool, true, false, cond, inl, inr, List, [], ◌∷◌, length, get_or, drop, map, refl, sym, ap, ◌∙◌, subst, arith, All, AllPairs, Any, Contains, Option, Some, None}
+use Rattle.std.proofs.Common.{◌≡◌, ℕ, suc, ◌<◌, ◌≤◌, ◌^◌, Bool, true, false, cond, inl, inr, List, [], ◌∷◌, length, get_or, drop, map, refl, sym, ap, ◌∙◌, subst, arith, AllPairs, Any, Contains, Option, Some, None}
 use mathlib.Core.HLevel.{is_prop→PathP}
 use Rattle.std.proofs.Props.{props}
 use Rattle.std.specs.Cmp.{IsTotalOrder}
@@ -9,7 +9,7 @@ use Rattle.std.specs.declared.cmp.Ordering.{Ordering}
 use Rattle.std.specs.declared.cmp.Ordering.TheVariants.{Less, Greater}
 use Rattle.std.proofs.lemmas.Bool.{cases_lt}
 use Rattle.std.proofs.lemmas.Cmp.{nat_cmp_total, on_total, then_total}
-use Rattle.std.proofs.lemmas.List.Elements.{All-contains, All-nil, All-cons}
+use Rattle.std.proofs.lemmas.List.Elements.{All-contains}
 use Rattle.std.proofs.lemmas.Nat.Bits.{bit_at-lt, same_from_bits}
 use Rattle.flow_key.specs.declared.key.FlowKey.{FlowKey}
 use Rattle.flow_key.specs.Key.{key_order}
@@ -24,7 +24,7 @@ use Rattle.record_ledger.specs.declared.record.FlowRecord.{FlowRecord}
 use Rattle.record_ledger.specs.Lawful.{of_key, first_part, EachWithNext, HasReason, reason_of}
 use Rattle.record_ledger.specs.Steps.{Rises}
 use Rattle.record_ledger.proofs.Gathered.{has_key, head_holds, tail_holds}
-use Rattle.record_ledger.proofs.Keyed.{part_of, same_rising, cons_cases, contains_head, contains_more}
+use Rattle.record_ledger.proofs.Keyed.{part_of, All-of_map, same_rising, cons_cases, contains_head, contains_more}
 use Rattle.record_ledger.proofs.Rising.{keys_tie}
 use Rattle.flow_parts.specs.Heap.{IsHeap}
 use Rattle.record_ledger.specs.Laws.{RecordsAreOne}
@@ -81,14 +81,10 @@ module _ {X Y : Type 0} (f : X → Y) where
     | inr d ↦ (let k = map_contains xs z d in (k.0, contains_more y xs k.0 k.1, k.2))
   ]
 
-  All-of_map : (P : Y → Type 0) (xs : List X) → All (λ x. P (f x)) xs → All P (map f xs)
-  All-of_map P [] h = All-nil P
-  All-of_map P (x ∷ xs) h = All-cons P (f x) (map f xs) (h 0 x (omega arith)) (All-of_map P xs (λ k d l. h (suc k) d (omega arith)))
-
   rises_map : (R : Y → Y → Type 0) (xs : List X) → AllPairs (λ a b. R (f a) (f b)) xs → Rises R (map f xs)
   rises_map R [] h = tt
   rises_map R (x ∷ xs) h = (
-    All-of_map (R (f x)) xs (λ k d l. h 0 (suc k) d (omega arith) (omega arith)),
+    All-of_map f (R (f x)) xs (λ k d l. h 0 (suc k) d (omega arith) (omega arith)),
     rises_map R xs (λ i j d l m. h (suc i) (suc j) d (omega arith) (omega arith)),
   )
 

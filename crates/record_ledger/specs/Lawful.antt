@@ -13,6 +13,10 @@ use Rattle.flow_parts.specs.Sharing.{SharesOut}
 use Rattle.record_ledger.specs.declared.record.FlowRecord.{FlowRecord}
 use Rattle.record_ledger.specs.Order.{written_order}
 
+-- The fragments of records.
+abbrev pub parts_of : List FlowRecord → List Fragment
+parts_of records = map (λ (r : FlowRecord). r.part) records
+
 -- The records of one key, in the order of the list.
 abbrev pub of_key : FlowKey → List FlowRecord → List FlowRecord
 of_key key records = filter (λ r. is_eq (key_order r.part.key key)) records
@@ -49,7 +53,7 @@ HasReason limits clock r next = r.reason ≡ reason_of limits clock r.part next
 -- The records are lawful for the packets: their fragments share out the packets, they stand in the written order, of the
 -- records of one key no two neighbours are joinable, and each reason is right by the clock of the packets.
 pub record IsLawful (limits : Timeouts) (packets : List Packet) (records : List FlowRecord) : Type 0 where
-  pub shared : SharesOut limits packets (map (λ (r : FlowRecord). r.part) records)
+  pub shared : SharesOut limits packets (parts_of records)
   pub ordered : IsSorted written_order records
   pub apart : (key : FlowKey) → EachWithNext (StandsApart limits) (of_key key records)
   pub reasons : (clock : ℕ) → IsClock packets (Some clock) → (key : FlowKey) → EachWithNext (HasReason limits clock) (of_key key records)

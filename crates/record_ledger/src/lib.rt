@@ -18,5 +18,5 @@ mod record;
 mod tests;
 
 pub use gathering::gather;
-pub use meter_io::NoMemory;
+pub use no_memory::NoMemory;
 pub use record::{ACTIVE_TIMEOUT, END_OF_FLOW, FORCED_END, FlowRecord, IDLE_TIMEOUT};

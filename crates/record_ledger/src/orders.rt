@@ -1,35 +1,38 @@
-ghost use Rattle.std.specs.Prelude.{◌≡◌, IfOk, IsPermutation, IsSorted};
+//! The two orders that records are sorted by.
+
+ghost use Rattle.std.specs.Prelude.{◌≡◌, IsPermutation, IsSorted};
 ghost use Rattle.record_ledger.specs.Order.{key_then_last, written_order};
+ghost use Rattle.record_ledger.specs.declared.record.FlowRecord.{FlowRecord};
 
 use crate::record::FlowRecord;
-use flow_parts::Fragment;
-use meter_io::NoMemory;
-use std::alloc::Global;
 use std::cmp::Ordering;
 
-/// The parts, sorted by key, then by last time.
-pub fn sorted_by_key(alloc: Global, parts: &[Fragment]) -> Result<Vec<Fragment>, NoMemory>
-    ensures permutation { IfOk result (λ sorted. IsPermutation parts.now sorted.items) }
-    ensures order { IfOk result (λ sorted. IsSorted key_then_last sorted.items) }
+/// Sorts records by key, then by last time.
+pub fn sort_by_key(records: &mut Vec<FlowRecord>)
+    ensures permutation { IsPermutation records.old.items records.new.items }
+    ensures order { IsSorted (λ (one other : FlowRecord). key_then_last one.part other.part) records.new.items }
 {
-    match Vec::from_slice(alloc, parts) {
-        Ok(mut sorted) => {
-            sorted.sort_unstable_by(|one, other| by_key(one, other));
-            Ok(sorted)
-        }
-        Err(_) => Err(NoMemory),
-    }
+    records.sort_unstable_by(|one, other| by_key(one, other));
 }
 
-/// How two fragments stand by key, then by last time.
-fn by_key(one: &Fragment, other: &Fragment) -> Ordering
-    ensures { result ≡ key_then_last one.now other.now }
+/// Sorts records into the written order: by last time, then by key.
+pub fn sort_by_last(records: &mut Vec<FlowRecord>)
+    ensures permutation { IsPermutation records.old.items records.new.items }
+    ensures order { IsSorted written_order records.new.items }
 {
-    one.key.order(&other.key).then(one.last.cmp(&other.last))
+    records.sort_unstable_by(|one, other| by_last(one, other));
 }
 
-/// How two records stand in the written order: by last time, then by key.
-pub fn by_last(one: &FlowRecord, other: &FlowRecord) -> Ordering
+/// How two records stand by key, then by last time.
+fn by_key(one: &FlowRecord, other: &FlowRecord) -> Ordering
+    ensures { result ≡ key_then_last one.now.part other.now.part }
+{
+    let keys = one.part.key.order(&other.part.key);
+    keys.then(one.part.last.cmp(&other.part.last))
+}
+
+/// How two records stand in the written order.
+fn by_last(one: &FlowRecord, other: &FlowRecord) -> Ordering
     ensures { result ≡ written_order one.now other.now }
 {
     match one.part.last.cmp(&other.part.last) {

@@ -1,4 +1,3 @@
-use Rattle.std.proofs.Common.{◌≡◌}
 use Rattle.flow_parts.specs.PartWith.{part_with}
 use Rattle.flow_parts.proofs.PartFields.{same_part_fields, part_fields_fit, part_with-is, one_part, part_with-part, part_with-none}
 use Rattle.flow_parts.proofs.laws.fragments_have_fields.Goals as goal

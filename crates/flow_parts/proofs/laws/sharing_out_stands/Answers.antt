@@ -1,4 +1,4 @@
-use Rattle.flow_parts.proofs.Shares.{nothing, together, permuted}
+use Rattle.flow_parts.proofs.Shares.{nothing, together, permuted, its_heap}
 use Rattle.flow_parts.proofs.laws.sharing_out_stands.Goals as goal
 
 pub returns-clause-nothing : goal.returns-clause-nothing
@@ -9,3 +9,6 @@ returns-clause-together c = together
 
 pub returns-clause-permuted : goal.returns-clause-permuted
 returns-clause-permuted c = permuted
+
+pub returns-clause-alone : goal.returns-clause-alone
+returns-clause-alone c = its_heap

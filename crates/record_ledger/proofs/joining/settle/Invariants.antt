@@ -1,0 +1,16 @@
+-- The part and the stack have become the fragment and what is left of the stack.
+use Rattle.std.proofs.Common.{◌≡◌, ◌≤◌, ◌∷◌, take, length}
+use Rattle.record_ledger.specs.Lawful.{parts_of}
+use Rattle.record_ledger.specs.Steps.{Reaches}
+use Rattle.record_ledger.proofs.joining.settle.Given as goal
+
+abbrev pub invariant-loop-top : goal.invariant-loop-top
+invariant-loop-top l = record {
+  few : l.left ≤ length l.stack;
+  reached : Reaches l.timeouts (l.fn.part ∷ parts_of l.stack) (l.whole ∷ take l.left (parts_of l.stack));
+  key : l.whole.key ≡ l.fn.part.key;
+  last : l.whole.last ≡ l.fn.part.last;
+}
+
+abbrev pub decreases-loop-top : goal.decreases-loop-top
+decreases-loop-top l = l.left
