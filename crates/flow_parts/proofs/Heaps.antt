@@ -7,9 +7,9 @@ use Rattle.std.proofs.lemmas.List.Sorted.{All-permutation, length_permutation, s
 use Rattle.packet_accept.specs.declared.packet.Packet.{Packet}
 use Rattle.flow_parts.specs.declared.fragment.Fragment.{Fragment}
 use Rattle.flow_parts.specs.declared.timeouts.Timeouts.{Timeouts}
-use Rattle.flow_parts.specs.Extremes.{IsLeast, IsUnion}
-use Rattle.packet_accept.specs.Clock.{IsGreatest}
-use Rattle.packet_accept.specs.Ending.{Ends}
+use Rattle.packet_accept.specs.Extremes.{IsLeast, IsGreatest}
+use Rattle.flow_parts.specs.Union.{IsUnion}
+use Rattle.flow_parts.specs.Ending.{Ends}
 use Rattle.flow_parts.proofs.Endings.{ender_closes}
 use Rattle.flow_parts.specs.Heap.{IsHeap}
 use Rattle.flow_parts.specs.Joining.{TakesIn, IsJoinable}

@@ -5,8 +5,8 @@ use Rattle.std.proofs.lemmas.List.Elements.{All-append, All-cons, All-nil, All-c
 use Rattle.std.proofs.lemmas.List.Sorted.{All-permutation, Contains-permutation, IsPermutation-sym}
 use Rattle.std.proofs.lemmas.Nat.Bits.{bit_at_or, bit_at-lt}
 use Rattle.std.proofs.lemmas.Bool.{cases_lt}
-use Rattle.flow_parts.specs.Extremes.{IsLeast, IsUnion}
-use Rattle.packet_accept.specs.Clock.{IsGreatest}
+use Rattle.packet_accept.specs.Extremes.{IsLeast, IsGreatest}
+use Rattle.flow_parts.specs.Union.{IsUnion}
 
 module _ {X : Type 0} where
   -- between `Any` and an element that the list contains

@@ -2,10 +2,11 @@
 use Rattle.std.proofs.Common.{[], ◌∷◌, ◌++◌, sym, ap, ◌∙◌, arith}
 use Rattle.std.proofs.lemmas.Nat.{or_comm}
 use Rattle.std.proofs.lemmas.List.Sorted.{IsPermutation-refl, IsPermutation-sym, IsPermutation-trans, IsPermutation-to_front}
+use Rattle.flow_key.specs.declared.key.FlowKey.{FlowKey}
 use Rattle.packet_accept.specs.declared.packet.Packet.{Packet}
-use Rattle.packet_accept.specs.Ending.{finishes, Ends}
+use Rattle.packet_accept.specs.Ending.{is_tcp_end}
 use Rattle.flow_parts.specs.declared.fragment.Fragment.{Fragment}
-use Rattle.flow_parts.specs.Ending.{IsClosed}
+use Rattle.flow_parts.specs.Ending.{Ends, IsClosed}
 use Rattle.flow_parts.specs.Parts.{IsAlone}
 use Rattle.flow_parts.specs.Laws.{FitsAsJoinable, AbsorbsAsJoins, JoinsEitherWay, OwnIsOne, ClosedByPackets, StandsOpened, StandsAbsorbed, StandsJoined}
 use Rattle.flow_parts.proofs.Endings.{closed_ender, ender_closes}
@@ -14,10 +15,10 @@ use Rattle.flow_parts.proofs.Shares.{permuted, fresh, absorbed, joined}
 
 -- the packet's own fragment is closed where the packet ends its flow
 closed_own : (p : Packet) (own : Fragment) → IsAlone p own → IsClosed own → Ends p
-closed_own p own a h = (sym (ap (λ n. finishes p.key n) a.flags) ∙ sym (ap (λ k. finishes k own.flags) a.key)) ∙ h
+closed_own p own a h = sym (ap (λ n. is_tcp_end p.key.protocol n) a.flags) ∙ sym (ap (λ (k : FlowKey). is_tcp_end k.protocol own.flags) a.key) ∙ h
 
 ends_own : (p : Packet) (own : Fragment) → IsAlone p own → Ends p → IsClosed own
-ends_own p own a h = ap (λ k. finishes k own.flags) a.key ∙ ap (λ n. finishes p.key n) a.flags ∙ h
+ends_own p own a h = ap (λ (k : FlowKey). is_tcp_end k.protocol own.flags) a.key ∙ ap (λ n. is_tcp_end p.key.protocol n) a.flags ∙ h
 
 pub fits_as_joinable : FitsAsJoinable
 fits_as_joinable limits f own p a =

@@ -4,8 +4,7 @@ use Rattle.std.proofs.lemmas.Bool.{cases_lt}
 use Rattle.std.proofs.lemmas.List.Elements.{All-append, All-contains, All-contains_itself, All-weaker}
 use Rattle.std.proofs.lemmas.List.Sorted.{All-permutation, IsPermutation-sym}
 use Rattle.packet_accept.specs.declared.packet.Packet.{Packet}
-use Rattle.flow_parts.specs.Extremes.{IsLeast}
-use Rattle.packet_accept.specs.Clock.{IsGreatest}
+use Rattle.packet_accept.specs.Extremes.{IsLeast, IsGreatest}
 use Rattle.flow_parts.specs.Heap.{IsLinked}
 use Rattle.flow_parts.proofs.Members.{found, among, Any-append_left, Any-append_right, Any-append_cases, Any-permutation, Any-weaker, All-one, one-Any}
 

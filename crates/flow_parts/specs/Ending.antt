@@ -1,8 +1,14 @@
--- Fragments that are closed.
+-- Packets that end their flow, and fragments that are closed.
 use Rattle.std.specs.Prelude.{IsTrue}
-use Rattle.packet_accept.specs.Ending.{finishes}
+use Rattle.packet_accept.specs.Ending.{is_tcp_end, ends_flow}
+use Rattle.packet_accept.specs.declared.packet.Packet.{Packet}
 use Rattle.flow_parts.specs.declared.fragment.Fragment.{Fragment}
 
--- One of the fragment's packets ends its flow: its key and its flags are those of a packet that does.
+-- The packet ends its flow.
+abbrev pub Ends : Packet → Type 0
+Ends packet = IsTrue (ends_flow packet)
+
+-- The fragment is closed: its protocol and its flags are those of a packet that ends its flow. The flags are the union of
+-- its packets', so that one of them does.
 abbrev pub IsClosed : Fragment → Type 0
-IsClosed fragment = IsTrue (finishes fragment.key fragment.flags)
+IsClosed fragment = IsTrue (is_tcp_end fragment.key.protocol fragment.flags)

@@ -3,9 +3,9 @@ use Rattle.std.specs.Prelude.{◌≡◌, ◌≢◌, ℕ, ◌+◌, ◌-◌, ◌<�
 use Rattle.packet_accept.specs.declared.packet.Packet.{Packet}
 use Rattle.flow_parts.specs.declared.fragment.Fragment.{Fragment}
 use Rattle.flow_parts.specs.declared.timeouts.Timeouts.{Timeouts}
-use Rattle.flow_parts.specs.Extremes.{IsLeast, IsUnion}
-use Rattle.packet_accept.specs.Clock.{IsGreatest}
-use Rattle.packet_accept.specs.Ending.{Ends}
+use Rattle.packet_accept.specs.Extremes.{IsLeast, IsGreatest}
+use Rattle.flow_parts.specs.Union.{IsUnion}
+use Rattle.flow_parts.specs.Ending.{Ends}
 
 -- The packets are linked: each one that isn't among the latest is followed by a strictly later one, later by at
 -- most the idle time-out (after RFC 5470, section 5.1.1).

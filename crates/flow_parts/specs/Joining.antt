@@ -3,7 +3,7 @@ use Rattle.std.specs.Prelude.{◌≡◌, ℕ, ◌-◌, ◌≤◌, min, max}
 use Rattle.packet_accept.specs.declared.packet.Packet.{Packet}
 use Rattle.flow_parts.specs.declared.fragment.Fragment.{Fragment}
 use Rattle.flow_parts.specs.declared.timeouts.Timeouts.{Timeouts}
-use Rattle.packet_accept.specs.Ending.{Ends}
+use Rattle.flow_parts.specs.Ending.{Ends}
 use Rattle.flow_parts.specs.Ending.{IsClosed}
 
 -- The packet has the fragment's key, its time is at most idle before the fragment's first and at most idle after its

@@ -1,5 +1,4 @@
 pub mod Ending
-pub mod Extremes
 pub mod Fields
 pub mod Heap
 pub mod Joining
@@ -7,3 +6,4 @@ pub mod Laws
 pub mod Parts
 pub mod PartWith
 pub mod Sharing
+pub mod Union

@@ -3,7 +3,16 @@
 ghost use Rattle.std.specs.Prelude.{◌≡◌, ◌≢◌, ℕ, ◌+◌, ◌<◌, ◌≤◌, ◌^◌, List, [], ◌∷◌, ◌++◌, Some, None, IfSome, IsNone, IsTrue, ◌↔◌, slice_index};
 
 use flow_key::FlowKey;
-use packet_accept::{Packet, ends_flow};
+use packet_accept::Packet;
+
+/// The protocol number of TCP in the IANA registry.
+const TCP: u8 = 6;
+
+/// The control bit FIN: no more data from the sender (RFC 9293, section 3.1).
+const FIN: u16 = 0x001;
+
+/// The control bit RST: reset the connection.
+const RST: u16 = 0x004;
 
 /// What is known of some packets of one flow, taken together.
 #[derive(Clone, Copy, PartialEq, Eq, Debug)]
@@ -49,7 +58,7 @@ impl Fragment {
     pub fn closed(&self) -> bool
         ensures { IsTrue result ↔ IsClosed self.now }
     {
-        ends_flow(&self.key, self.flags)
+        self.key.protocol == TCP && (self.flags & FIN != 0 || self.flags & RST != 0)
     }
 
     /// The fragment as ten words: the five of its key, then packets, octets, first, last and flags.

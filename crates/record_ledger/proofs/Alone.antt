@@ -11,7 +11,7 @@ use Rattle.record_ledger.specs.declared.record.FlowRecord.{FlowRecord}
 use Rattle.record_ledger.specs.Lawful.{EachWithNext, StandsApart}
 use Rattle.record_ledger.specs.Steps.{Rises}
 use Rattle.record_ledger.proofs.Keyed.{cons_cases, contains_head}
-use Rattle.packet_accept.specs.Ending.{Ends}
+use Rattle.flow_parts.specs.Ending.{Ends}
 use Rattle.flow_parts.specs.Joining.{IsJoinable}
 use Rattle.record_ledger.specs.Sessions.{IsSessions, IsUncut}
 use Rattle.record_ledger.proofs.Meeting.{in_packets, linked_in, meet, between}

@@ -5,7 +5,7 @@ use Rattle.packet_accept.specs.declared.packet.Packet.{Packet}
 use Rattle.flow_parts.specs.declared.fragment.Fragment.{Fragment}
 use Rattle.flow_parts.specs.declared.timeouts.Timeouts.{Timeouts}
 use Rattle.flow_parts.proofs.Members.{found, among}
-use Rattle.packet_accept.specs.Ending.{Ends}
+use Rattle.flow_parts.specs.Ending.{Ends}
 use Rattle.flow_parts.specs.Ending.{IsClosed}
 use Rattle.flow_parts.specs.Heap.{IsHeap}
 use Rattle.record_ledger.specs.Sessions.{IsSessions}

@@ -11,9 +11,8 @@ use Rattle.std.proofs.lemmas.List.Sorted.{All-permutation, IsPermutation-refl, I
 use Rattle.flow_key.specs.declared.key.FlowKey.{FlowKey}
 use Rattle.flow_key.specs.Key.{key_order}
 use Rattle.flow_key.proofs.KeyOrder.{key_order_total, tied_keys}
-use Rattle.packet_accept.specs.Clock.{IsGreatest}
+use Rattle.packet_accept.specs.Extremes.{IsLeast, IsGreatest}
 use Rattle.packet_accept.specs.declared.packet.Packet.{Packet}
-use Rattle.flow_parts.specs.Extremes.{IsLeast}
 use Rattle.flow_parts.specs.Heap.{IsLinked}
 use Rattle.flow_parts.proofs.Members.{All-one, IsLeast-append, IsLeast-one, IsGreatest-append, IsGreatest-one}
 use Rattle.flow_parts.proofs.Walks.{IsLinked-append, IsLinked-one}

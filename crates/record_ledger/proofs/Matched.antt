@@ -25,7 +25,7 @@ use Rattle.record_ledger.proofs.Gathered.{has_key, key_from_test, up_written, ri
 use Rattle.record_ledger.proofs.Keyed.{part_of, tie_from_test, cons_cases, contains_head, contains_more, filter_contains, contains_filter, pairs_from_rises}
 use Rattle.record_ledger.proofs.Rising.{keys_tie, written_total}
 use Rattle.flow_key.proofs.KeyOrder.{tied_keys}
-use Rattle.packet_accept.specs.Ending.{Ends}
+use Rattle.flow_parts.specs.Ending.{Ends}
 use Rattle.record_ledger.specs.Laws.{LawfulAreSessions}
 use Rattle.record_ledger.specs.Sessions.{IsApart, IsSessions, IsUncut, AreRecordsOf}
 use Rattle.record_ledger.proofs.Alone.{InTwo, Somewhere, all_apart}

@@ -7,8 +7,8 @@ use Rattle.std.proofs.lemmas.List.Sorted.{sum_by-IsPermutation, IsPermutation-re
 use Rattle.packet_accept.specs.declared.packet.Packet.{Packet}
 use Rattle.flow_parts.specs.declared.fragment.Fragment.{Fragment}
 use Rattle.flow_parts.specs.declared.timeouts.Timeouts.{Timeouts}
-use Rattle.flow_parts.specs.Extremes.{IsLeast, IsUnion}
-use Rattle.packet_accept.specs.Clock.{IsGreatest}
+use Rattle.packet_accept.specs.Extremes.{IsLeast, IsGreatest}
+use Rattle.flow_parts.specs.Union.{IsUnion}
 use Rattle.flow_parts.specs.Joining.{IsJoinable}
 use Rattle.flow_parts.specs.Parts.{IsJoined}
 use Rattle.flow_parts.specs.Sharing.{SharesOut}

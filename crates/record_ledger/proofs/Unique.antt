@@ -14,7 +14,8 @@ use Rattle.std.proofs.lemmas.Nat.Bits.{bit_at-lt, same_from_bits}
 use Rattle.flow_key.specs.declared.key.FlowKey.{FlowKey}
 use Rattle.flow_key.specs.Key.{key_order}
 use Rattle.flow_key.proofs.KeyOrder.{key_order_total}
-use Rattle.packet_accept.specs.Clock.{IsGreatest, IsClock}
+use Rattle.packet_accept.specs.Extremes.{IsGreatest}
+use Rattle.packet_accept.specs.Clock.{IsClock}
 use Rattle.packet_accept.specs.declared.packet.Packet.{Packet}
 use Rattle.flow_parts.specs.declared.fragment.Fragment.{Fragment}
 use Rattle.flow_parts.specs.declared.timeouts.Timeouts.{Timeouts}

@@ -7,7 +7,7 @@ use Rattle.packet_accept.specs.declared.packet.Packet.{Packet}
 use Rattle.flow_parts.specs.declared.fragment.Fragment.{Fragment}
 use Rattle.flow_parts.specs.declared.timeouts.Timeouts.{Timeouts}
 use Rattle.packet_accept.specs.Clock.{IsClock}
-use Rattle.packet_accept.specs.Ending.{finishes}
+use Rattle.packet_accept.specs.Ending.{is_tcp_end}
 use Rattle.flow_parts.specs.Joining.{IsJoinable}
 use Rattle.flow_parts.specs.Sharing.{SharesOut}
 use Rattle.record_ledger.specs.declared.record.FlowRecord.{FlowRecord}
@@ -44,7 +44,7 @@ open_reason limits clock part None = if nat_lt (part.last + limits.idle) clock t
 
 -- The reason why a fragment's flow ended: 3 where the fragment is closed.
 abbrev pub reason_of : Timeouts → ℕ → Fragment → Option Fragment → ℕ
-reason_of limits clock part next = if finishes part.key part.flags then 3 else open_reason limits clock part next
+reason_of limits clock part next = if is_tcp_end part.key.protocol part.flags then 3 else open_reason limits clock part next
 
 -- The record has that reason.
 abbrev pub HasReason : Timeouts → ℕ → FlowRecord → Option Fragment → Type 0

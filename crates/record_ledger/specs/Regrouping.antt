@@ -2,8 +2,8 @@
 use Rattle.std.specs.Prelude.{◌≡◌, ◌≢◌, List, [], flat_map, sum_by, All, IsPermutation}
 use Rattle.std.specs.List.{AllZip}
 use Rattle.flow_parts.specs.declared.fragment.Fragment.{Fragment}
-use Rattle.flow_parts.specs.Extremes.{IsLeast, IsUnion}
-use Rattle.packet_accept.specs.Clock.{IsGreatest}
+use Rattle.packet_accept.specs.Extremes.{IsLeast, IsGreatest}
+use Rattle.flow_parts.specs.Union.{IsUnion}
 use Rattle.record_ledger.specs.declared.record.FlowRecord.{FlowRecord}
 
 -- The fragment is a list of fragments taken together: the list isn't empty, all have its key, and it has the sums of

@@ -12,7 +12,7 @@ use Rattle.flow_parts.specs.Heap.{IsLinked, IsHeap}
 use Rattle.record_ledger.specs.declared.record.FlowRecord.{FlowRecord}
 use Rattle.record_ledger.specs.Lawful.{of_key, EachWithNext, HasReason}
 use Rattle.record_ledger.specs.Order.{written_order}
-use Rattle.packet_accept.specs.Ending.{Ends}
+use Rattle.flow_parts.specs.Ending.{Ends}
 
 -- Packets of one key in the two lists are more than the idle time-out apart.
 abbrev pub IsApart : ℕ → List Packet → List Packet → Type 0
