@@ -1,14 +1,16 @@
 -- What a run means, by its status.
-use Rattle.std.specs.Prelude.{◌≡◌, ℕ, ◌+◌, ◌*◌, ◌^◌, List, length, take, Option, Some, None, Ok, Err, IsSomeAnd, ⊤}
+use Rattle.std.specs.Prelude.{◌≡◌, ℕ, ◌+◌, ◌*◌, ◌^◌, List, length, take, Option, Some, None, Ok, Err, IsSomeAnd, All, ⊤}
 use Rattle.std.specs.Io.KnownBytes.{Appends, Consumes, IsAtEnd}
 use Rattle.meter_io.specs.Causes.{Rose}
 use Rattle.pcap_reader.specs.File.{CaptureFile, capture_file, IsKnownLink}
 use Rattle.pcap_reader.specs.Records.{damage_of}
+use Rattle.packet_accept.specs.declared.packet.Packet.{Packet}
 use Rattle.packet_accept.specs.Clock.{IsClock}
 use Rattle.packet_accept.specs.Packets.{packets_of}
 use Rattle.flow_parts.specs.declared.timeouts.Timeouts.{Timeouts}
 use Rattle.record_ledger.specs.declared.record.FlowRecord.{FlowRecord}
 use Rattle.record_ledger.specs.Lawful.{IsLawful}
+use Rattle.record_ledger.specs.Sessions.{IsSessions, IsUncut, AreRecordsOf}
 use Rattle.ipfix_writer.specs.Layout.{IsLayout, BeginsLayout}
 use Rattle.ipfix_model.specs.declared.values.DataRecord.{DataRecord}
 use Rattle.ipfix_reader.specs.declared.fault.StreamFault.{StreamFault}
@@ -42,7 +44,8 @@ abbrev pub capture_limit : ℕ
 capture_limit = 2 ^ 30
 
 -- The bytes are an undamaged capture, of which these records are lawful: they partition its accepted packets, by these
--- time-outs. The export time is the time of the latest packet in whole seconds.
+-- time-outs. Where nothing cuts the sessions of the packets, they are the records of the sessions. The export time is the
+-- time of the latest packet in whole seconds.
 pub record IsMetered (idle_seconds active_seconds : ℕ) (capture : List ℕ) (records : List FlowRecord) (time : ℕ) : Type 0 where
   pub file : CaptureFile
   pub is_file : capture_file capture ≡ Some file
@@ -55,6 +58,8 @@ pub record IsMetered (idle_seconds active_seconds : ℕ) (capture : List ℕ) (r
   pub clock_is : IsClock (packets_of file) clock
   pub time_is : time ≡ export_time clock
   pub lawful : IsLawful limits (packets_of file) records
+  pub sessions : (sessions : List (List Packet)) → IsSessions limits.idle (packets_of file) sessions → All (IsUncut limits) sessions
+      → AreRecordsOf limits (packets_of file) sessions records
 
 -- A refusal of content, with its cause in the bytes.
 abbrev pub IsRefused : List ℕ → Status → Type 0

@@ -9,6 +9,7 @@ returns-clause-records c =
     let file = file_of c.in-Ok.capture in
     let meter = c.in-Ok-fragments_of.ensures.meter in
     let limits = c.new-limits.result in
+    let shares = subst (SharesOut limits (packets_of file)) (sym c.as_slice.ensures.value) (meter.shared limits) in
     record {
       file = file;
       is_file = c.in-Ok.ensures.capture;
@@ -20,6 +21,6 @@ returns-clause-records c =
       clock = c.in-Ok-fragments_of.metered.clock;
       clock_is = meter.clock_is;
       time_is = c.export_time_of-export_time.ensures;
-      lawful = c.in-Ok-gather.ensures.lawful (packets_of file)
-          (subst (SharesOut limits (packets_of file)) (sym c.as_slice.ensures.value) (meter.shared limits)) meter.clock_is;
+      lawful = c.in-Ok-gather.ensures.lawful (packets_of file) shares meter.clock_is;
+      sessions = c.in-Ok-gather.ensures.sessions (packets_of file) shares meter.clock_is;
     }
