@@ -6,7 +6,7 @@
 empty.pcap       no packet at all
 expiry.pcap      UDP and TCP over IPv4 with gaps, for records that end by the idle and by the active time-out
 transports.pcap  over IPv4: each of the twelve TCP control bits, ICMP, fragments, options, tags, and values at the ends
-extensions.pcap  over IPv6: TCP, UDP, ICMPv6, extension headers, fragments, addresses at the ends
+extensions.pcap  over IPv6: TCP, UDP, ICMPv6, extension headers in every order, fragments, addresses at the ends
 cooked.pcap      Linux cooked packets with nanoseconds, greatest byte first
 late.pcap        raw IP at the last seconds that a capture can say
 counts.pcap      one key of more octets than 32 bits hold
@@ -14,6 +14,7 @@ keys.pcap        600 keys of both versions, taking turns, in no order of time
 """
 
 import ipaddress
+import itertools
 import struct
 import sys
 from pathlib import Path
@@ -24,8 +25,9 @@ sys.path.insert(0, str(Path(__file__).resolve().parent.parent / "examples"))
 from make_captures import TCP, UDP, ethernet, tcp, udp  # noqa: E402
 
 ETHERNET, RAW, COOKED = 1, 101, 113
-ICMP, ICMP6 = 1, 58
+ICMP, ESP, ICMP6 = 1, 50, 58
 HOP_BY_HOP, ROUTING, FRAGMENT, AUTHENTICATION, NO_NEXT, DESTINATION = 0, 43, 44, 51, 59, 60
+EXTENSIONS = (HOP_BY_HOP, ROUTING, FRAGMENT, AUTHENTICATION, DESTINATION)
 START = 1_700_000_000_000
 
 
@@ -58,6 +60,25 @@ def raw6(following: int, source: str, destination: str, payload: bytes) -> bytes
         ">IHBB16s16s", 0x60000000, len(payload), following, 64,
         ipaddress.IPv6Address(source).packed, ipaddress.IPv6Address(destination).packed,
     ) + payload
+
+
+def extension(kind: int, following: int, units: int = 0) -> bytes:
+    """An extension header other than a fragment's, with this length in its second byte (RFC 8200, section 4; RFC 4302)."""
+    length = 4 * (units + 2) if kind == AUTHENTICATION else 8 * (units + 1)
+    return bytes([following, units]) + bytes(length - 2)
+
+
+def fragment(following: int, place: int, flags: int = 1, second: int = 0) -> bytes:
+    """The header of a fragment at this place (RFC 8200, section 4.5)."""
+    return struct.pack(">BBHI", following, second, place << 3 | flags, 99)
+
+
+def chain(kinds: tuple[int, ...], following: int, place: int) -> bytes:
+    """Extension headers one behind the other, a fragment's with this place."""
+    named = kinds[1:] + (following,)
+    return b"".join(
+        fragment(name, place) if kind == FRAGMENT else extension(kind, name) for kind, name in zip(kinds, named)
+    )
 
 
 def datagram(source: int, destination: int, data: bytes = b"") -> bytes:
@@ -114,15 +135,6 @@ def transports() -> bytes:
 def extensions() -> bytes:
     low, high, one, two = "::", "ffff:ffff:ffff:ffff:ffff:ffff:ffff:ffff", "2001:db8::1", "2001:db8:0:1::ff00:42"
 
-    def option(following: int, units: int = 0) -> bytes:
-        return bytes([following, units]) + bytes(6 + 8 * units)
-
-    def fragment(following: int, place: int) -> bytes:
-        return struct.pack(">BBHI", following, 0, place << 3 | 1, 99)
-
-    def authentication(following: int) -> bytes:
-        return bytes([following, 4]) + bytes(22)
-
     packets = [raw6(TCP, one, two, segment(40000, 443, 1 << bit)) for bit in range(12)]
     packets += [
         raw6(TCP, one, two, segment(40001, 443, 0x012, bytes(700))),
@@ -130,12 +142,15 @@ def extensions() -> bytes:
         raw6(UDP, high, low, datagram(65535, 0, bytes(1200))),
         raw6(ICMP6, one, two, bytes(8)),
         raw6(NO_NEXT, one, two, b""),
-        raw6(HOP_BY_HOP, one, two, option(UDP) + datagram(1, 2)),
-        raw6(HOP_BY_HOP, one, two, option(ROUTING) + option(DESTINATION, 2) + option(TCP, 1) + segment(3, 4, 2)),
-        raw6(AUTHENTICATION, one, two, authentication(UDP) + datagram(5, 6)),
+        raw6(HOP_BY_HOP, one, two, extension(HOP_BY_HOP, UDP) + datagram(1, 2)),
+        raw6(AUTHENTICATION, one, two, extension(AUTHENTICATION, UDP, 4) + datagram(5, 6)),
+        raw6(DESTINATION, one, two, extension(DESTINATION, NO_NEXT, 2)),
         raw6(FRAGMENT, one, two, fragment(UDP, 0) + datagram(7, 8)),
-        raw6(FRAGMENT, one, two, fragment(UDP, 150) + bytes(64)),
     ]
+    packets += [raw6(FRAGMENT, one, two, fragment(kind, 150) + bytes(64)) for kind in (TCP, UDP, ESP, ICMP6, HOP_BY_HOP)]
+    for place in (0, 1):
+        for order in itertools.permutations(EXTENSIONS):
+            packets.append(raw6(order[0], one, two, chain(order, UDP, place) + datagram(9, 10)))
     return capture([(START + 13 * place, ethernet(0x86DD, packet)) for place, packet in enumerate(packets)])
 
 

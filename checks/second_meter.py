@@ -100,7 +100,7 @@ def over_ipv6(ip: bytes, original: int, time: int) -> Packet:
         length = 8 if kind == 44 else 4 * (rest[1] + 2) if kind == 51 else 8 * (rest[1] + 1)
         need(len(rest) >= length)
         if kind == 44 and number(rest[2:4]) >> 3 != 0:
-            return Packet((6, ip[8:24], ip[24:40], 0, 0, 0), time, octets, 0)
+            return Packet((6, ip[8:24], ip[24:40], rest[0], 0, 0), time, octets, 0)
         kind, rest = rest[0], rest[length:]
     ports = transport(kind, rest)
     return Packet((6, ip[8:24], ip[24:40], kind, *ports[:2]), time, octets, ports[2])
@@ -206,6 +206,22 @@ def meter(capture: bytes, idle: int, active: int, size: int) -> bytes:
     return stream_of(flows_of(packets, 1000 * idle, 1000 * active), export_time, size)
 
 
+def random_chain(chance: random.Random, kind: int, payload: bytes) -> tuple[int, bytes]:
+    """A payload of this kind behind extension headers: none, a few, or all five kinds in some order."""
+    kinds = list(generate.EXTENSIONS)
+    chance.shuffle(kinds)
+    if chance.random() < 0.7:
+        kinds = [chance.choice(generate.EXTENSIONS) for _ in range(chance.choice((0, 0, 1, 1, 2, 3)))]
+    for extension in kinds:
+        if extension == generate.FRAGMENT:
+            place, flags = chance.choice((0, 0, 1, 0x1FFF)), chance.randrange(8)
+            header = generate.fragment(kind, place, flags, chance.randrange(256))
+        else:
+            header = generate.extension(extension, kind, chance.choice((0, 0, 1, 2)))
+        kind, payload = extension, header + payload
+    return kind, payload
+
+
 def random_ip(chance: random.Random) -> bytes:
     """An IP packet of few keys, most often whole."""
     six = chance.random() < 0.4
@@ -223,14 +239,7 @@ def random_ip(chance: random.Random) -> bytes:
             options=bytes(4 * chance.choice((0, 0, 0, 1, 10))),
             total=chance.choice((None, None, None, None, 0, 19, 20, 24, 60, 65535)),
         )
-    for _ in range(chance.choice((0, 0, 1, 2))):
-        extension = chance.choice((0, 43, 60, 51, 44))
-        if extension == 44:
-            header = struct.pack(">BBHI", kind, chance.randrange(256), chance.choice((0, 1, 7, 8, 0xFFF8)), 5)
-        else:
-            units = chance.choice((0, 1, 2))
-            header = bytes([kind, units]) + bytes((4 * (units + 2) if extension == 51 else 8 * (units + 1)) - 2)
-        kind, payload = extension, header + payload
+    kind, payload = random_chain(chance, chance.choice((kind, kind, kind, 50, 59, 135)), payload)
     destination = chance.choice(("2001:db8::2", "2001:db8::2", "2001:db8::3"))
     packet = bytearray(generate.raw6(kind, "2001:db8::1", destination, payload))
     if chance.random() < 0.2:

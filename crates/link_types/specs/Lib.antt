@@ -1,1 +1,2 @@
+-- The definitions that contracts cite, a file for each subject.
 pub mod Links

@@ -1,3 +1,4 @@
+-- The definitions that contracts cite, a file for each subject.
 pub mod Causes
 pub mod Edge
 pub mod Memory

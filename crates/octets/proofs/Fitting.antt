@@ -1,5 +1,5 @@
 -- What octets hold fits them.
-use Rattle.std.proofs.Common.{◌≡◌, ◌<◌, ◌+◌, ◌^◌, ℕ, List, drop, slice_index, get_or, subst, sym}
+use Rattle.std.proofs.Common.{◌<◌, ◌+◌, ◌^◌, ℕ, List, drop}
 use Rattle.std.proofs.lemmas.List.{get_or-drop}
 use Rattle.byteorder.specs.Numbers.{big_from-lt}
 use Rattle.octets.specs.Numbers.{number_at, AreOctets}

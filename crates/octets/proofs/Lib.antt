@@ -1,2 +1,3 @@
+-- The lemmas, a file for each subject.
 pub mod Fitting
 pub mod Reading

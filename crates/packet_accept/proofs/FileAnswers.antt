@@ -14,7 +14,8 @@ use Rattle.packet_accept.proofs.Permuted.{filter_map-permutation}
 use Rattle.packet_accept.specs.Packets.{answer_to, answers_of, packets_in, packets_of}
 
 -- as many answers as there are elements
-pub length-answers : {X Y : Type 0} (answer : ℕ × X → Y) (from : ℕ) (xs : List X) → length (map answer (enumerate_from from xs)) ≡ length xs
+pub length-answers : {X Y : Type 0} (answer : ℕ × X → Y) (from : ℕ) (xs : List X)
+    → length (map answer (enumerate_from from xs)) ≡ length xs
 length-answers answer from [] = refl
 length-answers answer from (x ∷ xs) = grind (arith, common_steps, length-answers answer (from + 1) xs)
 
@@ -39,10 +40,12 @@ answer-placed file n rec found =
 pub answers_count : (file : CaptureFile) → length (answers_of file) ≡ length (records_of file)
 answers_count file = length-answers (answer_to file) 0 (records_of file)
 
-pub packets_together : (answers others : List (Result Packet Ignored)) → packets_in (answers ++ others) ≡ packets_in answers ++ packets_in others
+pub packets_together : (answers others : List (Result Packet Ignored))
+    → packets_in (answers ++ others) ≡ packets_in answers ++ packets_in others
 packets_together answers others = filter_map-append result_ok answers others
 
-pub packets_permuted : (answers others : List (Result Packet Ignored)) → IsPermutation answers others → IsPermutation (packets_in answers) (packets_in others)
+pub packets_permuted : (answers others : List (Result Packet Ignored)) → IsPermutation answers others
+    → IsPermutation (packets_in answers) (packets_in others)
 packets_permuted answers others same = filter_map-permutation result_ok answers others same
 
 -- the first elements, and one more
@@ -54,12 +57,16 @@ one_more (y ∷ xs) zero x found =
 one_more (y ∷ xs) (suc n) x found = ap (λ l. y ∷ l) (one_more xs n x found)
 
 pub packets_next : (file : CaptureFile) (n : ℕ) (rec : PacketRecord) → slice_get (records_of file) n ≡ Some rec
-    → packets_in (take (n + 1) (answers_of file)) ≡ packets_in (take n (answers_of file)) ++ packets_in (accepted file.link file.nanos rec n ∷ [])
+    → packets_in (take (n + 1) (answers_of file))
+    ≡ packets_in (take n (answers_of file)) ++ packets_in (accepted file.link file.nanos rec n ∷ [])
 packets_next file n rec found =
     let answer : Result Packet Ignored = accepted file.link file.nanos rec n in
     let longer : take (n + 1) (answers_of file) ≡ take n (answers_of file) ++ answer ∷ []
-    = ap (λ k. take k (answers_of file)) (add-one n) ∙ one_more (answers_of file) n answer (answer-placed file n rec found) in
+    = ap (λ k. take k (answers_of file)) (add-one n)
+    ∙ one_more (answers_of file) n answer (answer-placed file n rec found) in
     ap packets_in longer ∙ packets_together (take n (answers_of file)) (answer ∷ [])
 
-pub packets_all : (file : CaptureFile) → packets_in (take (length (records_of file)) (answers_of file)) ≡ packets_of file
-packets_all file = ap packets_in (ap (λ k. take k (answers_of file)) (sym (answers_count file)) ∙ take-length (answers_of file))
+pub packets_all : (file : CaptureFile)
+    → packets_in (take (length (records_of file)) (answers_of file)) ≡ packets_of file
+packets_all file = ap packets_in (ap (λ k. take k (answers_of file)) (sym (answers_count file))
+    ∙ take-length (answers_of file))

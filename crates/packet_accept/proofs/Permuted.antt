@@ -12,17 +12,22 @@ module _ {B : Type 0} where
 
   moved : (a b c : List B) → IsPermutation (a ++ (b ++ c)) (b ++ (a ++ c))
   moved a b c = subst (λ l. IsPermutation l (b ++ (a ++ c))) (append_assoc a b c)
-      (subst (λ l. IsPermutation ((a ++ b) ++ c) l) (append_assoc b a c) (IsPermutation-append_left c (a ++ b) (b ++ a) (IsPermutation-append_comm a b)))
+      (subst (λ l. IsPermutation ((a ++ b) ++ c) l) (append_assoc b a c)
+      (IsPermutation-append_left c (a ++ b) (b ++ a) (IsPermutation-append_comm a b)))
 
   -- two pieces change places
   crossed : (a x b y c : List B) → IsPermutation ((a ++ (x ++ b)) ++ (y ++ c)) ((a ++ (y ++ b)) ++ (x ++ c))
   crossed a x b y c =
-      let one : IsPermutation (x ++ (b ++ (y ++ c))) (x ++ (y ++ (b ++ c))) = IsPermutation-append_right x (b ++ (y ++ c)) (y ++ (b ++ c)) (moved b y c) in
+      let one : IsPermutation (x ++ (b ++ (y ++ c))) (x ++ (y ++ (b ++ c))) =
+      IsPermutation-append_right x (b ++ (y ++ c)) (y ++ (b ++ c)) (moved b y c) in
       let two : IsPermutation (x ++ (y ++ (b ++ c))) (y ++ (x ++ (b ++ c))) = moved x y (b ++ c) in
-      let three : IsPermutation (y ++ (x ++ (b ++ c))) (y ++ (b ++ (x ++ c))) = IsPermutation-append_right y (x ++ (b ++ c)) (b ++ (x ++ c)) (moved x b c) in
-      let all : IsPermutation (x ++ (b ++ (y ++ c))) (y ++ (b ++ (x ++ c))) = IsPermutation-trans _ _ _ (IsPermutation-trans _ _ _ one two) three in
+      let three : IsPermutation (y ++ (x ++ (b ++ c))) (y ++ (b ++ (x ++ c))) =
+      IsPermutation-append_right y (x ++ (b ++ c)) (b ++ (x ++ c)) (moved x b c) in
+      let all : IsPermutation (x ++ (b ++ (y ++ c))) (y ++ (b ++ (x ++ c))) =
+      IsPermutation-trans _ _ _ (IsPermutation-trans _ _ _ one two) three in
       IsPermutation-trans _ _ _ (same ((a ++ (x ++ b)) ++ (y ++ c)) (a ++ (x ++ (b ++ (y ++ c)))) (simp append_assoc))
-      (IsPermutation-trans _ _ _ (IsPermutation-append_right a _ _ all) (same (a ++ (y ++ (b ++ (x ++ c)))) ((a ++ (y ++ b)) ++ (x ++ c)) (simp append_assoc)))
+      (IsPermutation-trans _ _ _ (IsPermutation-append_right a _ _ all)
+      (same (a ++ (y ++ (b ++ (x ++ c)))) ((a ++ (y ++ b)) ++ (x ++ c)) (simp append_assoc)))
 
 module _ {A B : Type 0} (f : A → List B) where
   F : List A → List B
@@ -47,14 +52,16 @@ module _ {A B : Type 0} (f : A → List B) where
       let long' : length (set xs i y) ≡ j = length-set xs i y ∙ long in
       let set' : set (set (xs ++ y ∷ ys) i y) j x ≡ set xs i y ++ x ∷ ys
       = ap (λ l. set l j x) (set-append_left xs (y ∷ ys) i y p) ∙ set_at (set xs i y) y ys x j long' in
-      let after : F (set (set (xs ++ y ∷ ys) i y) j x) ≡ (F (take i xs) ++ (f y ++ F (drop (suc i) xs))) ++ (f x ++ F ys)
+      let after : F (set (set (xs ++ y ∷ ys) i y) j x)
+      ≡ (F (take i xs) ++ (f y ++ F (drop (suc i) xs))) ++ (f x ++ F ys)
       = ap F set' ∙ flat_map-append f (set xs i y) (x ∷ ys) ∙ ap (λ l. l ++ (f x ++ F ys)) (written xs i y p) in
       subst (λ l. IsPermutation l (F (set (set (xs ++ y ∷ ys) i y) j x))) (sym before)
       (subst (λ l. IsPermutation ((F (take i xs) ++ (f x ++ F (drop (suc i) xs))) ++ (f y ++ F ys)) l) (sym after)
       (crossed (F (take i xs)) (f x) (F (drop (suc i) xs)) (f y) (F ys)))
 
   -- two elements of a list in each other's place
-  turned : (l : List A) (i j : ℕ) (d : A) → i < j → j < length l → IsPermutation (F l) (F (set (set l i (get_or l j d)) j (get_or l i d)))
+  turned : (l : List A) (i j : ℕ) (d : A) → i < j → j < length l
+      → IsPermutation (F l) (F (set (set l i (get_or l j d)) j (get_or l i d)))
   turned l i j d p q =
       let xs : List A = take j l in
       let y : A = get_or l j d in
@@ -62,8 +69,10 @@ module _ {A B : Type 0} (f : A → List B) where
       let long : length xs ≡ j = rw length-take (omega arith) in
       let is : xs ++ y ∷ ys ≡ l = sym (set_split l j y q) ∙ set-get_or l j d in
       let x : get_or xs i d ≡ get_or l i d = get_or-take j l i d p in
-      let h : IsPermutation (F (xs ++ y ∷ ys)) (F (set (set (xs ++ y ∷ ys) i y) j (get_or xs i d))) = exchanged xs y ys i j d (omega arith) long in
-      let h' : IsPermutation (F l) (F (set (set l i y) j (get_or xs i d))) = subst (λ m. IsPermutation (F m) (F (set (set m i y) j (get_or xs i d)))) is h in
+      let h : IsPermutation (F (xs ++ y ∷ ys)) (F (set (set (xs ++ y ∷ ys) i y) j (get_or xs i d))) =
+      exchanged xs y ys i j d (omega arith) long in
+      let h' : IsPermutation (F l) (F (set (set l i y) j (get_or xs i d))) =
+      subst (λ m. IsPermutation (F m) (F (set (set m i y) j (get_or xs i d)))) is h in
       subst (λ z. IsPermutation (F l) (F (set (set l i y) j z))) x h'
 
   swapped : (l : List A) (i j : ℕ) → i < length l → j < length l → IsPermutation (F l) (F (swap l i j))
@@ -73,9 +82,11 @@ module _ {A B : Type 0} (f : A → List B) where
       let x : A = get_or l i d in
       elim (cases_order i j) [
         | inl e ↦ subst (λ n. IsPermutation (F l) (F (set (set l i (get_or l n d)) n x))) e
-            (same (F l) (F (set (set l i x) i x)) (ap F (sym (ap (λ m. set m i x) (set-get_or l i d) ∙ set-get_or l i d))))
+            (same (F l) (F (set (set l i x) i x))
+            (ap F (sym (ap (λ m. set m i x) (set-get_or l i d) ∙ set-get_or l i d))))
         | inr (inl less) ↦ turned l i j d less q
-        | inr (inr more) ↦ subst (λ m. IsPermutation (F l) (F m)) (sym (set_comm l i j (get_or l j d) x (omega arith))) (turned l j i d more p)
+        | inr (inr more) ↦ subst (λ m. IsPermutation (F l) (F m)) (sym (set_comm l i j (get_or l j d) x (omega arith)))
+            (turned l j i d more p)
       ]
 
   pub flat_map-permutation : (xs ys : List A) → IsPermutation xs ys → IsPermutation (flat_map f xs) (flat_map f ys)
@@ -93,5 +104,6 @@ module _ {A B : Type 0} (h : A → Option B) where
   chosen [] = refl
   chosen (x ∷ l) = put (h x) (filter_map h l) ∙ ap (λ rest. cons_option (h x) [] ++ rest) (chosen l)
 
-  pub filter_map-permutation : (xs ys : List A) → IsPermutation xs ys → IsPermutation (filter_map h xs) (filter_map h ys)
+  pub filter_map-permutation : (xs ys : List A) → IsPermutation xs ys
+      → IsPermutation (filter_map h xs) (filter_map h ys)
   filter_map-permutation xs ys s = rw (chosen xs, chosen ys) (flat_map-permutation (λ x. cons_option (h x) []) xs ys s)

@@ -1,5 +1,5 @@
 -- Which answer a record gets: its packet, or the first cause for which it is ignored.
-use Rattle.std.specs.Prelude.{◌==◌, ◌+◌, ◌-◌, ◌*◌, ◌/◌, ℕ, Bool, List, drop, Result, Ok, Err, nat_lt, if◌then◌else◌}
+use Rattle.std.specs.Prelude.{◌==◌, ◌+◌, ◌-◌, ◌*◌, ◌/◌, ℕ, Bool, drop, Result, Ok, Err, nat_lt, if◌then◌else◌}
 use Rattle.packet_headers.specs.Link.{link_part}
 use Rattle.packet_headers.specs.Packet.{IpPart}
 use Rattle.packet_headers.specs.Ip.{ip_part}

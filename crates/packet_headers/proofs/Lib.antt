@@ -1,1 +1,2 @@
+-- The lemmas, a file for each subject.
 pub mod Walk

@@ -10,7 +10,8 @@ pub extension_length-least : (next : ℕ) (headers : List ℕ) → 8 ≤ extensi
 extension_length-least next headers = grind (arith, common_steps)
 
 -- a whole header lies inside
-pub is_whole-inside : (next : ℕ) (headers : List ℕ) → is_whole next headers ≡ true → extension_length next headers ≤ length headers
+pub is_whole-inside : (next : ℕ) (headers : List ℕ) → is_whole next headers ≡ true
+    → extension_length next headers ≤ length headers
 is_whole-inside next headers whole = grind (arith, common_steps)
 
 -- behind a whole header less is left
@@ -22,7 +23,8 @@ rest_shorter n next headers whole room =
     simp (length-drop) (omega arith)
 
 -- two answers that differ only in how the walk goes on behind a whole header
-same_choice : {A : Type 0} (extension whole later : Bool) (fragment cut end one other : A) → (whole ≡ true → one ≡ other)
+same_choice : {A : Type 0} (extension whole later : Bool) (fragment cut end one other : A)
+    → (whole ≡ true → one ≡ other)
     → (if not extension then end else if not whole then cut else if later then fragment else one)
     ≡ (if not extension then end else if not whole then cut else if later then fragment else other)
 same_choice false whole later fragment cut end one other same = refl
@@ -59,14 +61,16 @@ pub upper_part-cut : (next : ℕ) (headers : List ℕ) → is_extension next ≡
     → upper_part next headers ≡ Err Short
 upper_part-cut next headers more cut = walks_on next headers ∙ rw (more, cut) refl
 
-pub upper_part-later : (next : ℕ) (headers behind : List ℕ) (octets : ℕ) → is_extension next ≡ true → is_whole next headers ≡ true → is_later_fragment next headers ≡ true
+pub upper_part-later : (next : ℕ) (headers behind : List ℕ) (octets : ℕ) → is_extension next ≡ true
+    → is_whole next headers ≡ true → is_later_fragment next headers ≡ true
     → octets ≡ extension_length next headers → behind ≡ drop octets headers
     → upper_part next headers ≡ Ok (record { protocol = octet_at 0 headers; later = true; payload = behind })
 upper_part-later next headers behind octets more whole later long rest =
     let eight : extension_length next headers ≡ 8 = grind (arith, common_steps) in
     walks_on next headers ∙ rw (more, whole, later, rest, long, eight) refl
 
-pub upper_part-more : (next : ℕ) (headers behind : List ℕ) (octets : ℕ) → is_extension next ≡ true → is_whole next headers ≡ true → is_later_fragment next headers ≡ false
+pub upper_part-more : (next : ℕ) (headers behind : List ℕ) (octets : ℕ) → is_extension next ≡ true
+    → is_whole next headers ≡ true → is_later_fragment next headers ≡ false
     → octets ≡ extension_length next headers → behind ≡ drop octets headers
     → upper_part next headers ≡ upper_part (octet_at 0 headers) behind
 upper_part-more next headers behind octets more whole first long rest =

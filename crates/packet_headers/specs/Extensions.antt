@@ -39,7 +39,8 @@ abbrev pub over_one : (ℕ → List ℕ → Result Upper HeaderFault) → ℕ �
 over_one walk next headers =
     if not (is_extension next) then Ok (record { protocol = next; later = false; payload = headers })
     else if not (is_whole next headers) then Err Short
-    else if is_later_fragment next headers then Ok (record { protocol = octet_at 0 headers; later = true; payload = drop 8 headers })
+    else if is_later_fragment next headers then Ok
+    (record { protocol = octet_at 0 headers; later = true; payload = drop 8 headers })
     else walk (octet_at 0 headers) (drop (extension_length next headers) headers)
 
 -- At most so many extension headers. (The bound gives the recursion its end. It is never met, as the law

@@ -3,8 +3,8 @@ use Rattle.std.specs.Prelude.{ℕ, Bool, List, Result, Ok, Err, nat_lt, if◌the
 use Rattle.packet_headers.specs.declared.fault.HeaderFault.{HeaderFault}
 use Rattle.packet_headers.specs.declared.fault.HeaderFault.TheVariants.{BadHeader}
 
--- The version of IP, the octets of the whole packet, its addresses, the protocol of its payload, whether it is a fragment
--- other than the first, and the payload as far as it was captured.
+-- The version of IP, the octets of the whole packet, its addresses, the protocol of its payload, whether it is a
+-- fragment other than the first, and the payload as far as it was captured.
 pub record IpPart : Type 0 where
   pub version : ℕ
   pub octets : ℕ

@@ -1,3 +1,4 @@
+-- The lemmas, a file for each subject.
 pub mod Cutting
 pub mod Parts
 pub mod Place

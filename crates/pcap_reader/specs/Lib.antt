@@ -1,3 +1,4 @@
+-- The definitions that contracts cite, a file for each subject.
 pub use Rattle.octets.specs.Numbers
 pub use Rattle.link_types.specs.Links
 pub mod File

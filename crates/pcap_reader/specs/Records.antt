@@ -18,7 +18,8 @@ claimed_len order bytes = ordered_number_at order 8 4 bytes
 -- bytes behind it.
 unfoldable pub begins_with_record : Endianness → List ℕ → Bool
 begins_with_record order bytes =
-    nat_le 16 (length bytes) && (nat_le (claimed_len order bytes) most_captured && nat_le (16 + claimed_len order bytes) (length bytes))
+    nat_le 16 (length bytes) && (nat_le (claimed_len order bytes) most_captured && nat_le (16 + claimed_len order bytes)
+    (length bytes))
 
 -- The bytes begin with a whole record header that claims more than 262,144 captured bytes.
 unfoldable pub begins_with_damage : Endianness → List ℕ → Bool
@@ -30,7 +31,8 @@ record_parts order from [] = []
 record_parts order (suc from) (byte ∷ bytes) = record_parts order from bytes
 record_parts order zero (byte ∷ bytes) =
     if begins_with_record order (byte ∷ bytes)
-    then take (16 + claimed_len order (byte ∷ bytes)) (byte ∷ bytes) ∷ record_parts order (15 + claimed_len order (byte ∷ bytes)) bytes
+    then take (16 + claimed_len order (byte ∷ bytes)) (byte ∷ bytes) ∷ record_parts order
+    (15 + claimed_len order (byte ∷ bytes)) bytes
     else []
 
 -- The records of a file, each as all its bytes: they stand behind the file header.

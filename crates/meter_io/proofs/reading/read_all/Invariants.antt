@@ -1,3 +1,4 @@
+-- What was taken so far is what was read, within the limit.
 use Rattle.std.proofs.Common.{◌≡◌, ◌≤◌, length, ◌-◌}
 use Rattle.std.specs.Io.KnownBytes.{Consumes}
 use Rattle.meter_io.proofs.reading.read_all.Given as goal

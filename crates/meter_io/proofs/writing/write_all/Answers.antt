@@ -1,3 +1,4 @@
+-- One more piece that was taken.
 use Rattle.std.proofs.Common.{arith, ◌∙◌}
 use Rattle.meter_io.proofs.Parts.{Appends-next}
 use Rattle.meter_io.proofs.writing.write_all.Goals as goal

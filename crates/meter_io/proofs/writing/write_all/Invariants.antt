@@ -1,3 +1,4 @@
+-- What was taken so far is the front of the piece.
 use Rattle.std.proofs.Common.{◌≡◌, ◌≤◌, length, take, ◌-◌}
 use Rattle.std.specs.Io.KnownBytes.{Appends}
 use Rattle.meter_io.proofs.writing.write_all.Given as goal

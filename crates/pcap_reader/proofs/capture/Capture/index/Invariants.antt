@@ -1,3 +1,4 @@
+-- The records found so far, and where the next one is looked for.
 use Rattle.std.proofs.Common.{◌-◌, length}
 use Rattle.pcap_reader.proofs.Search.{Found}
 use Rattle.pcap_reader.proofs.capture.Capture.index.Given as goal
