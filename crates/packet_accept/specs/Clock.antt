@@ -1,7 +1,7 @@
 -- The clock of packets.
 use Rattle.std.specs.Prelude.{◌≡◌, ℕ, max, List, [], Option, Some, None, MatchOption}
 use Rattle.packet_accept.specs.declared.packet.Packet.{Packet}
-pub use Rattle.packet_accept.specs.Extremes.{IsGreatest}
+use Rattle.packet_accept.specs.Extremes.{IsGreatest}
 
 -- The clock of packets: the greatest of their times, and none where there is no packet.
 abbrev pub IsClock : List Packet → Option ℕ → Type 0
