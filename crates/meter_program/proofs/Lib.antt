@@ -1,3 +1,4 @@
+pub mod Endings
 pub mod GivenValues
 pub mod Packets
 pub mod Streams

@@ -1,4 +1,8 @@
+pub mod Seen
+pub mod Statuses
+pub mod Summary
 pub mod Gathering
 pub mod Words
 pub mod Shows
 pub mod Outcome
+pub mod Metering

@@ -1,52 +1,37 @@
--- What a run means, by its status.
-use Rattle.std.specs.Prelude.{◌≡◌, ℕ, ◌+◌, ◌*◌, ◌^◌, List, length, take, Option, Some, None, Ok, Err, IsSomeAnd, All, ⊤}
-use Rattle.std.specs.Io.KnownBytes.{Appends, Consumes, IsAtEnd}
-use Rattle.meter_io.specs.Causes.{Rose}
+-- What a run means, by its words and its status.
+use Rattle.std.specs.Prelude.{◌≡◌, ◌⊎◌, ◌≤◌, ◌*◌, ◌^◌, ℕ, List, length, Option, Some, None, Ok, Err, IsSomeAnd, codes, ⊤}
 use Rattle.pcap_reader.specs.File.{CaptureFile, capture_file, IsKnownLink}
-use Rattle.pcap_reader.specs.Records.{damage_of}
-use Rattle.packet_accept.specs.declared.packet.Packet.{Packet}
-use Rattle.packet_accept.specs.Clock.{IsClock}
-use Rattle.packet_accept.specs.Packets.{packets_of}
+use Rattle.pcap_reader.specs.Records.{damage_of, tail_of}
+use Rattle.packet_accept.specs.Packets.{answers_of, packets_of}
+use Rattle.capture_tally.specs.declared.tally.Tally.{Tally}
+use Rattle.capture_tally.specs.Tallies.{IsTallyOf}
 use Rattle.flow_parts.specs.declared.timeouts.Timeouts.{Timeouts}
 use Rattle.record_ledger.specs.declared.record.FlowRecord.{FlowRecord}
 use Rattle.record_ledger.specs.Lawful.{IsLawful}
-use Rattle.record_ledger.specs.Sessions.{IsSessions, IsUncut, AreRecordsOf}
-use Rattle.ipfix_writer.specs.Layout.{IsLayout, BeginsLayout}
+use Rattle.ipfix_writer.specs.Layout.{IsLayoutOf}
 use Rattle.ipfix_model.specs.declared.values.DataRecord.{DataRecord}
-use Rattle.ipfix_reader.specs.declared.fault.StreamFault.{StreamFault}
 use Rattle.ipfix_reader.specs.Messages.{decode}
 use Rattle.ipfix_reader.specs.Flows.{flows_of}
 use Rattle.meter_program.specs.declared.status.Status.{Status}
 use Rattle.meter_program.specs.declared.status.Status.TheVariants.{Done, ReadFault, WriteFault, NotCapture, LinkUnknown, Damaged, TooLarge, NoMemory, Usage, NotStream}
 use Rattle.meter_program.specs.Gathering.{export_time}
 use Rattle.meter_program.specs.Shows.{text_of}
+use Rattle.meter_program.specs.Summary.{count_line, summary}
+use Rattle.meter_program.specs.Statuses.{fault_line}
+use Rattle.meter_program.specs.Seen.{Side, Seen, IsRead, IsTooLarge, IsBroken, IsUntouched, HasTaken, HasBegun, HasTakenOrFailed, HasFailed}
 use Rattle.meter_program.specs.Words.{Asked, meter, show}
 
--- What is seen of the objects that are handed to a run, before it and after it: the bytes that the input has left and
--- the output holds, where they are told, and how often a call of them failed.
-pub record Observed : Type 0 where
-  pub left_before : Option (List ℕ)
-  pub left_after : Option (List ℕ)
-  pub held_before : Option (List ℕ)
-  pub held_after : Option (List ℕ)
-  pub input_before : ℕ
-  pub input_after : ℕ
-  pub output_before : ℕ
-  pub output_after : ℕ
+-- The most bytes of an input: 2^30 of a capture, 2^26 of a stream.
+abbrev pub limit_of : Asked → ℕ
+limit_of (meter idle active size) = 2 ^ 30
+limit_of show = 2 ^ 26
 
--- The input was read to its end, and gave these bytes.
-pub record WasRead (seen : Observed) (bytes : List ℕ) : Type 0 where
-  pub given : Consumes seen.left_before seen.left_after bytes
-  pub ended : IsAtEnd seen.left_after
-
--- The most bytes of a capture.
-abbrev pub capture_limit : ℕ
-capture_limit = 2 ^ 30
+-- ---- what a command writes, where it is done
 
 -- The bytes are an undamaged capture, of which these records are lawful: they partition its accepted packets, by these
--- time-outs. Where nothing cuts the sessions of the packets, they are the records of the sessions. The export time is the
--- time of the latest packet in whole seconds.
-pub record IsMetered (idle_seconds active_seconds : ℕ) (capture : List ℕ) (records : List FlowRecord) (time : ℕ) : Type 0 where
+-- time-outs. What is written is their layout, in messages of at most so many octets, and it decodes to them; the export
+-- time is the time of the latest packet in whole seconds. What is noted is the summary.
+pub record IsMetered (idle_seconds active_seconds size : ℕ) (capture written noted : List ℕ) : Type 0 where
   pub file : CaptureFile
   pub is_file : capture_file capture ≡ Some file
   pub known : IsKnownLink file.link
@@ -54,129 +39,140 @@ pub record IsMetered (idle_seconds active_seconds : ℕ) (capture : List ℕ) (r
   pub limits : Timeouts
   pub idle : limits.idle ≡ 1000 * idle_seconds
   pub active : limits.active ≡ 1000 * active_seconds
-  pub clock : Option ℕ
-  pub clock_is : IsClock (packets_of file) clock
-  pub time_is : time ≡ export_time clock
+  pub records : List FlowRecord
   pub lawful : IsLawful limits (packets_of file) records
-  pub sessions : (sessions : List (List Packet)) → IsSessions limits.idle (packets_of file) sessions → All (IsUncut limits) sessions
-      → AreRecordsOf limits (packets_of file) sessions records
-
--- A refusal of content, with its cause in the bytes.
-abbrev pub IsRefused : List ℕ → Status → Type 0
-IsRefused capture NotCapture = capture_file capture ≡ None
-IsRefused capture (LinkUnknown link) = IsSomeAnd (capture_file capture) (λ file. (file.link ≡ link) × ¬ IsKnownLink link)
-IsRefused capture (Damaged at) = IsSomeAnd (capture_file capture) (λ file. IsKnownLink file.link × (damage_of file ≡ Some at))
-IsRefused capture NoMemory = ⊤
-IsRefused capture _ = ⊥
-
--- What a write of records means, by its status: all was written, a write failed and a beginning was, or nothing was for
--- want of memory.
-abbrev pub WriteMeans : ℕ → ℕ → List FlowRecord → Option (List ℕ) → Option (List ℕ) → ℕ → ℕ → Status → Type 0
-WriteMeans size time records before after faults faults_now Done =
-    (bytes : List ℕ) × Appends before after bytes × IsLayout size time records bytes × (flows_of bytes ≡ Some records)
-WriteMeans size time records before after faults faults_now WriteFault =
-    (bytes : List ℕ) × Appends before after bytes × BeginsLayout size time records bytes × Rose faults faults_now
-WriteMeans size time records before after faults faults_now NoMemory = after ≡ before
-WriteMeans size time records before after faults faults_now _ = ⊥
-
--- What `meter` wrote, where it wrote all: the layout of the records, which decodes to them.
-pub record WroteAll (idle active size : ℕ) (seen : Observed) : Type 0 where
-  pub capture : List ℕ
-  pub was_read : WasRead seen capture
-  pub written : List ℕ
-  pub appended : Appends seen.held_before seen.held_after written
-  pub records : List FlowRecord
-  pub time : ℕ
-  pub metered : IsMetered idle active capture records time
-  pub layout : IsLayout size time records written
+  pub tally : Tally
+  pub tally_is : IsTallyOf tally (answers_of file)
+  pub messages : ℕ
+  pub layout : IsLayoutOf size (export_time tally.clock) records written messages
   pub decoded : flows_of written ≡ Some records
+  pub summary_is : noted ≡ summary tally (length records) messages (tail_of file)
 
--- What it wrote, where a write failed: a beginning of that.
-pub record WroteSome (idle active size : ℕ) (seen : Observed) : Type 0 where
-  pub capture : List ℕ
-  pub was_read : WasRead seen capture
-  pub written : List ℕ
-  pub appended : Appends seen.held_before seen.held_after written
-  pub records : List FlowRecord
-  pub time : ℕ
-  pub metered : IsMetered idle active capture records time
-  pub begins : BeginsLayout size time records written
-  pub cause : Rose seen.output_before seen.output_after
+-- The bytes are a stream of data records. What is written is a line for each.
+pub record IsShown (stream written noted : List ℕ) : Type 0 where
+  pub records : List DataRecord
+  pub decoded : decode stream ≡ Ok records
+  pub lines : written ≡ text_of records
+  pub count : noted ≡ count_line (codes "records") (length records)
 
--- What it read, where it refused what it read. Nothing was written.
-pub record Refused (seen : Observed) (status : Status) : Type 0 where
-  pub capture : List ℕ
-  pub was_read : WasRead seen capture
-  pub cause : IsRefused capture status
-  pub kept : seen.held_after ≡ seen.held_before
+-- What the command writes to the output and to the notes for this input.
+abbrev pub IsAnswer : Asked → List ℕ → List ℕ → List ℕ → Type 0
+IsAnswer (meter idle active size) input written noted = IsMetered idle active size input written noted
+IsAnswer show input written noted = IsShown input written noted
 
--- More bytes came than the limit. Nothing was written.
-pub record WasTooLarge (seen : Observed) (limit : ℕ) : Type 0 where
+-- All was done: the input was read to its end, and the output and the notes took the answer to it.
+pub record IsDone (asked : Asked) (seen : Seen) : Type 0 where
   pub bytes : List ℕ
-  pub taken : Consumes seen.left_before seen.left_after bytes
-  pub many : length bytes ≡ limit + 1
-  pub kept : seen.held_after ≡ seen.held_before
+  pub read : IsRead seen.input (limit_of asked) bytes
+  pub written : List ℕ
+  pub noted : List ℕ
+  pub answer : IsAnswer asked bytes written noted
+  pub output : HasTaken seen.output written
+  pub notes : HasTaken seen.notes noted
 
--- What the command `meter` means, by its status, with these time-outs in seconds and this message size in octets.
-abbrev pub MeterMeans : ℕ → ℕ → ℕ → Observed → Status → Type 0
-MeterMeans idle active size seen Done = WroteAll idle active size seen
-MeterMeans idle active size seen WriteFault = WroteSome idle active size seen
-MeterMeans idle active size seen ReadFault = Rose seen.input_before seen.input_after × (seen.held_after ≡ seen.held_before)
-MeterMeans idle active size seen TooLarge = WasTooLarge seen capture_limit
-MeterMeans idle active size seen NoMemory = seen.held_after ≡ seen.held_before
-MeterMeans idle active size seen Usage = ⊥
-MeterMeans idle active size seen (NotStream fault) = ⊥
-MeterMeans idle active size seen status = Refused seen status
+-- A write failed: the input was read to its end, and the output and the notes took a beginning of the answer each, the
+-- output all of it where none of its own calls failed.
+pub record IsCutOff (asked : Asked) (seen : Seen) : Type 0 where
+  pub bytes : List ℕ
+  pub read : IsRead seen.input (limit_of asked) bytes
+  pub written : List ℕ
+  pub noted : List ℕ
+  pub answer : IsAnswer asked bytes written noted
+  pub output : HasTakenOrFailed seen.output written
+  pub notes : HasBegun seen.notes noted
+  pub cause : HasFailed seen.output ⊎ HasFailed seen.notes
 
--- The most bytes of a stream.
-abbrev pub stream_limit : ℕ
-stream_limit = 2 ^ 26
+-- ---- why a command refuses
 
--- What `show` wrote, where it wrote all: a line for each data record of the stream.
-pub record ShowedAll (seen : Observed) : Type 0 where
-  pub stream : List ℕ
-  pub was_read : WasRead seen stream
-  pub records : List DataRecord
-  pub decoded : decode stream ≡ Ok records
-  pub appended : Appends seen.held_before seen.held_after (text_of records)
+-- The input was read to its end, and is wrong in this way.
+pub record IsWrong (input : Side) (limit : ℕ) (Fault : List ℕ → Type 0) : Type 0 where
+  pub bytes : List ℕ
+  pub read : IsRead input limit bytes
+  pub fault : Fault bytes
 
--- What it wrote, where a write failed: a beginning of that.
-pub record ShowedSome (seen : Observed) : Type 0 where
-  pub stream : List ℕ
-  pub was_read : WasRead seen stream
-  pub records : List DataRecord
-  pub decoded : decode stream ≡ Ok records
-  pub count : ℕ
-  pub appended : Appends seen.held_before seen.held_after (take count (text_of records))
-  pub cause : Rose seen.output_before seen.output_after
+-- The bytes are a capture of this kind.
+abbrev pub IsCaptureOf : (CaptureFile → Type 0) → List ℕ → Type 0
+IsCaptureOf kind bytes = IsSomeAnd (capture_file bytes) kind
 
--- What it read, where that has a fault. Nothing was written.
-pub record HasFault (seen : Observed) (fault : StreamFault) : Type 0 where
-  pub stream : List ℕ
-  pub was_read : WasRead seen stream
-  pub decoded : decode stream ≡ Err fault
-  pub kept : seen.held_after ≡ seen.held_before
+-- Why `meter` refuses with a status; never with the others.
+abbrev pub MeterRefuses : Side → ℕ → Status → Type 0
+MeterRefuses input limit ReadFault = IsBroken input limit
+MeterRefuses input limit TooLarge = IsTooLarge input limit
+MeterRefuses input limit NotCapture = IsWrong input limit (λ bytes. capture_file bytes ≡ None)
+MeterRefuses input limit (LinkUnknown link) = IsWrong input limit (IsCaptureOf (λ file. (file.link ≡ link) × ¬ IsKnownLink link))
+MeterRefuses input limit (Damaged at) = IsWrong input limit (IsCaptureOf (λ file. IsKnownLink file.link × (damage_of file ≡ Some at)))
+MeterRefuses input limit NoMemory = ⊤
+MeterRefuses input limit Done = ⊥
+MeterRefuses input limit WriteFault = ⊥
+MeterRefuses input limit Usage = ⊥
+MeterRefuses input limit (NotStream fault) = ⊥
 
--- What the command `show` means, by its status.
-abbrev pub ShowMeans : Observed → Status → Type 0
-ShowMeans seen Done = ShowedAll seen
-ShowMeans seen WriteFault = ShowedSome seen
-ShowMeans seen (NotStream fault) = HasFault seen fault
-ShowMeans seen ReadFault = Rose seen.input_before seen.input_after × (seen.held_after ≡ seen.held_before)
-ShowMeans seen TooLarge = WasTooLarge seen stream_limit
-ShowMeans seen NoMemory = seen.held_after ≡ seen.held_before
-ShowMeans seen _ = ⊥
+-- Why `show` refuses with a status; never with the others.
+abbrev pub ShowRefuses : Side → ℕ → Status → Type 0
+ShowRefuses input limit ReadFault = IsBroken input limit
+ShowRefuses input limit TooLarge = IsTooLarge input limit
+ShowRefuses input limit (NotStream fault) = IsWrong input limit (λ bytes. decode bytes ≡ Err fault)
+ShowRefuses input limit NoMemory = ⊤
+ShowRefuses input limit Done = ⊥
+ShowRefuses input limit WriteFault = ⊥
+ShowRefuses input limit Usage = ⊥
+ShowRefuses input limit NotCapture = ⊥
+ShowRefuses input limit (LinkUnknown link) = ⊥
+ShowRefuses input limit (Damaged at) = ⊥
 
--- What a command line means that asks for nothing: nothing is read, and nothing is written.
-pub record IsUntouched (seen : Observed) (status : Status) : Type 0 where
+abbrev pub Refuses : Asked → Side → Status → Type 0
+Refuses (meter idle active size) input status = MeterRefuses input (limit_of (meter idle active size)) status
+Refuses show input status = ShowRefuses input (limit_of show) status
+
+-- The command refused: it has a cause, nothing was written, and the notes tell it so.
+pub record IsRefused (asked : Asked) (seen : Seen) (told : Type 0) (status : Status) : Type 0 where
+  pub cause : Refuses asked seen.input status
+  pub output : IsUntouched seen.output
+  pub notes : told
+
+-- How a command ends, by its status; `told` says what the notes took at a refusal.
+abbrev pub Ends : Asked → Seen → Type 0 → Status → Type 0
+Ends asked seen told Done = IsDone asked seen
+Ends asked seen told WriteFault = IsCutOff asked seen
+Ends asked seen told ReadFault = IsRefused asked seen told ReadFault
+Ends asked seen told Usage = IsRefused asked seen told Usage
+Ends asked seen told NotCapture = IsRefused asked seen told NotCapture
+Ends asked seen told (LinkUnknown link) = IsRefused asked seen told (LinkUnknown link)
+Ends asked seen told (Damaged at) = IsRefused asked seen told (Damaged at)
+Ends asked seen told TooLarge = IsRefused asked seen told TooLarge
+Ends asked seen told NoMemory = IsRefused asked seen told NoMemory
+Ends asked seen told (NotStream fault) = IsRefused asked seen told (NotStream fault)
+
+-- ---- a run
+
+-- The words ask for nothing: nothing is read, nothing is written, and the notes say so.
+pub record IsUsage (seen : Seen) (status : Status) : Type 0 where
   pub usage : status ≡ Usage
-  pub left : seen.left_after ≡ seen.left_before
-  pub held : seen.held_after ≡ seen.held_before
-  pub input : seen.input_after ≡ seen.input_before
-  pub output : seen.output_after ≡ seen.output_before
+  pub input : IsUntouched seen.input
+  pub output : IsUntouched seen.output
+  pub notes : HasTakenOrFailed seen.notes (fault_line status)
 
--- What a run means, by what its words ask for.
-abbrev pub RunMeans : Option Asked → Observed → Status → Type 0
-RunMeans None seen status = IsUntouched seen status
-RunMeans (Some (meter idle active size)) seen status = MeterMeans idle active size seen status
-RunMeans (Some show) seen status = ShowMeans seen status
+-- What a run means, by what its words ask for. At a refusal the notes took the line of the status.
+abbrev pub RunMeans : Option Asked → Seen → Status → Type 0
+RunMeans None seen status = IsUsage seen status
+RunMeans (Some asked) seen status = Ends asked seen (HasTakenOrFailed seen.notes (fault_line status)) status
+
+-- ---- when a run is done
+
+-- The input is one that the command takes.
+abbrev pub IsValid : Asked → List ℕ → Type 0
+IsValid (meter idle active size) bytes =
+    (length bytes ≤ 2 ^ 30) × IsCaptureOf (λ file. IsKnownLink file.link × (damage_of file ≡ None)) bytes
+IsValid show bytes = (length bytes ≤ 2 ^ 26) × (records : List DataRecord) × (decode bytes ≡ Ok records)
+
+-- No call of an object failed.
+pub record IsQuiet (seen : Seen) : Type 0 where
+  pub input : ¬ HasFailed seen.input
+  pub output : ¬ HasFailed seen.output
+  pub notes : ¬ HasFailed seen.notes
+
+-- For a command and an input that it takes, where no call failed, the run is done, or memory is out.
+abbrev pub IsComplete : Option Asked → Seen → Status → Type 0
+IsComplete words seen status =
+    (asked : Asked) (bytes : List ℕ) → words ≡ Some asked → seen.input.before ≡ Some bytes → IsValid asked bytes
+    → IsQuiet seen → (status ≡ Done) ⊎ (status ≡ NoMemory)

@@ -4,12 +4,11 @@
 mod lines;
 mod meter;
 mod metering;
+mod notes;
 mod running;
 mod settings;
 mod show;
 mod status;
-#[cfg(test)]
-mod tests;
 mod words;
 
 pub use running::run;

@@ -1,90 +1,86 @@
-//! The packets of a capture as fragments of one packet each.
+//! The answers to the records of a capture, as fragments of one packet each and their tally.
 
-ghost use Rattle.std.specs.Prelude.{◌≡◌, ◌+◌, ◌≤◌, ◌<◌, ◌^◌, ◌*◌, [], ◌∷◌, ◌++◌, List, ℕ, Some, IfOk, OnOk, length};
+ghost use Rattle.std.specs.Prelude.{◌≡◌, ◌≤◌, ◌<◌, ◌^◌, [], ◌∷◌, ◌++◌, List, Result, IfOk, OnOk, length};
+ghost use Rattle.std.specs.Option.{ForSome};
 ghost use Rattle.pcap_reader.specs.Views.{file_of, record_read};
 ghost use Rattle.pcap_reader.specs.Index.{IsIndexOf};
 ghost use Rattle.packet_accept.specs.declared.packet.Packet.{Packet};
-ghost use Rattle.packet_accept.specs.Packets.{packets_of, packets_in};
+ghost use Rattle.packet_accept.specs.declared.ignored.Ignored.{Ignored};
+ghost use Rattle.packet_accept.specs.Packets.{answers_of};
 ghost use Rattle.packet_accept.specs.Acceptance.{accepted};
-ghost use Rattle.packet_accept.specs.Clock.{later};
-ghost use Rattle.meter_program.specs.Gathering.{Meter, AreFew};
+ghost use Rattle.capture_tally.specs.Tallies.{HasRoom};
+ghost use Rattle.meter_program.specs.Gathering.{AreMetered, AreParts, IsOrdinary};
 
+use capture_tally::{Tally, room_law};
 use flow_parts::Fragment;
 use flow_parts::laws::sharing_out_stands;
 use meter_io::NoMemory;
-use packet_accept::{Packet, accept, clock_law, packets_law};
+use packet_accept::{Ignored, Packet, accept, packets_law};
 use pcap_reader::{Capture, Record, RecordIndex};
 use std::alloc::Global;
 
-/// The fragments of some packets, and the time of the latest of them in milliseconds.
+/// The fragments of the packets that were metered, and the tally of all records.
 #[derive(Drop)]
 pub struct Metered {
     pub parts: Vec<Fragment>,
-    pub clock: Option<u64>,
+    pub tally: Tally,
 }
 
-/// The later of a clock and a time.
-fn later_of(clock: Option<u64>, time: u64) -> Option<u64>
-    ensures { result ≡ later clock (Some time) }
+/// Adds the fragment of an answer, where it is a packet.
+fn add_part(parts: &mut Vec<Fragment>, answer: &Result<Packet, Ignored>) -> Result<(), NoMemory>
+    ensures { OnOk result ((answers : List (Result Packet Ignored)) → IfOk answer.now IsOrdinary → AreParts answers parts.old.items
+        → AreParts (answers ++ answer.now ∷ []) parts.new.items) }
 {
-    match clock {
-        None => Some(time),
-        Some(clock) => Some(clock.max(time)),
-    }
-}
-
-/// Takes in one more packet.
-fn take_in(metered: &mut Metered, packet: &Packet) -> Result<(), NoMemory>
-    ensures meter { OnOk result ((packets : List Packet) → Meter packets metered.old.parts.items metered.old.clock
-        → Meter (packets ++ packet.now ∷ []) metered.new.parts.items metered.new.clock) }
-    ensures few { OnOk result ((most : ℕ) → packet.now.octets < 2 ^ 24 → packet.now.time < 1000 * 2 ^ 32
-        → AreFew metered.old.parts.items metered.old.clock most → AreFew metered.new.parts.items metered.new.clock (most + 1)) }
-{
+    packets_law();
     sharing_out_stands();
-    clock_law();
-    let part = Fragment::of(packet);
-    match metered.parts.push(part) {
-        Ok(()) => {
-            metered.clock = later_of(metered.clock, packet.time);
-            Ok(())
+    match answer {
+        Ok(packet) => {
+            let part = Fragment::of(packet);
+            match parts.push(part) {
+                Ok(()) => Ok(()),
+                Err(_) => Err(NoMemory),
+            }
         }
-        Err(_) => Err(NoMemory),
+        Err(_) => Ok(()),
     }
 }
 
-/// Takes in the packet of a record, where it has one.
+/// Meters one more record.
 fn take_record(
     metered: &mut Metered,
     capture: &Capture<'_>,
     record: &Record<'_>,
     n: u64,
 ) -> Result<(), NoMemory>
-    ensures meter { let file = file_of capture.now in
-        OnOk result ((packets : List Packet) → Meter packets metered.old.parts.items metered.old.clock
-        → Meter (packets ++ packets_in (accepted file.link file.nanos (record_read record.now) n ∷ [])) metered.new.parts.items metered.new.clock) }
-    ensures few { OnOk result ((most : ℕ) → AreFew metered.old.parts.items metered.old.clock most
-        → AreFew metered.new.parts.items metered.new.clock (most + 1)) }
+    requires { HasRoom metered.old.tally }
+    ensures { let file = file_of capture.now in
+        OnOk result ((answers : List (Result Packet Ignored)) → AreMetered answers metered.old.parts.items metered.old.tally
+        → AreMetered (answers ++ accepted file.link file.nanos (record_read record.now) n ∷ []) metered.new.parts.items metered.new.tally) }
 {
-    match accept(capture, record, n) {
-        Ok(packet) => take_in(metered, &packet),
-        Err(_) => Ok(()),
-    }
+    packets_law();
+    let answer = accept(capture, record, n);
+    metered.tally.add(&answer);
+    add_part(&mut metered.parts, &answer)
 }
 
-/// The packets of a capture as fragments of one packet each.
-pub fn fragments_of(
+/// The packets of a capture as fragments of one packet each, and the tally of its records.
+///
+/// Fewer than 2^32 records; memory for a fragment of each packet.
+pub fn metered_of(
     alloc: Global,
     capture: &Capture<'_>,
     index: &RecordIndex,
 ) -> Result<Metered, NoMemory>
-    requires { IsIndexOf index.now (file_of capture.now) }
-    ensures meter { IfOk result (λ metered. Meter (packets_of (file_of capture.now)) metered.parts.items metered.clock) }
-    ensures few { IfOk result (λ metered. AreFew metered.parts.items metered.clock (length index.now.offsets)) }
+    requires index { IsIndexOf index.now (file_of capture.now) }
+    requires few { length index.now.offsets < 2 ^ 32 }
+    ensures metered { IfOk result (λ metered. AreMetered (answers_of (file_of capture.now)) metered.parts.items metered.tally) }
+    ensures each { length (answers_of (file_of capture.now)) ≡ length index.now.offsets }
 {
     packets_law();
+    room_law();
     let mut metered = Metered {
         parts: Vec::new(alloc),
-        clock: None,
+        tally: Tally::new(),
     };
     for n in 0..index.count() {
         let record = capture.record(index, n);

@@ -1,12 +1,14 @@
 //! The top call.
 
-ghost use Rattle.std.specs.Prelude.{◌≡◌, ◌↔◌, None, map};
+ghost use Rattle.std.specs.Prelude.{◌≡◌, ◌↔◌, ◌⊎◌, None, map};
 ghost use Rattle.std.specs.String.{string_bytes};
 ghost use Rattle.meter_io.specs.Causes.{Rose};
-ghost use Rattle.meter_program.specs.Outcome.{RunMeans};
-ghost use Rattle.meter_program.specs.Words.{asked_by};
+ghost use Rattle.meter_program.specs.Outcome.{RunMeans, IsComplete, Ends};
+ghost use Rattle.meter_program.specs.Seen.{IsUntouched, seen_of, side};
+ghost use Rattle.meter_program.specs.Words.{asked_by, asked};
 
 use crate::meter::meter;
+use crate::notes::fault_line;
 use crate::show::show;
 use crate::status::Status;
 use crate::words::{Command, command_of};
@@ -14,33 +16,69 @@ use meter_io::{Sink, Source};
 use std::alloc::Global;
 use std::thread::Threads;
 
-/// Runs the command that the words behind the program's name ask for.
+/// Does what a command says.
+fn command<S: Source, K: Sink, N: Sink>(
+    alloc: Global,
+    command: &Command,
+    input: &mut S,
+    output: &mut K,
+    notes: &mut N,
+) -> Status
+    ensures { let seen = seen_of (side S.left S.faults input.old input.new) (side K.held K.faults output.old output.new)
+        (side N.held N.faults notes.old notes.new)
+        in Ends (asked command.now) seen (IsUntouched seen.notes) result }
+{
+    match command {
+        Command::Meter(settings) => meter(alloc, settings, input, output, notes),
+        Command::Show => show(alloc, input, output, notes),
+    }
+}
+
+/// Runs the command that the words behind the program's name ask for, and tells how the run ended.
+///
+/// | Command | Reads | Writes to `output` | Notes |
+/// |---|---|---|---|
+/// | `meter` | a capture, at most 2^30 bytes | the stream of its flow records | the summary, eleven lines |
+/// | `show` | a stream, at most 2^26 bytes | a line for each data record | how many records |
+///
+/// The input is read to its end before anything is written. At a refusal, any status but `Done` and `WriteFault`,
+/// nothing is written to `output`, and one line that names the refusal goes to `notes`; where that write fails, the
+/// status stays.
+///
+/// - `Done`: all was read and written.
+/// - `ReadFault`: only where a read failed and the input counted it.
+/// - `Usage`: exactly where the words are no command line. Nothing is read.
+/// - `WriteFault`: only where a write failed and the output or the notes counted it. Both took a beginning of what they
+///   were to take, the output all of it where none of its own writes failed.
+/// - `NotCapture`, `LinkUnknown`, `Damaged`: `meter`, exactly where the bytes read are no capture, have another link
+///   type than 1, 101 and 113, or a record that claims too much.
+/// - `NotStream`: `show`, exactly where the bytes read have that fault.
+/// - `TooLarge`: exactly where more bytes came than the command's limit.
+/// - `NoMemory`: out of memory, at any point before the first write.
 pub fn run<R: Threads, S: Source, K: Sink, N: Sink>(
     _rt: &R,
     alloc: Global,
     words: &[String],
     input: &mut S,
     output: &mut K,
-    _notes: &mut N,
+    notes: &mut N,
 ) -> Status
     ensures usage { (result ≡ Status.Usage) ↔ (asked_by (map string_bytes words.now) ≡ None) }
-    ensures means { RunMeans (asked_by (map string_bytes words.now)) (record {
-      left_before = S.left input.old;
-      left_after = S.left input.new;
-      held_before = K.held output.old;
-      held_after = K.held output.new;
-      input_before = S.faults input.old;
-      input_after = S.faults input.new;
-      output_before = K.faults output.old;
-      output_after = K.faults output.new;
-    }) result }
+    ensures means { RunMeans (asked_by (map string_bytes words.now)) (seen_of (side S.left S.faults input.old input.new)
+        (side K.held K.faults output.old output.new) (side N.held N.faults notes.old notes.new)) result }
+    ensures complete { IsComplete (asked_by (map string_bytes words.now)) (seen_of (side S.left S.faults input.old input.new)
+        (side K.held K.faults output.old output.new) (side N.held N.faults notes.old notes.new)) result }
     ensures read_fault { result ≡ Status.ReadFault → Rose (S.faults input.old) (S.faults input.new) }
-    ensures write_fault { result ≡ Status.WriteFault → Rose (K.faults output.old) (K.faults output.new) }
-    ensures notes { (N.held _notes.new ≡ N.held _notes.old) × (N.faults _notes.new ≡ N.faults _notes.old) }
+    ensures write_fault { result ≡ Status.WriteFault
+        → Rose (K.faults output.old) (K.faults output.new) ⊎ Rose (N.faults notes.old) (N.faults notes.new) }
 {
-    match command_of(words) {
+    let status = match command_of(words) {
         None => Status::Usage,
-        Some(Command::Meter(settings)) => meter(alloc, &settings, input, output),
-        Some(Command::Show) => show(alloc, input, output),
+        Some(asked) => command(alloc, &asked, input, output, notes),
+    };
+    if status.is_refusal() {
+        // A refusal stays what it is where its line can't be written.
+        let _noted = fault_line(notes, &status);
     }
+    status
 }

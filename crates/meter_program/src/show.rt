@@ -1,9 +1,12 @@
 //! The command `show`.
 
-ghost use Rattle.std.specs.Prelude.{◌≡◌};
-ghost use Rattle.meter_program.specs.Outcome.{ShowMeans};
+ghost use Rattle.std.specs.Prelude.{◌≡◌, codes};
+ghost use Rattle.meter_program.specs.Outcome.{Ends};
+ghost use Rattle.meter_program.specs.Seen.{IsUntouched, seen_of, side};
+ghost use Rattle.meter_program.specs.Words.{show};
 
 use crate::lines::shows;
+use crate::notes::count;
 use crate::status::Status;
 use ipfix_reader::{StreamError, read_stream};
 use meter_io::{Failed, ReadError, Sink, Source, read_all, write_all};
@@ -12,18 +15,17 @@ use std::alloc::Global;
 /// The most bytes of a stream.
 const STREAM_LIMIT: u64 = 1 << 26;
 
-/// Reads a stream from the input to its end, and writes a line for each of its data records to the output.
-pub fn show<S: Source, K: Sink>(alloc: Global, input: &mut S, output: &mut K) -> Status
-    ensures { ShowMeans (record {
-      left_before = S.left input.old;
-      left_after = S.left input.new;
-      held_before = K.held output.old;
-      held_after = K.held output.new;
-      input_before = S.faults input.old;
-      input_after = S.faults input.new;
-      output_before = K.faults output.old;
-      output_after = K.faults output.new;
-    }) result }
+/// Reads a stream from the input to its end, writes a line for each of its data records to the output, and notes how
+/// many there are.
+pub fn show<S: Source, K: Sink, N: Sink>(
+    alloc: Global,
+    input: &mut S,
+    output: &mut K,
+    notes: &mut N,
+) -> Status
+    ensures { let seen = seen_of (side S.left S.faults input.old input.new) (side K.held K.faults output.old output.new)
+        (side N.held N.faults notes.old notes.new)
+        in Ends show seen (IsUntouched seen.notes) result }
 {
     let stream = match read_all(alloc, input, STREAM_LIMIT) {
         Ok(stream) => stream,
@@ -40,6 +42,10 @@ pub fn show<S: Source, K: Sink>(alloc: Global, input: &mut S, output: &mut K) ->
         return Status::NoMemory;
     };
     match write_all(output, text.as_slice()) {
+        Ok(()) => {}
+        Err(Failed) => return Status::WriteFault,
+    }
+    match count(notes, "records", records.len() as u64) {
         Ok(()) => Status::Done,
         Err(Failed) => Status::WriteFault,
     }

@@ -1,5 +1,8 @@
 //! How a run ends.
 
+ghost use Rattle.std.specs.Prelude.{◌≡◌, IsTrue};
+ghost use Rattle.meter_program.specs.Statuses.{exit_status, is_refusal};
+
 use ipfix_reader::StreamFault;
 
 /// How a run ends. [`Status::code`] is the exit status of the program.
@@ -28,8 +31,17 @@ pub enum Status {
 }
 
 impl Status {
+    /// Whether the run refused, so that the notes have a line for it.
+    pub fn is_refusal(&self) -> bool
+        ensures { result ≡ is_refusal self.now }
+    {
+        !matches!(self, Status::Done | Status::WriteFault)
+    }
+
     /// The exit status of the program.
-    pub fn code(self) -> u8 {
+    pub fn code(self) -> u8
+        ensures { result ≡ exit_status self }
+    {
         match self {
             Status::Done => 0,
             Status::ReadFault => 1,

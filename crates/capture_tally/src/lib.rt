@@ -1,0 +1,14 @@
+//! What a capture held, in numbers: its records, its packets, the ignored records by cause, the octets, the clock.
+//!
+//! A [`Tally`] takes in the answer to each record ([`Tally::add`]). Two tallies of parts of a capture are put together
+//! by [`Tally::joined`], so each worker keeps one of its own. `specs/Tallies.antt` says which tally some answers have,
+//! and [`room_law`] that no number of it runs over for any capture that is read.
+#![tactic(auto)]
+
+mod laws;
+mod tally;
+#[cfg(test)]
+mod tests;
+
+pub use laws::room_law;
+pub use tally::Tally;

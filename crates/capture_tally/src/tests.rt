@@ -1,0 +1,61 @@
+//! Tallies of a few answers.
+
+use crate::Tally;
+use flow_key::FlowKey;
+use packet_accept::{Ignored, Packet};
+use std::test::Fail;
+
+/// A packet at this time, of so many octets.
+fn packet(time: u64, octets: u32) -> Packet {
+    Packet {
+        number: 0,
+        key: FlowKey {
+            version: 4,
+            source: 1,
+            destination: 2,
+            protocol: 17,
+            source_port: 3,
+            destination_port: 4,
+        },
+        time,
+        octets,
+        flags: 0,
+    }
+}
+
+#[test]
+fn one_more_record_is_counted(rt: HostRuntime) -> Result<(), Fail> {
+    let causes: [(Ignored, [u64; 5]); 5] = [
+        (Ignored::NotIp, [1, 0, 0, 0, 0]),
+        (Ignored::Short, [0, 1, 0, 0, 0]),
+        (Ignored::BadHeader, [0, 0, 1, 0, 0]),
+        (Ignored::ShortTransport, [0, 0, 0, 1, 0]),
+        (Ignored::BadTime, [0, 0, 0, 0, 1]),
+    ];
+    for (cause, ignored) in causes {
+        let mut tally = Tally::new();
+        tally.add(&Err(cause));
+        assert_eq!(rt; tally.captured, 1);
+        assert_eq!(rt; tally.accepted, 0);
+        assert_eq!(rt; tally.ignored, ignored);
+        assert_eq!(rt; tally.octets, 0);
+        assert_eq!(rt; tally.clock, None);
+    }
+    let mut tally = Tally::new();
+    tally.add(&Ok(packet(7, 28)));
+    assert_eq!(rt; tally.captured, 1);
+    assert_eq!(rt; tally.accepted, 1);
+    assert_eq!(rt; tally.ignored, [0; 5]);
+    assert_eq!(rt; tally.octets, 28);
+    assert_eq!(rt; tally.clock, Some(7));
+    Ok(())
+}
+
+#[test]
+fn two_tallies_are_added_up(rt: HostRuntime) -> Result<(), Fail> {
+    let mut one = Tally::new();
+    one.add(&Ok(packet(60, 28)));
+    let none = Tally::new();
+    assert_eq!(rt; none.joined(&none), none);
+    Ok(())
+}

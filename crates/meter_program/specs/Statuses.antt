@@ -1,0 +1,60 @@
+-- The exit status and the line of each way in which a run ends.
+use Rattle.std.specs.Prelude.{ℕ, Bool, true, false, List, [], ◌++◌, codes, decimal}
+use Rattle.ipfix_reader.specs.declared.fault.StreamFault.{StreamFault}
+use Rattle.ipfix_reader.specs.declared.fault.StreamFault.TheVariants.{Cut, BadVersion, BadLength, NoTemplate, BadTemplate, BadPadding, BadSequence, Withdrawal}
+use Rattle.meter_program.specs.declared.status.Status.{Status}
+use Rattle.meter_program.specs.declared.status.Status.TheVariants.{Done, ReadFault, Usage, WriteFault, NotCapture, LinkUnknown, Damaged, TooLarge, NoMemory, NotStream}
+
+-- The exit status.
+abbrev pub exit_status : Status → ℕ
+exit_status Done = 0
+exit_status ReadFault = 1
+exit_status Usage = 2
+exit_status WriteFault = 3
+exit_status NotCapture = 4
+exit_status (LinkUnknown link) = 5
+exit_status (Damaged at) = 6
+exit_status TooLarge = 7
+exit_status NoMemory = 8
+exit_status (NotStream fault) = 9
+
+-- Whether nothing was done: all statuses but that of a run that is done, and of one whose write failed.
+abbrev pub is_refusal : Status → Bool
+is_refusal Done = false
+is_refusal WriteFault = false
+is_refusal ReadFault = true
+is_refusal Usage = true
+is_refusal NotCapture = true
+is_refusal (LinkUnknown link) = true
+is_refusal (Damaged at) = true
+is_refusal TooLarge = true
+is_refusal NoMemory = true
+is_refusal (NotStream fault) = true
+
+-- A fault of a stream: its kind and its offset.
+abbrev pub stream_fault_text : StreamFault → List ℕ
+stream_fault_text (Cut at) = codes "cut at " ++ decimal at
+stream_fault_text (BadVersion at) = codes "version at " ++ decimal at
+stream_fault_text (BadLength at) = codes "length at " ++ decimal at
+stream_fault_text (NoTemplate at id) = codes "template " ++ decimal id ++ codes " at " ++ decimal at
+stream_fault_text (BadTemplate at) = codes "bad template at " ++ decimal at
+stream_fault_text (BadPadding at) = codes "padding at " ++ decimal at
+stream_fault_text (BadSequence at) = codes "sequence at " ++ decimal at
+stream_fault_text (Withdrawal at) = codes "withdrawal at " ++ decimal at
+
+-- What the notes say of a status, without the end of the line; nothing where all was done or a write failed.
+abbrev pub fault_text : Status → List ℕ
+fault_text Done = []
+fault_text WriteFault = []
+fault_text ReadFault = codes "read fault"
+fault_text Usage = codes "usage: meter, show, make, schedule or selftest"
+fault_text NotCapture = codes "not a capture"
+fault_text (LinkUnknown link) = codes "link type " ++ decimal link
+fault_text (Damaged at) = codes "damaged at " ++ decimal at
+fault_text TooLarge = codes "too large"
+fault_text NoMemory = codes "no memory"
+fault_text (NotStream fault) = codes "not a stream: " ++ stream_fault_text fault
+
+-- The line of a status in the notes.
+abbrev pub fault_line : Status → List ℕ
+fault_line status = fault_text status ++ codes "\n"
