@@ -1,14 +1,10 @@
 -- Data records as text: a line for each, with its template and then its fields.
-use Rattle.std.specs.Prelude.{ℕ, Bool, ◌==◌, ◌&&◌, ◌/◌, ◌%◌, nat_le, if◌then◌else◌, List, [], ◌∷◌, ◌++◌, length, map, flat_map, Option, Some, None, is_none, codes, decimal}
-use Rattle.std.specs.Char.{digit_char}
+use Rattle.std.specs.Prelude.{ℕ, Bool, ◌==◌, ◌&&◌, nat_le, if◌then◌else◌, List, [], ◌∷◌, ◌++◌, length, map, flat_map, Option, Some, None, is_none, codes, decimal}
 use Rattle.std.specs.Int.Digits.{number_from_digits}
+use Rattle.hex.specs.Hex.{encode_lower}
 use Rattle.std.specs.List.{list_any, join_with_byte}
 use Rattle.ipfix_model.specs.declared.values.DataRecord.{DataRecord}
 use Rattle.ipfix_model.specs.declared.values.FieldValue.{FieldValue}
-
--- A byte as two hexadecimal digits, in lower case.
-abbrev pub hexadecimal : ℕ → List ℕ
-hexadecimal byte = digit_char (byte / 16) ∷ digit_char (byte % 16) ∷ []
 
 -- The elements whose values are numbers: octetDeltaCount, packetDeltaCount, protocolIdentifier, tcpControlBits,
 -- sourceTransportPort, destinationTransportPort, flowEndReason, flowStartMilliseconds and flowEndMilliseconds.
@@ -27,11 +23,11 @@ iana_text element value =
     then decimal (number_from_digits 256 value)
     else if is_address element && (length value == 4)
     then join_with_byte 46 (map decimal value)
-    else flat_map hexadecimal value
+    else encode_lower value
 
 -- A value: that of an enterprise's element is written in hexadecimal.
 unfoldable pub value_text : FieldValue → List ℕ
-value_text field = if is_none field.enterprise then iana_text field.element field.value else flat_map hexadecimal field.value
+value_text field = if is_none field.enterprise then iana_text field.element field.value else encode_lower field.value
 
 -- The name of an element: its number, behind the number of its enterprise and a point where it is an enterprise's.
 unfoldable pub name_text : Option ℕ → ℕ → List ℕ

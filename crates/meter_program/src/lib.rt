@@ -9,6 +9,8 @@ mod running;
 mod settings;
 mod show;
 mod status;
+#[cfg(test)]
+mod tests;
 mod words;
 
 pub use running::run;

@@ -1,15 +1,14 @@
 //! Data records as text.
 
 ghost use Rattle.std.specs.Prelude.{◌≡◌, ◌<◌, ◌≤◌, ◌++◌, length, map, flat_map, decimal, IfOk, OnOk};
-ghost use Rattle.std.specs.Char.{digit_char};
 ghost use Rattle.std.specs.Int.Digits.{number_from_digits};
 ghost use Rattle.std.specs.List.{join_with_byte};
-ghost use Rattle.meter_program.specs.Shows.{hexadecimal, is_number, is_address, iana_text, value_text, name_text, field_text, line_of, text_of};
+ghost use Rattle.meter_program.specs.Shows.{is_number, is_address, iana_text, value_text, name_text, field_text, line_of, text_of};
 
 use ipfix_model::elements::*;
 use ipfix_model::{DataRecord, FieldValue};
-use itoa::Buffer;
-use meter_io::NoMemory;
+use no_memory::NoMemory;
+use plain_text::{append, append_decimal, append_hexadecimal};
 use std::alloc::Global;
 
 #[cfg(test)]
@@ -30,51 +29,6 @@ const NUMBERS: [u16; 9] = [
 
 /// The elements whose values are IPv4 addresses.
 const ADDRESSES: [u16; 2] = [SOURCE_IPV4_ADDRESS, DESTINATION_IPV4_ADDRESS];
-
-/// Appends bytes to a text.
-#[inline]
-fn append(text: &mut Vec<u8>, bytes: &[u8]) -> Result<(), NoMemory>
-    ensures { OnOk result (text.new.items ≡ text.old.items ++ bytes.now) }
-{
-    match text.extend_from_slice(bytes) {
-        Ok(()) => Ok(()),
-        Err(_) => Err(NoMemory),
-    }
-}
-
-/// Appends a number in decimal.
-fn append_decimal(text: &mut Vec<u8>, number: u64) -> Result<(), NoMemory>
-    ensures { OnOk result (text.new.items ≡ text.old.items ++ decimal number) }
-{
-    let mut digits = Buffer::new();
-    append(text, digits.format(number).as_bytes())
-}
-
-/// A hexadecimal digit.
-fn hexadecimal_digit(value: u8) -> u8
-    requires { value < 16 }
-    ensures { result ≡ digit_char value }
-{
-    if value < 10 {
-        b'0' + value
-    } else {
-        b'a' + (value - 10)
-    }
-}
-
-/// Appends bytes in hexadecimal.
-fn append_hexadecimal(text: &mut Vec<u8>, bytes: &[u8]) -> Result<(), NoMemory>
-    ensures { OnOk result (text.new.items ≡ text.old.items ++ flat_map hexadecimal bytes.now) }
-{
-    for byte in bytes {
-        let digits = [hexadecimal_digit(*byte / 16), hexadecimal_digit(*byte % 16)];
-        match append(text, &digits) {
-            Ok(()) => {}
-            Err(NoMemory) => return Err(NoMemory),
-        }
-    }
-    Ok(())
-}
 
 /// Appends four numbers in decimal, with points between them.
 fn append_address(text: &mut Vec<u8>, address: &[u8]) -> Result<(), NoMemory>
@@ -172,10 +126,7 @@ fn append_fields(text: &mut Vec<u8>, fields: &[FieldValue]) -> Result<(), NoMemo
     ensures { OnOk result (text.new.items ≡ text.old.items ++ flat_map field_text fields.now) }
 {
     for field in fields {
-        match append_field(text, field) {
-            Ok(()) => {}
-            Err(NoMemory) => return Err(NoMemory),
-        }
+        append_field(text, field)?;
     }
     Ok(())
 }
@@ -204,10 +155,7 @@ pub fn shows(alloc: Global, records: &[DataRecord]) -> Result<Vec<u8>, NoMemory>
 {
     let mut text = Vec::new(alloc);
     for line in records {
-        match append_line(&mut text, line) {
-            Ok(()) => {}
-            Err(NoMemory) => return Err(NoMemory),
-        }
+        append_line(&mut text, line)?;
     }
     Ok(text)
 }

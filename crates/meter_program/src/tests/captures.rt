@@ -1,0 +1,276 @@
+//! The command `meter` on captures.
+
+use super::{AT_1000, AT_1001, FRAME, HEADER, Ran, TEMPLATES, TWO_PACKETS_RECORD, bytes_of, run_over, two_packets};
+use crate::Status;
+use std::alloc::Global;
+use std::test::Fail;
+use std::thread::Threads;
+
+/// A capture of UDP packets, each with its second, its microsecond and its source port.
+fn capture_of(alloc: Global, packets: &[(u32, u32, u16)]) -> Result<Vec<u8>, Fail> {
+    let mut capture = bytes_of(alloc, &[HEADER])?;
+    let lengths = bytes_of(alloc, &["2a000000 2a000000"])?;
+    let before = bytes_of(
+        alloc,
+        &["020000000002 020000000001 0800 4500001c 00000000 40110000 c0000201 c0000202"],
+    )?;
+    let behind = bytes_of(alloc, &["0035 0008 0000"])?;
+    for (second, microsecond, port) in packets {
+        capture.extend_from_slice(second.to_le_bytes().as_slice())?;
+        capture.extend_from_slice(microsecond.to_le_bytes().as_slice())?;
+        capture.extend_from_slice(lengths.as_slice())?;
+        capture.extend_from_slice(before.as_slice())?;
+        capture.extend_from_slice(port.to_be_bytes().as_slice())?;
+        capture.extend_from_slice(behind.as_slice())?;
+    }
+    Ok(capture)
+}
+
+/// What `show` says of what `meter` writes of a capture; empty where either isn't done.
+fn shown(rt: &impl Threads, alloc: Global, capture: &[u8]) -> Result<Vec<u8>, Fail> {
+    let metered = run_over(rt, alloc, "meter", capture)?;
+    let showed = run_over(rt, alloc, "show", metered.output.as_slice())?;
+    if metered.status == Status::Done && showed.status == Status::Done {
+        Ok(showed.output)
+    } else {
+        Ok(Vec::new(alloc))
+    }
+}
+
+/// A record of such packets: source port, packets, octets, first and last millisecond, and reason.
+type Line = (u16, u64, u64, u64, u64, u8);
+
+#[test]
+fn gaps_and_spans_cut_records(rt: HostRuntime) -> Result<(), Fail> {
+    let alloc = rt.alloc();
+    let one: Line = (4000, 2, 56, 1_000_000, 1_001_000, 4);
+    let spaced = [1000, 1200, 1400, 1600, 1800, 2000, 2200, 2400, 2600];
+    let mut exactly = Vec::new(alloc);
+    let mut longer = Vec::new(alloc);
+    for second in spaced {
+        exactly.push((second, 0, 4000))?;
+        longer.push((second, 0, 4000))?;
+    }
+    exactly.push((2800, 0, 4000))?;
+    longer.push((2800, 1000, 4000))?;
+    let rows: [(&str, &[(u32, u32, u16)], &[Line]); 9] = [
+        ("no packet", &[], &[]),
+        ("one second apart", &[(1000, 0, 4000), (1001, 0, 4000)], &[one]),
+        ("in another order", &[(1001, 0, 4000), (1000, 0, 4000)], &[one]),
+        (
+            "exactly idle",
+            &[(1000, 0, 4000), (1300, 0, 4000)],
+            &[(4000, 2, 56, 1_000_000, 1_300_000, 4)],
+        ),
+        (
+            "a millisecond more",
+            &[(1000, 0, 4000), (1300, 1000, 4000)],
+            &[(4000, 1, 28, 1_000_000, 1_000_000, 1), (4000, 1, 28, 1_300_001, 1_300_001, 4)],
+        ),
+        (
+            "another flow later",
+            &[(1000, 0, 4000), (1301, 0, 4001)],
+            &[(4000, 1, 28, 1_000_000, 1_000_000, 1), (4001, 1, 28, 1_301_000, 1_301_000, 4)],
+        ),
+        (
+            "a bad time",
+            &[(1000, 0, 4000), (1001, 1_000_000, 4000)],
+            &[(4000, 1, 28, 1_000_000, 1_000_000, 4)],
+        ),
+        ("exactly active", exactly.as_slice(), &[(4000, 10, 280, 1_000_000, 2_800_000, 4)]),
+        (
+            "a millisecond more than active",
+            longer.as_slice(),
+            &[(4000, 9, 252, 1_000_000, 2_600_000, 2), (4000, 1, 28, 2_800_001, 2_800_001, 4)],
+        ),
+    ];
+    for (name, packets, records) in rows {
+        let mut wanted = String::new(alloc);
+        for (port, packets, octets, first, last, reason) in records {
+            let line = format!(in alloc;
+                "256 8=192.0.2.1 12=192.0.2.2 7={port} 11=53 4=17 6=0 2={packets} 1={octets} 152={first} 153={last} 136={reason}\n"
+            )?;
+            wanted.push_str(line.as_str())?;
+        }
+        let capture = capture_of(alloc, packets)?;
+        let text = shown(&rt, alloc, capture.as_slice())?;
+        assert_eq!(rt; text.as_slice(), wanted.as_bytes(), "{name}");
+    }
+    Ok(())
+}
+
+/// A capture: its name, its bytes, its export time or none, the messages behind the templates, and the counts of its
+/// summary in their order, without those of ignored records where there are none.
+type Row = (&'static str, &'static [&'static str], &'static str, &'static str, &'static str);
+
+const ROWS: [Row; 8] = [
+    (
+        "two packets",
+        &[HEADER, AT_1000, FRAME, AT_1001, FRAME],
+        "000003e9",
+        TWO_PACKETS_RECORD,
+        "captured 2\naccepted 2\nnot-ip 0\nshort 0\nbad-header 0\nshort-transport 0\nbad-time 0\noctets 56\nflows 1\nmessages 2\ntail 0\n",
+    ),
+    (
+        "big-endian nanoseconds",
+        &[
+            "a1b23c4d 0002 0004 00000000 00000000 00040000 00000001",
+            "000003e8 00000000 0000002a 0000002a",
+            FRAME,
+            "000003e9 00000000 0000002a 0000002a",
+            FRAME,
+        ],
+        "000003e9",
+        TWO_PACKETS_RECORD,
+        "captured 2\naccepted 2\nnot-ip 0\nshort 0\nbad-header 0\nshort-transport 0\nbad-time 0\noctets 56\nflows 1\nmessages 2\ntail 0\n",
+    ),
+    (
+        "no record",
+        &[HEADER],
+        "00000000",
+        "",
+        "captured 0\naccepted 0\nnot-ip 0\nshort 0\nbad-header 0\nshort-transport 0\nbad-time 0\noctets 0\nflows 0\nmessages 1\ntail 0\n",
+    ),
+    (
+        "cut five bytes short",
+        &[
+            HEADER,
+            AT_1000,
+            FRAME,
+            AT_1001,
+            "020000000002 020000000001 0800 4500001c 00000000 40110000 c0000201 c0000202 0fa0 00",
+        ],
+        "000003e8",
+        "000a0044 000003e8 00000000 00000001 0100 0034 c0000201 c0000202 0fa0 0035 11 0000 \
+        0000000000000001 000000000000001c 00000000000f4240 00000000000f4240 04",
+        "captured 1\naccepted 1\nnot-ip 0\nshort 0\nbad-header 0\nshort-transport 0\nbad-time 0\noctets 28\nflows 1\nmessages 2\ntail 53\n",
+    ),
+    (
+        "an offloaded length",
+        &[
+            HEADER,
+            "e8030000 00000000 2a000000 c60b0000",
+            "020000000002 020000000001 0800 45000000 00000000 40110000 c0000201 c0000202 0fa0 0035 0008 0000",
+        ],
+        "000003e8",
+        "000a0044 000003e8 00000000 00000001 0100 0034 c0000201 c0000202 0fa0 0035 11 0000 \
+        0000000000000001 0000000000000bb8 00000000000f4240 00000000000f4240 04",
+        "captured 1\naccepted 1\nnot-ip 0\nshort 0\nbad-header 0\nshort-transport 0\nbad-time 0\noctets 3000\nflows 1\nmessages 2\ntail 0\n",
+    ),
+    (
+        "padding is no transport header",
+        &[
+            HEADER,
+            "e8030000 00000000 3c000000 3c000000",
+            "020000000002 020000000001 0800 45000014 00000000 40060000 c0000201 c0000202",
+            "0000000000000000000000000000000000000000000000000000",
+        ],
+        "00000000",
+        "",
+        "captured 1\naccepted 0\nnot-ip 0\nshort 0\nbad-header 0\nshort-transport 1\nbad-time 0\noctets 0\nflows 0\nmessages 1\ntail 0\n",
+    ),
+    (
+        "a bad time",
+        &[HEADER, AT_1000, FRAME, "e9030000 40420f00 2a000000 2a000000", FRAME],
+        "000003e8",
+        "000a0044 000003e8 00000000 00000001 0100 0034 c0000201 c0000202 0fa0 0035 11 0000 \
+        0000000000000001 000000000000001c 00000000000f4240 00000000000f4240 04",
+        "captured 2\naccepted 1\nnot-ip 0\nshort 0\nbad-header 0\nshort-transport 0\nbad-time 1\noctets 28\nflows 1\nmessages 2\ntail 0\n",
+    ),
+    (
+        "extension headers",
+        &[
+            "d4c3b2a1 02000400 00000000 00000000 00000400 65000000",
+            "05000000 00000000 4c000000 4c000000",
+            "60000000 0024 00 40 20010db8000000000000000000000001 20010db8000000000000000000000002",
+            "2c00010400000000 0600000000000000 0401 01bb 00000000 00000000 5010 0000 0000 0000",
+            "05000000 00000000 3c000000 9c000000",
+            "60000000 0074 00 40 20010db8000000000000000000000001 20010db8000000000000000000000002",
+            "2c00010400000000 0600000800000000 01020304",
+        ],
+        "00000005",
+        "000a00a4 00000005 00000000 00000001 0101 0094 \
+        20010db8000000000000000000000001 20010db8000000000000000000000002 0000 0000 06 0000 \
+        0000000000000001 000000000000009c 0000000000001388 0000000000001388 04 \
+        20010db8000000000000000000000001 20010db8000000000000000000000002 0401 01bb 06 0010 \
+        0000000000000001 000000000000004c 0000000000001388 0000000000001388 04",
+        "captured 2\naccepted 2\nnot-ip 0\nshort 0\nbad-header 0\nshort-transport 0\nbad-time 0\noctets 232\nflows 2\nmessages 2\ntail 0\n",
+    ),
+];
+
+#[test]
+fn captures_end_with_these_bytes(rt: HostRuntime) -> Result<(), Fail> {
+    let alloc = rt.alloc();
+    for (name, capture, time, messages, summary) in ROWS {
+        let input = bytes_of(alloc, capture)?;
+        let wanted = bytes_of(alloc, &["000a0074", time, TEMPLATES, messages])?;
+        let ran = run_over(&rt, alloc, "meter", input.as_slice())?;
+        assert_eq!(rt; ran.status, Status::Done, "{name}");
+        assert_eq!(rt; ran.output.as_slice(), wanted.as_slice(), "{name}");
+        assert_eq!(rt; ran.notes.as_slice(), summary.as_bytes(), "{name}");
+    }
+    Ok(())
+}
+
+#[test]
+fn other_inputs_are_refused(rt: HostRuntime) -> Result<(), Fail> {
+    let alloc = rt.alloc();
+    let rows: [(&str, &str, Status, &str); 6] = [
+        ("meter", "", Status::NotCapture, "not a capture\n"),
+        (
+            "meter",
+            "d4c3b2a1 02000400 00000000 00000000 00000400 010000",
+            Status::NotCapture,
+            "not a capture\n",
+        ),
+        (
+            "meter",
+            "d4c3b2a1 02000400 00000000 00000000 00000400 69000000",
+            Status::LinkUnknown(105),
+            "link type 105\n",
+        ),
+        (
+            "meter",
+            "d4c3b2a1 02000400 00000000 00000000 00000400 01000000 e8030000 00000000 01000400 01000400",
+            Status::Damaged(24),
+            "damaged at 24\n",
+        ),
+        (
+            "meter --size 115",
+            "d4c3b2a1 02000400 00000000 00000000 00000400 01000000",
+            Status::Usage,
+            "usage: meter, show, make, schedule or selftest\n",
+        ),
+        ("", "", Status::Usage, "usage: meter, show, make, schedule or selftest\n"),
+    ];
+    for (line, input, status, note) in rows {
+        let input = bytes_of(alloc, &[input])?;
+        let ran = run_over(&rt, alloc, line, input.as_slice())?;
+        assert_eq!(rt; ran.status, status, "{note}");
+        assert_eq!(rt; ran.output.len(), 0, "{note}");
+        assert_eq!(rt; ran.notes.as_slice(), note.as_bytes());
+    }
+    Ok(())
+}
+
+#[test]
+fn messages_are_filled(rt: HostRuntime) -> Result<(), Fail> {
+    let alloc = rt.alloc();
+    let mut packets = Vec::new(alloc);
+    for port in 4000..4029u16 {
+        packets.push((1000, 0, port))?;
+    }
+    let capture = capture_of(alloc, packets.as_slice())?;
+    let ran = run_over(&rt, alloc, "meter", capture.as_slice())?;
+    assert_eq!(rt; (ran.status, ran.output.len()), (Status::Done, 1548));
+    // A message of 1,364 bytes and one of 68, with the sequence numbers 0 and 28.
+    for (at, wanted) in [(116, "000a0554"), (124, "00000000"), (1480, "000a0044"), (1488, "0000001c")] {
+        let number = ran.output.as_slice().get(at..at + 4).unwrap_or(&[]);
+        assert_eq!(rt; number, bytes_of(alloc, &[wanted])?.as_slice(), "at {at}");
+    }
+    let showed = run_over(&rt, alloc, "show", ran.output.as_slice())?;
+    let lines = showed.output.iter().filter(|byte| **byte == b'\n').count();
+    assert_eq!(rt; (showed.status, lines), (Status::Done, 29));
+    assert_eq!(rt; showed.notes.as_slice(), b"records 29\n".as_slice());
+    Ok(())
+}
