@@ -2,6 +2,7 @@
 use Rattle.std.specs.Prelude.{◌≡◌, ◌⊎◌, ◌+◌, ◌≤◌, ℕ, List, length, take, Option}
 use Rattle.std.specs.Io.KnownBytes.{Appends, Consumes, IsAtEnd}
 use Rattle.meter_io.specs.Causes.{Rose}
+use Rattle.meter_io.specs.Reading.{Takes, TakesAtMost}
 
 -- One object: the bytes that it has left to give, or that it holds, where it tells them, and how often a call of it
 -- failed.
@@ -41,17 +42,13 @@ pub record IsRead (input : Side) (limit : ℕ) (bytes : List ℕ) : Type 0 where
   pub within : length bytes ≤ limit
 
 -- The input gave one byte more than the limit.
-pub record IsTooLarge (input : Side) (limit : ℕ) : Type 0 where
-  pub bytes : List ℕ
-  pub given : Consumes input.before input.after bytes
-  pub many : length bytes ≡ limit + 1
+abbrev pub IsTooLarge : Side → ℕ → Type 0
+IsTooLarge input limit = Takes (limit + 1) input.before input.after
 
 -- A read failed, when the input had given at most so many bytes.
 pub record IsBroken (input : Side) (limit : ℕ) : Type 0 where
   pub cause : HasFailed input
-  pub bytes : List ℕ
-  pub given : Consumes input.before input.after bytes
-  pub within : length bytes ≤ limit
+  pub within : TakesAtMost limit input.before input.after
 
 -- The object took the text.
 abbrev pub HasTaken : Side → List ℕ → Type 0

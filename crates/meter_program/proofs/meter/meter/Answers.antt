@@ -4,8 +4,6 @@ use Rattle.meter_program.specs.Metering.{IsGathered}
 use Rattle.meter_program.proofs.Endings.{meter-ends}
 use Rattle.meter_program.proofs.meter.meter.Goals as goal
 
-pub returns-in-Err-Failed : goal.returns-in-Err-Failed
-returns-in-Err-Failed g c = ?
 
 pub returns-in-Ok-records_of : goal.returns-in-Ok-records_of
 returns-in-Ok-records_of g c =

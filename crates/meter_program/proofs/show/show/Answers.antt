@@ -7,8 +7,6 @@ use Rattle.meter_program.specs.Seen.{side, HasTaken}
 use Rattle.meter_program.proofs.Streams.{none-begun}
 use Rattle.meter_program.proofs.show.show.Goals as goal
 
-pub returns-in-Err-Failed : goal.returns-in-Err-Failed
-returns-in-Err-Failed g c = ?
 
 pub returns-in-Err : goal.returns-in-Err
 returns-in-Err g c =

@@ -15,5 +15,5 @@ returns c = λ answers others one two.
       ignored = counts-together answers others _ _ one.ignored two.ignored;
       octets = omega (arith, one.octets, two.octets, ap octets_of all, octets-together (packets_in answers) (packets_in others));
       clock = subst (λ clock. IsClock (packets_in (answers ++ others)) clock) (sym c.later_of.ensures)
-          (subst (λ ps. IsClock ps (later c.args.self.clock c.args.other.now.clock)) (sym all) (c.clock_law.ensures (packets_in answers) (packets_in others) c.args.self.clock c.args.other.now.clock one.clock two.clock));
+          (subst (λ ps. IsClock ps (later c.args.self.clock c.args.other.now.clock)) (sym all) (c.clock_law.ensures.together (packets_in answers) (packets_in others) c.args.self.clock c.args.other.now.clock one.clock two.clock));
     }
