@@ -26,6 +26,7 @@ metered idle active size capture written records tally tail messages gathered is
   active = gathered.active;
   records = records;
   lawful = gathered.lawful;
+  sessions = gathered.sessions;
   tally = tally;
   tally_is = gathered.tally_is;
   messages = messages;

@@ -1,13 +1,15 @@
 -- The code's own: what the parts of the command `meter` say of one another.
-use Rattle.std.specs.Prelude.{◌≡◌, ◌*◌, ◌⊎◌, ℕ, List, length, Some, None, ⊤}
+use Rattle.std.specs.Prelude.{◌≡◌, ◌*◌, ◌⊎◌, ℕ, List, length, Some, None, All, ⊤}
 use Rattle.pcap_reader.specs.File.{CaptureFile, capture_file, IsKnownLink}
 use Rattle.pcap_reader.specs.Records.{damage_of, tail_of}
+use Rattle.packet_accept.specs.declared.packet.Packet.{Packet}
 use Rattle.packet_accept.specs.Packets.{answers_of, packets_of}
 use Rattle.capture_tally.specs.declared.tally.Tally.{Tally}
 use Rattle.capture_tally.specs.Tallies.{IsTallyOf}
 use Rattle.flow_parts.specs.declared.timeouts.Timeouts.{Timeouts}
 use Rattle.record_ledger.specs.declared.record.FlowRecord.{FlowRecord}
 use Rattle.record_ledger.specs.Lawful.{IsLawful}
+use Rattle.record_ledger.specs.Sessions.{IsSessions, IsUncut, AreRecordsOf}
 use Rattle.ipfix_writer.specs.Layout.{IsLayoutOf}
 use Rattle.ipfix_reader.specs.Flows.{flows_of}
 use Rattle.meter_program.specs.declared.status.Status.{Status}
@@ -27,6 +29,8 @@ pub record IsGathered (idle_seconds active_seconds : ℕ) (capture : List ℕ) (
   pub idle : limits.idle ≡ 1000 * idle_seconds
   pub active : limits.active ≡ 1000 * active_seconds
   pub lawful : IsLawful limits (packets_of file) records
+  pub sessions : (sessions : List (List Packet)) → IsSessions limits.idle (packets_of file) sessions → All (IsUncut limits) sessions
+      → AreRecordsOf limits (packets_of file) sessions records
   pub tally_is : IsTallyOf tally (answers_of file)
   pub tail_is : tail ≡ tail_of file
 

@@ -1,13 +1,15 @@
 -- What a run means, by its words and its status.
-use Rattle.std.specs.Prelude.{◌≡◌, ◌⊎◌, ◌≤◌, ◌*◌, ◌^◌, ℕ, List, length, Option, Some, None, Ok, Err, IsSomeAnd, codes, ⊤}
+use Rattle.std.specs.Prelude.{◌≡◌, ◌⊎◌, ◌≤◌, ◌*◌, ◌^◌, ℕ, List, length, Option, Some, None, Ok, Err, IsSomeAnd, All, codes, ⊤}
 use Rattle.pcap_reader.specs.File.{CaptureFile, capture_file, IsKnownLink}
 use Rattle.pcap_reader.specs.Records.{damage_of, tail_of}
+use Rattle.packet_accept.specs.declared.packet.Packet.{Packet}
 use Rattle.packet_accept.specs.Packets.{answers_of, packets_of}
 use Rattle.capture_tally.specs.declared.tally.Tally.{Tally}
 use Rattle.capture_tally.specs.Tallies.{IsTallyOf}
 use Rattle.flow_parts.specs.declared.timeouts.Timeouts.{Timeouts}
 use Rattle.record_ledger.specs.declared.record.FlowRecord.{FlowRecord}
 use Rattle.record_ledger.specs.Lawful.{IsLawful}
+use Rattle.record_ledger.specs.Sessions.{IsSessions, IsUncut, AreRecordsOf}
 use Rattle.ipfix_writer.specs.Layout.{IsLayoutOf}
 use Rattle.ipfix_model.specs.declared.values.DataRecord.{DataRecord}
 use Rattle.ipfix_reader.specs.Messages.{decode}
@@ -29,7 +31,7 @@ limit_of show = 2 ^ 26
 -- ---- what a command writes, where it is done
 
 -- The bytes are an undamaged capture, of which these records are lawful: they partition its accepted packets, by these
--- time-outs. What is written is their layout, in messages of at most so many octets, and it decodes to them; the export
+-- time-outs. Where nothing cuts the sessions of the packets, they are the records of the sessions. What is written is their layout, in messages of at most so many octets, and it decodes to them; the export
 -- time is the time of the latest packet in whole seconds. What is noted is the summary.
 pub record IsMetered (idle_seconds active_seconds size : ℕ) (capture written noted : List ℕ) : Type 0 where
   pub file : CaptureFile
@@ -41,6 +43,8 @@ pub record IsMetered (idle_seconds active_seconds size : ℕ) (capture written n
   pub active : limits.active ≡ 1000 * active_seconds
   pub records : List FlowRecord
   pub lawful : IsLawful limits (packets_of file) records
+  pub sessions : (sessions : List (List Packet)) → IsSessions limits.idle (packets_of file) sessions → All (IsUncut limits) sessions
+      → AreRecordsOf limits (packets_of file) sessions records
   pub tally : Tally
   pub tally_is : IsTallyOf tally (answers_of file)
   pub messages : ℕ

@@ -11,6 +11,7 @@ returns-clause-records c =
     let file = file_of c.in-Ok.capture in
     let metered = c.in-Ok-metered_of.ensures.metered in
     let limits = c.new-limits.result in
+    let shares = subst (SharesOut limits (packets_of file)) (sym c.as_slice.ensures.value) (metered.parts_are.shared limits) in
     record {
       file = file;
       is_file = c.in-Ok.ensures.capture;
@@ -19,8 +20,8 @@ returns-clause-records c =
       limits = limits;
       idle = c.new-limits.ensures.idle;
       active = c.new-limits.ensures.active;
-      lawful = c.in-Ok-gather.ensures.lawful (packets_of file)
-          (subst (SharesOut limits (packets_of file)) (sym c.as_slice.ensures.value) (metered.parts_are.shared limits)) metered.tally_is.clock;
+      lawful = c.in-Ok-gather.ensures.lawful (packets_of file) shares metered.tally_is.clock;
+      sessions = c.in-Ok-gather.ensures.sessions (packets_of file) shares metered.tally_is.clock;
       tally_is = metered.tally_is;
       tail_is = c.tail.ensures ∙ c.in-Ok-index.ensures.index.tail;
     }
