@@ -1,4 +1,4 @@
--- What stands at a place of a file, as the search for records finds it.
+-- The code's own: what its search for records finds at a place of a file.
 use Rattle.std.specs.Prelude.{ℕ, ◌≡◌, ◌+◌, ◌≤◌, true, false, List, length, drop}
 use Rattle.octets.specs.declared.endianness.Endianness.{Endianness}
 use Rattle.pcap_reader.specs.declared.front.Front.{Front}
