@@ -20,7 +20,8 @@ const AT_1000: &str = "e8030000 00000000 2a000000 2a000000";
 const AT_1001: &str = "e9030000 00000000 2a000000 2a000000";
 
 /// A frame of 42 bytes: UDP over IPv4 from port 4000 of 192.0.2.1 to port 53 of 192.0.2.2.
-const FRAME: &str = "020000000002 020000000001 0800 4500001c 00000000 40110000 c0000201 c0000202 0fa0 0035 0008 0000";
+const FRAME: &str =
+    "020000000002 020000000001 0800 4500001c 00000000 40110000 c0000201 c0000202 0fa0 0035 0008 0000";
 
 /// The message with the templates, behind its length and export time.
 const TEMPLATES: &str = "00000000 00000001 0002 0064 \
@@ -71,7 +72,9 @@ struct Ran {
 fn run_over(rt: &impl Threads, alloc: Global, line: &str, input: &[u8]) -> Result<Ran, Fail> {
     let words = words_of(alloc, line)?;
     let mut source = MemSource::new(input, 1000, &[]);
-    let mut output = MemSink::open(alloc, 65_536, 65_536, &[]).map_err(|_| Fail::from("no memory"))?;
+    let mut output = MemSink::open(alloc, 65_536, 65_536, &[]).map_err(|_| Fail::from(
+        "no memory",
+    ))?;
     let mut notes = MemSink::open(alloc, 1000, 1000, &[]).map_err(|_| Fail::from("no memory"))?;
     let status = run(
         rt,

@@ -1,6 +1,9 @@
 //! The command `meter` on captures.
 
-use super::{AT_1000, AT_1001, FRAME, HEADER, Ran, TEMPLATES, TWO_PACKETS_RECORD, bytes_of, run_over, two_packets};
+use super::{
+    AT_1000, AT_1001, FRAME, HEADER, Ran, TEMPLATES, TWO_PACKETS_RECORD, bytes_of, run_over,
+    two_packets,
+};
 use crate::Status;
 use std::alloc::Global;
 use std::test::Fail;
@@ -37,6 +40,118 @@ fn shown(rt: &impl Threads, alloc: Global, capture: &[u8]) -> Result<Vec<u8>, Fa
     }
 }
 
+/// A packet of TCP or UDP over IPv4: its millisecond, protocol, source, destination, octets and TCP flags.
+type Sent = (u32, u8, &'static str, &'static str, u16, u16);
+
+/// A capture of such packets, each with 40 octets of its headers, at a second and some milliseconds; a side is an
+/// address and a port in hexadecimal.
+fn exchange_of(alloc: Global, second: u32, packets: &[Sent]) -> Result<Vec<u8>, Fail> {
+    let mut capture = bytes_of(alloc, &[HEADER])?;
+    for (ms, protocol, source, destination, octets, flags) in packets {
+        let (second, ms) = (second.saturating_add(*ms / 1000), *ms % 1000);
+        capture.extend_from_slice(second.to_le_bytes().as_slice())?;
+        capture.extend_from_slice((ms * 1000).to_le_bytes().as_slice())?;
+        capture.extend_from_slice(54u32.to_le_bytes().as_slice())?;
+        capture.extend_from_slice((14 + *octets as u32).to_le_bytes().as_slice())?;
+        capture.extend_from_slice(bytes_of(
+            alloc,
+            &["020000000002 020000000001 0800 4500"],
+        )?.as_slice())?;
+        capture.extend_from_slice(octets.to_be_bytes().as_slice())?;
+        capture.extend_from_slice(&[0, 0, 0, 0, 64, *protocol, 0, 0])?;
+        let source = bytes_of(alloc, &[source])?;
+        let destination = bytes_of(alloc, &[destination])?;
+        capture.extend_from_slice(source.as_slice().get(..4).unwrap_or(&[]))?;
+        capture.extend_from_slice(destination.as_slice().get(..4).unwrap_or(&[]))?;
+        capture.extend_from_slice(source.as_slice().get(4..).unwrap_or(&[]))?;
+        capture.extend_from_slice(destination.as_slice().get(4..).unwrap_or(&[]))?;
+        capture.extend_from_slice(&[0, 0, 0, 0, 0, 0, 0, 0])?;
+        capture.extend_from_slice((*flags % 4096 + 0x5000).to_be_bytes().as_slice())?;
+        capture.extend_from_slice(&[0, 0, 0, 0, 0, 0])?;
+    }
+    Ok(capture)
+}
+
+/// The two sides of a web exchange and of the query before it.
+const CLIENT: &str = "0a000005 9c40";
+
+const SERVER: &str = "c6336407 0050";
+
+const ASKING: &str = "0a000005 c350";
+
+const RESOLVER: &str = "0a000001 0035";
+
+#[test]
+fn ends_of_flows_cut_records(rt: HostRuntime) -> Result<(), Fail> {
+    let alloc = rt.alloc();
+    let rows: [(&str, u32, &[Sent], &str); 5] = [
+        (
+            "a packet behind the end",
+            0,
+            &[
+                (1000, 6, CLIENT, SERVER, 40, 0x002),
+                (2000, 6, CLIENT, SERVER, 40, 0x011),
+                (3000, 6, CLIENT, SERVER, 40, 0x010),
+            ],
+            "256 8=10.0.0.5 12=198.51.100.7 7=40000 11=80 4=6 6=19 2=2 1=80 152=1000 153=2000 136=3\n\
+            256 8=10.0.0.5 12=198.51.100.7 7=40000 11=80 4=6 6=16 2=1 1=40 152=3000 153=3000 136=4\n",
+        ),
+        (
+            "the end first in the file",
+            0,
+            &[
+                (2000, 6, CLIENT, SERVER, 40, 0x011),
+                (1000, 6, CLIENT, SERVER, 40, 0x010),
+            ],
+            "256 8=10.0.0.5 12=198.51.100.7 7=40000 11=80 4=6 6=17 2=2 1=80 152=1000 153=2000 136=3\n",
+        ),
+        (
+            "a reset",
+            0,
+            &[
+                (1000, 6, CLIENT, SERVER, 40, 0x004),
+                (2000, 6, CLIENT, SERVER, 40, 0x010),
+            ],
+            "256 8=10.0.0.5 12=198.51.100.7 7=40000 11=80 4=6 6=4 2=1 1=40 152=1000 153=1000 136=3\n\
+            256 8=10.0.0.5 12=198.51.100.7 7=40000 11=80 4=6 6=16 2=1 1=40 152=2000 153=2000 136=4\n",
+        ),
+        (
+            "the same bits on UDP",
+            0,
+            &[
+                (1000, 17, CLIENT, SERVER, 40, 0x005),
+                (2000, 17, CLIENT, SERVER, 40, 0x010),
+            ],
+            "256 8=10.0.0.5 12=198.51.100.7 7=40000 11=80 4=17 6=0 2=2 1=80 152=1000 153=2000 136=4\n",
+        ),
+        (
+            "a web exchange",
+            1_700_000_000,
+            &[
+                (10, 17, ASKING, RESOLVER, 60, 0),
+                (25, 17, RESOLVER, ASKING, 76, 0),
+                (30, 6, CLIENT, SERVER, 60, 0x002),
+                (50, 6, SERVER, CLIENT, 60, 0x012),
+                (51, 6, CLIENT, SERVER, 52, 0x010),
+                (52, 6, CLIENT, SERVER, 152, 0x018),
+                (72, 6, SERVER, CLIENT, 52, 0x010),
+                (80, 6, SERVER, CLIENT, 1500, 0x018),
+                (90, 6, CLIENT, SERVER, 40, 0x004),
+            ],
+            "256 8=10.0.0.5 12=10.0.0.1 7=50000 11=53 4=17 6=0 2=1 1=60 152=1700000000010 153=1700000000010 136=4\n\
+            256 8=10.0.0.1 12=10.0.0.5 7=53 11=50000 4=17 6=0 2=1 1=76 152=1700000000025 153=1700000000025 136=4\n\
+            256 8=198.51.100.7 12=10.0.0.5 7=80 11=40000 4=6 6=26 2=3 1=1612 152=1700000000050 153=1700000000080 136=4\n\
+            256 8=10.0.0.5 12=198.51.100.7 7=40000 11=80 4=6 6=30 2=4 1=304 152=1700000000030 153=1700000000090 136=3\n",
+        ),
+    ];
+    for (name, second, packets, wanted) in rows {
+        let capture = exchange_of(alloc, second, packets)?;
+        let text = shown(&rt, alloc, capture.as_slice())?;
+        assert_eq!(rt; text.as_slice(), wanted.as_bytes(), "{name}");
+    }
+    Ok(())
+}
+
 /// A record of such packets: source port, packets, octets, first and last millisecond, and reason.
 type Line = (u16, u64, u64, u64, u64, u8);
 
@@ -55,8 +170,16 @@ fn gaps_and_spans_cut_records(rt: HostRuntime) -> Result<(), Fail> {
     longer.push((2800, 1000, 4000))?;
     let rows: [(&str, &[(u32, u32, u16)], &[Line]); 9] = [
         ("no packet", &[], &[]),
-        ("one second apart", &[(1000, 0, 4000), (1001, 0, 4000)], &[one]),
-        ("in another order", &[(1001, 0, 4000), (1000, 0, 4000)], &[one]),
+        (
+            "one second apart",
+            &[(1000, 0, 4000), (1001, 0, 4000)],
+            &[one],
+        ),
+        (
+            "in another order",
+            &[(1001, 0, 4000), (1000, 0, 4000)],
+            &[one],
+        ),
         (
             "exactly idle",
             &[(1000, 0, 4000), (1300, 0, 4000)],
@@ -65,23 +188,36 @@ fn gaps_and_spans_cut_records(rt: HostRuntime) -> Result<(), Fail> {
         (
             "a millisecond more",
             &[(1000, 0, 4000), (1300, 1000, 4000)],
-            &[(4000, 1, 28, 1_000_000, 1_000_000, 1), (4000, 1, 28, 1_300_001, 1_300_001, 4)],
+            &[
+                (4000, 1, 28, 1_000_000, 1_000_000, 1),
+                (4000, 1, 28, 1_300_001, 1_300_001, 4),
+            ],
         ),
         (
             "another flow later",
             &[(1000, 0, 4000), (1301, 0, 4001)],
-            &[(4000, 1, 28, 1_000_000, 1_000_000, 1), (4001, 1, 28, 1_301_000, 1_301_000, 4)],
+            &[
+                (4000, 1, 28, 1_000_000, 1_000_000, 1),
+                (4001, 1, 28, 1_301_000, 1_301_000, 4),
+            ],
         ),
         (
             "a bad time",
             &[(1000, 0, 4000), (1001, 1_000_000, 4000)],
             &[(4000, 1, 28, 1_000_000, 1_000_000, 4)],
         ),
-        ("exactly active", exactly.as_slice(), &[(4000, 10, 280, 1_000_000, 2_800_000, 4)]),
+        (
+            "exactly active",
+            exactly.as_slice(),
+            &[(4000, 10, 280, 1_000_000, 2_800_000, 4)],
+        ),
         (
             "a millisecond more than active",
             longer.as_slice(),
-            &[(4000, 9, 252, 1_000_000, 2_600_000, 2), (4000, 1, 28, 2_800_001, 2_800_001, 4)],
+            &[
+                (4000, 9, 252, 1_000_000, 2_600_000, 2),
+                (4000, 1, 28, 2_800_001, 2_800_001, 4),
+            ],
         ),
     ];
     for (name, packets, records) in rows {
@@ -101,7 +237,13 @@ fn gaps_and_spans_cut_records(rt: HostRuntime) -> Result<(), Fail> {
 
 /// A capture: its name, its bytes, its export time or none, the messages behind the templates, and the counts of its
 /// summary in their order, without those of ignored records where there are none.
-type Row = (&'static str, &'static [&'static str], &'static str, &'static str, &'static str);
+type Row = (
+    &'static str,
+    &'static [&'static str],
+    &'static str,
+    &'static str,
+    &'static str,
+);
 
 const ROWS: [Row; 8] = [
     (
@@ -171,7 +313,13 @@ const ROWS: [Row; 8] = [
     ),
     (
         "a bad time",
-        &[HEADER, AT_1000, FRAME, "e9030000 40420f00 2a000000 2a000000", FRAME],
+        &[
+            HEADER,
+            AT_1000,
+            FRAME,
+            "e9030000 40420f00 2a000000 2a000000",
+            FRAME,
+        ],
         "000003e8",
         "000a0044 000003e8 00000000 00000001 0100 0034 c0000201 c0000202 0fa0 0035 11 0000 \
         0000000000000001 000000000000001c 00000000000f4240 00000000000f4240 04",
@@ -241,7 +389,12 @@ fn other_inputs_are_refused(rt: HostRuntime) -> Result<(), Fail> {
             Status::Usage,
             "usage: meter, show, make, schedule or selftest\n",
         ),
-        ("", "", Status::Usage, "usage: meter, show, make, schedule or selftest\n"),
+        (
+            "",
+            "",
+            Status::Usage,
+            "usage: meter, show, make, schedule or selftest\n",
+        ),
     ];
     for (line, input, status, note) in rows {
         let input = bytes_of(alloc, &[input])?;
@@ -264,7 +417,12 @@ fn messages_are_filled(rt: HostRuntime) -> Result<(), Fail> {
     let ran = run_over(&rt, alloc, "meter", capture.as_slice())?;
     assert_eq!(rt; (ran.status, ran.output.len()), (Status::Done, 1548));
     // A message of 1,364 bytes and one of 68, with the sequence numbers 0 and 28.
-    for (at, wanted) in [(116, "000a0554"), (124, "00000000"), (1480, "000a0044"), (1488, "0000001c")] {
+    for (at, wanted) in [
+        (116, "000a0554"),
+        (124, "00000000"),
+        (1480, "000a0044"),
+        (1488, "0000001c"),
+    ] {
         let number = ran.output.as_slice().get(at..at + 4).unwrap_or(&[]);
         assert_eq!(rt; number, bytes_of(alloc, &[wanted])?.as_slice(), "at {at}");
     }

@@ -40,10 +40,12 @@ fn failed_calls_are_faults(rt: HostRuntime) -> Result<(), Fail> {
     ];
     for (reads, writes, noted, status, held, told) in rows {
         let mut source = MemSource::new(two.as_slice(), 10, reads.as_slice());
-        let mut output =
-            MemSink::open(alloc, 4096, 100, writes.as_slice()).map_err(|_| Fail::from("no memory"))?;
-        let mut notes =
-            MemSink::open(alloc, 4096, 64, noted.as_slice()).map_err(|_| Fail::from("no memory"))?;
+        let mut output = MemSink::open(alloc, 4096, 100, writes.as_slice()).map_err(|_| Fail::from(
+            "no memory",
+        ))?;
+        let mut notes = MemSink::open(alloc, 4096, 64, noted.as_slice()).map_err(|_| Fail::from(
+            "no memory",
+        ))?;
         let ended = run(
             &rt,
             alloc,

@@ -4,7 +4,6 @@ use Rattle.meter_program.specs.Metering.{IsGathered}
 use Rattle.meter_program.proofs.Endings.{meter-ends}
 use Rattle.meter_program.proofs.meter.meter.Goals as goal
 
-
 pub returns-in-Ok-records_of : goal.returns-in-Ok-records_of
 returns-in-Ok-records_of g c =
     let settings = c.args.settings.now in

@@ -7,7 +7,6 @@ use Rattle.meter_program.specs.Seen.{side, HasTaken}
 use Rattle.meter_program.proofs.Streams.{none-begun}
 use Rattle.meter_program.proofs.show.show.Goals as goal
 
-
 pub returns-in-Err : goal.returns-in-Err
 returns-in-Err g c =
     let output = side g.K.Sink.held g.K.Sink.faults c.args.output.now c.write_all.new.sink in
