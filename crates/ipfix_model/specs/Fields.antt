@@ -13,3 +13,7 @@ field_least field = if is_variable field then 1 else field.length
 -- the fewest bytes that a record of these fields takes
 abbrev pub least_length : List FieldSpec → ℕ
 least_length fields = sum_by field_least fields
+
+-- the bytes that a record of these fields takes, where none is variable
+abbrev pub record_length : List FieldSpec → ℕ
+record_length fields = sum_by (λ (field : FieldSpec). field.length) fields

@@ -1,2 +1,4 @@
+pub mod Elements
 pub mod Fields
 pub mod Templates
+pub mod Values

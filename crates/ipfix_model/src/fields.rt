@@ -1,8 +1,6 @@
-//! Field specifiers (RFC 7011, section 3.2) and lists of them.
+//! Field specifiers (RFC 7011, section 3.2).
 
-ghost use Rattle.std.specs.Prelude.{◌≡◌, List};
-
-use std::marker::Model;
+use crate::list::ListOf;
 
 /// The field length that announces a value of variable length (RFC 7011, section 7).
 pub const VARIABLE_LENGTH: u16 = 65_535;
@@ -17,32 +15,4 @@ pub struct FieldSpec {
 }
 
 /// The fields of a template in their order.
-#[derive(Drop)]
-pub struct FieldList {
-    fields: Vec<FieldSpec>,
-}
-
-impl Model for FieldList {
-    ghost use Rattle.std.specs.Prelude.{List};
-    ghost use Rattle.ipfix_model.specs.declared.fields.FieldSpec.{FieldSpec};
-
-    ghost Value = { List FieldSpec };
-
-    ghost view = { λ list. list.fields.items };
-}
-
-impl FieldList {
-    /// The list of these fields.
-    pub fn of(items: Vec<FieldSpec>) -> Self
-        ensures { result ≡ items.items }
-    {
-        FieldList { fields: items }
-    }
-
-    /// The fields of the list.
-    pub fn items(&self) -> &[FieldSpec]
-        ensures { result.now ≡ self.now }
-    {
-        self.fields.as_slice()
-    }
-}
+pub type FieldList = ListOf<FieldSpec>;

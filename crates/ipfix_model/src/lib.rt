@@ -2,17 +2,29 @@
 //! they are read.
 //!
 //! [`V4_FIELDS`] and [`V6_FIELDS`] are the field lists of the two templates that the meter writes, numbered
-//! [`V4_TEMPLATE`] and [`V6_TEMPLATE`]. [`FieldList`], [`Octets`] and [`ValueList`] are small types over a `Vec`, which
-//! contracts see as lists; making one and reading it takes no memory.
+//! [`V4_TEMPLATE`] and [`V6_TEMPLATE`]. [`FieldList`], [`Octets`] and [`ValueList`] are lists over a `Vec`, which
+//! contracts see as lists; making one and reading it takes no memory. [`elements`] has the numbers of information
+//! elements and their abstract data types. The functions of [`laws`] do nothing: their contracts are laws, that the
+//! constants here are the numbers of the registry and the fields of the definitions.
+//!
+//! `specs/Templates.antt` is the one table of fields, from which template records, the bytes of data records and the
+//! reading of flow records come; `specs/Values.antt` says which value of a flow record an element has.
 #![tactic(auto)]
 
 pub mod elements;
 mod fields;
+pub mod laws;
+mod list;
+mod lookup;
 mod templates;
 #[cfg(test)]
 mod tests;
 mod values;
 
 pub use fields::{FieldList, FieldSpec, VARIABLE_LENGTH};
-pub use templates::{Template, V4_FIELDS, V4_TEMPLATE, V6_FIELDS, V6_TEMPLATE};
+pub use list::ListOf;
+pub use lookup::{are_values_of, number_of};
+pub use templates::{
+    Template, V4_BI_FIELDS, V4_BI_TEMPLATE, V4_FIELDS, V4_TEMPLATE, V6_BI_FIELDS, V6_BI_TEMPLATE, V6_FIELDS, V6_TEMPLATE,
+};
 pub use values::{DataRecord, FieldValue, Octets, ValueList};

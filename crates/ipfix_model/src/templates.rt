@@ -35,6 +35,24 @@ impl Template {
     }
 }
 
+/// A field of an element of IANA's, or behind `reverse` of the reverse of one (RFC 5103).
+macro_rules! field {
+    ($element:expr, $length:expr) => {
+        FieldSpec {
+            element: $element,
+            length: $length,
+            enterprise: None,
+        }
+    };
+    (reverse $element:expr, $length:expr) => {
+        FieldSpec {
+            element: $element,
+            length: $length,
+            enterprise: Some(REVERSE_ENTERPRISE),
+        }
+    };
+}
+
 /// The number of the template for flows over IPv4.
 pub const V4_TEMPLATE: u16 = 256;
 
@@ -43,118 +61,79 @@ pub const V6_TEMPLATE: u16 = 257;
 
 /// The fields of the template for flows over IPv4, 48 octets a record.
 pub const V4_FIELDS: [FieldSpec; 11] = [
-    FieldSpec {
-        element: SOURCE_IPV4_ADDRESS,
-        length: 4,
-        enterprise: None,
-    },
-    FieldSpec {
-        element: DESTINATION_IPV4_ADDRESS,
-        length: 4,
-        enterprise: None,
-    },
-    FieldSpec {
-        element: SOURCE_TRANSPORT_PORT,
-        length: 2,
-        enterprise: None,
-    },
-    FieldSpec {
-        element: DESTINATION_TRANSPORT_PORT,
-        length: 2,
-        enterprise: None,
-    },
-    FieldSpec {
-        element: PROTOCOL_IDENTIFIER,
-        length: 1,
-        enterprise: None,
-    },
-    FieldSpec {
-        element: TCP_CONTROL_BITS,
-        length: 2,
-        enterprise: None,
-    },
-    FieldSpec {
-        element: PACKET_DELTA_COUNT,
-        length: 8,
-        enterprise: None,
-    },
-    FieldSpec {
-        element: OCTET_DELTA_COUNT,
-        length: 8,
-        enterprise: None,
-    },
-    FieldSpec {
-        element: FLOW_START_MILLISECONDS,
-        length: 8,
-        enterprise: None,
-    },
-    FieldSpec {
-        element: FLOW_END_MILLISECONDS,
-        length: 8,
-        enterprise: None,
-    },
-    FieldSpec {
-        element: FLOW_END_REASON,
-        length: 1,
-        enterprise: None,
-    },
+    field!(SOURCE_IPV4_ADDRESS, 4),
+    field!(DESTINATION_IPV4_ADDRESS, 4),
+    field!(SOURCE_TRANSPORT_PORT, 2),
+    field!(DESTINATION_TRANSPORT_PORT, 2),
+    field!(PROTOCOL_IDENTIFIER, 1),
+    field!(TCP_CONTROL_BITS, 2),
+    field!(PACKET_DELTA_COUNT, 8),
+    field!(OCTET_DELTA_COUNT, 8),
+    field!(FLOW_START_MILLISECONDS, 8),
+    field!(FLOW_END_MILLISECONDS, 8),
+    field!(FLOW_END_REASON, 1),
 ];
 
 /// The fields of the template for flows over IPv6, 72 octets a record.
 pub const V6_FIELDS: [FieldSpec; 11] = [
-    FieldSpec {
-        element: SOURCE_IPV6_ADDRESS,
-        length: 16,
-        enterprise: None,
-    },
-    FieldSpec {
-        element: DESTINATION_IPV6_ADDRESS,
-        length: 16,
-        enterprise: None,
-    },
-    FieldSpec {
-        element: SOURCE_TRANSPORT_PORT,
-        length: 2,
-        enterprise: None,
-    },
-    FieldSpec {
-        element: DESTINATION_TRANSPORT_PORT,
-        length: 2,
-        enterprise: None,
-    },
-    FieldSpec {
-        element: PROTOCOL_IDENTIFIER,
-        length: 1,
-        enterprise: None,
-    },
-    FieldSpec {
-        element: TCP_CONTROL_BITS,
-        length: 2,
-        enterprise: None,
-    },
-    FieldSpec {
-        element: PACKET_DELTA_COUNT,
-        length: 8,
-        enterprise: None,
-    },
-    FieldSpec {
-        element: OCTET_DELTA_COUNT,
-        length: 8,
-        enterprise: None,
-    },
-    FieldSpec {
-        element: FLOW_START_MILLISECONDS,
-        length: 8,
-        enterprise: None,
-    },
-    FieldSpec {
-        element: FLOW_END_MILLISECONDS,
-        length: 8,
-        enterprise: None,
-    },
-    FieldSpec {
-        element: FLOW_END_REASON,
-        length: 1,
-        enterprise: None,
-    },
+    field!(SOURCE_IPV6_ADDRESS, 16),
+    field!(DESTINATION_IPV6_ADDRESS, 16),
+    field!(SOURCE_TRANSPORT_PORT, 2),
+    field!(DESTINATION_TRANSPORT_PORT, 2),
+    field!(PROTOCOL_IDENTIFIER, 1),
+    field!(TCP_CONTROL_BITS, 2),
+    field!(PACKET_DELTA_COUNT, 8),
+    field!(OCTET_DELTA_COUNT, 8),
+    field!(FLOW_START_MILLISECONDS, 8),
+    field!(FLOW_END_MILLISECONDS, 8),
+    field!(FLOW_END_REASON, 1),
+];
+
+/// The number of the template for biflows over IPv4.
+pub const V4_BI_TEMPLATE: u16 = 258;
+
+/// The number of the template for biflows over IPv6.
+pub const V6_BI_TEMPLATE: u16 = 259;
+
+/// The fields of the template for biflows over IPv4 (RFC 5103): those of the forward flow, then those of the reverse
+/// one, 83 octets a record.
+pub const V4_BI_FIELDS: [FieldSpec; 17] = [
+    field!(SOURCE_IPV4_ADDRESS, 4),
+    field!(DESTINATION_IPV4_ADDRESS, 4),
+    field!(SOURCE_TRANSPORT_PORT, 2),
+    field!(DESTINATION_TRANSPORT_PORT, 2),
+    field!(PROTOCOL_IDENTIFIER, 1),
+    field!(TCP_CONTROL_BITS, 2),
+    field!(PACKET_DELTA_COUNT, 8),
+    field!(OCTET_DELTA_COUNT, 8),
+    field!(FLOW_START_MILLISECONDS, 8),
+    field!(FLOW_END_MILLISECONDS, 8),
+    field!(FLOW_END_REASON, 1),
+    field!(reverse TCP_CONTROL_BITS, 2),
+    field!(reverse PACKET_DELTA_COUNT, 8),
+    field!(reverse OCTET_DELTA_COUNT, 8),
+    field!(reverse FLOW_START_MILLISECONDS, 8),
+    field!(reverse FLOW_END_MILLISECONDS, 8),
+    field!(reverse FLOW_END_REASON, 1),
+];
+
+/// The fields of the template for biflows over IPv6, 107 octets a record.
+pub const V6_BI_FIELDS: [FieldSpec; 17] = [
+    field!(SOURCE_IPV6_ADDRESS, 16),
+    field!(DESTINATION_IPV6_ADDRESS, 16),
+    field!(SOURCE_TRANSPORT_PORT, 2),
+    field!(DESTINATION_TRANSPORT_PORT, 2),
+    field!(PROTOCOL_IDENTIFIER, 1),
+    field!(TCP_CONTROL_BITS, 2),
+    field!(PACKET_DELTA_COUNT, 8),
+    field!(OCTET_DELTA_COUNT, 8),
+    field!(FLOW_START_MILLISECONDS, 8),
+    field!(FLOW_END_MILLISECONDS, 8),
+    field!(FLOW_END_REASON, 1),
+    field!(reverse TCP_CONTROL_BITS, 2),
+    field!(reverse PACKET_DELTA_COUNT, 8),
+    field!(reverse OCTET_DELTA_COUNT, 8),
+    field!(reverse FLOW_START_MILLISECONDS, 8),
+    field!(reverse FLOW_END_MILLISECONDS, 8),
+    field!(reverse FLOW_END_REASON, 1),
 ];

@@ -1,8 +1,11 @@
-//! The two templates and the least lengths of records.
+//! The two templates, the least lengths of records, and the types of elements.
 
 ghost use Rattle.std.specs.Prelude.{◌≤◌, length};
 
-use crate::{FieldList, FieldSpec, FieldValue, Octets, Template, V4_FIELDS, V6_FIELDS, ValueList};
+use crate::elements::{AbstractType, abstract_type};
+use crate::{
+    FieldList, FieldSpec, FieldValue, Octets, Template, V4_FIELDS, V6_FIELDS, ValueList, are_values_of,
+};
 use std::test::Fail;
 
 fn least_of(rt: &HostRuntime, fields: &[FieldSpec]) -> Result<u64, Fail>
@@ -71,5 +74,78 @@ fn lists_give_back_their_items(rt: HostRuntime) -> Result<(), Fail> {
         assert_eq!(rt; value.value.items(), [15, 160].as_slice());
     }
     assert_eq!(rt; list.items().len(), 1);
+    Ok(())
+}
+
+#[test]
+fn elements_have_the_types_of_the_registry(rt: HostRuntime) {
+    for (element, wanted) in [
+        (1, Some(AbstractType::Unsigned64)),
+        (2, Some(AbstractType::Unsigned64)),
+        (3, None),
+        (4, Some(AbstractType::Unsigned8)),
+        (6, Some(AbstractType::Unsigned16)),
+        (7, Some(AbstractType::Unsigned16)),
+        (8, Some(AbstractType::Ipv4Address)),
+        (11, Some(AbstractType::Unsigned16)),
+        (12, Some(AbstractType::Ipv4Address)),
+        (27, Some(AbstractType::Ipv6Address)),
+        (28, Some(AbstractType::Ipv6Address)),
+        (136, Some(AbstractType::Unsigned8)),
+        (152, Some(AbstractType::DateTimeMilliseconds)),
+        (153, Some(AbstractType::DateTimeMilliseconds)),
+        (154, None),
+    ] {
+        assert!(rt; abstract_type(element) == wanted, "element {element}");
+    }
+}
+
+/// A value of this element with these bytes.
+fn value(
+    rt: &HostRuntime,
+    element: u16,
+    enterprise: Option<u32>,
+    bytes: &[u8],
+) -> Result<FieldValue, Fail> {
+    Ok(FieldValue {
+        element,
+        enterprise,
+        value: Octets::of(bytes.to_vec(rt.alloc())?),
+    })
+}
+
+#[test]
+fn values_are_found_by_their_elements(rt: HostRuntime) -> Result<(), Fail> {
+    let mut values = Vec::new(rt.alloc());
+    for (element, enterprise, bytes) in [
+        (7, None, [15, 160]),
+        (6, Some(29_305), [0, 18]),
+        (6, None, [1, 2]),
+        (6, None, [3, 4]),
+    ] {
+        values.push(value(&rt, element, enterprise, bytes.as_slice())?)?;
+    }
+    let list = ValueList::of(values);
+    let field = |element, enterprise, length| FieldSpec {
+        element,
+        length,
+        enterprise,
+    };
+    let fields = [
+        field(7, None, 2),
+        field(6, Some(29_305), 2),
+        field(6, None, 2),
+        field(6, None, 2),
+    ];
+    let wide = [
+        field(7, None, 2),
+        field(6, Some(29_305), 2),
+        field(6, None, 3),
+        field(6, None, 2),
+    ];
+    assert!(rt; are_values_of(fields.as_slice(), list.items()));
+    assert!(rt; !are_values_of(wide.as_slice(), list.items()));
+    let (front, _) = fields.as_slice().split_at(3);
+    assert!(rt; !are_values_of(front, list.items()));
     Ok(())
 }

@@ -3,7 +3,8 @@ use Rattle.std.proofs.Common.{◌≡◌, ◌<◌, ℕ, zero, suc, Bool, true, fa
 use Rattle.ipfix_reader.specs.declared.fault.StreamFault.{StreamFault}
 use Rattle.ipfix_reader.specs.declared.fault.StreamError.{StreamError}
 use Rattle.ipfix_reader.specs.declared.fault.StreamError.TheVariants.{Fault, NoMemory}
-use Rattle.ipfix_reader.specs.Outcome.{◌>>=◌, IsFaultOf}
+use Rattle.ipfix_reader.specs.Outcome.{IsFaultOf}
+use Rattle.octets.specs.Outcome.{◌>>=◌}
 use Rattle.ipfix_reader.specs.Part.{Part}
 use Rattle.ipfix_reader.specs.Walk.{Reading, at_most, all_items, GoesOn}
 

@@ -5,5 +5,4 @@ pub mod TableEntries
 pub mod RecordSteps
 pub mod SetSteps
 pub mod MessageSteps
-pub mod FlowParts
-pub mod NumberSteps
+pub mod FlowFields

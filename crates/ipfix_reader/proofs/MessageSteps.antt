@@ -3,7 +3,8 @@ use Rattle.std.proofs.Common.{◌≡◌, ◌<◌, ◌≤◌, ◌+◌, ◌-◌, �
 use Rattle.std.proofs.lemmas.Bool.{ltb-false}
 use Rattle.ipfix_reader.specs.declared.fault.StreamFault.{StreamFault}
 use Rattle.ipfix_reader.specs.declared.fault.StreamError.{StreamError}
-use Rattle.ipfix_reader.specs.Outcome.{◌>>=◌, IsFaultOf}
+use Rattle.ipfix_reader.specs.Outcome.{IsFaultOf}
+use Rattle.octets.specs.Outcome.{◌>>=◌}
 use Rattle.ipfix_reader.specs.Part.{Part, behind, first}
 use Rattle.ipfix_reader.specs.Walk.{all_items}
 use Rattle.ipfix_reader.specs.Known.{Sequences, expected_in, with_expected}

@@ -10,13 +10,16 @@ use Rattle.ipfix_model.specs.Fields.{least_length, field_least}
 use Rattle.ipfix_reader.specs.declared.fault.StreamFault.{StreamFault}
 use Rattle.ipfix_reader.specs.declared.fault.StreamFault.TheVariants.{BadLength, BadTemplate}
 use Rattle.ipfix_reader.specs.declared.fault.StreamError.{StreamError}
-use Rattle.ipfix_reader.specs.Outcome.{◌>>=◌, IsFaultOf}
-use Rattle.ipfix_reader.specs.Part.{Part, behind, number_at}
+use Rattle.ipfix_reader.specs.Outcome.{IsFaultOf}
+use Rattle.octets.specs.Outcome.{◌>>=◌}
+use Rattle.ipfix_reader.specs.Part.{Part, behind}
+use Rattle.octets.specs.Numbers.{number_at}
 use Rattle.ipfix_reader.specs.Walk.{all_items}
 use Rattle.ipfix_reader.specs.Values.{Values, coded_length, values_of}
 use Rattle.ipfix_reader.specs.Specifiers.{Fields, specifier_length, record_header, is_bad_header, fields_of, checked, template_fields}
 use Rattle.ipfix_reader.specs.Known.{Templates, with_template}
-use Rattle.ipfix_reader.specs.Records.{padded, template_record, data_record, template_records, data_records, IsPaddingChecked}
+use Rattle.ipfix_reader.specs.Records.{padded, template_record, data_record, template_records, data_records}
+use Rattle.ipfix_reader.specs.Cursors.{IsPaddingChecked}
 use Rattle.ipfix_reader.proofs.Items.{TakesBytes, goes_on, same_behind, same_choice, behind_ok, not_fault, same_ok, fault_behind, fault_of-same}
 
 -- no value takes less than its field's least length

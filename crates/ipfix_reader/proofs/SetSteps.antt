@@ -5,8 +5,10 @@ use Rattle.ipfix_model.specs.declared.fields.FieldSpec.{FieldSpec}
 use Rattle.ipfix_reader.specs.declared.fault.StreamFault.{StreamFault}
 use Rattle.ipfix_reader.specs.declared.fault.StreamFault.TheVariants.{BadLength}
 use Rattle.ipfix_reader.specs.declared.fault.StreamError.{StreamError}
-use Rattle.ipfix_reader.specs.Outcome.{◌>>=◌, IsFaultOf}
-use Rattle.ipfix_reader.specs.Part.{Part, behind, first, number_at}
+use Rattle.ipfix_reader.specs.Outcome.{IsFaultOf}
+use Rattle.octets.specs.Outcome.{◌>>=◌}
+use Rattle.ipfix_reader.specs.Part.{Part, behind, first}
+use Rattle.octets.specs.Numbers.{number_at}
 use Rattle.ipfix_reader.specs.Walk.{all_items}
 use Rattle.ipfix_reader.specs.Known.{fields_in}
 use Rattle.ipfix_reader.specs.Sets.{Contents, template_set, data_set, set_contents, set_length, is_bad_length, message_set, message_sets}

@@ -1,8 +1,12 @@
--- What the walk over the bytes keeps, as the definitions of reading speak of it.
+-- The code's own: what its walk over the bytes keeps, as the definitions of reading speak of it.
+use Rattle.std.specs.Prelude.{◌≡◌, true, false, OnOk, IfErr, Result}
 use Rattle.std.specs.Global.{Vec}
 use Rattle.ipfix_model.specs.declared.values.FieldValue.{FieldValue}
+use Rattle.ipfix_reader.specs.declared.fault.StreamFault.TheVariants.{BadPadding}
+use Rattle.ipfix_reader.specs.declared.fault.StreamError.{StreamError}
+use Rattle.ipfix_reader.specs.declared.fault.StreamError.TheVariants.{Fault}
 use Rattle.ipfix_reader.specs.declared.cursor.Cursor.{Cursor}
-use Rattle.ipfix_reader.specs.Part.{Part}
+use Rattle.ipfix_reader.specs.Part.{Part, are_zeros}
 use Rattle.ipfix_reader.specs.Values.{Values}
 use Rattle.ipfix_reader.specs.Specifiers.{Fields}
 use Rattle.ipfix_reader.specs.Known.{Templates, Sequences}
@@ -29,3 +33,8 @@ contents_of table records = record { templates = table; records = records.items 
 
 abbrev pub progress_of : Templates → Vec DataRecord → Sequences → Progress
 progress_of table records sequences = record { contents = contents_of table records; sequences = sequences }
+
+-- What the check of the padding says.
+pub record IsPaddingChecked (part : Part) (result : Result (Unit {0}) StreamError) : Type 0 where
+  pub ok : OnOk result (are_zeros part.bytes ≡ true)
+  pub fault : IfErr result (λ (error : StreamError). (are_zeros part.bytes ≡ false) × (error ≡ Fault (BadPadding part.at)))

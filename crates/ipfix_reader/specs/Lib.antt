@@ -9,4 +9,8 @@ pub mod Tables
 pub mod Records
 pub mod Sets
 pub mod Messages
+pub mod FlowFields
+pub mod FlowWith
+pub mod Numbers
 pub mod Flows
+pub mod Laws

@@ -3,8 +3,9 @@ use Rattle.std.specs.Prelude.{ℕ, ◌+◌, ◌-◌, ◌%◌, ◌^◌, ◌==◌,
 use Rattle.ipfix_model.specs.declared.values.DataRecord.{DataRecord}
 use Rattle.ipfix_reader.specs.declared.fault.StreamFault.{StreamFault}
 use Rattle.ipfix_reader.specs.declared.fault.StreamFault.TheVariants.{Cut, BadVersion, BadLength, BadSequence}
-use Rattle.ipfix_reader.specs.Outcome.{◌>>=◌}
-use Rattle.ipfix_reader.specs.Part.{Part, behind, first, number_at}
+use Rattle.octets.specs.Outcome.{◌>>=◌}
+use Rattle.ipfix_reader.specs.Part.{Part, behind, first}
+use Rattle.octets.specs.Numbers.{number_at}
 use Rattle.ipfix_reader.specs.Walk.{Reading, all_items}
 use Rattle.ipfix_reader.specs.Known.{Sequences, expected_in, with_expected}
 use Rattle.ipfix_reader.specs.Sets.{Contents, message_sets}

@@ -1,13 +1,12 @@
 -- The records of a set, up to the padding at its end (RFC 7011, section 3.3.1).
-use Rattle.std.specs.Prelude.{◌≡◌, ℕ, ◌++◌, Bool, true, false, OnOk, IfErr, List, [], ◌∷◌, length, Result, Ok, Err, nat_lt, if◌then◌else◌}
+use Rattle.std.specs.Prelude.{ℕ, ◌++◌, Bool, List, [], ◌∷◌, length, Ok, Err, nat_lt, if◌then◌else◌}
 use Rattle.ipfix_model.specs.declared.fields.FieldSpec.{FieldSpec}
 use Rattle.ipfix_model.specs.declared.values.DataRecord.{DataRecord}
 use Rattle.ipfix_model.specs.Fields.{least_length}
 use Rattle.ipfix_reader.specs.declared.fault.StreamFault.TheVariants.{BadLength, BadPadding}
-use Rattle.ipfix_reader.specs.declared.fault.StreamError.{StreamError}
-use Rattle.ipfix_reader.specs.declared.fault.StreamError.TheVariants.{Fault}
-use Rattle.ipfix_reader.specs.Outcome.{◌>>=◌}
-use Rattle.ipfix_reader.specs.Part.{Part, are_zeros, number_at}
+use Rattle.octets.specs.Outcome.{◌>>=◌}
+use Rattle.ipfix_reader.specs.Part.{Part, are_zeros}
+use Rattle.octets.specs.Numbers.{number_at}
 use Rattle.ipfix_reader.specs.Walk.{Reading, all_items}
 use Rattle.ipfix_reader.specs.Values.{values_of}
 use Rattle.ipfix_reader.specs.Specifiers.{template_fields}
@@ -38,8 +37,3 @@ template_records options domain = all_items (template_record options domain)
 
 unfoldable pub data_records : ℕ → ℕ → List FieldSpec → Reading (List DataRecord)
 data_records domain number fields = all_items (data_record domain number fields)
-
--- The check of the padding said what it is.
-pub record IsPaddingChecked (part : Part) (result : Result (Unit {0}) StreamError) : Type 0 where
-  pub ok : OnOk result (are_zeros part.bytes ≡ true)
-  pub fault : IfErr result (λ (error : StreamError). (are_zeros part.bytes ≡ false) × (error ≡ Fault (BadPadding part.at)))

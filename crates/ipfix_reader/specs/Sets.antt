@@ -3,8 +3,9 @@ use Rattle.std.specs.Prelude.{ℕ, ◌==◌, ◌||◌, Bool, true, false, List, 
 use Rattle.ipfix_model.specs.declared.fields.FieldSpec.{FieldSpec}
 use Rattle.ipfix_model.specs.declared.values.DataRecord.{DataRecord}
 use Rattle.ipfix_reader.specs.declared.fault.StreamFault.TheVariants.{BadLength, NoTemplate}
-use Rattle.ipfix_reader.specs.Outcome.{◌>>=◌}
-use Rattle.ipfix_reader.specs.Part.{Part, behind, first, number_at}
+use Rattle.octets.specs.Outcome.{◌>>=◌}
+use Rattle.ipfix_reader.specs.Part.{Part, behind, first}
+use Rattle.octets.specs.Numbers.{number_at}
 use Rattle.ipfix_reader.specs.Walk.{Reading, all_items}
 use Rattle.ipfix_reader.specs.Known.{Templates, fields_in}
 use Rattle.ipfix_reader.specs.Records.{template_records, data_records}

@@ -4,8 +4,9 @@ use Rattle.ipfix_model.specs.declared.fields.FieldSpec.{FieldSpec}
 use Rattle.ipfix_model.specs.Fields.{least_length}
 use Rattle.ipfix_reader.specs.declared.fault.StreamFault.{StreamFault}
 use Rattle.ipfix_reader.specs.declared.fault.StreamFault.TheVariants.{BadTemplate, Withdrawal}
-use Rattle.ipfix_reader.specs.Outcome.{◌>>=◌}
-use Rattle.ipfix_reader.specs.Part.{Part, behind, number_at}
+use Rattle.octets.specs.Outcome.{◌>>=◌}
+use Rattle.ipfix_reader.specs.Part.{Part, behind}
+use Rattle.octets.specs.Numbers.{number_at}
 
 -- The upper bit of the element says that an enterprise number follows.
 abbrev pub has_enterprise : List ℕ → Bool

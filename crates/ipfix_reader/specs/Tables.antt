@@ -1,4 +1,4 @@
--- The table of templates, as the definitions of reading speak of it.
+-- The code's own: its table of templates, as the definitions of reading speak of it.
 use Rattle.std.specs.Prelude.{ℕ, List, map}
 use Rattle.ipfix_model.specs.declared.fields.FieldSpec.{FieldSpec}
 use Rattle.ipfix_reader.specs.declared.known.Known.{Known}

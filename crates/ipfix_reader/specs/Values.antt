@@ -4,17 +4,18 @@ use Rattle.ipfix_model.specs.declared.fields.FieldSpec.{FieldSpec}
 use Rattle.ipfix_model.specs.declared.values.FieldValue.{FieldValue}
 use Rattle.ipfix_model.specs.Fields.{is_variable}
 use Rattle.ipfix_reader.specs.declared.fault.StreamFault.{StreamFault}
-use Rattle.ipfix_reader.specs.Part.{Part, behind, byte_at, number_at}
+use Rattle.ipfix_reader.specs.Part.{Part, behind}
+use Rattle.octets.specs.Numbers.{octet_at, number_at}
 
 -- The bytes in front of a value that give its length: none where the template gives it; else one below 255, or 255
 -- and two more (section 7).
 abbrev pub prefix_length : FieldSpec → List ℕ → ℕ
-prefix_length field bytes = if is_variable field then (if byte_at 0 bytes == 255 then 3 else 1) else 0
+prefix_length field bytes = if is_variable field then (if octet_at 0 bytes == 255 then 3 else 1) else 0
 
 -- The length of a value.
 abbrev pub value_length : FieldSpec → List ℕ → ℕ
 value_length field bytes =
-    if is_variable field then (if byte_at 0 bytes == 255 then number_at 1 2 bytes else byte_at 0 bytes)
+    if is_variable field then (if octet_at 0 bytes == 255 then number_at 1 2 bytes else octet_at 0 bytes)
     else field.length
 
 -- The length of both together.

@@ -9,15 +9,17 @@ abbrev pub Reading : Type 0 → Type 0
 Reading S = S → Part → Result S StreamFault
 
 -- At most so many items. `item` reads one of them, behind which the reading that it is given goes on; or it finds
--- the end.
+-- the end. The bound is there because each reading ends; `all_items` never meets it, so what stands at `zero` is never an
+-- answer.
 unfoldable pub at_most : {S : Type 0} → ℕ → (Reading S → Reading S) → Reading S
 at_most zero item = λ before part. Err (Cut part.at)
 at_most (suc more) item = item (at_most more item)
 
--- All items of a part. Each has a byte or more, so there are never more of them than bytes.
+-- All items of a part. Each has a byte or more, so there are never more of them than bytes, and the bound is never met.
 unfoldable pub all_items : {S : Type 0} → (Reading S → Reading S) → Reading S
 all_items item before part = at_most (suc (length part.bytes)) item before part
 
--- So the bound plays no part: reading all items is reading one, and then all those behind it.
+-- That it is never met: reading all items is reading one, and then all those behind it, with no bound. This is the law
+-- `reading_goes_on` of the messages of a stream, the sets of a message, and the records of a set.
 abbrev pub GoesOn : {S : Type 0} → (Reading S → Reading S) → S → Part → Type 0
 GoesOn item before part = all_items item before part ≡ item (all_items item) before part

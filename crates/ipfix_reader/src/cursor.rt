@@ -2,8 +2,6 @@
 
 ghost use Rattle.std.specs.Prelude.{◌≡◌, ◌+◌, ◌<◌, ◌≤◌, ◌^◌, length};
 
-use byteorder::{ByteOrder, NetworkEndian};
-
 /// Bytes of a stream, and the offset in it of the first of them.
 #[derive(Clone, Copy)]
 pub struct Cursor<'a> {
@@ -13,7 +11,8 @@ pub struct Cursor<'a> {
 }
 
 impl<'a> Cursor<'a> {
-    ghost use Rattle.ipfix_reader.specs.Part.{behind, first, number_at, are_zeros};
+    ghost use Rattle.ipfix_reader.specs.Part.{behind, first, are_zeros};
+    ghost use Rattle.octets.specs.Numbers.{number_at};
     ghost use Rattle.ipfix_reader.specs.Cursors.{part_of};
 
     /// How many bytes there are.
@@ -49,22 +48,20 @@ impl<'a> Cursor<'a> {
 
     /// The number in the two bytes from `place` on.
     #[inline]
-    #[tactic(auto, unfolding(crate::specs::Part::number_at))]
     pub fn u16_at(self, place: usize) -> u16
         requires { place + 2 ≤ length self.bytes.now }
         ensures { result ≡ number_at place 2 self.entry.bytes.now }
     {
-        NetworkEndian::read_u16(&self.bytes[place..])
+        octets::u16_at(self.bytes, place)
     }
 
     /// The number in the four bytes from `place` on.
     #[inline]
-    #[tactic(auto, unfolding(crate::specs::Part::number_at))]
     pub fn u32_at(self, place: usize) -> u32
         requires { place + 4 ≤ length self.bytes.now }
         ensures { result ≡ number_at place 4 self.entry.bytes.now }
     {
-        NetworkEndian::read_u32(&self.bytes[place..])
+        octets::u32_at(self.bytes, place)
     }
 
     /// Whether all bytes are 0.

@@ -1,14 +1,34 @@
 //! Flow records among data records.
 
-ghost use Rattle.std.specs.Prelude.{◌≡◌, ◌<◌, ◌≤◌, ◌^◌, ◌&&◌, ℕ, true, false, IsTrue, IfSome, IsNone, length, nat_le};
-ghost use Rattle.std.specs.List.{list_all};
-ghost use Rattle.ipfix_reader.specs.Flows.{is_value_of, number_in, numbers_in, v4_key, v6_key, part_with, record_with, flow};
+ghost use Rattle.std.specs.Prelude.{◌≡◌, ◌⊎◌, ℕ};
+ghost use Rattle.flow_key.specs.Fields.{IsKeyOf};
+ghost use Rattle.flow_parts.specs.Fields.{IsPartOf};
+ghost use Rattle.ipfix_model.specs.Values.{AreNumbers};
+ghost use Rattle.ipfix_reader.specs.FlowFields.{IsFlowWith, fields_in};
+ghost use Rattle.ipfix_reader.specs.Flows.{flow};
+ghost use Rattle.ipfix_reader.specs.Numbers.{numbers_shown};
 
-use byteorder::{ByteOrder, NetworkEndian};
 use flow_key::FlowKey;
 use flow_parts::Fragment;
-use ipfix_model::{DataRecord, FieldSpec, FieldValue, V4_FIELDS, V6_FIELDS};
+use ipfix_model::elements::*;
+use ipfix_model::{DataRecord, FieldValue, V4_FIELDS, V6_FIELDS, are_values_of, number_of};
 use record_ledger::FlowRecord;
+
+/// The numbers in the values of a flow record.
+#[derive(Clone, Copy)]
+struct Numbers {
+    source: u128,
+    destination: u128,
+    protocol: u128,
+    source_port: u128,
+    destination_port: u128,
+    packets: u128,
+    octets: u128,
+    first: u128,
+    last: u128,
+    flags: u128,
+    reason: u128,
+}
 
 /// The flow record that a data record is: its values are those of the fields of the template for flows over IPv4 or
 /// over IPv6, in order and without enterprise numbers, each as long as its field; there is a packet or more, and the
@@ -20,138 +40,99 @@ pub fn flow_of(rec: &DataRecord) -> Option<FlowRecord>
     ensures { result ≡ flow rec.now }
 {
     let values = rec.fields.items();
-    if let Some(numbers) = numbers_in(&V4_FIELDS, values) {
-        return record_with(&numbers, part_with(&numbers, v4_key(&numbers)?)?);
+    if are_values_of(&V4_FIELDS, values) {
+        let numbers = numbers_in(values, SOURCE_IPV4_ADDRESS, DESTINATION_IPV4_ADDRESS);
+        return flow_with(4, &numbers);
     }
-    let numbers = numbers_in(&V6_FIELDS, values)?;
-    record_with(&numbers, part_with(&numbers, v6_key(&numbers)?)?)
+    if are_values_of(&V6_FIELDS, values) {
+        let numbers = numbers_in(values, SOURCE_IPV6_ADDRESS, DESTINATION_IPV6_ADDRESS);
+        return flow_with(6, &numbers);
+    }
+    None
 }
 
-/// The numbers in the values of these fields; none where the values are of others.
-fn numbers_in(fields: &[FieldSpec; 11], values: &[FieldValue]) -> Option<[u128; 11]>
-    requires { IsTrue (list_all (λ field. nat_le 1 field.length && nat_le field.length 16) fields.now) }
-    ensures { result ≡ numbers_in fields.now values.now }
+/// The numbers in the values, each found by its element. Those of the addresses are given.
+fn numbers_in(values: &[FieldValue], source: u16, destination: u16) -> Numbers
+    requires { AreNumbers values.now }
+    ensures { (version : ℕ) → numbers_shown version result ≡ fields_in version source destination values.now }
 {
-    if values.len() != fields.len() {
-        return None;
+    Numbers {
+        source: number_of(None, source, values),
+        destination: number_of(None, destination, values),
+        protocol: number_of(None, PROTOCOL_IDENTIFIER, values),
+        source_port: number_of(None, SOURCE_TRANSPORT_PORT, values),
+        destination_port: number_of(None, DESTINATION_TRANSPORT_PORT, values),
+        packets: number_of(None, PACKET_DELTA_COUNT, values),
+        octets: number_of(None, OCTET_DELTA_COUNT, values),
+        first: number_of(None, FLOW_START_MILLISECONDS, values),
+        last: number_of(None, FLOW_END_MILLISECONDS, values),
+        flags: number_of(None, TCP_CONTROL_BITS, values),
+        reason: number_of(None, FLOW_END_REASON, values),
     }
-    let mut numbers = [0u128; 11];
-    for (i, field) in fields.iter().enumerate() {
-        numbers[i] = number_in(field, &values[i])?;
-    }
-    Some(numbers)
 }
 
-/// The number that the value is; none where it isn't one of the field.
-fn number_in(field: &FieldSpec, value: &FieldValue) -> Option<u128>
-    requires low { 1 ≤ field.now.length }
-    requires high { field.now.length ≤ 16 }
-    ensures some { IfSome result (λ number. (is_value_of field.now value.now ≡ true) × (number ≡ number_in value.now)) }
-    ensures none { IsNone result → is_value_of field.now value.now ≡ false }
+/// The flow record of this IP version with these numbers, where they fit.
+fn flow_with(version: u8, numbers: &Numbers) -> Option<FlowRecord>
+    requires { (version ≡ 4) ⊎ (version ≡ 6) }
+    ensures { IsFlowWith (numbers_shown version numbers.now) result }
 {
-    let bytes = value.value.items();
-    let size = usize::from(field.length);
-    if value.element != field.element || value.enterprise.is_some() || bytes.len() != size {
-        return None;
-    }
-    Some(NetworkEndian::read_uint128(bytes, size))
-}
-
-/// The key of version 4 with these numbers, where they fit.
-fn v4_key(numbers: &[u128; 11]) -> Option<FlowKey>
-    ensures { result ≡ v4_key numbers.now }
-{
-    let [
-        source,
-        destination,
-        source_port,
-        destination_port,
-        protocol,
-        ..
-    ] = *numbers;
-    let widest = u128::from(u32::MAX);
-    if source > widest
-        || destination > widest
-        || !fit_key(source_port, destination_port, protocol)
-    {
-        return None;
-    }
-    Some(FlowKey {
-        version: 4,
-        source,
-        destination,
-        protocol: protocol as u8,
-        source_port: source_port as u16,
-        destination_port: destination_port as u16,
-    })
-}
-
-/// The key of version 6 with these numbers, where they fit.
-fn v6_key(numbers: &[u128; 11]) -> Option<FlowKey>
-    ensures { result ≡ v6_key numbers.now }
-{
-    let [
-        source,
-        destination,
-        source_port,
-        destination_port,
-        protocol,
-        ..
-    ] = *numbers;
-    if !fit_key(source_port, destination_port, protocol) {
-        return None;
-    }
-    Some(FlowKey {
-        version: 6,
-        source,
-        destination,
-        protocol: protocol as u8,
-        source_port: source_port as u16,
-        destination_port: destination_port as u16,
-    })
-}
-
-/// Whether these are ports and a protocol.
-fn fit_key(source_port: u128, destination_port: u128, protocol: u128) -> bool
-    ensures yes { result ≡ true → (protocol < 2 ^ 8) × (source_port < 2 ^ 16) × (destination_port < 2 ^ 16) }
-    ensures no { result ≡ false → protocol < 2 ^ 8 → source_port < 2 ^ 16 → destination_port < 2 ^ 16 → ⊥ }
-{
-    let widest = u128::from(u16::MAX);
-    source_port <= widest && destination_port <= widest && protocol <= u128::from(u8::MAX)
-}
-
-/// What is known of the packets by these numbers, where they are those of packets and fit.
-fn part_with(numbers: &[u128; 11], key: FlowKey) -> Option<Fragment>
-    ensures { result ≡ part_with numbers.now key }
-{
-    let [_, _, _, _, _, flags, packets, octets, first, last, _] = *numbers;
-    let widest = u128::from(u64::MAX);
-    if packets < 1 || first > last {
-        return None;
-    }
-    if packets > widest || octets > widest || last > widest || flags > u128::from(u16::MAX) {
-        return None;
-    }
-    Some(Fragment {
-        key,
-        packets: packets as u64,
-        octets: octets as u64,
-        first: first as u64,
-        last: last as u64,
-        flags: flags as u16,
-    })
-}
-
-/// The record with this end reason, where it fits.
-fn record_with(numbers: &[u128; 11], part: Fragment) -> Option<FlowRecord>
-    ensures { result ≡ record_with numbers.now part }
-{
-    let reason = numbers[10];
-    if reason > u128::from(u8::MAX) {
+    let part = part_with(version, numbers)?;
+    if numbers.reason > u128::from(u8::MAX) {
         return None;
     }
     Some(FlowRecord {
         part,
-        reason: reason as u8,
+        reason: numbers.reason as u8,
+    })
+}
+
+/// What is known of the packets by these numbers, where they are those of packets and fit.
+fn part_with(version: u8, numbers: &Numbers) -> Option<Fragment>
+    requires { (version ≡ 4) ⊎ (version ≡ 6) }
+    ensures { IsPartOf (numbers_shown version numbers.now).part result }
+{
+    let key = key_with(version, numbers)?;
+    let widest = u128::from(u64::MAX);
+    if numbers.packets < 1 || numbers.first > numbers.last {
+        return None;
+    }
+    if numbers.packets > widest || numbers.octets > widest || numbers.last > widest {
+        return None;
+    }
+    if numbers.flags > u128::from(u16::MAX) {
+        return None;
+    }
+    Some(Fragment {
+        key,
+        packets: numbers.packets as u64,
+        octets: numbers.octets as u64,
+        first: numbers.first as u64,
+        last: numbers.last as u64,
+        flags: numbers.flags as u16,
+    })
+}
+
+/// The key of this IP version with these numbers, where they fit.
+fn key_with(version: u8, numbers: &Numbers) -> Option<FlowKey>
+    requires { (version ≡ 4) ⊎ (version ≡ 6) }
+    ensures { IsKeyOf (numbers_shown version numbers.now).part.key result }
+{
+    let widest = u128::from(u32::MAX);
+    if version == 4 && (numbers.source > widest || numbers.destination > widest) {
+        return None;
+    }
+    if numbers.protocol > u128::from(u8::MAX) {
+        return None;
+    }
+    if numbers.source_port.max(numbers.destination_port) > u128::from(u16::MAX) {
+        return None;
+    }
+    Some(FlowKey {
+        version,
+        source: numbers.source,
+        destination: numbers.destination,
+        protocol: numbers.protocol as u8,
+        source_port: numbers.source_port as u16,
+        destination_port: numbers.destination_port as u16,
     })
 }

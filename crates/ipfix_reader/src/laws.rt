@@ -6,6 +6,7 @@ ghost use Rattle.ipfix_model.specs.declared.values.DataRecord.{DataRecord};
 ghost use Rattle.ipfix_model.specs.Fields.{least_length};
 ghost use Rattle.ipfix_reader.specs.Part.{Part};
 ghost use Rattle.ipfix_reader.specs.Walk.{GoesOn};
+ghost use Rattle.ipfix_reader.specs.Laws.{FieldsTell, FlowsFit, AnswersAsDefined, FlowOfItsFields};
 ghost use Rattle.ipfix_reader.specs.Known.{Templates};
 ghost use Rattle.ipfix_reader.specs.Records.{template_record, data_record};
 ghost use Rattle.ipfix_reader.specs.Sets.{Contents, message_set};
@@ -21,4 +22,13 @@ pub fn reading_goes_on()
         → GoesOn (template_record options domain) before part }
     ensures data_records { (domain number : ℕ) (fields : List FieldSpec) (before : List DataRecord) (part : Part)
         → 0 < least_length fields → GoesOn (data_record domain number fields) before part }
+{}
+
+/// A flow record is known by its fields: numbers that fit the fields are those of one flow record, and others are of
+/// none.
+pub fn flows_have_fields()
+    ensures tell { FieldsTell }
+    ensures fit { FlowsFit }
+    ensures answers { AnswersAsDefined }
+    ensures flow { FlowOfItsFields }
 {}

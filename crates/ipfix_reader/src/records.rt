@@ -3,7 +3,8 @@
 ghost use Rattle.std.specs.Prelude.{◌≡◌, ◌<◌, ◌≤◌, IfOk, IfErr, OnOk, Ok, length, vec_len};
 ghost use Rattle.ipfix_model.specs.Fields.{least_length};
 ghost use Rattle.ipfix_reader.specs.Outcome.{IsFaultOf};
-ghost use Rattle.ipfix_reader.specs.Records.{template_records, data_records, IsPaddingChecked};
+ghost use Rattle.ipfix_reader.specs.Records.{template_records, data_records};
+ghost use Rattle.ipfix_reader.specs.Cursors.{IsPaddingChecked};
 ghost use Rattle.ipfix_reader.specs.Cursors.{part_of};
 
 use crate::cursor::Cursor;

@@ -2,7 +2,8 @@
 
 ghost use Rattle.std.specs.Prelude.{◌≡◌, ◌<◌, ◌≤◌, ◌==◌, IfOk, IfErr, OnOk, Ok, length, vec_len};
 ghost use Rattle.ipfix_reader.specs.Outcome.{IsFaultOf};
-ghost use Rattle.ipfix_reader.specs.Part.{behind, first, number_at};
+ghost use Rattle.ipfix_reader.specs.Part.{behind, first};
+ghost use Rattle.octets.specs.Numbers.{number_at};
 ghost use Rattle.ipfix_reader.specs.Sets.{set_contents, set_length, is_bad_length, message_sets};
 ghost use Rattle.ipfix_reader.specs.Cursors.{part_of, contents_of};
 

@@ -3,7 +3,8 @@
 ghost use Rattle.std.specs.Prelude.{◌≡◌, ◌+◌, ◌<◌, ◌≤◌, ◌&&◌, ◌||◌, [], IfOk, IfErr, IfSome, IsNone, Ok, length, vec_len};
 ghost use Rattle.ipfix_model.specs.Fields.{least_length};
 ghost use Rattle.ipfix_reader.specs.Outcome.{IsFaultOf};
-ghost use Rattle.ipfix_reader.specs.Part.{behind, number_at};
+ghost use Rattle.ipfix_reader.specs.Part.{behind};
+ghost use Rattle.octets.specs.Numbers.{number_at};
 ghost use Rattle.ipfix_reader.specs.Specifiers.{field_of, specifier_length, fields_of, is_bad_header, template_fields};
 ghost use Rattle.ipfix_reader.specs.Cursors.{part_of, fields_shown, template_shown};
 

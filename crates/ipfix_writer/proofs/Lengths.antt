@@ -1,20 +1,30 @@
 -- The length of a message that takes in one more record.
-use Rattle.std.proofs.Common.{◌≡◌, ◌≤◌, ◌+◌, ◌*◌, ◌==◌, ℕ, Bool, true, false, List, [], ◌∷◌, ◌++◌, length, if◌then◌else◌, Some, refl, arith, length-append}
+use Rattle.std.proofs.Common.{◌≡◌, ◌≤◌, ◌+◌, ◌*◌, ◌==◌, ℕ, Bool, true, false, List, [], ◌∷◌, ◌++◌, length, if◌then◌else◌, Option, Some, None, refl, ap, arith, length-append, append-nil, append_assoc}
 use Rattle.record_ledger.specs.declared.record.FlowRecord.{FlowRecord}
-use Rattle.ipfix_writer.specs.Encoding.{set, data_record, record_size, template_of}
-use Rattle.ipfix_writer.specs.Layout.{RecordSet, put_before, sets_of, bytes_of_sets, body_of, message_length}
+use Rattle.ipfix_writer.specs.Encoding.{set}
+use Rattle.ipfix_writer.specs.Layout.{RecordSet, put_before, sets_in, bytes_of_sets, body_in, length_in, encode_flow, message_length}
 use Rattle.ipfix_writer.specs.Emitting.{last_template, header_before}
-use Rattle.ipfix_writer.proofs.Sizes.{length-data_record, length-set}
+use Rattle.ipfix_writer.proofs.Sizes.{length-set, record_size-bounds}
 
 -- a set header where the template changes
 abbrev pub header_between : ℕ → ℕ → ℕ
 header_between one other = if one == other then 0 else 4
 
+-- a set header has four bytes at most
+header_if : (same : Bool) → (if same then 0 else 4) ≤ 4
+header_if true = omega arith
+header_if false = omega arith
+
+pub header_before-bound : (last : Option ℕ) (template : ℕ) → header_before last template ≤ 4
+header_before-bound None template = omega arith
+header_before-bound (Some last) template = header_if (last == template)
+
 -- the length of the body of records, from the front
-abbrev pub body_length : List FlowRecord → ℕ
-body_length [] = 0
-body_length (flow ∷ []) = 4 + record_size flow
-body_length (flow ∷ (next ∷ flows)) = record_size flow + header_between (template_of flow) (template_of next) + body_length (next ∷ flows)
+abbrev pub body_length : {A : Type 0} → (A → RecordSet) → List A → ℕ
+body_length encode [] = 0
+body_length encode (x ∷ []) = 4 + length (encode x).records
+body_length encode (x ∷ (next ∷ xs)) =
+    length (encode x).records + header_between (encode x).template (encode next).template + body_length encode (next ∷ xs)
 
 -- a set header where the first set is not of the template
 abbrev header_for : ℕ → List RecordSet → ℕ
@@ -56,56 +66,56 @@ unfolding put_before
 header_for-put_before template kind bytes [] = refl
 header_for-put_before template kind bytes (first ∷ sets) = header_for-if (kind == first.template) template kind bytes first sets
 
-length-body_of : (flows : List FlowRecord) → length (body_of flows) ≡ body_length flows
-unfolding body_of sets_of
-length-body_of [] = refl
-length-body_of (flow ∷ []) =
-    let put = length-put_before (template_of flow) (data_record flow) [] in
-    let own = length-data_record flow in
+length-body_in : {A : Type 0} (encode : A → RecordSet) (xs : List A) → length (body_in encode xs) ≡ body_length encode xs
+unfolding body_in sets_in
+length-body_in encode [] = refl
+length-body_in encode (x ∷ []) =
+    let put = length-put_before (encode x).template (encode x).records [] in
     omega arith
-length-body_of (flow ∷ (next ∷ flows)) =
-    let rest = length-body_of (next ∷ flows) in
-    let put = length-put_before (template_of flow) (data_record flow) (sets_of (next ∷ flows)) in
-    let own = length-data_record flow in
-    let between = header_for-put_before (template_of flow) (template_of next) (data_record next) (sets_of flows) in
+length-body_in encode (x ∷ (next ∷ xs)) =
+    let rest = length-body_in encode (next ∷ xs) in
+    let put = length-put_before (encode x).template (encode x).records (sets_in encode (next ∷ xs)) in
+    let between = header_for-put_before (encode x).template (encode next).template (encode next).records (sets_in encode xs) in
     omega arith
 
 -- one more record behind
-body_length-snoc : (flows : List FlowRecord) (flow : FlowRecord)
-    → body_length (flows ++ flow ∷ []) ≡ body_length flows + header_before (last_template flows) (template_of flow) + record_size flow
-body_length-snoc [] flow = omega arith
-body_length-snoc (first ∷ []) flow = omega arith
-body_length-snoc (first ∷ (next ∷ flows)) flow =
-    let rest = body_length-snoc (next ∷ flows) flow in
+body_length-snoc : {A : Type 0} (encode : A → RecordSet) (xs : List A) (x : A)
+    → body_length encode (xs ++ x ∷ []) ≡ body_length encode xs + header_before (last_template encode xs) (encode x).template + length (encode x).records
+body_length-snoc encode [] x = omega arith
+body_length-snoc encode (first ∷ []) x = omega arith
+body_length-snoc encode (first ∷ (next ∷ xs)) x =
+    let rest = body_length-snoc encode (next ∷ xs) x in
     omega arith
 
-pub last_template-snoc : (flows : List FlowRecord) (flow : FlowRecord) → last_template (flows ++ flow ∷ []) ≡ Some (template_of flow)
-last_template-snoc [] flow = refl
-last_template-snoc (first ∷ []) flow = refl
-last_template-snoc (first ∷ (next ∷ flows)) flow = last_template-snoc (next ∷ flows) flow
+pub last_template-snoc : {A : Type 0} (encode : A → RecordSet) (xs : List A) (x : A) → last_template encode (xs ++ x ∷ []) ≡ Some (encode x).template
+last_template-snoc encode [] x = refl
+last_template-snoc encode (first ∷ []) x = refl
+last_template-snoc encode (first ∷ (next ∷ xs)) x = last_template-snoc encode (next ∷ xs) x
 
 -- the length of a message that takes in one more record
-pub message_length-snoc : (flows : List FlowRecord) (flow : FlowRecord)
-    → message_length (flows ++ flow ∷ []) ≡ message_length flows + header_before (last_template flows) (template_of flow) + record_size flow
-unfolding message_length
-message_length-snoc flows flow =
-    let longer = length-body_of (flows ++ flow ∷ []) in
-    let before = length-body_of flows in
-    let more = body_length-snoc flows flow in
+pub length_in-snoc : {A : Type 0} (encode : A → RecordSet) (xs : List A) (x : A)
+    → length_in encode (xs ++ x ∷ []) ≡ length_in encode xs + header_before (last_template encode xs) (encode x).template + length (encode x).records
+unfolding length_in
+length_in-snoc encode xs x =
+    let longer = length-body_in encode (xs ++ x ∷ []) in
+    let before = length-body_in encode xs in
+    let more = body_length-snoc encode xs x in
     omega arith
 
-pub message_length-nil : message_length [] ≡ 16
-unfolding message_length body_of sets_of
-message_length-nil = refl
+pub length_in-nil : {A : Type 0} (encode : A → RecordSet) → length_in encode [] ≡ 16
+unfolding length_in body_in sets_in
+length_in-nil encode = refl
 
-record_size-bounds-if : (b : Bool) → (48 ≤ (if b then 48 else 72)) × ((if b then 48 else 72) ≤ 72)
-record_size-bounds-if true = (omega arith, omega arith)
-record_size-bounds-if false = (omega arith, omega arith)
+-- a message is no shorter than a beginning of it
+pub length_in-more : {A : Type 0} (encode : A → RecordSet) (xs more : List A) → length_in encode xs ≤ length_in encode (xs ++ more)
+length_in-more encode xs [] = let whole = ap (length_in encode) (append-nil xs) in omega arith
+length_in-more encode xs (x ∷ more) =
+    let one = length_in-snoc encode xs x in
+    let rest = length_in-more encode (xs ++ x ∷ []) more in
+    let whole = ap (length_in encode) (append_assoc xs (x ∷ []) more) in
+    omega arith
 
-pub record_size-bounds : (flow : FlowRecord) → (48 ≤ record_size flow) × (record_size flow ≤ 72)
-record_size-bounds flow = record_size-bounds-if (flow.part.key.version == 4)
-
-body_length-bound : (flows : List FlowRecord) → 48 * length flows ≤ body_length flows
+body_length-bound : (flows : List FlowRecord) → 48 * length flows ≤ body_length encode_flow flows
 body_length-bound [] = omega arith
 body_length-bound (flow ∷ []) = let own = record_size-bounds flow in omega arith
 body_length-bound (flow ∷ (next ∷ flows)) =
@@ -115,8 +125,8 @@ body_length-bound (flow ∷ (next ∷ flows)) =
 
 -- how many records a message has at most
 pub message_length-bound : (flows : List FlowRecord) → 16 + 48 * length flows ≤ message_length flows
-unfolding message_length
+unfolding length_in
 message_length-bound flows =
-    let exact = length-body_of flows in
+    let exact = length-body_in encode_flow flows in
     let below = body_length-bound flows in
     omega arith

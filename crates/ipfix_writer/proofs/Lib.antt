@@ -4,3 +4,4 @@ pub mod Lengths
 pub mod Filling
 pub mod Templates
 pub mod UnderWay
+pub mod OneLayout

@@ -1,13 +1,51 @@
 -- The lengths of records, sets and messages.
-use Rattle.std.proofs.Common.{◌≡◌, ◌+◌, ◌*◌, ◌==◌, ℕ, Bool, true, false, List, length, if◌then◌else◌, refl, ap, ◌∙◌, arith, length-append}
-use Rattle.byteorder.specs.Endian.{big_bytes}
+use Rattle.std.proofs.Common.{◌≡◌, ◌≤◌, ◌+◌, ◌*◌, ◌==◌, ℕ, Bool, true, false, List, [], ◌∷◌, ◌++◌, length, if◌then◌else◌, refl, ap, ◌∙◌, arith, length-append, append_assoc, append-nil, eqb-true}
 use Rattle.byteorder.specs.Numbers.{length-bytes_high_first}
+use Rattle.octets.specs.Numbers.{octets_of}
 use Rattle.record_ledger.specs.declared.record.FlowRecord.{FlowRecord}
-use Rattle.ipfix_writer.specs.Encoding.{message_header, set, key_part, counts_part, data_record, record_size, address_size}
+use Rattle.ipfix_model.specs.declared.fields.FieldSpec.{FieldSpec}
+use Rattle.ipfix_model.specs.Fields.{record_length}
+use Rattle.ipfix_model.specs.Templates.{v4_fields, v6_fields, template_of}
+use Rattle.ipfix_model.specs.Values.{field_value, record_bytes}
+use Rattle.ipfix_writer.specs.Encoding.{message_header, message, set, data_record, record_size}
+use Rattle.ipfix_writer.specs.DataParts.{address_size, key_part, counts_part}
+use Rattle.ipfix_writer.specs.DataSizes.{length-data_record}
 
-pub length-big : (n x : ℕ) → length (big_bytes n x) ≡ n
-length-big n x = length-bytes_high_first n x
+-- the length of the records of each template
+pub record_size-if : (v4 : Bool) → record_length (if v4 then v4_fields else v6_fields) ≡ (if v4 then 48 else 72)
+record_size-if true = refl
+record_size-if false = refl
 
+pub record_size-is : (flow : FlowRecord) → record_size flow ≡ (if flow.part.key.version == 4 then 48 else 72)
+record_size-is flow = record_size-if (flow.part.key.version == 4)
+
+record_size-range : (v4 : Bool) → (48 ≤ (if v4 then 48 else 72)) × ((if v4 then 48 else 72) ≤ 72)
+record_size-range true = (omega arith, omega arith)
+record_size-range false = (omega arith, omega arith)
+
+pub record_size-bounds : (flow : FlowRecord) → (48 ≤ length (data_record flow)) × (length (data_record flow) ≤ 72)
+record_size-bounds flow =
+    let range = record_size-range (flow.part.key.version == 4) in
+    let long = length-data_record flow ∙ record_size-is flow in
+    (omega (arith, long, range), omega (arith, long, range))
+
+-- a data record is the values of its key and then those behind it
+parts-v4 : (flow : FlowRecord) → (flow.part.key.version == 4) ≡ true → data_record flow ≡ key_part flow ++ counts_part flow
+unfolding data_record key_part counts_part
+parts-v4 flow v4 = rw v4 (simp (append_assoc, append-nil))
+
+parts-v6 : (flow : FlowRecord) → (flow.part.key.version == 4) ≡ false → data_record flow ≡ key_part flow ++ counts_part flow
+unfolding data_record key_part counts_part
+parts-v6 flow v6 = rw v6 (simp (append_assoc, append-nil))
+
+parts-if : (flow : FlowRecord) (b : Bool) → (flow.part.key.version == 4) ≡ b → data_record flow ≡ key_part flow ++ counts_part flow
+parts-if flow true is = parts-v4 flow is
+parts-if flow false is = parts-v6 flow is
+
+pub data_record-parts : (flow : FlowRecord) → data_record flow ≡ key_part flow ++ counts_part flow
+data_record-parts flow = parts-if flow (flow.part.key.version == 4) refl
+
+-- the lengths of both parts
 pub length-counts_part : (flow : FlowRecord) → length (counts_part flow) ≡ 35
 unfolding counts_part
 length-counts_part flow = simp (length-append, length-bytes_high_first)
@@ -20,13 +58,10 @@ sizes_add : (v4 : Bool) → 2 * (if v4 then 4 else 16) + 5 + 35 ≡ (if v4 then 
 sizes_add true = refl
 sizes_add false = refl
 
-pub length-data_record : (flow : FlowRecord) → length (data_record flow) ≡ record_size flow
-unfolding data_record
-length-data_record flow =
-    length-append (key_part flow) (counts_part flow)
-    ∙ ap (λ n. n + length (counts_part flow)) (length-key_part flow)
-    ∙ ap (λ n. 2 * address_size flow + 5 + n) (length-counts_part flow)
-    ∙ sizes_add (flow.part.key.version == 4)
+pub key_leaves_counts : (flow : FlowRecord) → length (key_part flow) + 35 ≡ length (data_record flow)
+key_leaves_counts flow =
+    let sum = sizes_add (flow.part.key.version == 4) in
+    omega (arith, sum, length-key_part flow, length-data_record flow, record_size-is flow)
 
 pub length-set : (number : ℕ) (records : List ℕ) → length (set number records) ≡ 4 + length records
 unfolding set
@@ -36,5 +71,8 @@ pub length-message_header : (size time sequence : ℕ) → length (message_heade
 unfolding message_header
 length-message_header size time sequence = simp (length-append, length-bytes_high_first)
 
-pub key_leaves_counts : (flow : FlowRecord) → length (key_part flow) + 35 ≡ record_size flow
-key_leaves_counts flow = ap (λ n. n + 35) (length-key_part flow) ∙ sizes_add (flow.part.key.version == 4)
+pub length-message : (time sequence : ℕ) (sets : List ℕ) → length (message time sequence sets) ≡ 16 + length sets
+unfolding message
+length-message time sequence sets =
+    length-append (message_header (16 + length sets) time sequence) sets
+    ∙ ap (λ n. n + length sets) (length-message_header (16 + length sets) time sequence)

@@ -8,10 +8,11 @@ use Rattle.std.proofs.Math.Nat.{mod-add-div', add-mul-mod_self_right}
 use Rattle.record_ledger.specs.declared.record.FlowRecord.{FlowRecord}
 use Rattle.ipfix_writer.specs.declared.emitter.Phase.{Phase}
 use Rattle.ipfix_writer.specs.declared.emitter.Phase.TheVariants.{Fresh, Started}
-use Rattle.ipfix_writer.specs.Encoding.{message, template_message, template_of, record_size}
-use Rattle.ipfix_writer.specs.Layout.{body_of, message_length, AreFilled, data_messages, together, IsLayoutOf, BeginsLayout}
+use Rattle.ipfix_model.specs.Templates.{template_of}
+use Rattle.ipfix_writer.specs.Encoding.{message, template_message, data_record}
+use Rattle.ipfix_writer.specs.Layout.{body_of, message_length, AreFilledBy, AreFilled, messages_in, data_messages, together, encode_flow, IsLayoutOf, BeginsLayout}
 use Rattle.ipfix_writer.specs.Emitting.{EmitterState, EmitterKeeps, IsUnderWay, waiting_part, last_template, header_before}
-use Rattle.ipfix_writer.proofs.Lengths.{message_length-nil, message_length-snoc, message_length-bound, last_template-snoc}
+use Rattle.ipfix_writer.proofs.Lengths.{length_in-nil, length_in-snoc, message_length-bound, last_template-snoc}
 use Rattle.ipfix_writer.proofs.Filling.{begins-start, begins-parts, filled-more, filled-next, alone-fits, data_messages-last, together-last}
 
 differ : true ≡ false → ⊥
@@ -26,7 +27,7 @@ pub keeps-fresh : (size bytes records : ℕ) → 116 ≤ size → size < 2 ^ 16 
 keeps-fresh size bytes records least most room places = record {
   least = least;
   most = most;
-  exact = sym message_length-nil;
+  exact = sym (length_in-nil encode_flow);
   within = omega arith;
   last = refl;
   bytes = room;
@@ -35,7 +36,7 @@ keeps-fresh size bytes records least most room places = record {
 }
 
 under_way-empty : (size export_time : ℕ) → IsUnderWay (record { size = size; export_time = export_time; phase = Started; waiting = []; sequence = 0; messages = 1 }) [] (template_message export_time)
-unfolding AreFilled data_messages
+unfolding AreFilledBy messages_in
 under_way-empty size export_time = record {
   parts = [];
   started = refl;
@@ -63,11 +64,11 @@ begins-template size export_time flows piece count room is =
 
 -- the length of the message with one more record
 pub length-with : (length_now header size : ℕ) (waiting : List FlowRecord) (last : Option ℕ) (flow : FlowRecord)
-    → length_now ≡ message_length waiting → last ≡ last_template waiting → header ≡ header_before last (template_of flow) → size ≡ record_size flow
+    → length_now ≡ message_length waiting → last ≡ last_template encode_flow waiting → header ≡ header_before last (template_of flow) → size ≡ length (data_record flow)
     → length_now + header + size ≡ message_length (waiting ++ flow ∷ [])
 length-with length_now header size waiting last flow exact last_is header_is size_is =
-    let grown = message_length-snoc waiting flow in
-    let header_of : header ≡ header_before (last_template waiting) (template_of flow) = header_is ∙ ap (λ t. header_before t (template_of flow)) last_is in
+    let grown = length_in-snoc encode_flow waiting flow in
+    let header_of : header ≡ header_before (last_template encode_flow waiting) (template_of flow) = header_is ∙ ap (λ t. header_before t (template_of flow)) last_is in
     omega arith
 
 -- a message that fits has fewer records than there are places
@@ -88,7 +89,7 @@ keeps-more size phase waiting all sequence messages old new template last bytes 
   most = keeps.most;
   exact = exact ∙ ap message_length (sym all_is);
   within = fits;
-  last = ap Some kind ∙ sym (last_template-snoc waiting flow) ∙ ap last_template (sym all_is);
+  last = ap Some kind ∙ sym (last_template-snoc encode_flow waiting flow) ∙ ap (last_template encode_flow) (sym all_is);
   bytes = keeps.bytes;
   records = omega (arith, keeps.records);
   fresh = λ e. absurd (not_fresh (sym e ∙ started));
@@ -101,9 +102,9 @@ pub keeps-flushed : (size : ℕ) (phase : Phase) (waiting none : List FlowRecord
 keeps-flushed size phase waiting none sequence messages old sequence_now messages_now last bytes places room_of_bytes room keeps started none_is more_bytes more = record {
   least = keeps.least;
   most = keeps.most;
-  exact = sym (ap message_length none_is ∙ message_length-nil);
+  exact = sym (ap message_length none_is ∙ length_in-nil encode_flow);
   within = omega (arith, keeps.least);
-  last = ap last_template (sym none_is);
+  last = ap (last_template encode_flow) (sym none_is);
   bytes = omega (arith, keeps.bytes);
   records = omega (arith, keeps.records);
   fresh = λ e. absurd (not_fresh (sym e ∙ started));
@@ -120,9 +121,9 @@ not_empty (first ∷ flows) flow e = cc
 
 filled_after : (size : ℕ) (parts : List (List FlowRecord)) (waiting : List FlowRecord) (flow : FlowRecord) → AreFilled size (parts ++ waiting_part waiting)
     → (waiting ≡ [] → parts ≡ []) → message_length (waiting ++ flow ∷ []) ≤ size → AreFilled size (parts ++ waiting_part (waiting ++ flow ∷ []))
-unfolding AreFilled
+unfolding AreFilledBy
 filled_after size parts [] flow filled begun fits = rw (begun refl) (omega arith, fits)
-filled_after size parts (first ∷ flows) flow filled begun fits = filled-more size parts first flows flow filled fits
+filled_after size parts (first ∷ flows) flow filled begun fits = filled-more encode_flow size parts first flows flow filled fits
 
 -- one more record that fits its message
 pub under_way-more : (emitter : EmitterState) (flows : List FlowRecord) (written : List ℕ) (flow : FlowRecord)
@@ -154,7 +155,7 @@ closed emitter flows written way =
           ap (λ bs. bs ++ last) way.bytes
           ∙ append_assoc (template_message emitter.export_time) (data_messages emitter.export_time 0 way.parts) last
           ∙ ap (λ n. template_message emitter.export_time ++ (data_messages emitter.export_time 0 way.parts ++ message emitter.export_time n (body_of emitter.waiting))) way.sequence
-          ∙ ap (λ bs. template_message emitter.export_time ++ bs) (sym (data_messages-last emitter.export_time way.parts emitter.waiting));
+          ∙ ap (λ bs. template_message emitter.export_time ++ bs) (sym (data_messages-last encode_flow emitter.export_time way.parts emitter.waiting));
     }
 
 -- the records that wait fill their message
@@ -189,7 +190,7 @@ under_way-next emitter after flows written flow room way full is =
       started = way.started;
       whole = ap (λ fs. fs ++ flow ∷ []) shut.whole;
       begun = λ e. absurd (not_empty [] flow e);
-      filled = filled-next emitter.size way.parts emitter.waiting flow (waiting-filled emitter.size way.parts emitter.waiting some way.filled) full (alone-fits emitter.size flow (omega arith));
+      filled = filled-next encode_flow emitter.size way.parts emitter.waiting flow (waiting-filled emitter.size way.parts emitter.waiting some way.filled) full (alone-fits emitter.size flow (omega arith));
       bytes = shut.bytes;
       sequence = mod_sum emitter.sequence (length emitter.waiting) (length (together way.parts)) way.sequence
           ∙ ap (λ n. n % 4294967296) (sym count ∙ ap length (sym (together-last way.parts emitter.waiting)));
@@ -207,7 +208,7 @@ begins-next emitter flows written flow rest count room way full =
     let last = message emitter.export_time emitter.sequence (body_of emitter.waiting) in
     subst (λ fs. BeginsLayout emitter.size emitter.export_time (fs ++ flow ∷ rest) (written ++ take count last)) shut.whole
     (begins-parts emitter.size emitter.export_time (way.parts ++ emitter.waiting ∷ []) flow [] rest (written ++ take count last) (drop count last) (omega arith)
-    (filled-next emitter.size way.parts emitter.waiting flow (waiting-filled emitter.size way.parts emitter.waiting some way.filled) full (alone-fits emitter.size flow (omega arith)))
+    (filled-next encode_flow emitter.size way.parts emitter.waiting flow (waiting-filled emitter.size way.parts emitter.waiting some way.filled) full (alone-fits emitter.size flow (omega arith)))
     (sym shut.bytes ∙ ap (λ bs. written ++ bs) (sym (take-append-drop count last)) ∙ sym (append_assoc written (take count last) (drop count last))))
 
 -- the layout where no record waits

@@ -1,10 +1,10 @@
--- An emitter between its calls.
+-- What contracts see of an emitter between its calls; and, the code's own, what it keeps of its fields.
 use Rattle.std.specs.Prelude.{◌≡◌, ℕ, ◌<◌, ◌≤◌, ◌/◌, ◌+◌, ◌-◌, ◌%◌, ◌^◌, ◌==◌, if◌then◌else◌, min, List, [], ◌∷◌, ◌++◌, length, Option, Some, None}
 use Rattle.record_ledger.specs.declared.record.FlowRecord.{FlowRecord}
 use Rattle.ipfix_writer.specs.declared.emitter.Phase.{Phase}
 use Rattle.ipfix_writer.specs.declared.emitter.Phase.TheVariants.{Fresh, Started}
-use Rattle.ipfix_writer.specs.Encoding.{template_message, template_of}
-use Rattle.ipfix_writer.specs.Layout.{AreFilled, data_messages, together, message_length}
+use Rattle.ipfix_writer.specs.Encoding.{template_message}
+use Rattle.ipfix_writer.specs.Layout.{RecordSet, encode_flow, AreFilled, data_messages, together, message_length}
 
 -- What contracts see of an emitter: the message size, the export time, how far it came, the records that wait for
 -- their message to be full, the sequence number of that message, and how many messages were written.
@@ -21,13 +21,13 @@ abbrev pub waiting_part : List FlowRecord → List (List FlowRecord)
 waiting_part [] = []
 waiting_part (flow ∷ flows) = (flow ∷ flows) ∷ []
 
--- The template of the last of some records.
-abbrev pub last_template : List FlowRecord → Option ℕ
-last_template [] = None
-last_template (flow ∷ []) = Some (template_of flow)
-last_template (flow ∷ (next ∷ flows)) = last_template (next ∷ flows)
+-- The code's own: the template of the last of some records.
+abbrev pub last_template : {A : Type 0} → (A → RecordSet) → List A → Option ℕ
+last_template encode [] = None
+last_template encode (x ∷ []) = Some (encode x).template
+last_template encode (x ∷ (next ∷ xs)) = last_template encode (next ∷ xs)
 
--- The length of a set header in front of a record of this template, where the record before has that one, or there is
+-- The code's own: the length of a set header in front of a record of this template, where the record before has that one, or there is
 -- none.
 abbrev pub header_before : Option ℕ → ℕ → ℕ
 header_before None template = 4
@@ -44,7 +44,7 @@ pub record IsUnderWay (emitter : EmitterState) (flows : List FlowRecord) (writte
   pub sequence : emitter.sequence ≡ length (together parts) % 2 ^ 32
   pub messages : emitter.messages ≡ min (1 + length parts) (2 ^ 64 - 1)
 
--- What an emitter keeps of its fields: the room for a message and its records, the length of the message that waits,
+-- The code's own: what an emitter keeps of its fields: the room for a message and its records, the length of the message that waits,
 -- and the template of its last record.
 pub record EmitterKeeps (size : ℕ) (phase : Phase) (waiting : List FlowRecord) (sequence messages length_of_message : ℕ) (template : Option ℕ)
     (room_of_bytes room_of_records : ℕ) : Type 0 where
@@ -52,7 +52,7 @@ pub record EmitterKeeps (size : ℕ) (phase : Phase) (waiting : List FlowRecord)
   pub most : size < 2 ^ 16
   pub exact : length_of_message ≡ message_length waiting
   pub within : length_of_message ≤ size
-  pub last : template ≡ last_template waiting
+  pub last : template ≡ last_template encode_flow waiting
   pub bytes : size ≤ room_of_bytes
   pub records : size / 48 ≤ room_of_records
   pub fresh : phase ≡ Fresh → (waiting ≡ []) × (sequence ≡ 0) × (messages ≡ 0)

@@ -2,12 +2,11 @@
 
 ghost use Rattle.std.specs.Prelude.{◌≡◌, ◌+◌, ◌≤◌, ◌<◌, ◌^◌, ◌++◌, ◌==◌, length, drop, take_while};
 ghost use Rattle.std.specs.Vec.{vec_capacity};
-ghost use Rattle.ipfix_writer.specs.Encoding.{message_header, template_of};
-ghost use Rattle.ipfix_writer.specs.Layout.{body_of, records_bytes};
+ghost use Rattle.ipfix_writer.specs.Encoding.{message_header};
+ghost use Rattle.ipfix_writer.specs.Layout.{body_in, records_in};
 
-use crate::encode::{append_data_record, data_record_size, template_number};
-use crate::numbers::{append_u16, append_u32};
-use record_ledger::FlowRecord;
+use crate::encode::Encode;
+use octets::{append_u16, append_u32};
 
 /// The length of a set header, in octets.
 pub const SET_HEADER: usize = 4;
@@ -35,56 +34,56 @@ pub fn append_message_header(buffer: &mut Vec<u8>, size: u16, export_time: u32, 
 
 /// How many of the first records have this template.
 #[inline]
-fn run_length(flows: &[FlowRecord], template: u16) -> usize
-    ensures { result ≡ length (take_while (λ flow. template_of flow == template) flows.now) }
+fn run_length<R: Encode>(records: &[R], template: u16) -> usize
+    ensures { result ≡ length (take_while (λ one. (R.encode one).template == template) records.now) }
 {
-    flows
+    records
         .iter()
-        .take_while(|flow| template_number(flow) == template)
+        .take_while(|one| one.template() == template)
         .count()
 }
 
-/// Appends the data records of these flows.
-fn append_data_records(buffer: &mut Vec<u8>, flows: &[FlowRecord])
-    requires { length buffer.old.items + length (records_bytes flows.now) ≤ vec_capacity buffer.old }
-    ensures items { buffer.new.items ≡ buffer.old.items ++ records_bytes flows.now }
+/// Appends these data records.
+fn append_data_records<R: Encode>(buffer: &mut Vec<u8>, records: &[R])
+    requires { length buffer.old.items + length (records_in R.encode records.now) ≤ vec_capacity buffer.old }
+    ensures items { buffer.new.items ≡ buffer.old.items ++ records_in R.encode records.now }
     ensures room { vec_capacity buffer.old ≤ vec_capacity buffer.new }
 {
-    for flow in flows {
-        append_data_record(buffer, flow);
+    for one in records {
+        one.append(buffer);
     }
 }
 
 /// Appends the set that the first records share, and tells how many they are.
-fn append_set(buffer: &mut Vec<u8>, flows: &[FlowRecord]) -> usize
-    requires some { 0 < length flows.now }
-    requires room { length buffer.old.items + length (body_of flows.now) ≤ vec_capacity buffer.old }
-    requires small { length (body_of flows.now) < 2 ^ 16 }
-    ensures count { (0 < result) × (result ≤ length flows.now) }
-    ensures items { buffer.new.items ++ body_of (drop result flows.now) ≡ buffer.old.items ++ body_of flows.now }
+fn append_set<R: Encode>(buffer: &mut Vec<u8>, records: &[R]) -> usize
+    requires some { 0 < length records.now }
+    requires room { length buffer.old.items + length (body_in R.encode records.now) ≤ vec_capacity buffer.old }
+    requires small { length (body_in R.encode records.now) < 2 ^ 16 }
+    ensures count { (0 < result) × (result ≤ length records.now) }
+    ensures items { buffer.new.items ++ body_in R.encode (drop result records.now) ≡ buffer.old.items ++ body_in R.encode records.now }
     ensures longer { length buffer.old.items ≤ length buffer.new.items }
     ensures room { vec_capacity buffer.old ≤ vec_capacity buffer.new }
 {
-    let first = flows[0];
-    let template = template_number(&first);
-    let count = run_length(flows, template);
-    let size = SET_HEADER + count * data_record_size(&first);
+    let first = records[0];
+    let template = first.template();
+    let count = run_length(records, template);
+    let size = SET_HEADER + count * first.size();
     append_u16(buffer, template);
     append_u16(buffer, size as u16);
-    append_data_records(buffer, &flows[..count]);
+    append_data_records(buffer, &records[..count]);
     count
 }
 
 /// Appends the sets of these records.
-pub fn append_body(buffer: &mut Vec<u8>, flows: &[FlowRecord])
-    requires room { length buffer.old.items + length (body_of flows.now) ≤ vec_capacity buffer.old }
-    requires small { length (body_of flows.now) < 2 ^ 16 }
-    ensures items { buffer.new.items ≡ buffer.old.items ++ body_of flows.now }
+pub fn append_body<R: Encode>(buffer: &mut Vec<u8>, records: &[R])
+    requires room { length buffer.old.items + length (body_in R.encode records.now) ≤ vec_capacity buffer.old }
+    requires small { length (body_in R.encode records.now) < 2 ^ 16 }
+    ensures items { buffer.new.items ≡ buffer.old.items ++ body_in R.encode records.now }
     ensures room { vec_capacity buffer.old ≤ vec_capacity buffer.new }
 {
     let mut done = 0;
-    while done < flows.len() {
-        let (_, rest) = flows.split_at(done);
+    while done < records.len() {
+        let (_, rest) = records.split_at(done);
         done += append_set(buffer, rest);
     }
 }

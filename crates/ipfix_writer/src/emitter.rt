@@ -7,7 +7,7 @@ ghost use Rattle.meter_io.specs.Causes.{HasCause};
 ghost use Rattle.ipfix_writer.specs.Emitting.{header_before};
 
 use crate::body::SET_HEADER;
-use crate::encode::{data_record_size, template_number};
+use crate::encode::Encode;
 use crate::message::{encode_message, encode_template_message};
 use meter_io::{Failed, NoMemory, Sink, write_all};
 use record_ledger::FlowRecord;
@@ -79,7 +79,7 @@ impl Model for Emitter {
 }
 
 impl Emitter {
-    ghost use Rattle.ipfix_writer.specs.Encoding.{message, template_message, template_of};
+    ghost use Rattle.ipfix_writer.specs.Encoding.{message, template_message};
     ghost use Rattle.ipfix_writer.specs.Layout.{body_of, message_length, IsLayoutOf, BeginsLayout};
     ghost use Rattle.ipfix_writer.specs.Emitting.{IsUnderWay};
     ghost use Rattle.record_ledger.specs.declared.record.FlowRecord.{FlowRecord};
@@ -136,7 +136,7 @@ impl Emitter {
     fn length_with(&self, flow: &FlowRecord) -> usize
         ensures { result ≡ message_length (self.now.waiting ++ flow.now ∷ []) }
     {
-        self.length + header_length(self.template, template_number(flow)) + data_record_size(flow)
+        self.length + header_length(self.template, flow.template()) + flow.size()
     }
 
     /// Keeps one more record, with which the message has this length.
@@ -148,7 +148,7 @@ impl Emitter {
     {
         self.waiting.push(*flow).unwrap();
         self.length = length;
-        self.template = Some(template_number(flow));
+        self.template = Some(flow.template());
     }
 
     /// Writes the message of the records that wait.

@@ -1,49 +1,74 @@
 //! The bytes of records.
 
-ghost use Rattle.std.specs.Prelude.{◌≡◌, ◌+◌, ◌≤◌, ◌++◌, length};
+ghost use Rattle.std.specs.Prelude.{◌≡◌, ◌+◌, ◌*◌, ◌≤◌, ◌++◌, length};
 ghost use Rattle.std.specs.Vec.{vec_capacity};
-ghost use Rattle.ipfix_writer.specs.Encoding.{template_of, data_record, key_part, counts_part, record_size};
+ghost use Rattle.ipfix_writer.specs.DataParts.{address_size, key_part, counts_part};
 
-use crate::numbers::{append_u8, append_u16, append_u32, append_u64, append_u128};
 use ipfix_model::{V4_TEMPLATE, V6_TEMPLATE};
+use octets::{append_u8, append_u16, append_u32, append_u64, append_u128};
 use record_ledger::FlowRecord;
 
-/// The number of a record's template, by the version of its key.
-#[inline]
-#[tactic(auto, unfolding(crate::specs::Encoding::template_of))]
-pub fn template_number(flow: &FlowRecord) -> u16
-    ensures { result ≡ template_of flow.now }
-{
-    if flow.part.key.version == 4 {
-        V4_TEMPLATE
-    } else {
-        V6_TEMPLATE
+/// What is written as a data record: the number of its template, and its bytes (RFC 7011, section 3.4.3). Those of one
+/// template are of one length.
+pub trait Encode: Copy {
+    ghost use Rattle.ipfix_writer.specs.Layout.{RecordSet};
+
+    ghost encode: { Self → RecordSet };
+
+    /// The number of its template.
+    fn template(&self) -> u16
+        ensures { result ≡ (encode self.now).template };
+
+    /// The length of its data record, in octets.
+    fn size(&self) -> usize
+        ensures { result ≡ length (encode self.now).records };
+
+    /// Appends its data record.
+    fn append(&self, buffer: &mut Vec<u8>)
+        requires { length buffer.old.items + length (encode self.now).records ≤ vec_capacity buffer.old }
+        ensures items { buffer.new.items ≡ buffer.old.items ++ (encode self.now).records }
+        ensures room { vec_capacity buffer.old ≤ vec_capacity buffer.new };
+
+    ghost sized: { (one other : Self) → (encode one).template ≡ (encode other).template
+        → length (encode one).records ≡ length (encode other).records };
+}
+
+impl Encode for FlowRecord {
+    ghost use Rattle.ipfix_writer.specs.Layout.{encode_flow};
+    ghost use Rattle.ipfix_writer.specs.DataSizes.{size_by_template};
+
+    ghost encode = { encode_flow };
+
+    ghost sized = { size_by_template };
+
+    /// The number of a record's template, by the version of its key.
+    #[inline]
+    #[tactic(auto, unfolding(ipfix_model::specs::Templates::template_of))]
+    fn template(&self) -> u16 {
+        if self.part.key.version == 4 {
+            V4_TEMPLATE
+        } else {
+            V6_TEMPLATE
+        }
+    }
+
+    /// The bytes of a data record: 48 for version 4, 72 for version 6.
+    #[inline]
+    fn size(&self) -> usize {
+        if self.part.key.version == 4 { 48 } else { 72 }
+    }
+
+    /// Appends the data record of a flow.
+    fn append(&self, buffer: &mut Vec<u8>) {
+        append_key(buffer, self);
+        append_counts(buffer, self);
     }
 }
 
-/// The bytes of a data record: 48 for version 4, 72 for version 6.
-#[inline]
-pub fn data_record_size(flow: &FlowRecord) -> usize
-    ensures { result ≡ record_size flow.now }
-{
-    if flow.part.key.version == 4 { 48 } else { 72 }
-}
-
-/// Appends the data record of a flow.
-#[tactic(auto, unfolding(crate::specs::Encoding::data_record))]
-pub fn append_data_record(buffer: &mut Vec<u8>, flow: &FlowRecord)
-    requires { length buffer.old.items + record_size flow.now ≤ vec_capacity buffer.old }
-    ensures items { buffer.new.items ≡ buffer.old.items ++ data_record flow.now }
-    ensures room { vec_capacity buffer.old ≤ vec_capacity buffer.new }
-{
-    append_key(buffer, flow);
-    append_counts(buffer, flow);
-}
-
 /// Appends the values of the key.
-#[tactic(auto, unfolding(crate::specs::Encoding::key_part))]
-fn append_key(buffer: &mut Vec<u8>, flow: &FlowRecord)
-    requires { length buffer.old.items + record_size flow.now ≤ vec_capacity buffer.old }
+#[tactic(auto, unfolding(crate::specs::DataParts::key_part))]
+pub fn append_key(buffer: &mut Vec<u8>, flow: &FlowRecord)
+    requires { length buffer.old.items + 2 * address_size flow.now + 5 ≤ vec_capacity buffer.old }
     ensures items { buffer.new.items ≡ buffer.old.items ++ key_part flow.now }
     ensures room { vec_capacity buffer.old ≤ vec_capacity buffer.new }
 {
@@ -61,8 +86,8 @@ fn append_key(buffer: &mut Vec<u8>, flow: &FlowRecord)
 }
 
 /// Appends the values that are not of the key: flags, counts, times and reason.
-#[tactic(auto, unfolding(crate::specs::Encoding::counts_part))]
-fn append_counts(buffer: &mut Vec<u8>, flow: &FlowRecord)
+#[tactic(auto, unfolding(crate::specs::DataParts::counts_part))]
+pub fn append_counts(buffer: &mut Vec<u8>, flow: &FlowRecord)
     requires { length buffer.old.items + 35 ≤ vec_capacity buffer.old }
     ensures items { buffer.new.items ≡ buffer.old.items ++ counts_part flow.now }
     ensures room { vec_capacity buffer.old ≤ vec_capacity buffer.new }

@@ -1,14 +1,15 @@
 //! Whole messages.
 
-ghost use Rattle.std.specs.Prelude.{◌≡◌, ◌+◌, ◌≤◌, ◌<◌, ◌^◌, ◌*◌, ◌++◌, length, flat_map};
+ghost use Rattle.std.specs.Prelude.{◌≡◌, ◌+◌, ◌≤◌, ◌<◌, ◌^◌, ◌*◌, ◌++◌, IsTrue, nat_lt, length, flat_map};
+ghost use Rattle.std.specs.List.{list_all};
 ghost use Rattle.std.specs.Vec.{vec_capacity};
 ghost use Rattle.ipfix_writer.specs.Encoding.{message, template_message, template_record, field_specifier};
-ghost use Rattle.ipfix_writer.specs.Layout.{body_of, message_length};
+ghost use Rattle.ipfix_writer.specs.Layout.{body_in, length_in};
 
 use crate::body::{append_body, append_message_header};
-use crate::numbers::append_u16;
+use crate::encode::Encode;
 use ipfix_model::{FieldSpec, V4_FIELDS, V4_TEMPLATE, V6_FIELDS, V6_TEMPLATE};
-use record_ledger::FlowRecord;
+use octets::{append_u16, append_u32};
 
 /// The number of the set that holds template records.
 const TEMPLATE_SET: u16 = 2;
@@ -18,43 +19,55 @@ const TEMPLATE_SET_LENGTH: u16 = 100;
 
 const TEMPLATE_MESSAGE_LENGTH: u16 = 116;
 
+/// The upper bit of an element in a field specifier: an enterprise number follows.
+const ENTERPRISE_BIT: u16 = 0x8000;
+
 /// Puts the message of these records, of this length, into the buffer.
-#[tactic(auto, unfolding(crate::specs::Encoding::message, crate::specs::Layout::message_length))]
-pub fn encode_message(
+#[tactic(auto, unfolding(crate::specs::Encoding::message, crate::specs::Layout::length_in))]
+pub fn encode_message<R: Encode>(
     buffer: &mut Vec<u8>,
-    flows: &[FlowRecord],
+    records: &[R],
     size: usize,
     export_time: u32,
     sequence: u32,
 )
-    requires size { size ≡ message_length flows.now }
+    requires size { size ≡ length_in R.encode records.now }
     requires small { size < 2 ^ 16 }
     requires room { size ≤ vec_capacity buffer.old }
-    ensures items { buffer.new.items ≡ message export_time sequence (body_of flows.now) }
+    ensures items { buffer.new.items ≡ message export_time sequence (body_in R.encode records.now) }
     ensures room { vec_capacity buffer.old ≤ vec_capacity buffer.new }
 {
     buffer.clear();
     append_message_header(buffer, size as u16, export_time, sequence);
-    append_body(buffer, flows);
+    append_body(buffer, records);
 }
 
-/// Appends a field specifier.
+/// Appends a field specifier: that of an enterprise's element has its upper bit set.
 #[tactic(auto, unfolding(crate::specs::Encoding::field_specifier))]
 fn append_field(buffer: &mut Vec<u8>, field: &FieldSpec)
-    requires { length buffer.old.items + 4 ≤ vec_capacity buffer.old }
+    requires room { length buffer.old.items + length (field_specifier field.now) ≤ vec_capacity buffer.old }
+    requires element { field.now.element < 2 ^ 15 }
     ensures items { buffer.new.items ≡ buffer.old.items ++ field_specifier field.now }
-    ensures longer { length buffer.new.items ≡ length buffer.old.items + 4 }
     ensures room { vec_capacity buffer.old ≤ vec_capacity buffer.new }
 {
-    append_u16(buffer, field.element);
-    append_u16(buffer, field.length);
+    match field.enterprise {
+        None => {
+            append_u16(buffer, field.element);
+            append_u16(buffer, field.length);
+        }
+        Some(enterprise) => {
+            append_u16(buffer, ENTERPRISE_BIT + field.element);
+            append_u16(buffer, field.length);
+            append_u32(buffer, enterprise);
+        }
+    }
 }
 
 /// Appends field specifiers.
 fn append_fields(buffer: &mut Vec<u8>, fields: &[FieldSpec])
-    requires { length buffer.old.items + 4 * length fields.now ≤ vec_capacity buffer.old }
+    requires room { length buffer.old.items + length (flat_map field_specifier fields.now) ≤ vec_capacity buffer.old }
+    requires elements { IsTrue (list_all (λ field. nat_lt field.element 32768) fields.now) }
     ensures items { buffer.new.items ≡ buffer.old.items ++ flat_map field_specifier fields.now }
-    ensures longer { length buffer.new.items ≡ length buffer.old.items + 4 * length fields.now }
     ensures room { vec_capacity buffer.old ≤ vec_capacity buffer.new }
 {
     for field in fields {
@@ -64,11 +77,11 @@ fn append_fields(buffer: &mut Vec<u8>, fields: &[FieldSpec])
 
 /// Appends a template record.
 #[tactic(auto, unfolding(crate::specs::Encoding::template_record))]
-fn append_template(buffer: &mut Vec<u8>, number: u16, fields: &[FieldSpec])
-    requires fits { length buffer.old.items + 4 + 4 * length fields.now ≤ vec_capacity buffer.old }
+pub fn append_template(buffer: &mut Vec<u8>, number: u16, fields: &[FieldSpec])
+    requires room { length buffer.old.items + length (template_record number fields.now) ≤ vec_capacity buffer.old }
     requires few { length fields.now < 2 ^ 16 }
+    requires elements { IsTrue (list_all (λ field. nat_lt field.element 32768) fields.now) }
     ensures items { buffer.new.items ≡ buffer.old.items ++ template_record number fields.now }
-    ensures longer { length buffer.new.items ≡ length buffer.old.items + 4 + 4 * length fields.now }
     ensures room { vec_capacity buffer.old ≤ vec_capacity buffer.new }
 {
     append_u16(buffer, number);

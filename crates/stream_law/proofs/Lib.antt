@@ -5,3 +5,4 @@ pub mod DataSets
 pub mod Sets
 pub mod Messages
 pub mod Streams
+pub mod Layouts

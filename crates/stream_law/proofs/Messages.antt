@@ -1,55 +1,44 @@
 -- Messages are read as their records.
-use Rattle.std.proofs.Common.{◌≡◌, ◌<◌, ◌≤◌, ◌+◌, ◌-◌, ◌%◌, ◌^◌, ℕ, true, false, List, [], ◌∷◌, ◌++◌, length, take, drop, Ok, refl, sym, ap, ◌∙◌, arith, length-append}
+use Rattle.std.proofs.Common.{◌≡◌, ◌<◌, ◌≤◌, ◌+◌, ◌-◌, ◌%◌, ◌^◌, ℕ, true, List, ◌++◌, length, take, drop, Ok, refl, sym, ap, ◌∙◌, arith, length-append}
 use Rattle.std.proofs.lemmas.Bool.{le-ltb}
 use Rattle.std.proofs.Math.Seq.{drop-append_seam}
-use Rattle.byteorder.specs.Endian.{big_bytes}
-use Rattle.ipfix_model.specs.Templates.{v4_fields, v6_fields, v4_template, v6_template}
-use Rattle.ipfix_writer.specs.Encoding.{message_header, message, template_record, field_specifier}
-use Rattle.ipfix_writer.proofs.Sizes.{length-message_header}
-use Rattle.ipfix_reader.specs.Part.{Part, behind, first, number_at}
-use Rattle.ipfix_reader.specs.Known.{Sequences, expected_in, with_expected, with_template}
-use Rattle.ipfix_reader.specs.Specifiers.{template_fields}
-use Rattle.ipfix_reader.specs.Records.{template_records}
+use Rattle.octets.specs.Numbers.{octets_of, number_at}
+use Rattle.ipfix_writer.specs.Encoding.{message_header, message}
+use Rattle.ipfix_writer.proofs.Sizes.{length-message}
+use Rattle.ipfix_reader.specs.Part.{Part, behind, first}
+use Rattle.ipfix_reader.specs.Known.{Sequences, expected_in, with_expected}
 use Rattle.ipfix_reader.specs.Sets.{Contents, message_sets}
 use Rattle.ipfix_reader.specs.Messages.{Progress, message_version, message_length, message_sequence, message_domain, is_next, checked_length, stream_messages}
-use Rattle.ipfix_reader.proofs.RecordSteps.{template_records-next, template_records-end}
 use Rattle.ipfix_reader.proofs.MessageSteps.{stream_messages-next}
 use Rattle.stream_law.proofs.Numbers.{number-front, number-behind, take-front}
-use Rattle.stream_law.proofs.Sets.{known}
 
 -- the header of a message in front of more bytes
 message-version : (time sequence : ℕ) (sets rest : List ℕ) → number_at 0 2 (message time sequence sets ++ rest) ≡ 10
 unfolding message message_header
 message-version time sequence sets rest =
-    number-front 2 10 (big_bytes 2 (16 + length sets) ++ (big_bytes 4 time ++ (big_bytes 4 sequence ++ (big_bytes 4 1 ++ (sets ++ rest))))) (omega arith)
+    number-front 2 10 (octets_of 2 (16 + length sets) ++ (octets_of 4 time ++ (octets_of 4 sequence ++ (octets_of 4 1 ++ (sets ++ rest))))) (omega arith)
 
 message-size : (time sequence : ℕ) (sets rest : List ℕ) → 16 + length sets < 2 ^ 16 → number_at 2 2 (message time sequence sets ++ rest) ≡ 16 + length sets
 unfolding message message_header
 message-size time sequence sets rest fits =
-    number-behind (big_bytes 2 10) (big_bytes 2 (16 + length sets) ++ (big_bytes 4 time ++ (big_bytes 4 sequence ++ (big_bytes 4 1 ++ (sets ++ rest))))) 0 2
-    ∙ number-front 2 (16 + length sets) (big_bytes 4 time ++ (big_bytes 4 sequence ++ (big_bytes 4 1 ++ (sets ++ rest)))) fits
+    number-behind (octets_of 2 10) (octets_of 2 (16 + length sets) ++ (octets_of 4 time ++ (octets_of 4 sequence ++ (octets_of 4 1 ++ (sets ++ rest))))) 0 2
+    ∙ number-front 2 (16 + length sets) (octets_of 4 time ++ (octets_of 4 sequence ++ (octets_of 4 1 ++ (sets ++ rest)))) fits
 
 message-number : (time sequence : ℕ) (sets rest : List ℕ) → sequence < 2 ^ 32 → number_at 8 4 (message time sequence sets ++ rest) ≡ sequence
 unfolding message message_header
 message-number time sequence sets rest fits =
-    number-behind (big_bytes 2 10 ++ (big_bytes 2 (16 + length sets) ++ big_bytes 4 time)) (big_bytes 4 sequence ++ (big_bytes 4 1 ++ (sets ++ rest))) 0 4
-    ∙ number-front 4 sequence (big_bytes 4 1 ++ (sets ++ rest)) fits
+    number-behind (octets_of 2 10 ++ (octets_of 2 (16 + length sets) ++ octets_of 4 time)) (octets_of 4 sequence ++ (octets_of 4 1 ++ (sets ++ rest))) 0 4
+    ∙ number-front 4 sequence (octets_of 4 1 ++ (sets ++ rest)) fits
 
 message-domain : (time sequence : ℕ) (sets rest : List ℕ) → number_at 12 4 (message time sequence sets ++ rest) ≡ 1
 unfolding message message_header
 message-domain time sequence sets rest =
-    number-behind (big_bytes 2 10 ++ (big_bytes 2 (16 + length sets) ++ (big_bytes 4 time ++ big_bytes 4 sequence))) (big_bytes 4 1 ++ (sets ++ rest)) 0 4
+    number-behind (octets_of 2 10 ++ (octets_of 2 (16 + length sets) ++ (octets_of 4 time ++ octets_of 4 sequence))) (octets_of 4 1 ++ (sets ++ rest)) 0 4
     ∙ number-front 4 1 (sets ++ rest) (omega arith)
 
 message-inside : (time sequence : ℕ) (sets : List ℕ) → drop 16 (message time sequence sets) ≡ sets
 unfolding message message_header
 message-inside time sequence sets = refl
-
-length-message : (time sequence : ℕ) (sets : List ℕ) → length (message time sequence sets) ≡ 16 + length sets
-unfolding message
-length-message time sequence sets =
-    length-append (message_header (16 + length sets) time sequence) sets
-    ∙ ap (λ n. n + length sets) (length-message_header (16 + length sets) time sequence)
 
 -- a header without fault
 checked_length-fine : (sequences : Sequences) (part : Part) → 16 ≤ length part.bytes → message_version part ≡ 10 → 16 ≤ message_length part
@@ -91,13 +80,3 @@ message-decoded time sequence at sets rest before after size_fits sequence_fits 
       contents = after;
       sequences = with_expected before.sequences (domain_is i) ((number_is i + (length after.records - length before.contents.records)) % 2 ^ 32);
     }) (record { at = at + size_is i; bytes = behind_it i }))
-
--- the template records, and what they make known
-pub templates-read : template_records false 1 [] (record { at = 20; bytes = template_record v4_template v4_fields ++ template_record v6_template v6_fields }) ≡ Ok known
-unfolding template_record field_specifier template_fields number_at with_template
-templates-read =
-    let second : Part = record { at = 68; bytes = template_record v6_template v6_fields } in
-    template_records-next false 1 [] (record { at = 20; bytes = template_record v4_template v4_fields ++ template_record v6_template v6_fields })
-    (record { fields = v4_fields; rest = second }) (omega arith) refl
-    ∙ template_records-next false 1 (((1, v4_template), v4_fields) ∷ []) second (record { fields = v6_fields; rest = record { at = 116; bytes = [] } }) (omega arith) refl
-    ∙ template_records-end false 1 known (record { at = 116; bytes = [] }) (omega arith)

@@ -1,5 +1,5 @@
 use Rattle.std.proofs.Common.{append_assoc}
-use Rattle.ipfix_writer.specs.Encoding.{counts_part}
+use Rattle.ipfix_writer.specs.DataParts.{counts_part}
 use Rattle.ipfix_writer.proofs.encode.append_counts.Goals as goal
 
 pub returns-clause-items : goal.returns-clause-items
