@@ -1,5 +1,5 @@
 -- The values of fields.
-use Rattle.std.proofs.Common.{◌≡◌, ◌≤◌, ◌&&◌, ◌==◌, ℕ, suc, Bool, true, false, List, [], ◌∷◌, length, IsTrue, All, nat_le, refl, ap, ◌∙◌, sym, arith, eqb-true}
+use Rattle.std.proofs.Common.{◌≡◌, ◌≤◌, ◌&&◌, ◌==◌, suc, Bool, true, false, List, [], ◌∷◌, length, IsTrue, nat_le, refl, ap, arith, eqb-true}
 use Rattle.std.specs.List.{list_all}
 use Rattle.std.proofs.lemmas.Bool.{leb-true}
 use Rattle.std.proofs.lemmas.List.Elements.{All-cons}

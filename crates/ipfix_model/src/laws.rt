@@ -8,7 +8,8 @@ ghost use Rattle.ipfix_model.specs.Templates.{v4_template, v4_fields, v6_templat
 
 use crate::elements::*;
 use crate::templates::{
-    V4_BI_FIELDS, V4_BI_TEMPLATE, V4_FIELDS, V4_TEMPLATE, V6_BI_FIELDS, V6_BI_TEMPLATE, V6_FIELDS, V6_TEMPLATE,
+    V4_BI_FIELDS, V4_BI_TEMPLATE, V4_FIELDS, V4_TEMPLATE, V6_BI_FIELDS, V6_BI_TEMPLATE, V6_FIELDS,
+    V6_TEMPLATE,
 };
 
 /// The numbers of elements in the code are those of IANA's registry.

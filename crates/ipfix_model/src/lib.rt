@@ -25,6 +25,7 @@ pub use fields::{FieldList, FieldSpec, VARIABLE_LENGTH};
 pub use list::ListOf;
 pub use lookup::{are_values_of, number_of};
 pub use templates::{
-    Template, V4_BI_FIELDS, V4_BI_TEMPLATE, V4_FIELDS, V4_TEMPLATE, V6_BI_FIELDS, V6_BI_TEMPLATE, V6_FIELDS, V6_TEMPLATE,
+    Template, V4_BI_FIELDS, V4_BI_TEMPLATE, V4_FIELDS, V4_TEMPLATE, V6_BI_FIELDS, V6_BI_TEMPLATE,
+    V6_FIELDS, V6_TEMPLATE,
 };
 pub use values::{DataRecord, FieldValue, Octets, ValueList};

@@ -4,7 +4,8 @@ ghost use Rattle.std.specs.Prelude.{◌≤◌, length};
 
 use crate::elements::{AbstractType, abstract_type};
 use crate::{
-    FieldList, FieldSpec, FieldValue, Octets, Template, V4_FIELDS, V6_FIELDS, ValueList, are_values_of,
+    FieldList, FieldSpec, FieldValue, Octets, Template, V4_FIELDS, V6_FIELDS, ValueList,
+    are_values_of,
 };
 use std::test::Fail;
 

@@ -33,7 +33,7 @@ pub enum StreamFault {
 pub enum StreamError {
     /// The stream's first fault.
     Fault(StreamFault),
-    /// Want of memory.
+    /// Out of memory.
     NoMemory,
 }
 

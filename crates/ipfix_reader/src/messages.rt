@@ -24,7 +24,7 @@ const VERSION: u16 = 10;
 /// place of an earlier one with its number. Records of options templates are given too. Sets numbered 0, 1 and 4 to
 /// 255 are skipped.
 ///
-/// `Fault` has the stream's first fault and where it stands; then no records are given. Any error but want of memory
+/// `Fault` has the stream's first fault and where it stands; then no records are given. Any error but out of memory
 /// is one.
 pub fn read_stream(alloc: Global, bytes: &[u8]) -> Result<Vec<DataRecord>, StreamError>
     ensures records { IfOk result (λ records. decode bytes.now ≡ Ok records.items) }

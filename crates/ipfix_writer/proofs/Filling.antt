@@ -3,7 +3,7 @@ use Rattle.std.proofs.Common.{◌≡◌, ◌≤◌, ◌<◌, ◌+◌, ◌%◌, �
 use Rattle.std.proofs.lemmas.Bool.{cases_lt}
 use Rattle.record_ledger.specs.declared.record.FlowRecord.{FlowRecord}
 use Rattle.ipfix_writer.specs.Encoding.{message, template_message}
-use Rattle.ipfix_writer.specs.Layout.{RecordSet, body_in, length_in, AreFilledBy, messages_in, together, IsStream, encode_flow, message_length, AreFilled, data_messages, BeginsLayout}
+use Rattle.ipfix_writer.specs.Layout.{RecordSet, body_in, length_in, AreFilledBy, messages_in, together, encode_flow, message_length, AreFilled, data_messages, BeginsLayout}
 use Rattle.ipfix_writer.proofs.Lengths.{length_in-snoc, length_in-nil}
 use Rattle.ipfix_writer.proofs.Sizes.{record_size-bounds}
 

@@ -1,5 +1,5 @@
 -- The layout of records is one value.
-use Rattle.std.proofs.Common.{◌≡◌, ◌≤◌, ◌<◌, ◌+◌, ℕ, List, [], ◌∷◌, ◌++◌, length, take, refl, sym, ap, ◌∙◌, subst, arith, append_assoc, append-nil, ◌⊎◌, inl, inr}
+use Rattle.std.proofs.Common.{◌≡◌, ◌≤◌, ◌<◌, ℕ, List, [], ◌∷◌, ◌++◌, length, refl, sym, ap, ◌∙◌, subst, arith, append_assoc}
 use Rattle.ipfix_writer.specs.Layout.{RecordSet, length_in, AreFilledBy, messages_in, together, IsStream}
 use Rattle.ipfix_writer.proofs.Lengths.{length_in-more}
 

@@ -1,12 +1,9 @@
 -- The lengths of records, sets and messages.
-use Rattle.std.proofs.Common.{◌≡◌, ◌≤◌, ◌+◌, ◌*◌, ◌==◌, ℕ, Bool, true, false, List, [], ◌∷◌, ◌++◌, length, if◌then◌else◌, refl, ap, ◌∙◌, arith, length-append, append_assoc, append-nil, eqb-true}
+use Rattle.std.proofs.Common.{◌≡◌, ◌≤◌, ◌+◌, ◌*◌, ◌==◌, ℕ, Bool, true, false, List, ◌++◌, length, if◌then◌else◌, refl, ap, ◌∙◌, arith, length-append, append_assoc, append-nil}
 use Rattle.byteorder.specs.Numbers.{length-bytes_high_first}
-use Rattle.octets.specs.Numbers.{octets_of}
 use Rattle.record_ledger.specs.declared.record.FlowRecord.{FlowRecord}
-use Rattle.ipfix_model.specs.declared.fields.FieldSpec.{FieldSpec}
 use Rattle.ipfix_model.specs.Fields.{record_length}
-use Rattle.ipfix_model.specs.Templates.{v4_fields, v6_fields, template_of}
-use Rattle.ipfix_model.specs.Values.{field_value, record_bytes}
+use Rattle.ipfix_model.specs.Templates.{v4_fields, v6_fields}
 use Rattle.ipfix_writer.specs.Encoding.{message_header, message, set, data_record, record_size}
 use Rattle.ipfix_writer.specs.DataParts.{address_size, key_part, counts_part}
 use Rattle.ipfix_writer.specs.DataSizes.{length-data_record}

@@ -9,7 +9,8 @@ ghost use Rattle.ipfix_writer.specs.Emitting.{header_before};
 use crate::body::SET_HEADER;
 use crate::encode::Encode;
 use crate::message::{encode_message, encode_template_message};
-use meter_io::{Failed, NoMemory, Sink, write_all};
+use meter_io::{Failed, Sink, write_all};
+use no_memory::NoMemory;
 use record_ledger::FlowRecord;
 use std::alloc::Global;
 use std::marker::Model;
@@ -85,16 +86,14 @@ impl Emitter {
     ghost use Rattle.record_ledger.specs.declared.record.FlowRecord.{FlowRecord};
 
     /// An emitter of messages of at most `size` octets, from 116 to 65,535, with this export time in seconds.
+    ///
+    /// `NoMemory` where the room for one message can't be had.
     pub fn open(alloc: Global, size: usize, export_time: u32) -> Result<Emitter, NoMemory>
         requires { (116 ≤ size) × (size < 2 ^ 16) }
         ensures { IfOk result (λ emitter. emitter ≡ record { size = size; export_time = export_time; phase = Phase.Fresh; waiting = []; sequence = 0; messages = 0 }) }
     {
-        let Ok(buffer) = Vec::with_capacity(alloc, size) else {
-            return Err(NoMemory);
-        };
-        let Ok(waiting) = Vec::with_capacity(alloc, size / LEAST_RECORD) else {
-            return Err(NoMemory);
-        };
+        let buffer = Vec::with_capacity(alloc, size)?;
+        let waiting = Vec::with_capacity(alloc, size / LEAST_RECORD)?;
         Ok(Emitter {
             size,
             export_time,

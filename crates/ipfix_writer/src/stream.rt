@@ -7,7 +7,8 @@ ghost use Rattle.meter_io.specs.Causes.{HasCause};
 ghost use Rattle.ipfix_writer.specs.Layout.{IsLayout, IsLayoutOf, BeginsLayout};
 
 use crate::emitter::{Emitter, Phase};
-use meter_io::{Failed, NoMemory, Sink};
+use meter_io::{Failed, Sink};
+use no_memory::NoMemory;
 use record_ledger::FlowRecord;
 use std::alloc::Global;
 
@@ -41,7 +42,7 @@ pub fn emit_all<K: Sink>(
     emitter.finish(sink)
 }
 
-/// A sink that grows as it needs; a write fails where memory is wanting.
+/// A sink that grows as it needs; a write fails where memory runs out.
 #[derive(Drop)]
 struct Growing {
     bytes: Vec<u8>,
@@ -65,6 +66,8 @@ impl Sink for Growing {
 }
 
 /// The stream of these records: messages of at most `size` octets, from 116 to 65,535, with this export time in seconds.
+///
+/// `NoMemory` where the room for it can't be had.
 pub fn layout(
     alloc: Global,
     records: &[FlowRecord],

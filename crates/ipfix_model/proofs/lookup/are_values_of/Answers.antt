@@ -1,5 +1,5 @@
 -- Values that are fewer or more.
-use Rattle.std.proofs.Common.{◌∙◌, sym}
+use Rattle.std.proofs.Common.{sym}
 use Rattle.ipfix_model.proofs.FieldValues.{are_values_of-unequal}
 use Rattle.ipfix_model.proofs.lookup.are_values_of.Goals as goal
 

@@ -1,5 +1,5 @@
 -- The length that the fields of the template give.
-use Rattle.std.proofs.Common.{ℕ, ◌∙◌, ◌==◌, sym, ap, Bool, if◌then◌else◌, eq-eqb}
+use Rattle.std.proofs.Common.{◌∙◌, sym, ap, Bool, if◌then◌else◌, eq-eqb}
 use Rattle.std.proofs.lemmas.Bool.{ne_eqb}
 use Rattle.ipfix_writer.specs.DataSizes.{length-data_record}
 use Rattle.ipfix_writer.proofs.Sizes.{record_size-is}
