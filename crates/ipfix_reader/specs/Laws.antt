@@ -1,5 +1,5 @@
 -- Laws on the fields of flow records.
-use Rattle.std.specs.Prelude.{◌≡◌, Option, Some, None}
+use Rattle.std.specs.Prelude.{◌≡◌, Some}
 use Rattle.record_ledger.specs.declared.record.FlowRecord.{FlowRecord}
 use Rattle.ipfix_reader.specs.FlowFields.{FlowFields, flow_fields, AreOfFlow, IsFlowWith}
 use Rattle.ipfix_reader.specs.FlowWith.{flow_with}

@@ -5,7 +5,7 @@ use Rattle.ipfix_model.specs.declared.values.DataRecord.{DataRecord}
 use Rattle.ipfix_model.specs.Fields.{least_length}
 use Rattle.ipfix_reader.specs.declared.fault.StreamFault.TheVariants.{BadLength, BadPadding}
 use Rattle.octets.specs.Outcome.{◌>>=◌}
-use Rattle.ipfix_reader.specs.Part.{Part, are_zeros}
+use Rattle.ipfix_reader.specs.Part.{are_zeros}
 use Rattle.octets.specs.Numbers.{number_at}
 use Rattle.ipfix_reader.specs.Walk.{Reading, all_items}
 use Rattle.ipfix_reader.specs.Values.{values_of}

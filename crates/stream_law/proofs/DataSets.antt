@@ -99,8 +99,7 @@ put_before-groups encode x (g ∷ groups) =
     elim ((encode x).template == (encode g.first).template) as (λ b.
     (if b then record { template = (encode x).template; records = (encode x).records ++ records_in encode (g.first ∷ g.others) } ∷ sets
     else record { template = (encode x).template; records = (encode x).records } ∷ (set_of encode g ∷ sets))
-    ≡ map (set_of encode) (if b then record { first = x; others = g.first ∷ g.others } ∷ groups else record { first = x; others = [] } ∷ (g ∷ groups)))
-    [
+    ≡ map (set_of encode) (if b then record { first = x; others = g.first ∷ g.others } ∷ groups else record { first = x; others = [] } ∷ (g ∷ groups))) [
       | true ↦ refl
       | false ↦ ap (λ bytes. record { template = (encode x).template; records = bytes } ∷ (set_of encode g ∷ sets)) (sym (append-nil (encode x).records))
     ]

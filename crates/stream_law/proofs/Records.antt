@@ -1,14 +1,13 @@
 -- A flow record written as a data record is read as that flow record.
-use Rattle.std.proofs.Common.{◌≡◌, ◌<◌, ◌^◌, ◌==◌, ℕ, Bool, true, false, List, [], ◌∷◌, None, Some, if◌then◌else◌, refl, sym, ap, ◌∙◌, arith, map, option_map, eqb-true}
+use Rattle.std.proofs.Common.{◌≡◌, ◌==◌, ℕ, Bool, true, false, List, [], ◌∷◌, Some, if◌then◌else◌, refl, sym, ap, ◌∙◌, arith, map, option_map, eqb-true}
 use Rattle.std.proofs.lemmas.Bool.{eqb-false}
 use Rattle.std.specs.Option.{option_and_then}
 use Rattle.record_ledger.specs.declared.record.FlowRecord.{FlowRecord}
-use Rattle.ipfix_model.specs.declared.fields.FieldSpec.{FieldSpec}
 use Rattle.ipfix_model.specs.declared.values.DataRecord.{DataRecord}
 use Rattle.ipfix_model.specs.Elements.{octet_delta_count, packet_delta_count, protocol_identifier, tcp_control_bits, source_transport_port, source_ipv4_address, destination_transport_port, destination_ipv4_address, source_ipv6_address, destination_ipv6_address, flow_end_reason, flow_start_milliseconds, flow_end_milliseconds}
-use Rattle.ipfix_model.specs.Templates.{iana_field, v4_fields, v6_fields, v4_template, v6_template, template_of, fields_of}
+use Rattle.ipfix_model.specs.Templates.{iana_field, v4_fields, v6_fields, template_of, fields_of}
 use Rattle.ipfix_model.specs.Values.{field_value}
-use Rattle.ipfix_reader.specs.FlowFields.{FlowFields, flow_fields, fields_in}
+use Rattle.ipfix_reader.specs.FlowFields.{flow_fields, fields_in}
 use Rattle.ipfix_reader.specs.FlowWith.{flow_with}
 use Rattle.ipfix_reader.specs.Flows.{flow, flows_in}
 use Rattle.ipfix_reader.proofs.FlowFields.{flow_with-flow}

@@ -1,5 +1,5 @@
 -- The sets of a message are read as their records.
-use Rattle.std.proofs.Common.{◌≡◌, ◌<◌, ◌≤◌, ◌+◌, ◌^◌, ◌||◌, ℕ, false, List, [], ◌∷◌, ◌++◌, length, map, take, drop, Some, Ok, refl, sym, ap, subst, ◌∙◌, arith, nat_lt, length-append, append_assoc, append-nil}
+use Rattle.std.proofs.Common.{◌≡◌, ◌<◌, ◌+◌, ◌^◌, ◌||◌, ℕ, false, List, [], ◌∷◌, ◌++◌, length, map, take, drop, Some, Ok, refl, sym, ap, subst, ◌∙◌, arith, nat_lt, length-append, append_assoc, append-nil}
 use Rattle.std.proofs.lemmas.Bool.{le-ltb, or_from}
 use Rattle.std.proofs.Math.Seq.{drop-append_seam}
 use Rattle.std.proofs.lemmas.List.{map-append}
@@ -10,7 +10,7 @@ use Rattle.ipfix_writer.specs.Encoding.{set}
 use Rattle.ipfix_writer.specs.Layout.{RecordSet, records_in, bytes_of_sets, body_in}
 use Rattle.ipfix_writer.proofs.Sizes.{length-set}
 use Rattle.ipfix_reader.specs.Part.{Part, behind, first}
-use Rattle.ipfix_reader.specs.Known.{Templates, fields_in}
+use Rattle.ipfix_reader.specs.Known.{Templates}
 use Rattle.ipfix_reader.specs.Sets.{Contents, set_contents, set_length, is_bad_length, message_sets}
 use Rattle.ipfix_reader.proofs.SetSteps.{message_sets-next, message_sets-end, set_contents-data}
 use Rattle.stream_law.proofs.Numbers.{number-front, number-behind, take-front}

@@ -1,13 +1,13 @@
 -- Numbers written as the values of fields are read as these numbers.
-use Rattle.std.proofs.Common.{◌≡◌, ◌<◌, ◌≤◌, ◌+◌, ◌^◌, ◌&&◌, ◌==◌, ℕ, Bool, true, false, List, [], ◌∷◌, ◌++◌, length, map, take, drop, Option, None, Some, Ok, if◌then◌else◌, refl, sym, ap, ◌∙◌, arith, length-append, append_assoc, append-nil, add-zero, zero-add, eq-eqb}
+use Rattle.std.proofs.Common.{◌≡◌, ◌<◌, ◌≤◌, ◌+◌, ◌^◌, ℕ, Bool, true, false, List, [], ◌∷◌, ◌++◌, length, map, take, drop, Option, None, Some, Ok, if◌then◌else◌, refl, sym, ap, ◌∙◌, arith, length-append, append_assoc, append-nil, add-zero, zero-add, eq-eqb}
 use Rattle.std.proofs.lemmas.Bool.{le-ltb}
 use Rattle.std.proofs.lemmas.List.Sums.{sum_by-cons}
 use Rattle.std.proofs.Math.Seq.{drop-append_seam}
 use Rattle.octets.specs.Numbers.{octets_of, number_at}
 use Rattle.ipfix_model.specs.declared.fields.FieldSpec.{FieldSpec}
 use Rattle.ipfix_model.specs.declared.values.FieldValue.{FieldValue}
-use Rattle.ipfix_model.specs.Fields.{is_variable, field_least, least_length, record_length}
-use Rattle.ipfix_model.specs.Values.{record_bytes, is_same_enterprise, is_of_element, is_value_of, are_values_of, number_in}
+use Rattle.ipfix_model.specs.Fields.{is_variable, field_least, least_length}
+use Rattle.ipfix_model.specs.Values.{record_bytes, is_same_enterprise, is_value_of, are_values_of, number_in}
 use Rattle.ipfix_reader.specs.declared.fault.StreamFault.{StreamFault}
 use Rattle.ipfix_reader.specs.Part.{Part, behind}
 use Rattle.ipfix_reader.specs.Values.{prefix_length, value_length, coded_length, value_of, values_of}
