@@ -1,29 +1,35 @@
 -- Data records as text: a line for each, with its template and then its fields.
 use Rattle.std.specs.Prelude.{ℕ, Bool, ◌==◌, ◌&&◌, nat_le, if◌then◌else◌, List, [], ◌∷◌, ◌++◌, length, map, flat_map, Option, Some, None, is_none, codes, decimal}
-use Rattle.std.specs.Int.Digits.{number_from_digits}
+use Rattle.octets.specs.Numbers.{number_at}
 use Rattle.hex.specs.Hex.{encode_lower}
-use Rattle.std.specs.List.{list_any, join_with_byte}
+use Rattle.std.specs.List.{join_with_byte}
+use Rattle.ipfix_model.specs.Elements.{abstract_type}
+use Rattle.ipfix_model.specs.declared.elements.AbstractType.{AbstractType}
+use Rattle.ipfix_model.specs.declared.elements.AbstractType.TheVariants.{Unsigned8, Unsigned16, Unsigned64, Ipv4Address, Ipv6Address, DateTimeMilliseconds}
 use Rattle.ipfix_model.specs.declared.values.DataRecord.{DataRecord}
 use Rattle.ipfix_model.specs.declared.values.FieldValue.{FieldValue}
 
--- The elements whose values are numbers: octetDeltaCount, packetDeltaCount, protocolIdentifier, tcpControlBits,
--- sourceTransportPort, destinationTransportPort, flowEndReason, flowStartMilliseconds and flowEndMilliseconds.
-unfoldable pub is_number : ℕ → Bool
-is_number element = list_any (λ number. number == element) (1 ∷ 2 ∷ 4 ∷ 6 ∷ 7 ∷ 11 ∷ 136 ∷ 152 ∷ 153 ∷ [])
+-- A number of one to eight octets in decimal; any other value in hexadecimal.
+abbrev pub number_text : List ℕ → List ℕ
+number_text value =
+    if nat_le 1 (length value) && nat_le (length value) 8 then decimal (number_at 0 (length value) value) else encode_lower value
 
--- The elements whose values are IPv4 addresses: sourceIPv4Address and destinationIPv4Address.
-unfoldable pub is_address : ℕ → Bool
-is_address element = list_any (λ address. address == element) (8 ∷ 12 ∷ [])
+-- An address of four octets as four decimal numbers joined by points; any other value in hexadecimal.
+abbrev pub address_text : List ℕ → List ℕ
+address_text value = if length value == 4 then join_with_byte 46 (map decimal value) else encode_lower value
 
--- The value of an element of IANA's: a number of one to eight bytes, in network order, is written in decimal; an
--- address of four bytes as four decimal numbers joined by points; any other value in hexadecimal.
+-- The value of an element of IANA's, by its abstract data type.
+abbrev pub typed_text : Option AbstractType → List ℕ → List ℕ
+typed_text (Some Unsigned8) value = number_text value
+typed_text (Some Unsigned16) value = number_text value
+typed_text (Some Unsigned64) value = number_text value
+typed_text (Some DateTimeMilliseconds) value = number_text value
+typed_text (Some Ipv4Address) value = address_text value
+typed_text (Some Ipv6Address) value = encode_lower value
+typed_text None value = encode_lower value
+
 unfoldable pub iana_text : ℕ → List ℕ → List ℕ
-iana_text element value =
-    if is_number element && (nat_le 1 (length value) && nat_le (length value) 8)
-    then decimal (number_from_digits 256 value)
-    else if is_address element && (length value == 4)
-    then join_with_byte 46 (map decimal value)
-    else encode_lower value
+iana_text element value = typed_text (abstract_type element) value
 
 -- A value: that of an enterprise's element is written in hexadecimal.
 unfoldable pub value_text : FieldValue → List ℕ

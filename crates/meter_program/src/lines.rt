@@ -1,34 +1,18 @@
 //! Data records as text.
 
 ghost use Rattle.std.specs.Prelude.{◌≡◌, ◌<◌, ◌≤◌, ◌++◌, length, map, flat_map, decimal, IfOk, OnOk};
-ghost use Rattle.std.specs.Int.Digits.{number_from_digits};
 ghost use Rattle.std.specs.List.{join_with_byte};
-ghost use Rattle.meter_program.specs.Shows.{is_number, is_address, iana_text, value_text, name_text, field_text, line_of, text_of};
+ghost use Rattle.meter_program.specs.Shows.{number_text, iana_text, value_text, name_text, field_text, line_of, text_of};
 
-use ipfix_model::elements::*;
+use ipfix_model::elements::{AbstractType, abstract_type};
 use ipfix_model::{DataRecord, FieldValue};
 use no_memory::NoMemory;
+use octets::{numbers_law, uint_at};
 use plain_text::{append, append_decimal, append_hexadecimal};
 use std::alloc::Global;
 
 #[cfg(test)]
 mod tests;
-
-/// The elements whose values are numbers.
-const NUMBERS: [u16; 9] = [
-    OCTET_DELTA_COUNT,
-    PACKET_DELTA_COUNT,
-    PROTOCOL_IDENTIFIER,
-    TCP_CONTROL_BITS,
-    SOURCE_TRANSPORT_PORT,
-    DESTINATION_TRANSPORT_PORT,
-    FLOW_END_REASON,
-    FLOW_START_MILLISECONDS,
-    FLOW_END_MILLISECONDS,
-];
-
-/// The elements whose values are IPv4 addresses.
-const ADDRESSES: [u16; 2] = [SOURCE_IPV4_ADDRESS, DESTINATION_IPV4_ADDRESS];
 
 /// Appends four numbers in decimal, with points between them.
 fn append_address(text: &mut Vec<u8>, address: &[u8]) -> Result<(), NoMemory>
@@ -44,45 +28,33 @@ fn append_address(text: &mut Vec<u8>, address: &[u8]) -> Result<(), NoMemory>
     append_decimal(text, address[3] as u64)
 }
 
-/// The number in up to eight bytes, in network order.
-fn number_in(bytes: &[u8]) -> u64
-    requires { length bytes.now ≤ 8 }
-    ensures { result ≡ number_from_digits 256 bytes.now }
+/// Appends a number of one to eight octets in decimal, and any other value in hexadecimal.
+fn append_number(text: &mut Vec<u8>, value: &[u8]) -> Result<(), NoMemory>
+    ensures { OnOk result (text.new.items ≡ text.old.items ++ number_text value.now) }
 {
-    let mut number: u64 = 0;
-    for byte in bytes {
-        number = number * 256 + *byte as u64;
+    numbers_law();
+    if 1 <= value.len() && value.len() <= 8 {
+        let number = uint_at(value, 0, value.len());
+        append_decimal(text, number as u64)
+    } else {
+        append_hexadecimal(text, value)
     }
-    number
 }
 
-/// Whether the values of an element are numbers.
-#[tactic(auto, unfolding(crate::specs::Shows::is_number))]
-fn has_numbers(element: u16) -> bool
-    ensures { result ≡ is_number element }
-{
-    NUMBERS.contains(&element)
-}
-
-/// Whether the values of an element are IPv4 addresses.
-#[tactic(auto, unfolding(crate::specs::Shows::is_address))]
-fn has_addresses(element: u16) -> bool
-    ensures { result ≡ is_address element }
-{
-    ADDRESSES.contains(&element)
-}
-
-/// Appends the value of an element of IANA's.
+/// Appends the value of an element of IANA's, by its abstract data type.
 #[tactic(auto, unfolding(crate::specs::Shows::iana_text))]
 fn append_iana_value(text: &mut Vec<u8>, element: u16, value: &[u8]) -> Result<(), NoMemory>
     ensures { OnOk result (text.new.items ≡ text.old.items ++ iana_text element value.now) }
 {
-    if has_numbers(element) && 1 <= value.len() && value.len() <= 8 {
-        append_decimal(text, number_in(value))
-    } else if has_addresses(element) && value.len() == 4 {
-        append_address(text, value)
-    } else {
-        append_hexadecimal(text, value)
+    match abstract_type(element) {
+        Some(AbstractType::Unsigned8) => append_number(text, value),
+        Some(AbstractType::Unsigned16) => append_number(text, value),
+        Some(AbstractType::Unsigned64) => append_number(text, value),
+        Some(AbstractType::DateTimeMilliseconds) => append_number(text, value),
+        Some(AbstractType::Ipv4Address) if value.len() == 4 => append_address(text, value),
+        Some(AbstractType::Ipv4Address) => append_hexadecimal(text, value),
+        Some(AbstractType::Ipv6Address) => append_hexadecimal(text, value),
+        None => append_hexadecimal(text, value),
     }
 }
 
