@@ -2,7 +2,7 @@
 #![tactic(auto)]
 
 use meter_io::{StdSink, StdSource};
-use meter_program::{Status, run};
+use meter_program::{Status, fault_line, run};
 use std::alloc::Global;
 use std::env;
 use std::io::ErrorKind;
@@ -22,13 +22,16 @@ fn words_of(rt: &HostRuntime) -> Result<Vec<String>, Status> {
 
 fn main(rt: HostRuntime) -> ExitCode {
     let alloc: Global = rt.alloc();
-    let words = match words_of(&rt) {
-        Ok(words) => words,
-        Err(status) => return ExitCode::from(status.code()),
-    };
     let mut input = StdSource::new(rt.stdin());
     let mut output = StdSink::new(rt.stdout());
     let mut notes = StdSink::new(rt.stderr());
+    let words = match words_of(&rt) {
+        Ok(words) => words,
+        Err(status) => {
+            let _noted = fault_line(&mut notes, &status);
+            return ExitCode::from(status.code());
+        }
+    };
     let status = run(
         &rt,
         alloc,
