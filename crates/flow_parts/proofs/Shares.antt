@@ -16,7 +16,8 @@ use Rattle.flow_parts.specs.Joining.{TakesIn, IsJoinable}
 use Rattle.flow_parts.specs.Parts.{IsAlone, IsAbsorbed, IsJoined}
 use Rattle.flow_parts.proofs.Heaps.{IsHeap-permutation, IsHeap-one, IsHeap-joined, IsHeap-absorbed}
 use Rattle.flow_parts.proofs.Members.{found, among, Any-one, Any-append_left, Any-append_right, Any-permutation}
-use Rattle.flow_parts.proofs.Permuted.{AllZip-append, AllZip-permutation, flat_map-permutation}
+use Rattle.packet_accept.proofs.Permuted.{flat_map-permutation}
+use Rattle.flow_parts.proofs.Permuted.{AllZip-append, AllZip-permutation}
 
 abbrev flat : List (List Packet) → List Packet
 flat heaps = flat_map (λ (heap : List Packet). heap) heaps

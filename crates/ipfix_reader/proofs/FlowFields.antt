@@ -14,17 +14,10 @@ use Rattle.ipfix_model.specs.declared.values.DataRecord.{DataRecord}
 use Rattle.ipfix_model.specs.Elements.{source_ipv4_address, destination_ipv4_address, source_ipv6_address, destination_ipv6_address}
 use Rattle.ipfix_model.specs.Templates.{v4_fields, v6_fields}
 use Rattle.ipfix_model.specs.Values.{are_values_of}
+use Rattle.record_ledger.proofs.Unique.{record_same}
 use Rattle.ipfix_reader.specs.FlowFields.{FlowFields, flow_fields, AreOfFlow, IsFlowWith, fields_in}
 use Rattle.ipfix_reader.specs.FlowWith.{record_where, flow_with}
 use Rattle.ipfix_reader.specs.Flows.{flow}
-
--- two records with the same fields are one record
-record_same : (a b : FlowRecord) → a.part ≡ b.part → a.reason ≡ b.reason → a ≡ b
-record_same a b p r = λ i. record {
-  part = p i;
-  reason = r i;
-  sized = is_prop→PathP (λ j. r j < 2 ^ 8) (λ j. hlevel props) a.sized b.sized i;
-}
 
 pub same_flow_fields : (one other : FlowRecord) → flow_fields one ≡ flow_fields other → one ≡ other
 same_flow_fields one other is =

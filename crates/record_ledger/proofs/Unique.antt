@@ -64,7 +64,7 @@ module _ (limits : Timeouts) (P : List Packet) (f g : Fragment) (a : IsHeap limi
       (a.count ∙ sym b.count) (a.octets ∙ sym b.octets) (omega arith) (omega arith) same_flags
 
 -- a record is known by its fragment and its reason
-record_same : (a b : FlowRecord) → a.part ≡ b.part → a.reason ≡ b.reason → a ≡ b
+pub record_same : (a b : FlowRecord) → a.part ≡ b.part → a.reason ≡ b.reason → a ≡ b
 record_same a b p r = λ i. record { part = p i; reason = r i; sized = is_prop→PathP (λ j. r j < 2 ^ 8) (λ j. hlevel props) a.sized b.sized i }
 
 module _ {X Y : Type 0} (f : X → Y) where
