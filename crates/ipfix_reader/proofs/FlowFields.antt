@@ -1,9 +1,7 @@
 -- A flow record is known by its fields.
 use Rattle.std.proofs.Common.{◌≡◌, ◌<◌, ◌^◌, List, true, false, Option, Some, None, refl, sym, ap, subst, ◌∙◌}
 use Rattle.std.specs.Option.{option_and_then}
-use mathlib.Core.HLevel.{is_prop→PathP}
 use native.Mathlib.Decide.{dec_lt}
-use Rattle.std.proofs.Props.{props}
 use Rattle.flow_parts.specs.declared.fragment.Fragment.{Fragment}
 use Rattle.flow_parts.specs.Fields.{IsPartOf}
 use Rattle.flow_parts.specs.PartWith.{part_with}

@@ -18,7 +18,8 @@ use Rattle.flow_parts.specs.Heap.{IsHeap}
 use Rattle.flow_parts.specs.Joining.{IsJoinable}
 use Rattle.flow_parts.specs.Sharing.{SharesOut}
 use Rattle.flow_parts.proofs.Members.{found}
-use Rattle.flow_parts.proofs.Permuted.{AllZip-permutation, flat_map-permutation}
+use Rattle.packet_accept.proofs.Permuted.{flat_map-permutation}
+use Rattle.flow_parts.proofs.Permuted.{AllZip-permutation}
 use Rattle.flow_parts.proofs.Shares.{permuted}
 use Rattle.record_ledger.specs.declared.record.FlowRecord.{FlowRecord}
 use Rattle.record_ledger.specs.Order.{key_then_last, written_order}

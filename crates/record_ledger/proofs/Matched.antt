@@ -16,7 +16,7 @@ use Rattle.flow_parts.specs.declared.timeouts.Timeouts.{Timeouts}
 use Rattle.flow_parts.specs.Heap.{IsLinked, IsHeap}
 use Rattle.flow_parts.proofs.Members.{found, among}
 use Rattle.flow_parts.proofs.Heaps.{IsHeap-permutation}
-use Rattle.flow_parts.proofs.Permuted.{flat_map-permutation}
+use Rattle.packet_accept.proofs.Permuted.{flat_map-permutation}
 use Rattle.record_ledger.specs.declared.record.FlowRecord.{FlowRecord}
 use Rattle.record_ledger.specs.Lawful.{of_key, IsLawful}
 use Rattle.record_ledger.specs.Order.{written_order}

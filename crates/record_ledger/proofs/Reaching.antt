@@ -13,7 +13,8 @@ use Rattle.flow_parts.specs.Joining.{IsJoinable}
 use Rattle.flow_parts.specs.Parts.{IsJoined}
 use Rattle.flow_parts.specs.Sharing.{SharesOut}
 use Rattle.flow_parts.proofs.Members.{All-one, IsLeast-append, IsGreatest-append, IsUnion-append, IsLeast-one, IsGreatest-one, IsUnion-one}
-use Rattle.flow_parts.proofs.Permuted.{AllZip-permutation, flat_map-permutation}
+use Rattle.packet_accept.proofs.Permuted.{flat_map-permutation}
+use Rattle.flow_parts.proofs.Permuted.{AllZip-permutation}
 use Rattle.flow_parts.proofs.Shares.{permuted, joined as shares_joined}
 use Rattle.record_ledger.specs.Regrouping.{IsTogether}
 use Rattle.record_ledger.specs.Steps.{Reaches}
