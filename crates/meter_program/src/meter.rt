@@ -61,12 +61,8 @@ fn records_of(alloc: Global, bytes: &[u8], settings: &Settings) -> Result<Gather
         Err(IndexError::NoMemory) => return Err(Status::NoMemory),
     };
     let limits = Timeouts::new(settings.idle, settings.active);
-    let Ok(metered) = metered_of(alloc, &capture, &index) else {
-        return Err(Status::NoMemory);
-    };
-    let Ok(records) = gather(alloc, metered.parts.as_slice(), limits, metered.tally.clock) else {
-        return Err(Status::NoMemory);
-    };
+    let metered = metered_of(alloc, &capture, &index)?;
+    let records = gather(alloc, metered.parts.as_slice(), limits, metered.tally.clock)?;
     Ok(Gathered {
         records,
         tally: metered.tally,

@@ -14,7 +14,7 @@ ghost use Rattle.meter_program.specs.Gathering.{AreMetered, AreParts, IsOrdinary
 use capture_tally::{Tally, room_law};
 use flow_parts::Fragment;
 use flow_parts::laws::sharing_out_stands;
-use meter_io::NoMemory;
+use no_memory::NoMemory;
 use packet_accept::{Ignored, Packet, accept, packets_law};
 use pcap_reader::{Capture, Record, RecordIndex};
 use std::alloc::Global;
@@ -36,10 +36,8 @@ fn add_part(parts: &mut Vec<Fragment>, answer: &Result<Packet, Ignored>) -> Resu
     match answer {
         Ok(packet) => {
             let part = Fragment::of(packet);
-            match parts.push(part) {
-                Ok(()) => Ok(()),
-                Err(_) => Err(NoMemory),
-            }
+            parts.push(part)?;
+            Ok(())
         }
         Err(_) => Ok(()),
     }
@@ -84,10 +82,7 @@ pub fn metered_of(
     };
     for n in 0..index.count() {
         let record = capture.record(index, n);
-        match take_record(&mut metered, capture, &record, n) {
-            Ok(()) => {}
-            Err(NoMemory) => return Err(NoMemory),
-        }
+        take_record(&mut metered, capture, &record, n)?;
     }
     Ok(metered)
 }

@@ -1,9 +1,11 @@
 //! How a run ends.
 
 ghost use Rattle.std.specs.Prelude.{◌≡◌, IsTrue};
+ghost use Rattle.meter_program.specs.declared.status.Status.TheVariants.{NoMemory};
 ghost use Rattle.meter_program.specs.Statuses.{exit_status, is_refusal};
 
 use ipfix_reader::StreamFault;
+use no_memory::NoMemory;
 
 /// How a run ends. [`Status::code`] is the exit status of the program.
 #[derive(Clone, Copy, Debug, PartialEq, Eq)]
@@ -28,6 +30,14 @@ pub enum Status {
     NoMemory,
     /// The stream has this fault.
     NotStream(StreamFault),
+}
+
+impl From<NoMemory> for Status {
+    ghost from_gives = { λ _ status. status ≡ NoMemory };
+
+    fn from(_error: NoMemory) -> Status {
+        Status::NoMemory
+    }
 }
 
 impl Status {

@@ -9,7 +9,7 @@ use Rattle.meter_program.proofs.meter.records_of.Goals as goal
 pub returns-clause-records : goal.returns-clause-records
 returns-clause-records c =
     let file = file_of c.in-Ok.capture in
-    let metered = c.in-Ok-metered_of.ensures.metered in
+    let metered = c.in_ok-metered.ensures.metered in
     let limits = c.new-limits.result in
     let shares = subst (SharesOut limits (packets_of file)) (sym c.as_slice.ensures.value) (metered.parts_are.shared limits) in
     record {
@@ -20,8 +20,8 @@ returns-clause-records c =
       limits = limits;
       idle = c.new-limits.ensures.idle;
       active = c.new-limits.ensures.active;
-      lawful = c.in-Ok-gather.ensures.lawful (packets_of file) shares metered.tally_is.clock;
-      sessions = c.in-Ok-gather.ensures.sessions (packets_of file) shares metered.tally_is.clock;
+      lawful = c.in_ok-records.ensures.lawful (packets_of file) shares metered.tally_is.clock;
+      sessions = c.in_ok-records.ensures.sessions (packets_of file) shares metered.tally_is.clock;
       tally_is = metered.tally_is;
       tail_is = c.tail.ensures ∙ c.in-Ok-index.ensures.index.tail;
     }
@@ -29,8 +29,8 @@ returns-clause-records c =
 pub gather-requires-clause-octets : goal.gather-requires-clause-octets
 gather-requires-clause-octets c =
     let f : Fragment → ℕ = λ part. part.octets in
-    let metered = c.in-Ok-metered_of.ensures.metered in
-    let each = c.in-Ok-metered_of.ensures.each in
+    let metered = c.in_ok-metered.ensures.metered in
+    let each = c.in_ok-metered.ensures.each in
     let same : length (file_of c.in-Ok.capture).bytes ≡ length c.args.bytes.now = ap (λ bytes. length bytes) c.in-Ok.ensures.bytes in
     let few : length (answers_of (file_of c.in-Ok.capture)) ≤ 2 ^ 26 = omega (arith, each, c.in-Ok-index.ensures.few, same, c.requires) in
     subst (λ parts. sum_by f parts < 2 ^ 64) (sym c.as_slice.ensures.value) (omega (arith, few, metered.parts_are.octets))

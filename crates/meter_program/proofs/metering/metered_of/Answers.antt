@@ -18,7 +18,7 @@ loop-n-preserved c =
     let place = c.packets_law.ensures.place file n (record_read c.record-record.result) c.record-record.ensures.value in
     record {
       metered = subst (λ answers. AreMetered answers c.take_record.new.metered.parts.items c.take_record.new.metered.tally)
-          (sym (take-one-more (answers_of file) n _ place)) (c.in-Ok.ensures (take n (answers_of file)) c.loop-n.invariant.metered);
+          (sym (take-one-more (answers_of file) n _ place)) (c.in_ok-take_record.ensures (take n (answers_of file)) c.loop-n.invariant.metered);
       end = c.loop-n.invariant.end;
     }
 
