@@ -5,7 +5,7 @@ ghost use Rattle.pebr_core.specs.declared.kinds.Retired.TheVariants as retire;
 ghost use Rattle.pebr_core.specs.declared.kinds.Shape.{Shape};
 ghost use Rattle.pebr_core.specs.declared.kinds.Step.{Step};
 ghost use Rattle.pebr_core.specs.declared.kinds.Step.TheVariants as step;
-ghost use Rattle.pebr_core.specs.State.{State, Seat, start_state, slot_count, seat_at, has, scan_of, found_at, retired_at};
+ghost use Rattle.pebr_core.specs.State.{State, Seat, start_state, slot_count, seat_at, has, scan_of, found_at, retired_at, root_at, is_retired};
 ghost use Rattle.pebr_core.specs.Steps.{is_enabled, after, given, after_note, after_look, after_pass, after_scan, after_give};
 ghost use Rattle.pebr_core.specs.Kept.{IsSound};
 ghost use Rattle.pebr_core.specs.Frames.{seat_of, LeavesTheRest, UsesBeginAtLoad, LeavesShields, IsFreshAlone, kept_count, fresh_count, retired_count};
@@ -92,4 +92,10 @@ pub fn other_words_are_sound()
 pub fn fresh_slots_are_alone()
     ensures { (state : State) (i slot : ℕ) → IsSound state → slot < slot_count state.shape
         → has (seat_at state i).fresh slot ≡ true → IsFreshAlone state i slot }
+{}
+
+/// The slot of a root is fresh at no seat, and retired at none.
+pub fn root_slots_are_alone()
+    ensures fresh { (state : State) (root i : ℕ) → IsSound state → root < state.shape.roots → has (seat_at state i).fresh (root_at state root) ≡ false }
+    ensures retired { (state : State) (root i : ℕ) → IsSound state → root < state.shape.roots → is_retired (retired_at (seat_at state i) (root_at state root)) ≡ false }
 {}

@@ -1,0 +1,25 @@
+use Rattle.std.proofs.Common.{refl, sym, ◌∙◌, subst}
+use Rattle.pebr_words.specs.Making.{known_in}
+use Rattle.pebr_words.specs.Mirrors.{Mirrors}
+use Rattle.pebr_words.proofs.LoadStep.{load_by, load_kept, load_recalled}
+use Rattle.pebr_words.proofs.Mirroring.{same_mirrors}
+use Rattle.pebr_words.proofs.words.Words.load_root.Goals as goal
+
+pub load-requires-clause-made : goal.load-requires-clause-made
+load-requires-clause-made g c = load_by c.args.self.now.shape c.args.seat.now.number c.args.root _ c.requires.root c.requires.not_out
+
+pub load-requires-clause-kept : goal.load-requires-clause-kept
+load-requires-clause-kept g c = load_kept (g.P.RootProtocol.keeps c.args.self.now.table.shared.key.fixed) g.P.RootProtocol.whole g.P.RootProtocol.after c.args.seat.now.number c.args.root _ _
+
+pub load-requires-clause-recalled : goal.load-requires-clause-recalled
+load-requires-clause-recalled g c = load_recalled c.args.seat.now.number c.args.root _
+
+pub invariant_of-seat : goal.invariant_of-seat
+invariant_of-seat g c =
+    let seat = c.args.seat.now in
+    let known = known_in seat.inner.me.0 in
+    let told = c.load.ensures.told in
+    record {
+      acts = told.number ∙ seat.acts;
+      mirrors = subst (Mirrors seat.noted seat.slots seat.found.items) (sym told.known) (same_mirrors seat.noted seat.slots seat.found.items known _ seat.mirrors refl refl refl refl);
+    }

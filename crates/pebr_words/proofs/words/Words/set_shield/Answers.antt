@@ -1,0 +1,25 @@
+use Rattle.std.proofs.Common.{refl, sym, ◌∙◌, subst}
+use Rattle.pebr_words.specs.Making.{known_in}
+use Rattle.pebr_words.specs.Mirrors.{Mirrors}
+use Rattle.pebr_words.proofs.ShieldStep.{shield_by, shield_kept, shield_recalled}
+use Rattle.pebr_words.proofs.Mirroring.{same_mirrors}
+use Rattle.pebr_words.proofs.words.Words.set_shield.Goals as goal
+
+pub store-requires-clause-made : goal.store-requires-clause-made
+store-requires-clause-made g c = shield_by c.args.self.now.shape c.args.seat.now.number c.args.place c.args.slot _ c.requires.place c.requires.slot c.requires.not_out c.requires.seen
+
+pub store-requires-clause-kept : goal.store-requires-clause-kept
+store-requires-clause-kept g c = shield_kept (g.P.RootProtocol.keeps c.args.self.now.table.shared.key.fixed) g.P.RootProtocol.whole g.P.RootProtocol.after c.args.seat.now.number c.args.place c.args.slot _ _
+
+pub store-requires-clause-recalled : goal.store-requires-clause-recalled
+store-requires-clause-recalled g c = shield_recalled c.args.seat.now.number c.args.place c.args.slot _
+
+pub invariant_of-seat : goal.invariant_of-seat
+invariant_of-seat g c =
+    let seat = c.args.seat.now in
+    let known = known_in seat.inner.me.0 in
+    let told = c.store.ensures.told.1 in
+    record {
+      acts = told.number ∙ seat.acts;
+      mirrors = subst (Mirrors seat.noted seat.slots seat.found.items) (sym told.known) (same_mirrors seat.noted seat.slots seat.found.items known _ seat.mirrors refl refl refl refl);
+    }

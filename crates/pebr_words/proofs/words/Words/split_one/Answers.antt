@@ -1,0 +1,32 @@
+use Rattle.std.proofs.Common.{List, [], sym, ap, ◌∙◌, subst, arith, length, ◌<◌}
+use Rattle.atomic_table.specs.Table.{Me}
+use Rattle.pebr_words.specs.declared.views.Held.{Held}
+use Rattle.pebr_words.specs.Ruled.{taken, remaining}
+use Rattle.pebr_words.proofs.Splits.{splits}
+use Rattle.pebr_words.proofs.OpeningViews.{next_view}
+use Rattle.pebr_words.proofs.words.Words.split_one.Goals as goal
+
+pub split_seat-inner-requires : goal.split_seat-inner-requires
+split_seat-inner-requires g c =
+    let words = c.args.self.now in
+    let view = ap (λ (m : Me (Unit {0}) (List (Held _))). m.0) c.requires.view in
+    let next = next_view words.shape g.P.RootProtocol.first c.args.number words.shape.seats c.requires.at.1 in (
+      c.requires.at.0,
+      omega (arith, words.counted),
+      splits (g.P.RootProtocol.keeps words.table.shared.key.fixed) g.P.RootProtocol.whole words.table.shared.key.shape _ c.args.seat.now.me.0
+          (subst (λ (v : List (Held _)). 0 < length v) (sym (view ∙ next)) (omega arith)),
+    )
+
+pub opened-requires-clause-view : goal.opened-requires-clause-view
+opened-requires-clause-view g c =
+    let words = c.args.self.now in
+    let view = ap (λ (m : Me (Unit {0}) (List (Held _))). m.0) c.requires.view in
+    let next = next_view words.shape g.P.RootProtocol.first c.args.number words.shape.seats c.requires.at.1 in
+    c.split_seat-inner.ensures.4 ∙ ap (λ (v : List (Held _)). (taken v, [])) (view ∙ next)
+
+pub returns-clause-view : goal.returns-clause-view
+returns-clause-view g c =
+    let words = c.args.self.now in
+    let next = next_view words.shape g.P.RootProtocol.first c.args.number words.shape.seats c.requires.at.1 in
+    c.split_seat-inner.ensures.2
+    ∙ (ap (λ (m : Me (Unit {0}) (List (Held _))). (remaining m.0, m.1)) c.requires.view ∙ ap (λ (v : List (Held _)). (remaining v, [])) next)

@@ -1,0 +1,43 @@
+use Rattle.std.proofs.Common.{◌≡◌, ℕ, List, ◌++◌, ◌∙◌, sym, ap, subst, arith}
+use mathlib.Core.Option.{some}
+use lib.ListN.{get_elem?}
+use Rattle.atomic_table.specs.Table.{Me}
+use Rattle.pebr_words.specs.declared.views.Held.{Held}
+use Rattle.pebr_words.specs.Ruled.{remaining}
+use Rattle.pebr_words.proofs.Unites.{unites, united_rest, united_lists}
+use Rattle.std.specs.List.{flat_map}
+use Rattle.pebr_words.specs.Making.{past_in}
+use Rattle.pebr_words.proofs.words.Words.unite.Goals as goal
+
+pub join_seat-requires : goal.join_seat-requires
+join_seat-requires g c =
+    let words = c.args.self.now in
+    let key = words.table.shared.key in
+    let first = c.requires.at.0 in
+    let second = c.requires.at.1 in (
+      first.0,
+      second.0,
+      second.1,
+      omega (arith, words.counted),
+      unites (g.P.RootProtocol.keeps key.fixed) g.P.RootProtocol.whole key.shape g.P.RootProtocol.merged g.P.RootProtocol.empty (g.P.RootProtocol.unites key.fixed) _ c.args.first.inner.me.0 _ c.args.second.inner.me.0 first.2 second.2,
+    )
+
+pub returns-clause-united : goal.returns-clause-united
+returns-clause-united g c rest rest' =
+    let merged = g.P.RootProtocol.merged in
+    let empty = g.P.RootProtocol.empty in
+    let is = ap (λ (m : Me (Unit {0}) (List (Held _))). m.0) c.join_seat.ensures.2 in
+    subst (λ (view : List (Held _)). (place : ℕ) (held : Held _) → get_elem? (remaining view) place ≡ some held → held.note ≡ empty) (sym is)
+    (united_rest merged empty c.args.first.inner.me.0 c.args.second.inner.me.0 c.requires.at.0.2 c.requires.at.1.2 rest rest')
+
+pub returns-clause-lost : goal.returns-clause-lost
+returns-clause-lost g c =
+    let is = ap (λ (m : Me (Unit {0}) (List (Held _))). m.0) c.join_seat.ensures.2 in
+    ap (λ (view : List (Held _)). (past_in view).lost ++ flat_map (λ held. held.past.lost) (remaining view)) is
+    ∙ united_lists (λ past. past.lost) g.P.RootProtocol.merged g.P.RootProtocol.empty c.args.first.inner.me.0 c.args.second.inner.me.0 c.requires.at.0.2 c.requires.at.1.2
+
+pub returns-clause-ejections : goal.returns-clause-ejections
+returns-clause-ejections g c =
+    let is = ap (λ (m : Me (Unit {0}) (List (Held _))). m.0) c.join_seat.ensures.2 in
+    ap (λ (view : List (Held _)). (past_in view).ejections ++ flat_map (λ held. held.past.ejections) (remaining view)) is
+    ∙ united_lists (λ past. past.ejections) g.P.RootProtocol.merged g.P.RootProtocol.empty c.args.first.inner.me.0 c.args.second.inner.me.0 c.requires.at.0.2 c.requires.at.1.2

@@ -1,0 +1,197 @@
+//! Opening: the words, the table and a seat for each number.
+
+ghost use Rattle.std.specs.Prelude.{◌≡◌, ℕ, ◌*◌, ◌+◌, ◌-◌, ◌^◌, ◌<◌, ◌≤◌, [], ◌∷◌, length, replicate, IfOk, OnOk, All, ◌++◌};
+ghost use Rattle.std.specs.List.{range_with_len};
+ghost use Rattle.pebr_core.specs.Kept.{IsWithinLimits};
+ghost use Rattle.pebr_words.specs.Places.{roots_from};
+ghost use Rattle.pebr_words.specs.Opening.{opening_words, rows_of, spare_slots};
+ghost use Rattle.pebr_words.specs.Mirrors.{IsFirst};
+ghost use Rattle.pebr_words.specs.Ruled.{first_view, view_from};
+ghost use Rattle.pebr_words.specs.Seats.{shape_of, fixed_of, count_of, IsAt, IsUnited, IsOpenedSeat, AreOpened};
+
+use crate::protocol::RootProtocol;
+use crate::rule::Parts;
+use crate::views::{TableSeat, Told};
+use crate::words::{Seat, Words};
+use atomic_table::Table;
+use no_memory::NoMemory;
+use pebr_core::{Shape, other_words_are_sound};
+use seat_slots::SeatSlots;
+use std::alloc::Global;
+
+/// How many words come before the roots'.
+pub(crate) fn roots_from(shape: Shape) -> usize
+    requires { IsWithinLimits shape }
+    ensures { result ≡ roots_from shape }
+{
+    16 * (2 * shape.seats + 1)
+}
+
+/// How many words the slots have that aren't in a root.
+fn spare_words(shape: Shape) -> usize
+    requires { IsWithinLimits shape }
+    ensures sum { result ≡ spare_slots shape * shape.width }
+    ensures few { result ≤ 1572864 }
+{
+    let slots = shape.seats * (shape.batch + shape.seats * shape.shields);
+    slots * shape.width
+}
+
+/// One value more.
+pub(crate) fn put<T: Drop>(list: &mut Vec<T>, value: T) -> Result<(), NoMemory>
+    ensures { OnOk result (list.new.items ≡ list.old.items ++ value ∷ []) }
+{
+    list.push(value)?;
+    Ok(())
+}
+
+/// The roots' words: each root has the slot of its number.
+fn push_roots(words: &mut Vec<u64>, roots: usize) -> Result<(), NoMemory>
+    ensures { OnOk result (words.new.items ≡ words.old.items ++ range_with_len 0 roots) }
+{
+    for root in 0..roots {
+        put(words, root as u64)?;
+    }
+    Ok(())
+}
+
+/// So many zeros more.
+fn put_zeros(words: &mut Vec<u64>, count: usize) -> Result<(), NoMemory>
+    requires { length words.old.items + count < 2 ^ 32 }
+    ensures { OnOk result (words.new.items ≡ words.old.items ++ replicate count 0) }
+{
+    let len = words.len() + count;
+    words.resize(len, 0)?;
+    Ok(())
+}
+
+/// All of these more.
+fn put_all(words: &mut Vec<u64>, more: &[u64]) -> Result<(), NoMemory>
+    ensures { OnOk result (words.new.items ≡ words.old.items ++ more.now) }
+{
+    words.extend_from_slice(more)?;
+    Ok(())
+}
+
+/// All words as they are at first.
+fn first_words(alloc: Global, shape: Shape, contents: &[u64]) -> Result<Vec<u64>, NoMemory>
+    requires limits { IsWithinLimits shape }
+    requires long { length contents.now ≡ shape.roots * shape.width }
+    ensures { IfOk result (λ words. words.items ≡ opening_words shape contents.now) }
+{
+    let mut words = Vec::new(alloc);
+    put_zeros(&mut words, roots_from(shape))?;
+    push_roots(&mut words, shape.roots)?;
+    put_all(&mut words, contents)?;
+    put_zeros(&mut words, spare_words(shape))?;
+    Ok(words)
+}
+
+impl<P: RootProtocol> Words<P> {
+    /// Room for what a scan finds.
+    fn none_found(&self, alloc: Global) -> Result<Vec<u64>, NoMemory>
+        ensures { IfOk result (λ found. found.items ≡ replicate self.now.shape.seats 0) }
+    {
+        let found = Vec::from_elem(alloc, 0u64, self.shape.seats)?;
+        Ok(found)
+    }
+
+    /// The slots of a seat that has done nothing.
+    fn first_slots(&self, alloc: Global, number: usize) -> Result<SeatSlots, NoMemory>
+        requires { number < self.now.shape.seats }
+        ensures { IfOk result (IsFirst self.now.shape number) }
+    {
+        SeatSlots::new(alloc, self.shape, number)
+    }
+
+    /// A seat of one number that was opened.
+    fn opened(
+        &self,
+        inner: TableSeat<P::Note>,
+        number: usize,
+        slots: SeatSlots,
+        found: Vec<u64>,
+    ) -> Seat<P>
+        requires slots { IsFirst self.now.shape number slots }
+        requires found { found.items ≡ replicate self.now.shape.seats 0 }
+        requires at { (inner.table_id ≡ self.now.table.shared.table_id) × (number < self.now.shape.seats) }
+        requires view { inner.me ≡ (view_from self.now.shape P.first number 1, []) }
+        ensures { IsOpenedSeat self.now P.first number result }
+    {
+        Seat {
+            inner,
+            number,
+            noted: 0,
+            slots,
+            found,
+        }
+    }
+
+    /// Splits the next number off.
+    fn split_one(
+        &self,
+        seat: &mut TableSeat<P::Note>,
+        number: usize,
+        slots: SeatSlots,
+        found: Vec<u64>,
+    ) -> Seat<P>
+        requires slots { IsFirst self.now.shape number slots }
+        requires found { found.items ≡ replicate self.now.shape.seats 0 }
+        requires at { (seat.old.table_id ≡ self.now.table.shared.table_id) × (number < self.now.shape.seats) }
+        requires view { seat.old.me ≡ (view_from self.now.shape P.first number (self.now.shape.seats - number), []) }
+        ensures at { seat.new.table_id ≡ seat.old.table_id }
+        ensures view { seat.new.me ≡ (view_from self.now.shape P.first (number + 1) (self.now.shape.seats - (number + 1)), []) }
+        ensures opened { IsOpenedSeat self.now P.first number result }
+    {
+        let inner = self.table.shared.split_seat::<Parts>(seat);
+        self.opened(inner, number, slots, found)
+    }
+
+    /// A seat for each number. Each further one is split off.
+    fn deal(&self, alloc: Global, mut seat: TableSeat<P::Note>) -> Result<Vec<Seat<P>>, NoMemory>
+        requires at { seat.table_id ≡ self.now.table.shared.table_id }
+        requires view { seat.me ≡ (first_view self.now.shape P.first, []) }
+        ensures { IfOk result (λ seats. AreOpened self.now P.first self.now.shape.seats seats.items) }
+    {
+        let last = self.shape.seats - 1;
+        let mut seats = Vec::new(alloc);
+        for number in 0..last {
+            let slots = self.first_slots(alloc, number)?;
+            let found = self.none_found(alloc)?;
+            let next = self.split_one(&mut seat, number, slots, found);
+            put(&mut seats, next)?;
+        }
+        let slots = self.first_slots(alloc, last)?;
+        let found = self.none_found(alloc)?;
+        let next = self.opened(seat, last, slots, found);
+        put(&mut seats, next)?;
+        Ok(seats)
+    }
+
+    /// The words of a core whose roots have these contents, one after another, and a seat for each
+    /// number. The protocol keeps with the first note at each seat.
+    pub fn open(
+        alloc: Global,
+        shape: Shape,
+        fixed: P::Fixed,
+        contents: &[u64],
+    ) -> Result<(Words<P>, Vec<Seat<P>>), NoMemory>
+        requires limits { IsWithinLimits shape }
+        requires long { length contents.now ≡ shape.roots * shape.width }
+        requires keeps { P.keeps fixed (rows_of shape contents.now) (replicate shape.seats P.first) }
+        requires whole { All P.whole (rows_of shape contents.now) }
+        ensures words { IfOk result (λ r. (shape_of r.0 ≡ shape) × (fixed_of r.0 ≡ fixed)) }
+        ensures seats { IfOk result (λ r. AreOpened r.0 P.first shape.seats r.1.items) }
+        ensures each { IfOk result (λ r. All (λ seat. IsAt r.0 seat × (count_of seat ≡ 1) × ((empty : P.Note) → IsUnited empty seat)) r.1.items) }
+    {
+        other_words_are_sound();
+        let words = first_words(alloc, shape, contents)?;
+        let told = Told { shape, fixed };
+        let Ok((table, seat)) = Table::of_words(alloc, words.as_slice(), &told) else {
+            return Err(NoMemory);
+        };
+        let words = Words { table, shape };
+        let seats = words.deal(alloc, seat)?;
+        Ok((words, seats))
+    }
+}

@@ -1,0 +1,55 @@
+//! The steps on the words of slots: Read and Write.
+
+ghost use Rattle.std.specs.Prelude.{◌≡◌, ◌<◌, IsTrue, true};
+ghost use Rattle.pebr_core.specs.declared.kinds.Step.TheVariants as step;
+ghost use Rattle.pebr_core.specs.declared.kinds.Answer.TheVariants as answer;
+ghost use Rattle.pebr_core.specs.State.{has, slot_count};
+ghost use Rattle.pebr_core.specs.Steps.{is_shielded};
+ghost use Rattle.pebr_core.specs.Kept.{IsWithinLimits};
+ghost use Rattle.pebr_words.specs.Places.{slot_word, index};
+ghost use Rattle.pebr_words.specs.Seats.{IsAt, IsStill, IsStep, shape_of, known_of, number_of, note_of};
+
+use crate::open::roots_from;
+use crate::protocol::RootProtocol;
+use crate::words::{Seat, Words};
+use pebr_core::{Shape, Step};
+
+/// The place of a word of a slot.
+fn slot_place(shape: Shape, slot: usize, word: usize) -> usize
+    requires { IsWithinLimits shape × (slot < slot_count shape) × (word < shape.width) }
+    ensures { result ≡ index shape (slot_word slot word) }
+{
+    roots_from(shape) + shape.roots + (slot * shape.width + word)
+}
+
+impl<P: RootProtocol> Words<P> {
+    /// Reads a word of a slot that a shield of the seat is valid on.
+    pub fn read_word(&self, seat: &mut Seat<P>, slot: usize, word: usize) -> u64
+        requires at { IsAt self.now seat.old }
+        requires range { (slot < slot_count (shape_of self.now)) × (word < (shape_of self.now).width) }
+        requires shielded { IsTrue (is_shielded (known_of seat.old) slot) }
+        ensures still { IsStill self.now seat.old seat.new }
+        ensures note { note_of P.first seat.new ≡ note_of P.first seat.old }
+        ensures known { known_of seat.new ≡ known_of seat.old }
+        ensures step { IsStep P.whole self.now seat.old seat.new (step.Read (number_of seat.old) slot word) (answer.Word result) }
+    {
+        let place = slot_place(self.shape, slot, word);
+        let step = Step::Read(seat.number, slot, word);
+        self.load(&mut seat.inner, place, step, None)
+    }
+
+    /// Writes a word of a slot that is fresh at the seat.
+    pub fn write_word(&self, seat: &mut Seat<P>, slot: usize, word: usize, value: u64)
+        requires at { IsAt self.now seat.old }
+        requires range { (slot < slot_count (shape_of self.now)) × (word < (shape_of self.now).width) }
+        requires fresh { has (known_of seat.old).fresh slot ≡ true }
+        ensures still { IsStill self.now seat.old seat.new }
+        ensures note { note_of P.first seat.new ≡ note_of P.first seat.old }
+        ensures known { known_of seat.new ≡ known_of seat.old }
+        ensures step { IsStep P.whole self.now seat.old seat.new (step.Write (number_of seat.old) slot word value) answer.Written }
+    {
+        let place = slot_place(self.shape, slot, word);
+        let step = Step::Write(seat.number, slot, word, value);
+        self.store(&mut seat.inner, place, value, step, None);
+    }
+}

@@ -1,0 +1,158 @@
+//! The three ways in which a core step is made: a load, a store, and a compare and exchange.
+//!
+//! Each takes the core step and the act beside the word. They are for the proof alone, which is to
+//! show that the step is made so, and that the protocol keeps.
+
+ghost use Rattle.std.specs.Prelude.{◌≡◌, ◌<◌, ℕ, length, ◌==◌};
+ghost use prog.Atomic.{either};
+ghost use Rattle.pebr_words.specs.Places.{IsPlace, index, word_count};
+ghost use Rattle.pebr_core.specs.Frames.{seat_of};
+ghost use Rattle.pebr_words.specs.Making.{place_of, number_in, known_in, note_in, past_in};
+ghost use Rattle.pebr_words.specs.Ruled.{IsPicked, IsTold};
+ghost use Rattle.pebr_words.specs.Facts.{IsMadeBy, IsKeptBy, IsRecalledBy, StepsAreSafe};
+
+use crate::protocol::RootProtocol;
+use crate::rule::{IsStep, Makes, Stores};
+use crate::views::TableSeat;
+use crate::words::Words;
+use pebr_core::{
+    Step, fresh_slots_are_alone, steps_are_safe, steps_leave_the_rest, uses_begin_at_load,
+};
+use std::marker::Brand;
+
+/// The laws of the core.
+fn safe_steps()
+    ensures { StepsAreSafe }
+{
+    steps_are_safe();
+    uses_begin_at_load();
+    steps_leave_the_rest();
+    fresh_slots_are_alone();
+}
+
+impl<P: RootProtocol> Words<P> {
+    fn load_as<K: IsStep<P::Act>>(
+        &self,
+        seat: &mut TableSeat<P::Note>,
+        word: usize,
+        _step: Step,
+        _act: Option<P::Act>,
+    ) -> u64
+        requires picked { IsPicked K.shape K.step K.act self.now.shape _step _act }
+        requires at { (seat.old.table_id ≡ self.now.table.shared.table_id) × (0 < length seat.old.me.0) × (number_in seat.old.me.0 ≡ seat_of _step) }
+        requires place { IsPlace self.now.shape (place_of _step) × (index self.now.shape (place_of _step) ≡ word) }
+        requires made { IsMadeBy self.now.shape _step (seat_of _step) (known_in seat.old.me.0) (λ found. found) }
+        requires kept { IsKeptBy (P.keeps self.now.table.shared.key.fixed) P.whole P.after self.now.shape _step _act (seat_of _step) (known_in seat.old.me.0) (past_in seat.old.me.0) (note_in P.first seat.old.me.0) (λ found. found) }
+        requires recalled { IsRecalledBy self.now.shape _step (seat_of _step) (known_in seat.old.me.0) (past_in seat.old.me.0) (λ found. found) }
+        ensures at { seat.new.table_id ≡ seat.old.table_id }
+        ensures told { IsTold P.after P.whole P.first self.now.shape _step _act result seat.old.me seat.new.me }
+    {
+        safe_steps();
+        self.table.shared.load::<Makes<P, K>>(seat, word)
+    }
+
+    /// A core step that is made by a load.
+    pub(crate) fn load(
+        &self,
+        seat: &mut TableSeat<P::Note>,
+        word: usize,
+        step: Step,
+        act: Option<P::Act>,
+    ) -> u64
+        requires at { (seat.old.table_id ≡ self.now.table.shared.table_id) × (0 < length seat.old.me.0) × (number_in seat.old.me.0 ≡ seat_of step) }
+        requires place { IsPlace self.now.shape (place_of step) × (index self.now.shape (place_of step) ≡ word) }
+        requires made { IsMadeBy self.now.shape step (seat_of step) (known_in seat.old.me.0) (λ found. found) }
+        requires kept { IsKeptBy (P.keeps self.now.table.shared.key.fixed) P.whole P.after self.now.shape step act (seat_of step) (known_in seat.old.me.0) (past_in seat.old.me.0) (note_in P.first seat.old.me.0) (λ found. found) }
+        requires recalled { IsRecalledBy self.now.shape step (seat_of step) (known_in seat.old.me.0) (past_in seat.old.me.0) (λ found. found) }
+        ensures at { seat.new.table_id ≡ seat.old.table_id }
+        ensures told { IsTold P.after P.whole P.first self.now.shape step act result seat.old.me seat.new.me }
+    {
+        self.load_as::<Brand>(seat, word, step, act)
+    }
+
+    fn store_as<K: IsStep<P::Act>>(
+        &self,
+        seat: &mut TableSeat<P::Note>,
+        word: usize,
+        new: u64,
+        _step: Step,
+        _act: Option<P::Act>,
+    )
+        requires picked { IsPicked K.shape K.step K.act self.now.shape _step _act }
+        requires at { (seat.old.table_id ≡ self.now.table.shared.table_id) × (0 < length seat.old.me.0) × (number_in seat.old.me.0 ≡ seat_of _step) }
+        requires place { IsPlace self.now.shape (place_of _step) × (index self.now.shape (place_of _step) ≡ word) }
+        requires made { IsMadeBy self.now.shape _step (seat_of _step) (known_in seat.old.me.0) (λ _. new) }
+        requires kept { IsKeptBy (P.keeps self.now.table.shared.key.fixed) P.whole P.after self.now.shape _step _act (seat_of _step) (known_in seat.old.me.0) (past_in seat.old.me.0) (note_in P.first seat.old.me.0) (λ _. new) }
+        requires recalled { IsRecalledBy self.now.shape _step (seat_of _step) (known_in seat.old.me.0) (past_in seat.old.me.0) (λ _. new) }
+        ensures at { seat.new.table_id ≡ seat.old.table_id }
+        ensures told { (found : ℕ) × IsTold P.after P.whole P.first self.now.shape _step _act found seat.old.me seat.new.me }
+    {
+        safe_steps();
+        self.table.shared.store::<Stores<P, K>>(seat, word, new);
+    }
+
+    /// A core step that is made by a store.
+    pub(crate) fn store(
+        &self,
+        seat: &mut TableSeat<P::Note>,
+        word: usize,
+        new: u64,
+        step: Step,
+        act: Option<P::Act>,
+    )
+        requires at { (seat.old.table_id ≡ self.now.table.shared.table_id) × (0 < length seat.old.me.0) × (number_in seat.old.me.0 ≡ seat_of step) }
+        requires place { IsPlace self.now.shape (place_of step) × (index self.now.shape (place_of step) ≡ word) }
+        requires made { IsMadeBy self.now.shape step (seat_of step) (known_in seat.old.me.0) (λ _. new) }
+        requires kept { IsKeptBy (P.keeps self.now.table.shared.key.fixed) P.whole P.after self.now.shape step act (seat_of step) (known_in seat.old.me.0) (past_in seat.old.me.0) (note_in P.first seat.old.me.0) (λ _. new) }
+        requires recalled { IsRecalledBy self.now.shape step (seat_of step) (known_in seat.old.me.0) (past_in seat.old.me.0) (λ _. new) }
+        ensures at { seat.new.table_id ≡ seat.old.table_id }
+        ensures told { (found : ℕ) × IsTold P.after P.whole P.first self.now.shape step act found seat.old.me seat.new.me }
+    {
+        self.store_as::<Brand>(seat, word, new, step, act);
+    }
+
+    fn exchange_as<K: IsStep<P::Act>>(
+        &self,
+        seat: &mut TableSeat<P::Note>,
+        word: usize,
+        old: u64,
+        new: u64,
+        _step: Step,
+        _act: Option<P::Act>,
+    ) -> u64
+        requires picked { IsPicked K.shape K.step K.act self.now.shape _step _act }
+        requires at { (seat.old.table_id ≡ self.now.table.shared.table_id) × (0 < length seat.old.me.0) × (number_in seat.old.me.0 ≡ seat_of _step) }
+        requires place { IsPlace self.now.shape (place_of _step) × (index self.now.shape (place_of _step) ≡ word) }
+        requires made { IsMadeBy self.now.shape _step (seat_of _step) (known_in seat.old.me.0) (λ found. either (found == old) new found) }
+        requires kept { IsKeptBy (P.keeps self.now.table.shared.key.fixed) P.whole P.after self.now.shape _step _act (seat_of _step) (known_in seat.old.me.0) (past_in seat.old.me.0) (note_in P.first seat.old.me.0) (λ found. either (found == old) new found) }
+        requires recalled { IsRecalledBy self.now.shape _step (seat_of _step) (known_in seat.old.me.0) (past_in seat.old.me.0) (λ found. either (found == old) new found) }
+        ensures at { seat.new.table_id ≡ seat.old.table_id }
+        ensures told { IsTold P.after P.whole P.first self.now.shape _step _act result seat.old.me seat.new.me }
+    {
+        safe_steps();
+        self.table
+            .shared
+            .compare_exchange::<Makes<P, K>>(seat, word, old, new)
+    }
+
+    /// A core step that is made by a compare and exchange. The word as it was comes back.
+    pub(crate) fn exchange(
+        &self,
+        seat: &mut TableSeat<P::Note>,
+        word: usize,
+        old: u64,
+        new: u64,
+        step: Step,
+        act: Option<P::Act>,
+    ) -> u64
+        requires at { (seat.old.table_id ≡ self.now.table.shared.table_id) × (0 < length seat.old.me.0) × (number_in seat.old.me.0 ≡ seat_of step) }
+        requires place { IsPlace self.now.shape (place_of step) × (index self.now.shape (place_of step) ≡ word) }
+        requires made { IsMadeBy self.now.shape step (seat_of step) (known_in seat.old.me.0) (λ found. either (found == old) new found) }
+        requires kept { IsKeptBy (P.keeps self.now.table.shared.key.fixed) P.whole P.after self.now.shape step act (seat_of step) (known_in seat.old.me.0) (past_in seat.old.me.0) (note_in P.first seat.old.me.0) (λ found. either (found == old) new found) }
+        requires recalled { IsRecalledBy self.now.shape step (seat_of step) (known_in seat.old.me.0) (past_in seat.old.me.0) (λ found. either (found == old) new found) }
+        ensures at { seat.new.table_id ≡ seat.old.table_id }
+        ensures told { IsTold P.after P.whole P.first self.now.shape step act result seat.old.me seat.new.me }
+    {
+        self.exchange_as::<Brand>(seat, word, old, new, step, act)
+    }
+}

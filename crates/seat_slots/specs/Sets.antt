@@ -1,0 +1,21 @@
+-- The slots of a seat: for each slot, whether it is fresh, whether it is retired and with which tag, and whether the scan keeps it.
+use Rattle.std.specs.Prelude.{ℕ, Bool, true, List, Option, Some, None, nat_lt, map}
+use Rattle.pebr_core.specs.declared.kinds.Retired.{Retired}
+use Rattle.pebr_core.specs.State.{is_retired}
+use Rattle.pebr_core.specs.Steps.{without}
+
+pub record Sets : Type 0 where
+  pub fresh : List Bool
+  pub retired : List Retired
+  pub kept : List Bool
+  -- how many slots there is room for to be retired at a time
+  pub room : ℕ
+
+-- the retired slots that the scan doesn't keep
+abbrev pub given : Sets → List Bool
+given sets = without (map is_retired sets.retired) sets.kept
+
+-- the epoch is above a tag, where there is one
+abbrev pub is_above : Option ℕ → ℕ → Bool
+is_above None epoch = true
+is_above (Some tag) epoch = nat_lt tag epoch
