@@ -1,0 +1,5 @@
+pub mod Keys
+pub mod Taking
+pub mod Order
+pub mod Linking
+pub mod Mating

@@ -1,0 +1,3 @@
+pub mod Mates
+pub mod Pairs
+pub mod Chains
