@@ -1,6 +1,10 @@
 -- How many slots a scan keeps, which tag a looked seat reaches, and that a fresh slot is alone.
 use Rattle.std.proofs.Common.{◌≡◌, ◌≢◌, ℕ, ◌<◌, ◌+◌, ◌≤◌, ◌⊎◌, zero, suc, Bool, true, false, not, ◌&&◌, ◌||◌, List, [], ◌∷◌, length, get_or, set, replicate, Option, Some, None, cond, is_some, refl, sym, ◌∙◌, ap, subst, inl, inr, arith, eqb, count_by, ltb, get_or-set_other, sum_by, unwrap_or}
-use Rattle.std.specs.List.{list_all}
+use Rattle.std.specs.List.{list_all, list_any}
+use Rattle.pebr_core.specs.declared.kinds.ShieldAt.{ShieldAt}
+use Rattle.pebr_core.specs.declared.kinds.ShieldAt.TheVariants as shield
+use Rattle.std.proofs.Common.{◌||◌}
+use Rattle.pebr_core.specs.State.{is_valid_on}
 use Rattle.std.proofs.lemmas.Bool.{false≢true, cases_lt, cases_eq, and_parts, eq-eqb, ltb-false, ltb-true}
 use Rattle.std.proofs.lemmas.Option.{none-some}
 use Rattle.std.proofs.lemmas.List.{get_or_past}
@@ -249,3 +253,14 @@ fresh_alone state i slot sound low fresh = record {
           let none = at_other j apart in
           none_of (is_retired (retired_at (seat_at state j) slot)) (cond (has (seat_at state j).fresh slot) 1 0) (omega (arith, none))
     ]
+
+-- shields
+
+pub protects : (shields : List ShieldAt) (place slot : ℕ) → get_or shields place shield.Down ≡ shield.Valid slot → list_any (is_valid_on slot) shields ≡ true
+protects [] place slot e = absurd cc
+protects (at ∷ shields) zero slot e = ap (λ x. is_valid_on slot x || list_any (is_valid_on slot) shields) e ∙ ap (λ b. b || list_any (is_valid_on slot) shields) (eq-eqb slot slot refl)
+protects (at ∷ shields) (suc place) slot e = later (is_valid_on slot at) (protects shields place slot e)
+  where
+    later : (b : Bool) → list_any (is_valid_on slot) shields ≡ true → (b || list_any (is_valid_on slot) shields) ≡ true
+    later true h = refl
+    later false h = h

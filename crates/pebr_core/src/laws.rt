@@ -2,11 +2,12 @@
 
 ghost use Rattle.std.specs.Prelude.{◌≡◌, ℕ, ◌+◌, ◌<◌, ◌≤◌, List, [], length, Option, Some, None, IsTrue, true, false, count_by, slice_index_or};
 ghost use Rattle.pebr_core.specs.declared.kinds.Retired.TheVariants as retire;
+ghost use Rattle.pebr_core.specs.declared.kinds.ShieldAt.TheVariants as shield;
 ghost use Rattle.pebr_core.specs.declared.kinds.Shape.{Shape};
 ghost use Rattle.pebr_core.specs.declared.kinds.Step.{Step};
 ghost use Rattle.pebr_core.specs.declared.kinds.Step.TheVariants as step;
-ghost use Rattle.pebr_core.specs.State.{State, Seat, start_state, slot_count, seat_at, has, scan_of, found_at, retired_at, root_at, is_retired};
-ghost use Rattle.pebr_core.specs.Steps.{is_enabled, after, given, after_note, after_look, after_pass, after_scan, after_give};
+ghost use Rattle.pebr_core.specs.State.{State, Seat, start_state, slot_count, seat_at, has, scan_of, found_at, retired_at, root_at, is_retired, shield_at};
+ghost use Rattle.pebr_core.specs.Steps.{is_enabled, is_shielded, after, given, after_note, after_look, after_pass, after_scan, after_give};
 ghost use Rattle.pebr_core.specs.Kept.{IsSound};
 ghost use Rattle.pebr_core.specs.Frames.{seat_of, LeavesTheRest, UsesBeginAtLoad, LeavesShields, IsFreshAlone, kept_count, fresh_count, retired_count};
 ghost use Rattle.pebr_core.specs.Runs.{first_refused, GivesNoUsed, KeepsUsedWords, IsSafeRun};
@@ -98,4 +99,9 @@ pub fn fresh_slots_are_alone()
 pub fn root_slots_are_alone()
     ensures fresh { (state : State) (root i : ℕ) → IsSound state → root < state.shape.roots → has (seat_at state i).fresh (root_at state root) ≡ false }
     ensures retired { (state : State) (root i : ℕ) → IsSound state → root < state.shape.roots → is_retired (retired_at (seat_at state i) (root_at state root)) ≡ false }
+{}
+
+/// A slot that a shield is valid on is protected.
+pub fn valid_shields_protect()
+    ensures { (seat : Seat) (place slot : ℕ) → shield_at seat place ≡ shield.Valid slot → is_shielded seat slot ≡ true }
 {}

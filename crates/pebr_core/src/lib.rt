@@ -41,7 +41,7 @@ pub use kinds::{Answer, LAST_EPOCH, NotEnabled, Retired, Shape, ShieldAt, Stance
 pub use laws::{
     enabled_by_own_seat, fresh_slots_are_alone, kept_slots_are_counted, looked_reaches_a_tag,
     other_words_are_sound, root_slots_are_alone, runs_are_safe, start_is_sound, steps_are_safe,
-    steps_leave_the_rest, uses_begin_at_load,
+    steps_leave_the_rest, uses_begin_at_load, valid_shields_protect,
 };
 pub use machine::Core;
 pub use no_memory::NoMemory;

@@ -11,7 +11,7 @@ use Rattle.pebr_core.specs.declared.kinds.Shape.{Shape}
 use Rattle.pebr_core.specs.declared.kinds.ShieldAt.TheVariants as shield
 use Rattle.pebr_core.specs.State.{Seat, has, seat_at, shield_at, nobody, first_seat, start_state, slot_count, slots_per_seat, is_share_of}
 use Rattle.std.specs.Prelude.{All}
-use Rattle.pebr_core.specs.Kept.{IsSound}
+use Rattle.pebr_core.specs.Kept.{IsSound, IsSeatOfShape}
 use Rattle.pebr_words.specs.Places.{Place, epoch_word, status_word, shield_word, root_word, slot_word, IsPlace, roots_from, slots_from, index, word_count}
 use Rattle.pebr_words.specs.Shown.{of_status, shield_number, sign_at, Tells, Show}
 use Rattle.pebr_words.specs.Ruled.{contents, IsFreshNowhere}
@@ -154,3 +154,7 @@ module _ (shape : Shape) (given : List ℕ) where
             in_slots (slot * shape.width + word)
             ∙ sym (ap (λ (l : List ℕ). get_or l word 0) (slot_at slot h.0)
             ∙ get_or-map-range_with_len (λ x. get_or given (slot * shape.width + x) 0) 0 shape.width word word 0 h.1 (omega arith))
+
+-- a seat that has done nothing has an entry for each slot and shield
+pub first_fits : (shape : Shape) (i : ℕ) → IsSound (start_state shape) → i < shape.seats → IsSeatOfShape shape (first_seat shape i)
+first_fits shape i sound inside = subst (IsSeatOfShape shape) (get_or-map-range_with_len (first_seat shape) 0 shape.seats i i nobody inside (omega arith)) (sound.shape.each i inside)

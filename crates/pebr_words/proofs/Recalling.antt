@@ -10,11 +10,12 @@ use Rattle.pebr_core.specs.declared.kinds.Shape.{Shape}
 use Rattle.pebr_core.specs.declared.kinds.Answer.{Answer}
 use Rattle.pebr_core.specs.declared.kinds.ShieldAt.{ShieldAt}
 use Rattle.pebr_core.specs.declared.kinds.ShieldAt.TheVariants as shield
+use Rattle.pebr_core.specs.declared.kinds.Stance.TheVariants as stance
 use Rattle.pebr_core.specs.declared.kinds.Step.{Step}
 use Rattle.pebr_core.specs.declared.kinds.Step.TheVariants as step
 use Rattle.pebr_core.specs.State.{State, Seat, has, seat_at, shield_at, word_at, slot_count, is_valid_on}
 use Rattle.pebr_core.specs.Steps.{is_enabled, after, is_seat, is_slot, is_word, is_shielded}
-use Rattle.pebr_core.specs.Kept.{IsSound, Uses}
+use Rattle.pebr_core.specs.Kept.{IsSound, IsSeatOfShape, Uses}
 use Rattle.pebr_core.specs.Frames.{seat_of, LeavesTheRest}
 use Rattle.pebr_words.specs.Making.{IsAsKnown, known_after, answer_found}
 use Rattle.pebr_words.specs.Pasts.{History, past_after, shown_at, written_at}
@@ -59,6 +60,13 @@ same_words [] (y ∷ ys) long each = absurd (omega (arith, long))
 same_words (x ∷ xs) [] long each = absurd (omega (arith, long))
 same_words (x ∷ xs) (y ∷ ys) long each = ap (λ z. z ∷ xs) (each 0 (omega arith)) ∙ ap (λ l. y ∷ l) (same_words xs ys (omega (arith, long)) (λ k h. each (suc k) (omega (arith, h))))
 
+-- but for its status a seat is as it is known
+fits_known : (shape : Shape) (known actual : Seat) → IsAsKnown known actual → IsSeatOfShape shape actual → IsSeatOfShape shape known
+fits_known shape known actual (inl same) h = subst (IsSeatOfShape shape) same h
+fits_known shape known actual (inr (epoch, was_in, now)) h =
+    let fits : IsSeatOfShape shape (record known { status = stance.Ejected epoch }) = subst (IsSeatOfShape shape) now h in
+    record { seen = fits.seen; shields = fits.shields; fresh = fits.fresh; retired = fits.retired; scan = fits.scan; set = fits.set; valid = fits.valid }
+
 -- what the rule tells a seat
 pub sure_of : (whole : List ℕ → Type 0) (shape : Shape) (core : State) (number : ℕ) (known : Seat) (past : History) → core.shape ≡ shape → IsSound core → number < shape.seats
     → IsAsKnown known (seat_at core number) → Recalls core number past → AreWhole whole core → IsSure whole shape known past
@@ -75,6 +83,8 @@ sure_of whole shape core number known past is_shape sound inside as_known recall
       let low : slot < slot_count core.shape = (sound.shape.each number core_inside).valid valid.0 slot valid.1 in
       subst whole (sym (content_is slot content own low read)) (are_whole slot low (λ i. sound.kept.safe.unused i number slot own));
   alone = λ one. recalls.lost (ap (λ (s : Shape). s.seats) is_shape ∙ one);
+  fits = fits_known shape known (seat_at core number) as_known
+      (subst (λ s. IsSeatOfShape s (seat_at core number)) is_shape (sound.shape.each number (subst (λ (s : Shape). number < s.seats) (sym is_shape) inside)));
 }
   where
     content_is : (slot : ℕ) (content : List ℕ) → Uses (seat_at core number) slot → slot < slot_count core.shape → HasReadWhole shape past slot content → content ≡ get_or core.words slot []

@@ -8,7 +8,7 @@ use Rattle.pebr_core.specs.declared.kinds.Stance.TheVariants as stance
 use Rattle.pebr_core.specs.declared.kinds.Step.{Step}
 use Rattle.pebr_core.specs.State.{State, Seat, has, seat_at, root_at, word_at, first_seat, slot_count}
 use Rattle.pebr_core.specs.Steps.{is_shielded}
-use Rattle.pebr_core.specs.Kept.{IsSound, Uses}
+use Rattle.pebr_core.specs.Kept.{IsSound, IsSeatOfShape, Uses}
 use Rattle.atomic_table.specs.Table as table
 use Rattle.pebr_words.specs.declared.views.Held.{Held}
 use Rattle.pebr_words.specs.Pasts.{Ejection, Read, History, no_history, past_after, shown_at, written_at}
@@ -70,6 +70,8 @@ pub record IsSure (whole : List ℕ → Type 0) (shape : Shape) (known : Seat) (
   pub whole_is : (slot : ℕ) (content : List ℕ) → is_shielded known slot ≡ true → HasReadWhole shape past slot content → whole content
   -- with one seat, no try is lost
   pub alone : shape.seats ≡ 1 → past.lost ≡ []
+  -- it has an entry for each slot and shield
+  pub fits : IsSeatOfShape shape known
 
 module _ {N : Type 0} where
   -- how often a view has a number

@@ -4,6 +4,7 @@ use Rattle.std.specs.List.{flat_map}
 use Rattle.pebr_core.specs.declared.kinds.Shape.{Shape}
 use Rattle.pebr_core.specs.State as core
 use Rattle.pebr_core.specs.State.{slots_per_seat}
+use Rattle.pebr_core.specs.Kept.{IsSeatOfShape}
 use Rattle.pebr_words.specs.declared.words.Words.{Words}
 use Rattle.pebr_words.specs.declared.words.Seat.{Seat}
 use mathlib.Core.Option.{some}
@@ -58,7 +59,7 @@ module _ {P N A F : Type 0} where
 
   -- a seat of these words
   abbrev pub IsAt : {g : _} → Words P N A F → Seat P N A F g → Type 0
-  IsAt words seat = (seat.inner.table_id ≡ words.table.shared.table_id) × (seat.inner.me.1 ≡ []) × (0 < length seat.inner.me.0) × (seat.number < words.shape.seats) × (length seat.found.items ≡ words.shape.seats) × (seat.slots.room ≡ slots_per_seat words.shape)
+  IsAt words seat = (seat.inner.table_id ≡ words.table.shared.table_id) × (seat.inner.me.1 ≡ []) × (0 < length seat.inner.me.0) × (seat.number < words.shape.seats) × (length seat.found.items ≡ words.shape.seats) × (seat.slots.room ≡ slots_per_seat words.shape) × IsSeatOfShape words.shape (known_of seat)
 
   -- A step was made: it is a seat of these words with the same numbers as before.
   abbrev pub IsStill : {g h : _} → Words P N A F → Seat P N A F g → Seat P N A F h → Type 0

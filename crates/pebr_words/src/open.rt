@@ -15,7 +15,7 @@ use crate::views::{TableSeat, Told};
 use crate::words::{Seat, Words};
 use atomic_table::Table;
 use no_memory::NoMemory;
-use pebr_core::{Shape, other_words_are_sound};
+use pebr_core::{Shape, other_words_are_sound, start_is_sound};
 use seat_slots::SeatSlots;
 use std::alloc::Global;
 
@@ -118,6 +118,7 @@ impl<P: RootProtocol> Words<P> {
         requires view { inner.me ≡ (view_from self.now.shape P.first number 1, []) }
         ensures { IsOpenedSeat self.now P.first number result }
     {
+        start_is_sound();
         Seat {
             inner,
             number,

@@ -39,6 +39,7 @@ impl<P: RootProtocol> Words<P> {
         ensures known { known_of seat.new ≡ after_load result (known_of seat.old) }
         ensures step { IsStep P.whole self.now seat.old seat.new (step.Load (number_of seat.old) root) (answer.Slot result) }
         ensures slot { result < slot_count (shape_of self.now) }
+        ensures seen { has (known_of seat.new).seen result ≡ true }
     {
         let place = root_place(self.shape, root);
         let step = Step::Load(seat.number, root);

@@ -1,10 +1,10 @@
 //! The steps Shield, Check and Unshield.
 
-ghost use Rattle.std.specs.Prelude.{◌≡◌, ◌<◌, ◌≤◌, ◌+◌, ◌*◌, true, false, if◌then◌else◌};
+ghost use Rattle.std.specs.Prelude.{◌≡◌, ℕ, IsTrue, ◌<◌, ◌≤◌, ◌+◌, ◌*◌, true, false, if◌then◌else◌};
 ghost use Rattle.pebr_core.specs.declared.kinds.Step.TheVariants as step;
 ghost use Rattle.pebr_core.specs.declared.kinds.Answer.TheVariants as answer;
 ghost use Rattle.pebr_core.specs.declared.kinds.ShieldAt.TheVariants as shield;
-ghost use Rattle.pebr_core.specs.State.{has, is_out, slot_count};
+ghost use Rattle.pebr_core.specs.State.{has, is_out, shield_at, slot_count};
 ghost use Rattle.pebr_core.specs.Steps.{after_shield, after_check};
 ghost use Rattle.pebr_words.specs.Places.{shield_word, index};
 ghost use Rattle.pebr_words.specs.Mirrors.{ejected_seat};
@@ -35,6 +35,7 @@ impl<P: RootProtocol> Words<P> {
         ensures note { note_of P.first seat.new ≡ note_of P.first seat.old }
         ensures known { known_of seat.new ≡ after_shield place (shield.Set slot) (known_of seat.old) }
         ensures step { IsStep P.whole self.now seat.old seat.new (step.Shield (number_of seat.old) place slot) answer.Set }
+        ensures set { shield_at (known_of seat.new) place ≡ shield.Set slot }
     {
         let word = shield_place(self.shape, seat.number, place);
         let step = Step::Shield(seat.number, place, slot);
@@ -50,6 +51,8 @@ impl<P: RootProtocol> Words<P> {
         ensures note { note_of P.first seat.new ≡ note_of P.first seat.old }
         ensures known { known_of seat.new ≡ (if result then after_check (known_of seat.old) else ejected_seat (known_of seat.old)) }
         ensures step { IsStep P.whole self.now seat.old seat.new (step.Check (number_of seat.old)) (if result then answer.Valid else answer.Ejected) }
+        ensures valid { IsTrue result → (place slot : ℕ) → shield_at (known_of seat.old) place ≡ shield.Set slot → has (known_of seat.old).seen slot ≡ true
+            → shield_at (known_of seat.new) place ≡ shield.Valid slot }
     {
         let word = status_place(seat.number);
         let step = Step::Check(seat.number);
@@ -64,6 +67,7 @@ impl<P: RootProtocol> Words<P> {
         ensures note { note_of P.first seat.new ≡ note_of P.first seat.old }
         ensures known { known_of seat.new ≡ after_shield place shield.Down (known_of seat.old) }
         ensures step { IsStep P.whole self.now seat.old seat.new (step.Unshield (number_of seat.old) place) answer.Cleared }
+        ensures down { shield_at (known_of seat.new) place ≡ shield.Down }
     {
         let word = shield_place(self.shape, seat.number, place);
         let step = Step::Unshield(seat.number, place);
