@@ -1,0 +1,4 @@
+pub mod Apart
+pub mod Contents
+pub mod Four
+pub mod Keeping

@@ -1,0 +1,59 @@
+-- What a cache and its passes mean.
+use Rattle.std.specs.Prelude.{◌≡◌, ◌≢◌, ℕ, ◌+◌, ◌<◌, ◌≤◌, List, length, Option, Some}
+use Rattle.packet_accept.specs.declared.packet.Packet.{Packet}
+use Rattle.flow_key.specs.Key.{set_number}
+use Rattle.flow_parts.specs.declared.fragment.Fragment.{Fragment}
+use Rattle.flow_parts.specs.declared.timeouts.Timeouts.{Timeouts}
+use Rattle.flow_parts.specs.Parts.{IsAlone}
+use Rattle.cache_face.specs.declared.metered.How.{How}
+use Rattle.cache_face.specs.declared.metered.How.TheVariants.{Joined, Opened, Replaced, PassedBy}
+use Rattle.cache_face.specs.Choice.{IsChoice}
+use Rattle.cache_face.specs.Notes.{Note, first_note, merged}
+
+-- A cache: its number of sets, its number of seats, and the time-outs by which its fragments' heaps go.
+pub record CacheMeans : Type 0 where
+  pub sets : ℕ
+  pub seats : ℕ
+  pub limits : Timeouts
+
+-- A pass: what it has done, the number of its lost tries, the set that its last try read, and the four entries that it
+-- read there.
+pub record PassMeans : Type 0 where
+  pub note : Note
+  pub lost : ℕ
+  pub set : ℕ
+  pub entries : List (Option Fragment)
+
+-- A pass of one seat that has done nothing.
+abbrev pub IsFresh : PassMeans → Type 0
+IsFresh pass = (pass.note ≡ first_note) × (pass.lost ≡ 0)
+
+-- A packet was metered by the choice over the four entries that the pass read last, in the packet's set.
+pub record IsChosen (cache : CacheMeans) (pass : PassMeans) (packet : Packet) (how : How) (out : Option Fragment) : Type 0 where
+  pub set : pass.set ≡ set_number packet.key cache.sets
+  pub four : length pass.entries ≡ 4
+  pub own : Fragment
+  pub alone : IsAlone packet own
+  pub place : ℕ
+  pub kept : Fragment
+  pub chosen : IsChoice cache.limits pass.entries own how place out kept
+
+-- A packet was passed by: this call lost three tries, there is another seat, and the fragment of the packet alone is handed
+-- out.
+pub record IsPassedBy (cache : CacheMeans) (old new : PassMeans) (packet : Packet) (out : Option Fragment) : Type 0 where
+  pub lost : new.lost ≡ old.lost + 3
+  pub others : cache.seats ≢ 1
+  pub own : Fragment
+  pub alone : IsAlone packet own
+  pub out_is : out ≡ Some own
+
+-- Each answer and its cause. Of an answer other than PassedBy fewer than three tries were lost.
+abbrev pub IsAnswer : CacheMeans → PassMeans → PassMeans → Packet → How → Option Fragment → Type 0
+IsAnswer cache old new packet PassedBy out = IsPassedBy cache old new packet out
+IsAnswer cache old new packet Joined out = IsChosen cache new packet Joined out × (old.lost ≤ new.lost) × (new.lost < old.lost + 3)
+IsAnswer cache old new packet Opened out = IsChosen cache new packet Opened out × (old.lost ≤ new.lost) × (new.lost < old.lost + 3)
+IsAnswer cache old new packet Replaced out = IsChosen cache new packet Replaced out × (old.lost ≤ new.lost) × (new.lost < old.lost + 3)
+
+-- A pass stands for both of two.
+abbrev pub IsUnited : PassMeans → PassMeans → PassMeans → Type 0
+IsUnited one other both = (both.note ≡ merged one.note other.note) × (both.lost ≡ one.lost + other.lost)

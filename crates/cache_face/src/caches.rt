@@ -1,0 +1,94 @@
+//! A shared cache, and who opens and closes caches.
+
+ghost use Rattle.std.specs.Prelude.{◌≡◌, ◌<◌, ◌≤◌, ◌^◌, ◌∷◌, ◌++◌, List, [], length, All, IfOk, IfErr, OnOk, OnErr, IsPermutation};
+ghost use Rattle.packet_accept.specs.declared.packet.Packet.{Packet};
+ghost use Rattle.flow_parts.specs.declared.fragment.Fragment.{Fragment};
+ghost use Rattle.flow_parts.specs.Sharing.{SharesOut};
+ghost use Rattle.cache_face.specs.Meaning.{CacheMeans, PassMeans, IsFresh, IsAnswer, IsUnited};
+ghost use Rattle.cache_face.specs.Notes.{metering};
+
+use crate::metered::Metered;
+use flow_parts::{Fragment, Timeouts};
+use no_memory::NoMemory;
+use packet_accept::Packet;
+use std::alloc::Global;
+
+/// A cache that threads share, each with passes of its own.
+pub trait FlowCache: Sync + Drop {
+    /// What a thread meters through. It is at no packet between calls.
+    type Pass: Send + Drop;
+
+    ghost means: { Self → CacheMeans };
+
+    ghost shown: { Self.Pass → PassMeans };
+
+    // The pass is of this cache.
+    ghost is_of: { Self → Self.Pass → Type 0 };
+
+    /// Meters a packet whose number is above those that the pass metered. It waits for nobody and takes no memory.
+    fn meter(&self, pass: &mut Self::Pass, packet: &Packet) -> Metered
+        requires own { is_of self.now pass.old }
+        requires single { (shown pass.old).note.seats ≡ 1 }
+        requires number { packet.now.number < 2 ^ 32 }
+        requires rises { All (λ p. p.number < packet.now.number) (shown pass.old).note.packets }
+        requires octets { packet.now.octets < 2 ^ 24 }
+        ensures own { is_of self.now pass.new }
+        ensures note { (shown pass.new).note ≡ metering (shown pass.old).note (packet.now ∷ []) result.out }
+        ensures answer { IsAnswer (means self.now) (shown pass.old) (shown pass.new) packet.now result.how result.out };
+
+    /// One pass for both, which only `unite` and `close` take where it stands for more than one seat.
+    fn unite(&self, first: Self::Pass, second: Self::Pass) -> Self::Pass
+        requires first { is_of self.now first }
+        requires second { is_of self.now second }
+        ensures own { is_of self.now result }
+        ensures united { IsUnited (shown first) (shown second) (shown result) };
+
+    /// The entries that aren't empty. With the fragments that the pass was handed they share out its packets. Without
+    /// memory they are given up.
+    fn close(self, alloc: Global, pass: Self::Pass) -> Result<Vec<Fragment>, NoMemory>
+        requires own { is_of self pass }
+        requires all { (shown pass).note.seats ≡ (means self).seats }
+        ensures { IfOk result (λ entries. SharesOut (means self).limits (shown pass).note.packets (entries.items ++ (shown pass).note.handed)) };
+}
+
+/// Who opens and closes caches. It keeps the fragments of the last cache that it closed.
+pub trait Caches {
+    type Cache: FlowCache;
+
+    ghost metered: { Self → List Fragment };
+
+    /// A cache of so many sets, and a pass for each seat.
+    fn open(
+        &mut self,
+        alloc: Global,
+        sets: u64,
+        seats: usize,
+        timeouts: Timeouts,
+    ) -> Result<(Self::Cache, Vec<<Self::Cache as FlowCache>::Pass>), NoMemory>
+        requires sets { (1 ≤ sets) × (sets ≤ 65536) }
+        requires seats { (1 ≤ seats) × (seats ≤ 64) }
+        ensures cache { IfOk result (λ r. ((Self.Cache.means r.0).sets ≡ sets) × ((Self.Cache.means r.0).seats ≡ seats) × ((Self.Cache.means r.0).limits ≡ timeouts)) }
+        ensures passes { IfOk result (λ r. (length r.1.items ≡ seats) × All (λ pass. Self.Cache.is_of r.0 pass × IsFresh (Self.Cache.shown pass)) r.1.items) }
+        ensures kept { metered self.new ≡ metered self.old };
+
+    /// Closes a cache with the pass for all its seats and the fragments that this was handed. Without memory these and the
+    /// entries are given up.
+    fn close(
+        &mut self,
+        alloc: Global,
+        cache: Self::Cache,
+        pass: <Self::Cache as FlowCache>::Pass,
+        handed: Vec<Fragment>,
+    ) -> Result<(), NoMemory>
+        requires own { Self.Cache.is_of cache pass }
+        requires all { (Self.Cache.shown pass).note.seats ≡ (Self.Cache.means cache).seats }
+        requires handed { IsPermutation handed.items (Self.Cache.shown pass).note.handed }
+        ensures entries { OnOk result ((entries : List Fragment) × IsPermutation (metered self.new) (handed.items ++ entries)
+            × SharesOut (Self.Cache.means cache).limits (Self.Cache.shown pass).note.packets (entries ++ (Self.Cache.shown pass).note.handed)) }
+        ensures shared { OnOk result (SharesOut (Self.Cache.means cache).limits (Self.Cache.shown pass).note.packets (metered self.new)) }
+        ensures kept { OnErr result (metered self.new ≡ metered self.old) };
+
+    /// The fragments of the last cache that was closed: those that were handed out, and its entries.
+    fn metered(&self) -> &[Fragment]
+        ensures { result.now ≡ metered self.now };
+}

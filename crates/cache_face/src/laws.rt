@@ -1,0 +1,23 @@
+//! Laws about what a cache keeps. These functions do nothing; each contract is a law.
+ghost use Rattle.cache_face.specs.Laws.{KeepsOpening, KeepsSplit, KeepsMerged, KeepsTaken, KeepsPassed, KeptAtEnd, WholeIsSmall, WordsShow, ChoiceTakes};
+
+/// Steps by which a cache keeps what it keeps.
+pub fn steps_keep()
+    ensures opening { KeepsOpening }
+    ensures split { KeepsSplit }
+    ensures merged { KeepsMerged }
+    ensures taken { KeepsTaken }
+    ensures passed { KeepsPassed }
+{}
+
+/// What the last pass has.
+pub fn ends_keep()
+    ensures { KeptAtEnd }
+{}
+
+/// What ten words show, and what a choice does to the entry at its place.
+pub fn contents_show()
+    ensures small { WholeIsSmall }
+    ensures words { WordsShow }
+    ensures takes { ChoiceTakes }
+{}
