@@ -3,3 +3,4 @@ pub mod Taking
 pub mod Order
 pub mod Linking
 pub mod Mating
+pub mod BiRecords

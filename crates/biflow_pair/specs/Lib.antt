@@ -1,3 +1,5 @@
 pub mod Mates
 pub mod Pairs
 pub mod Chains
+pub mod BiLayout
+pub mod BiSizes

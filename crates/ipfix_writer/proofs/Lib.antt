@@ -5,3 +5,4 @@ pub mod Filling
 pub mod Templates
 pub mod UnderWay
 pub mod OneLayout
+pub mod Rests

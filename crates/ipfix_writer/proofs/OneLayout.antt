@@ -48,7 +48,7 @@ fronts (x ∷ p) rest (y ∷ q) more is =
     fronts-cons x y p rest q more (head_same x y (p ++ rest) (q ++ more) is) (fronts p rest q more (tail_same x y (p ++ rest) (q ++ more) is))
 
 -- the first of some filled messages
-filled-some : {A : Type 0} (encode : A → RecordSet) (size : ℕ) (p : List A) (parts : List (List A)) → AreFilledBy encode size (p ∷ parts) → 0 < length p
+pub filled-some : {A : Type 0} (encode : A → RecordSet) (size : ℕ) (p : List A) (parts : List (List A)) → AreFilledBy encode size (p ∷ parts) → 0 < length p
 unfolding AreFilledBy
 filled-some encode size p [] filled = filled.0
 filled-some encode size p (next ∷ parts) filled = filled.0

@@ -22,7 +22,7 @@ const MESSAGE_HEADER: usize = 16;
 const LEAST_RECORD: usize = 48;
 
 /// The length of the set header in front of a record of this template, where the record before has template `last`.
-fn header_length(last: Option<u16>, template: u16) -> usize
+pub fn header_length(last: Option<u16>, template: u16) -> usize
     ensures { result ≡ header_before last template }
 {
     match last {

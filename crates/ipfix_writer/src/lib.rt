@@ -13,10 +13,14 @@ mod emitter;
 mod encode;
 pub mod laws;
 mod message;
+mod messages;
 mod stream;
 #[cfg(test)]
 mod tests;
 
+pub use body::append_message_header;
 pub use emitter::{Emitter, Phase};
-pub use encode::Encode;
+pub use encode::{Encode, append_counts};
+pub use message::append_template;
+pub use messages::append_messages;
 pub use stream::{emit_all, layout};

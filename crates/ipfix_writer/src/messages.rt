@@ -1,0 +1,99 @@
+//! Messages of a whole list, each filled with as many records as it takes.
+
+ghost use Rattle.std.specs.Prelude.{◌≡◌, ◌+◌, ◌≤◌, ◌<◌, ◌^◌, ◌++◌, [], ◌∷◌, IfOk, OnOk, length, take};
+ghost use Rattle.std.specs.Vec.{vec_capacity};
+ghost use Rattle.ipfix_writer.specs.Encoding.{message};
+ghost use Rattle.ipfix_writer.specs.Layout.{IsStream, body_in, length_in};
+
+use crate::emitter::header_length;
+use crate::encode::Encode;
+use crate::message::encode_message;
+use no_memory::NoMemory;
+use std::alloc::Global;
+
+/// The length of a message without records, in octets.
+const MESSAGE_HEADER: usize = 16;
+
+/// The longest beginning of some records whose message is at most `size` octets long: how many records it has, and the
+/// length of the message.
+fn first_message<R: Encode>(records: &[R], size: usize) -> (usize, usize)
+    requires some { 0 < length records.now }
+    requires small { size < 2 ^ 16 }
+    requires alone { (one : R) → length_in R.encode (one ∷ []) ≤ size }
+    ensures some { 0 < result.0 }
+    ensures within { result.0 ≤ length records.now }
+    ensures length { result.1 ≡ length_in R.encode (take result.0 records.now) }
+    ensures fits { result.1 ≤ size }
+    ensures full { result.0 < length records.now → size < length_in R.encode (take (result.0 + 1) records.now) }
+{
+    let mut count = 0;
+    let mut filled = MESSAGE_HEADER;
+    let mut last: Option<u16> = None;
+    while count < records.len() {
+        let one = records[count];
+        let longer = filled + header_length(last, one.template()) + one.size();
+        if longer > size {
+            return (count, filled);
+        }
+        last = Some(one.template());
+        filled = longer;
+        count += 1;
+    }
+    (count, filled)
+}
+
+/// Appends one message of the first records to a stream, and tells how many records it has.
+fn append_message<R: Encode>(
+    stream: &mut Vec<u8>,
+    buffer: &mut Vec<u8>,
+    records: &[R],
+    size: usize,
+    export_time: u32,
+    sequence: u32,
+) -> Result<usize, NoMemory>
+    requires some { 0 < length records.now }
+    requires small { size < 2 ^ 16 }
+    requires room { size ≤ vec_capacity buffer.old }
+    requires alone { (one : R) → length_in R.encode (one ∷ []) ≤ size }
+    ensures some { IfOk result (λ count. (0 < count) × (count ≤ length records.now)) }
+    ensures fits { IfOk result (λ count. length_in R.encode (take count records.now) ≤ size) }
+    ensures full { IfOk result (λ count. count < length records.now → size < length_in R.encode (take (count + 1) records.now)) }
+    ensures items { IfOk result (λ count. stream.new.items ≡ stream.old.items ++ message export_time sequence (body_in R.encode (take count records.now))) }
+    ensures room { vec_capacity buffer.old ≤ vec_capacity buffer.new }
+{
+    let (count, filled) = first_message(records, size);
+    encode_message(buffer, &records[..count], filled, export_time, sequence);
+    stream.extend_from_slice(buffer.as_slice())?;
+    Ok(count)
+}
+
+/// Appends the data messages of some records to a stream that has its first message: messages of at most `size` octets,
+/// with this export time in seconds. A message of any one record is no longer than that.
+///
+/// `NoMemory` where the room for them can't be had.
+pub fn append_messages<R: Encode>(
+    alloc: Global,
+    stream: &mut Vec<u8>,
+    records: &[R],
+    size: usize,
+    export_time: u32,
+) -> Result<(), NoMemory>
+    requires small { size < 2 ^ 16 }
+    requires alone { (one : R) → length_in R.encode (one ∷ []) ≤ size }
+    ensures { OnOk result (IsStream R.encode size export_time stream.old.items records.now stream.new.items) }
+{
+    let mut buffer = Vec::with_capacity(alloc, size)?;
+    let mut done = 0;
+    while done < records.len() {
+        let (_, rest) = records.split_at(done);
+        done += append_message(
+            stream,
+            &mut buffer,
+            rest,
+            size,
+            export_time,
+            (done as u64 % (1 << 32)) as u32,
+        )?;
+    }
+    Ok(())
+}
