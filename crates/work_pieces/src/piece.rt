@@ -1,0 +1,12 @@
+//! A piece of work.
+
+/// Piece `number` of some things, from the thing `start` on and before the thing `end`, both counted from 0.
+#[derive(Clone, Copy, PartialEq, Eq, Debug)]
+pub struct Piece {
+    /// The number of the piece, counted from 0.
+    pub number: u64,
+    /// The first of its things.
+    pub start: u64,
+    /// The thing behind its last one.
+    pub end: u64,
+}
