@@ -3,6 +3,8 @@
 PREFIX ?= /usr/local
 PROGRAM := bin/romtyalig
 CAPTURE := examples/web-exchange.pcap
+# All that a proof or a build reads: code, definitions, and proofs in folders of any depth.
+SOURCES := $(shell find crates -name out -prune -o \( -name '*.rt' -o -name '*.antt' \) -print)
 
 .PHONY: help demo build test check install clean
 
@@ -22,7 +24,7 @@ demo: build
 build: $(PROGRAM)
 
 # `rt run` proves the crates, builds the program and runs it, here on an empty stream.
-$(PROGRAM): crates.txt $(wildcard crates/*/src/*.rt crates/*/src/*/*.rt crates/*/specs/*.antt crates/*/proofs/*.antt)
+$(PROGRAM): crates.txt $(SOURCES)
 	@echo "Proving and building: some twenty minutes where nothing is proved yet, else a minute or two."
 	@cd crates/romtyalig && rt run -- show < /dev/null > build.log 2>&1 || { tail -n 20 build.log; exit 1; }
 	@rm -f crates/romtyalig/build.log
@@ -36,8 +38,8 @@ test:
 
 check: build
 	checks/foreign_readers.sh
-	python3 checks/second_meter.py
-	python3 checks/second_reader.py
+	python3 checks/second_meter.py 20000
+	python3 checks/second_reader.py 20000
 
 install: build
 	install -d $(DESTDIR)$(PREFIX)/bin
