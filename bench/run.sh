@@ -40,7 +40,7 @@ measure() {
     name=$1
     input=$2
     shift 2
-    /usr/bin/time -o "$work/once" -f '%U %S %M' "$@" <"$input" >/dev/null
+    /usr/bin/time -o "$work/once" -f '%U %S %M' "$@" <"$input" >/dev/null 2>&1
     awk '{ print $1 + $2, $3 }' "$work/once" >>"$work/$name"
 }
 
@@ -69,7 +69,7 @@ while [ $# -ge 2 ]; do
     printf '| %s | %s |' "$1" "$2"
     row meter baseline_run
     if [ -n "$readers" ] && [ "$2" -ge 10000 ]; then
-        "$program" meter <"$work/capture" >"$work/stream"
+        "$program" meter <"$work/capture" >"$work/stream" 2>/dev/null
         round=0
         while [ "$round" -lt "$rounds" ]; do
             measure show "$work/stream" "$program" show

@@ -12,6 +12,9 @@ fn numbers_and_octets_are_written(rt: HostRuntime) -> Result<(), Fail> {
     append(&mut text, b": ")?;
     append_hexadecimal(&mut text, &[0, 9, 10, 159, 255])?;
     append_hexadecimal(&mut text, &[])?;
-    assert_eq!(rt; text.as_slice(), b"at 0 to 18446744073709551615: 00090a9fff".as_slice());
+    assert_eq!(rt;
+        text.as_slice(),
+        b"at 0 to 18446744073709551615: 00090a9fff".as_slice()
+    );
     Ok(())
 }

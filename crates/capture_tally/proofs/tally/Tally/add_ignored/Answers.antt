@@ -9,7 +9,7 @@ use Rattle.capture_tally.proofs.tally.Tally.add_ignored.Goals as goal
 pub returns : goal.returns
 returns c = λ answers is.
     let none : packets_in (answers ++ Err c.args.cause ∷ []) ≡ packets_in answers =
-        c.packets_law.ensures.together answers (Err c.args.cause ∷ []) ∙ append-nil (packets_in answers) in
+    c.packets_law.ensures.together answers (Err c.args.cause ∷ []) ∙ append-nil (packets_in answers) in
     record {
       captured = omega (arith, is.captured, length-append answers (Err c.args.cause ∷ []));
       accepted = is.accepted ∙ ap (λ ps. length ps) (sym none);

@@ -10,7 +10,7 @@ pub returns : goal.returns
 returns c = λ answers is.
     let packet = c.args.packet.now in
     let one : packets_in (answers ++ Ok packet ∷ []) ≡ packets_in answers ++ packet ∷ [] =
-        c.packets_law.ensures.together answers (Ok packet ∷ []) in
+    c.packets_law.ensures.together answers (Ok packet ∷ []) in
     record {
       captured = omega (arith, is.captured, length-append answers (Ok packet ∷ []));
       accepted = omega (arith, is.accepted, ap (λ ps. length ps) one, length-append (packets_in answers) (packet ∷ []));
