@@ -29,3 +29,4 @@ pub mod UnshieldStep
 pub mod ScanStep
 pub mod GiveStep
 pub mod WriteStep
+pub mod SeatFacts

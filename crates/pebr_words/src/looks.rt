@@ -1,6 +1,6 @@
 //! The steps Look and Eject.
 
-ghost use Rattle.std.specs.Prelude.{◌≡◌, ◌≢◌, ◌<◌, length, IsTrue, IsSome, false, if◌then◌else◌};
+ghost use Rattle.std.specs.Prelude.{◌≡◌, ◌≢◌, ℕ, Some, true, ◌<◌, length, IsTrue, IsSome, false, if◌then◌else◌};
 ghost use Rattle.pebr_core.specs.declared.kinds.Step.TheVariants as step;
 ghost use Rattle.pebr_core.specs.declared.kinds.Answer.TheVariants as answer;
 ghost use Rattle.pebr_core.specs.State.{has, scan_of, found_at};
@@ -58,6 +58,8 @@ impl<P: RootProtocol> Words<P> {
         ensures note { note_of P.first seat.new ≡ note_of P.first seat.old }
         ensures known { known_of seat.new ≡ looked_from other result (known_of seat.old) }
         ensures step { IsStep P.whole self.now seat.old seat.new (step.Look (number_of seat.old) other) (answer_as result) }
+        ensures passed { result ≡ Looked.Passed → has (scan_of (known_of seat.new)).passed other ≡ true }
+        ensures found { (epoch : ℕ) → result ≡ Looked.In epoch → found_at (scan_of (known_of seat.new)) other ≡ Some epoch }
     {
         let word = status_place(other);
         let step = Step::Look(seat.number, other);
@@ -78,6 +80,7 @@ impl<P: RootProtocol> Words<P> {
         ensures note { note_of P.first seat.new ≡ note_of P.first seat.old }
         ensures known { known_of seat.new ≡ after_pass other (known_of seat.old) }
         ensures step { IsStep P.whole self.now seat.old seat.new (step.Eject (number_of seat.old) other) (if result then answer.Ejected else answer.Lost) }
+        ensures passed { has (scan_of (known_of seat.new)).passed other ≡ true }
     {
         let word = status_place(other);
         let was_in = 4 * seat.found[other] + 1;

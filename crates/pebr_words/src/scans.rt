@@ -52,6 +52,7 @@ impl<P: RootProtocol> Words<P> {
         ensures note { note_of P.first seat.new ≡ note_of P.first seat.old }
         ensures known { known_of seat.new ≡ after_scan other place result (known_of seat.old) }
         ensures step { IsStep P.whole self.now seat.old seat.new (step.Scan (number_of seat.old) other place) (found_under result) }
+        ensures scanned { has_scanned (scan_of (known_of seat.new)) other place ≡ true }
     {
         let word = shield_place(self.shape, other, place);
         let step = Step::Scan(seat.number, other, place);

@@ -1,13 +1,14 @@
 use Rattle.std.proofs.Common.{◌*◌, ◌+◌, ◌<◌, sym, ap, ◌∙◌, subst, arith}
 use Rattle.std.specs.Prelude.{unwrap_or, if◌then◌else◌, ◌==◌, length}
 use Rattle.pebr_core.specs.declared.kinds.Answer.TheVariants as answer
-use Rattle.pebr_core.specs.State.{scan_of}
+use Rattle.pebr_core.specs.State.{Seat, has, scan_of}
 use Rattle.pebr_words.specs.Making.{known_in, past_in, IsStepOf}
 use Rattle.pebr_core.specs.declared.kinds.Step.TheVariants as step
 use Rattle.pebr_words.specs.Pasts.{past_after}
 use Rattle.pebr_words.specs.Mirrors.{Mirrors}
 use Rattle.pebr_words.proofs.EjectStep.{eject_by, eject_kept, eject_recalled}
 use Rattle.pebr_words.proofs.Mirroring.{pass_mirrors, found_here, found_low, has_scan}
+use Rattle.pebr_words.proofs.SeatFacts.{passed_here}
 use Rattle.pebr_words.proofs.words.Words.eject.Goals as goal
 
 pub overflow_mul-was_in : goal.overflow_mul-was_in
@@ -64,3 +65,8 @@ returns-clause-step g c =
       past = told.past ∙ ap (λ a. past_after (step.Eject seat.number c.args.other) a known (past_in seat.inner.me.0)) (ap (λ o. if c.exchange.result == 4 * unwrap_or o 0 + 1 then answer.Ejected else answer.Lost) looked);
       sure = told.sure;
     }
+
+pub returns-clause-passed : goal.returns-clause-passed
+returns-clause-passed g c =
+    let known = known_in c.args.seat.now.inner.me.0 in
+    ap (λ (s : Seat). has (scan_of s).passed c.args.other) c.exchange.ensures.told.known ∙ passed_here c.args.self.now.shape known c.requires.at.6 c.requires.scanning c.args.other c.requires.other

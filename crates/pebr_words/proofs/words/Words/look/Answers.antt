@@ -1,11 +1,12 @@
 use Rattle.std.proofs.Common.{◌<◌, length, sym, ap, ◌∙◌, subst, arith}
 use Rattle.pebr_core.specs.declared.kinds.Step.TheVariants as step
-use Rattle.pebr_core.specs.State.{scan_of}
+use Rattle.pebr_core.specs.State.{Seat, has, scan_of, found_at}
 use Rattle.pebr_words.specs.Making.{known_in, past_in}
 use Rattle.pebr_words.specs.Pasts.{past_after}
 use Rattle.pebr_words.specs.Mirrors.{Mirrors, found_after}
 use Rattle.pebr_words.proofs.LookStep.{look_by, look_kept, look_recalled}
 use Rattle.pebr_words.proofs.Mirroring.{has_scan, look_told, looked_mirrors}
+use Rattle.pebr_words.proofs.SeatFacts.{looked_passed, looked_found}
 use Rattle.pebr_words.proofs.words.Words.look.Goals as goal
 
 pub load-found-requires-clause-made : goal.load-found-requires-clause-made
@@ -51,3 +52,19 @@ returns-clause-step g c =
       past = c.load-found.ensures.told.past ∙ ap (λ a. past_after (step.Look seat.number c.args.other) a (known_in seat.inner.me.0) (past_in seat.inner.me.0)) both.2;
       sure = c.load-found.ensures.told.sure;
     }
+
+pub returns-clause-passed : goal.returns-clause-passed
+returns-clause-passed g c is =
+    let seat = c.args.seat.now in
+    let known = known_in seat.inner.me.0 in
+    let both = look_told g.P.RootProtocol.after g.P.RootProtocol.whole g.P.RootProtocol.first c.args.self.now.shape seat.noted seat.slots c.newest.result seat.found.items seat.number c.args.other c.load-found.result c.judge-looked.result
+    seat.inner.me _ seat.mirrors c.newest.ensures c.requires.scanning c.requires.at.3 c.load-found.ensures.told c.judge-looked.ensures.answer in
+    ap (λ (s : Seat). has (scan_of s).passed c.args.other) both.0 ∙ looked_passed c.args.self.now.shape known c.requires.at.6 c.requires.scanning c.args.other c.judge-looked.result c.requires.other.0 is
+
+pub returns-clause-found : goal.returns-clause-found
+returns-clause-found g c epoch is =
+    let seat = c.args.seat.now in
+    let known = known_in seat.inner.me.0 in
+    let both = look_told g.P.RootProtocol.after g.P.RootProtocol.whole g.P.RootProtocol.first c.args.self.now.shape seat.noted seat.slots c.newest.result seat.found.items seat.number c.args.other c.load-found.result c.judge-looked.result
+    seat.inner.me _ seat.mirrors c.newest.ensures c.requires.scanning c.requires.at.3 c.load-found.ensures.told c.judge-looked.ensures.answer in
+    ap (λ (s : Seat). found_at (scan_of s) c.args.other) both.0 ∙ looked_found c.args.self.now.shape known c.requires.at.6 c.requires.scanning c.args.other epoch c.judge-looked.result c.requires.other.0 is

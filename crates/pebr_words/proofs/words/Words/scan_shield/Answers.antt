@@ -1,11 +1,12 @@
 use Rattle.std.proofs.Common.{◌∙◌, sym, ap, subst}
-use Rattle.pebr_words.specs.Making.{known_in, IsStepOf}
+use Rattle.pebr_words.specs.Making.{known_in, slot_from, IsStepOf}
 use Rattle.pebr_words.specs.Mirrors.{Mirrors}
 use Rattle.pebr_core.specs.declared.kinds.Step.TheVariants as step
 use Rattle.pebr_core.specs.Steps.{found_under, after_scan}
-use Rattle.pebr_core.specs.State.{scan_of}
+use Rattle.pebr_core.specs.State.{Seat, scan_of, has_scanned}
 use Rattle.pebr_words.proofs.Mirroring.{has_scan, can_keep, scan_mirrors}
 use Rattle.pebr_words.proofs.ScanStep.{scan_by, scan_kept, scan_recalled}
+use Rattle.pebr_words.proofs.SeatFacts.{scanned_here}
 use Rattle.pebr_words.proofs.words.Words.scan_shield.Goals as goal
 
 pub load-requires-clause-made : goal.load-requires-clause-made
@@ -40,3 +41,9 @@ invariant_of-seat g c =
       mirrors = subst (Mirrors seat.noted c.keep_found.new.slots seat.found.items) (sym (told.known ∙ ap (λ o. after_scan c.args.other c.args.place o known) (sym c.slot_told-slot.ensures)))
           (scan_mirrors seat.number c.args.other c.args.place slot seat.noted seat.slots c.keep_found.new.slots seat.found.items made c.requires.at.3 seat.mirrors c.requires.scanning slots.fresh slots.retired slots.kept);
     }
+
+pub returns-clause-scanned : goal.returns-clause-scanned
+returns-clause-scanned g c =
+    let known = known_in c.args.seat.now.inner.me.0 in
+    ap (λ (s : Seat). has_scanned (scan_of s) c.args.other c.args.place) c.load.ensures.told.known
+    ∙ scanned_here c.args.self.now.shape known c.requires.at.6 c.requires.scanning c.args.other c.args.place (slot_from c.load.result) c.requires.other c.requires.place
