@@ -6,7 +6,7 @@ use Rattle.ipfix_model.specs.Templates.{v4_template, v4_fields, v6_template, v6_
 use Rattle.ipfix_writer.specs.Encoding.{message_header, message, set, template_record, field_specifier, data_record}
 use Rattle.ipfix_writer.specs.DataParts.{counts_part}
 use Rattle.ipfix_writer.specs.Layout.{length_in}
-use Rattle.ipfix_writer.proofs.Sizes.{length-set, length-counts_part}
+use Rattle.ipfix_writer.proofs.Sizes.{length-set, length-message, length-counts_part}
 use Rattle.ipfix_writer.proofs.Rests.{length_in-one}
 use Rattle.biflow_pair.specs.declared.biflow.Biflow.{Biflow}
 use Rattle.biflow_pair.specs.BiLayout.{bi_record, encode_both, encode_biflow, bi_template_records, bi_template_message}
@@ -73,6 +73,12 @@ length-v6_bi_record = refl
 pub length-bi_template_records : length bi_template_records ≡ 288
 unfolding template_record field_specifier
 length-bi_template_records = refl
+
+pub length-bi_template_message : (export_time : ℕ) → length (bi_template_message export_time) ≡ 308
+unfolding bi_template_message
+length-bi_template_message export_time =
+    length-message export_time 0 (set 2 bi_template_records)
+    ∙ ap (λ n. 16 + n) (length-set 2 bi_template_records ∙ ap (λ n. 4 + n) length-bi_template_records)
 
 -- the first message, written part by part
 pub bi_template_message-is : (export_time : ℕ)

@@ -4,3 +4,4 @@ pub mod Order
 pub mod Linking
 pub mod Mating
 pub mod BiRecords
+pub mod BiStreams

@@ -3,3 +3,5 @@ pub mod Pairs
 pub mod Chains
 pub mod BiLayout
 pub mod BiSizes
+pub mod BiFlows
+pub mod BiLaws

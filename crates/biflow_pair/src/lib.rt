@@ -7,6 +7,7 @@
 mod biflow;
 mod encoding;
 mod heads;
+pub mod laws;
 mod pairing;
 #[cfg(test)]
 mod tests;
