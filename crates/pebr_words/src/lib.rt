@@ -53,6 +53,7 @@ mod scans;
 mod shields;
 mod slots;
 mod steps;
+mod tells;
 #[cfg(test)]
 mod tests;
 mod unite;

@@ -1,7 +1,7 @@
 //! What a slot is to a seat.
 
 ghost use Rattle.std.specs.Prelude.{◌≡◌, ◌<◌, ◌≤◌, ℕ, drop, map, length};
-ghost use Rattle.seat_slots.specs.Marks.{changed, AreListed, AreSlots};
+ghost use Rattle.seat_slots.specs.Marks.{is_fresh, is_retired_mark, changed, AreListed, AreSlots};
 
 /// What a slot is to a seat.
 #[derive(Clone, Copy, Debug)]
@@ -30,6 +30,20 @@ pub enum Change {
 }
 
 impl Mark {
+    /// Whether it is fresh.
+    pub fn is_fresh(self) -> bool
+        ensures { result ≡ is_fresh self }
+    {
+        matches!(self, Mark::Fresh)
+    }
+
+    /// Whether it is retired, with or without a tag.
+    pub fn is_retired(self) -> bool
+        ensures { result ≡ is_retired_mark self }
+    {
+        matches!(self, Mark::Untagged | Mark::Tagged(_) | Mark::Kept(_))
+    }
+
     fn changed(self, change: Change) -> Mark
         ensures { result ≡ changed change self }
     {

@@ -6,7 +6,7 @@ ghost use Rattle.pebr_core.specs.State.{has, is_retired, first_seat, slot_count,
 ghost use Rattle.pebr_core.specs.Steps.{tag_with, is_above_tags, united, released};
 ghost use Rattle.pebr_core.specs.Kept.{IsWithinLimits};
 ghost use Rattle.seat_slots.specs.declared.marks.Mark.TheVariants as mark;
-ghost use Rattle.seat_slots.specs.Marks.{first_mark};
+ghost use Rattle.seat_slots.specs.Marks.{first_mark, mark_at};
 ghost use Rattle.std.specs.List.{range_with_len};
 ghost use Rattle.seat_slots.specs.Sets.{given, is_above};
 
@@ -73,6 +73,20 @@ impl SeatSlots {
             newest_kept: None,
             room,
         })
+    }
+
+    /// Whether a slot is fresh.
+    pub fn is_fresh(&self, slot: usize) -> bool
+        ensures { result ≡ has self.now.fresh slot }
+    {
+        mark_of(&self.marks, slot).is_fresh()
+    }
+
+    /// Whether a slot is retired.
+    pub fn is_retired(&self, slot: usize) -> bool
+        ensures { result ≡ is_retired (slice_index_or self.now.retired slot retire.No) }
+    {
+        mark_of(&self.marks, slot).is_retired()
     }
 
     /// How many slots are retired.
@@ -161,6 +175,16 @@ impl SeatSlots {
         self.newest = self.newest_kept;
         self.newest_kept = None;
         (given, left)
+    }
+}
+
+/// What a slot is; past the end, no slot of the seat's.
+fn mark_of(marks: &[Mark], slot: usize) -> Mark
+    ensures { result ≡ mark_at marks.now slot }
+{
+    match marks.get(slot) {
+        Some(mark) => *mark,
+        None => Mark::Other,
     }
 }
 
