@@ -5,3 +5,5 @@ pub mod Linking
 pub mod Mating
 pub mod BiRecords
 pub mod BiStreams
+pub mod Valid
+pub mod Once

@@ -5,3 +5,4 @@ pub mod BiLayout
 pub mod BiSizes
 pub mod BiFlows
 pub mod BiLaws
+pub mod Pairing

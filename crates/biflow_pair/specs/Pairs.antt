@@ -1,5 +1,5 @@
 -- The biflows of flow records. The choice of mates and of direction is this program's own.
-use Rattle.std.specs.Prelude.{◌≡◌, ℕ, List, [], ◌∷◌, Option, Some, None, if◌then◌else◌, IsPermutation, IsSorted}
+use Rattle.std.specs.Prelude.{◌≡◌, ℕ, List, [], ◌∷◌, ◌++◌, Option, Some, None, if◌then◌else◌, IsPermutation, IsSorted}
 use Rattle.std.specs.List.Sorted.{IsStable}
 use Rattle.std.specs.Ordering.{nat_cmp, ordering_then}
 use Rattle.std.specs.declared.cmp.Ordering.{Ordering}
@@ -46,3 +46,12 @@ pub record ArePairs (idle : ℕ) (records : List FlowRecord) (pairs : List Biflo
   pub sorted : IsSorted by_start ordered
   pub stable : IsStable by_start records ordered
   pub paired : ArePaired idle ordered pairs
+
+-- The records of a pair, and of pairs in their order: each forward record, and behind it its reverse.
+abbrev pub records_of : FlowRecord → Option FlowRecord → List FlowRecord
+records_of forward None = forward ∷ []
+records_of forward (Some reverse) = forward ∷ (reverse ∷ [])
+
+abbrev pub members : List Biflow → List FlowRecord
+members [] = []
+members (pair ∷ pairs) = records_of pair.forward pair.reverse ++ members pairs

@@ -9,9 +9,11 @@ mod encoding;
 mod heads;
 pub mod laws;
 mod pairing;
+mod stream;
 #[cfg(test)]
 mod tests;
 
 pub use biflow::Biflow;
 pub use encoding::bi_layout;
 pub use pairing::pair;
+pub use stream::{PairError, pair_stream};

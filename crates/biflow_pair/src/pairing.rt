@@ -4,7 +4,7 @@ ghost use Rattle.std.specs.Prelude.{◌≡◌, ◌+◌, ◌<◌, ◌≤◌, ◌+
 ghost use Rattle.std.specs.List.Sorted.{IsStable};
 ghost use Rattle.flow_key.specs.declared.key.FlowKey.{FlowKey};
 ghost use Rattle.biflow_pair.specs.Mates.{is_same, is_reverse};
-ghost use Rattle.biflow_pair.specs.Pairs.{by_start, ArePaired, ArePairs};
+ghost use Rattle.biflow_pair.specs.Pairs.{by_start, ArePaired, ArePairs, members};
 ghost use Rattle.biflow_pair.specs.Chains.{IsFirstPlace, ArePlaces, AreLinks, TakesMate, TakesPair, RisesFrom, pair_list, place_of};
 
 use crate::biflow::Biflow;
@@ -18,12 +18,14 @@ use std::cmp::Ordering;
 /// The biflows of some flow records: the records stand in the order of first time, last time and key, and ties keep their
 /// order. The first is a forward record; its reverse is the first of the others that is its mate, if there is one: its key
 /// has both addresses and both ports exchanged and isn't the same, and the gap between their spans is at most `idle`
-/// milliseconds, up to 86,400,000. Both are taken out, and so on with the rest.
+/// milliseconds, up to 86,400,000. Both are taken out, and so on with the rest. So each record is the forward or the reverse
+/// one of exactly one biflow.
 ///
 /// `NoMemory` where the room for the records, the places of their keys or the biflows can't be had.
 pub fn pair(alloc: Global, records: &[FlowRecord], idle: u64) -> Result<Vec<Biflow>, NoMemory>
     requires { idle ≤ 86400000 }
-    ensures { IfOk result (λ pairs. ArePairs idle records.now pairs.items) }
+    ensures pairs { IfOk result (λ pairs. ArePairs idle records.now pairs.items) }
+    ensures each_once { IfOk result (λ pairs. IsPermutation records.now (members pairs.items)) }
 {
     let ordered = in_order(alloc, records)?;
     pair_ordered(alloc, ordered.as_slice(), idle)

@@ -1,10 +1,12 @@
 //! Records whose pairs were made out by hand from the rule.
 
-ghost use Rattle.std.specs.Prelude.{◌+◌, ◌<◌, ◌^◌};
+ghost use Rattle.std.specs.Prelude.{◌+◌, ◌≤◌, ◌<◌, ◌^◌};
 
-use crate::{Biflow, pair};
+use crate::{Biflow, PairError, bi_layout, pair, pair_stream};
 use flow_key::FlowKey;
 use flow_parts::Fragment;
+use ipfix_reader::StreamFault;
+use ipfix_writer::layout;
 use record_ledger::FlowRecord;
 use std::test::Fail;
 
@@ -116,6 +118,98 @@ fn a_key_that_is_its_own_reverse_has_no_mate(rt: HostRuntime) -> Result<(), Fail
             [own, own].as_slice(),
             [alone(own), alone(own)].as_slice()
         )?
+    );
+    Ok(())
+}
+
+/// The octets of the layout of these biflows in messages of at most 1,400 octets.
+fn laid_out(rt: &HostRuntime, pairs: &[Biflow]) -> Result<usize, Fail> {
+    let stream = bi_layout(rt.alloc(), pairs, 1400, 1000).map_err(|_| Fail::from("no memory"))?;
+    Ok(stream.len())
+}
+
+#[test]
+fn biflows_are_laid_out(rt: HostRuntime) -> Result<(), Fail> {
+    let query = record(true, 40_000, 80, 1_000_000, 200);
+    let reply = record(false, 40_000, 80, 1_000_010, 100);
+    let exchange = both(query, reply);
+    assert_eq!(rt; laid_out(&rt, &[])?, 308);
+    assert_eq!(rt;
+        laid_out(&rt, [alone(query)].as_slice())?,
+        308 + 16 + 4 + 48
+    );
+    assert_eq!(rt;
+        laid_out(&rt, [exchange, exchange].as_slice())?,
+        308 + 16 + 4 + 83 + 83
+    );
+    assert_eq!(rt;
+        laid_out(&rt, [alone(query), exchange].as_slice())?,
+        308 + 16 + 4 + 48 + 4 + 83
+    );
+    Ok(())
+}
+
+#[test]
+fn the_values_of_a_reverse_flow_stand_behind_those_of_the_forward_one(
+    rt: HostRuntime,
+) -> Result<(), Fail> {
+    let query = record(true, 40_000, 80, 1_000_000, 200);
+    let mut reply = record(false, 40_000, 80, 1_000_010, 100);
+    reply.part.flags = 0x12;
+    reply.reason = 1;
+    let pairs = [both(query, reply)];
+    let stream = bi_layout(rt.alloc(), pairs.as_slice(), 1400, 1000).map_err(|_| Fail::from(
+        "no memory",
+    ))?;
+    let wanted: [u8; 35] = [
+        0, 0x12, 0, 0, 0, 0, 0, 0, 0, 1, 0, 0, 0, 0, 0, 0, 0, 40, 0, 0, 0, 0, 0, 0x0f, 0x42, 0x4a,
+        0, 0, 0, 0, 0, 0x0f, 0x42, 0xae, 1,
+    ];
+    assert_eq!(rt; stream.len(), 308 + 103);
+    for (byte, wanted) in stream.iter().skip(308 + 16 + 4 + 48).zip(wanted.iter()) {
+        assert_eq!(rt; *byte, *wanted);
+    }
+    Ok(())
+}
+
+/// What the stream of these records becomes: the length of the stream of their biflows.
+fn paired(rt: &HostRuntime, records: &[FlowRecord]) -> Result<usize, Fail> {
+    let stream = layout(rt.alloc(), records, 1400, 1000).map_err(|_| Fail::from("no memory"))?;
+    let written = pair_stream(rt.alloc(), stream.as_slice(), 300_000, 1400).map_err(|_| Fail::from(
+        "refused",
+    ))?;
+    Ok(written.len())
+}
+
+#[test]
+fn streams_are_paired(rt: HostRuntime) -> Result<(), Fail> {
+    let query = record(true, 40_000, 80, 1_000_000, 200);
+    let reply = record(false, 40_000, 80, 1_000_010, 100);
+    let ask = record(true, 40_001, 53, 1_000_000, 0);
+    let answer = record(false, 40_001, 53, 1_000_001, 0);
+    assert_eq!(rt; paired(&rt, &[])?, 308);
+    assert_eq!(rt; paired(&rt, [query].as_slice())?, 376);
+    assert_eq!(rt; paired(&rt, [ask, answer, reply, query].as_slice())?, 494);
+    Ok(())
+}
+
+#[test]
+fn streams_of_others_are_refused(rt: HostRuntime) -> Result<(), Fail> {
+    let query = record(true, 40_000, 80, 1_000_000, 200);
+    let reply = record(false, 40_000, 80, 1_000_010, 100);
+    let pairs = [alone(query), both(query, reply)];
+    let stream = bi_layout(rt.alloc(), pairs.as_slice(), 1400, 1000).map_err(|_| Fail::from(
+        "no memory",
+    ))?;
+    let refused = pair_stream(rt.alloc(), stream.as_slice(), 300_000, 1400);
+    assert_eq!(rt; refused.err(), Some(PairError::NotFlows(1)));
+    let Some((_, front)) = stream.as_slice().split_last() else {
+        return Err(Fail::from("no bytes"));
+    };
+    let refused = pair_stream(rt.alloc(), front, 300_000, 1400);
+    assert_eq!(rt;
+        refused.err(),
+        Some(PairError::NotStream(StreamFault::Cut { at: 308 }))
     );
     Ok(())
 }

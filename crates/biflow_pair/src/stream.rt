@@ -1,0 +1,105 @@
+//! A stream of flow records as a stream of biflows.
+
+ghost use Rattle.std.specs.Prelude.{◌≡◌, ◌≤◌, ◌<◌, ◌^◌, ◌++◌, [], ◌∷◌, Some, OnOk, IfOk, IfErr};
+ghost use Rattle.ipfix_reader.specs.Flows.{flows_in};
+ghost use Rattle.biflow_pair.specs.declared.stream.PairError.TheVariants.{NoMemory as OutOfMemory};
+ghost use Rattle.biflow_pair.specs.Pairing.{greatest_last, IsPaired, IsFirstOther, IsOtherError, PairingFails};
+
+use crate::encoding::bi_layout;
+use crate::pairing::pair;
+use ipfix_model::DataRecord;
+use ipfix_reader::{StreamError, StreamFault, flow_of, read_stream};
+use no_memory::NoMemory;
+use record_ledger::FlowRecord;
+use std::alloc::Global;
+
+/// Why a stream wasn't paired.
+#[derive(Clone, Copy, Debug, PartialEq, Eq)]
+pub enum PairError {
+    /// The stream has this fault.
+    NotStream(StreamFault),
+    /// The data record at this place, counted from 0, is the first that is no flow record.
+    NotFlows(u64),
+    /// Out of memory.
+    NoMemory,
+}
+
+impl From<NoMemory> for PairError {
+    ghost from_gives = { λ _ error. error ≡ OutOfMemory };
+
+    fn from(_error: NoMemory) -> PairError {
+        PairError::NoMemory
+    }
+}
+
+/// The flow records that data records are.
+fn flows_of(alloc: Global, records: &[DataRecord]) -> Result<Vec<FlowRecord>, PairError>
+    ensures flows { IfOk result (λ flows. flows_in records.now ≡ Some flows.items) }
+    ensures other { IfErr result (IsOtherError records.now) }
+{
+    let mut flows = Vec::new(alloc);
+    let mut place = 0;
+    while place < records.len() {
+        match flow_of(&records[place]) {
+            Some(flow) => add_flow(&mut flows, flow)?,
+            None => return Err(PairError::NotFlows(place as u64)),
+        }
+        place += 1;
+    }
+    Ok(flows)
+}
+
+/// Adds a flow record.
+fn add_flow(flows: &mut Vec<FlowRecord>, flow: FlowRecord) -> Result<(), NoMemory>
+    ensures { OnOk result (flows.new.items ≡ flows.old.items ++ flow ∷ []) }
+{
+    flows.push(flow)?;
+    Ok(())
+}
+
+/// The greatest last time of flow records, and 0 of none.
+fn greatest_last(flows: &[FlowRecord]) -> u64
+    ensures { result ≡ greatest_last flows.now }
+{
+    let mut greatest = 0u64;
+    for flow in flows {
+        greatest = greatest.max(flow.part.last);
+    }
+    greatest
+}
+
+/// The stream of the biflows of the flow records that a stream has: they are paired with this idle time-out, in milliseconds
+/// up to 86,400,000, and laid out in messages of at most `size` octets, from 308 to 65,535. The export time is the greatest
+/// last time, in whole seconds and 32 bits.
+///
+/// `NotStream` has the stream's first fault. `NotFlows` has the place of the first data record that is no flow record, where
+/// the stream has no fault.
+pub fn pair_stream(
+    alloc: Global,
+    stream: &[u8],
+    idle: u64,
+    size: usize,
+) -> Result<Vec<u8>, PairError>
+    requires idle { idle ≤ 86400000 }
+    requires size { (308 ≤ size) × (size < 2 ^ 16) }
+    ensures paired { IfOk result (λ written. IsPaired idle size stream.now written.items) }
+    ensures cause { IfErr result (PairingFails stream.now) }
+{
+    let records = match read_stream(alloc, stream) {
+        Ok(records) => records,
+        Err(StreamError::Fault(fault)) => return Err(PairError::NotStream(fault)),
+        Err(StreamError::NoMemory) => return Err(PairError::NoMemory),
+    };
+    let flows = match flows_of(alloc, records.as_slice()) {
+        Ok(flows) => flows,
+        Err(error) => return Err(error),
+    };
+    let Ok(pairs) = pair(alloc, flows.as_slice(), idle) else {
+        return Err(PairError::NoMemory);
+    };
+    let seconds = greatest_last(flows.as_slice()) / 1000 % (1 << 32);
+    match bi_layout(alloc, pairs.as_slice(), size, seconds as u32) {
+        Ok(written) => Ok(written),
+        Err(NoMemory) => Err(PairError::NoMemory),
+    }
+}
