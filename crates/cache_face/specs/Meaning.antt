@@ -28,31 +28,34 @@ pub record PassMeans : Type 0 where
 abbrev pub IsFresh : PassMeans → Type 0
 IsFresh pass = (pass.note ≡ first_note) × (pass.lost ≡ 0)
 
--- A packet was metered by the choice over the four entries that the pass read last, in the packet's set.
-pub record IsChosen (cache : CacheMeans) (pass : PassMeans) (packet : Packet) (how : How) (out : Option Fragment) : Type 0 where
-  pub set : pass.set ≡ set_number packet.key cache.sets
+-- A fragment was put in by the choice over the four entries that the pass read last, in the set of its key.
+pub record IsChosen (cache : CacheMeans) (pass : PassMeans) (own : Fragment) (how : How) (out : Option Fragment) : Type 0 where
+  pub set : pass.set ≡ set_number own.key cache.sets
   pub four : length pass.entries ≡ 4
-  pub own : Fragment
-  pub alone : IsAlone packet own
   pub place : ℕ
   pub kept : Fragment
   pub chosen : IsChoice cache.limits pass.entries own how place out kept
 
--- A packet was passed by: this call lost three tries, there is another seat, and the fragment of the packet alone is handed
--- out.
-pub record IsPassedBy (cache : CacheMeans) (old new : PassMeans) (packet : Packet) (out : Option Fragment) : Type 0 where
+-- A fragment was passed by: this call lost three tries, there is another seat, and the fragment itself is handed out.
+pub record IsPassedBy (cache : CacheMeans) (old new : PassMeans) (own : Fragment) (out : Option Fragment) : Type 0 where
   pub lost : new.lost ≡ old.lost + 3
   pub others : cache.seats ≢ 1
-  pub own : Fragment
-  pub alone : IsAlone packet own
   pub out_is : out ≡ Some own
 
--- Each answer and its cause. Of an answer other than PassedBy fewer than three tries were lost.
-abbrev pub IsAnswer : CacheMeans → PassMeans → PassMeans → Packet → How → Option Fragment → Type 0
-IsAnswer cache old new packet PassedBy out = IsPassedBy cache old new packet out
-IsAnswer cache old new packet Joined out = IsChosen cache new packet Joined out × (old.lost ≤ new.lost) × (new.lost < old.lost + 3)
-IsAnswer cache old new packet Opened out = IsChosen cache new packet Opened out × (old.lost ≤ new.lost) × (new.lost < old.lost + 3)
-IsAnswer cache old new packet Replaced out = IsChosen cache new packet Replaced out × (old.lost ≤ new.lost) × (new.lost < old.lost + 3)
+-- Where it was put in fewer than three tries were lost.
+abbrev pub IsPutIn : CacheMeans → PassMeans → PassMeans → Fragment → How → Option Fragment → Type 0
+IsPutIn cache old new own how out = IsChosen cache new own how out × (old.lost ≤ new.lost) × (new.lost < old.lost + 3)
+
+-- Each answer and its cause.
+abbrev pub IsAnswer : CacheMeans → PassMeans → PassMeans → Fragment → How → Option Fragment → Type 0
+IsAnswer cache old new own PassedBy out = IsPassedBy cache old new own out
+IsAnswer cache old new own Joined out = IsPutIn cache old new own Joined out
+IsAnswer cache old new own Opened out = IsPutIn cache old new own Opened out
+IsAnswer cache old new own Replaced out = IsPutIn cache old new own Replaced out
+
+-- A packet is metered as the fragment of it alone.
+abbrev pub IsMetered : CacheMeans → PassMeans → PassMeans → Packet → How → Option Fragment → Type 0
+IsMetered cache old new packet how out = (own : Fragment) × IsAlone packet own × IsAnswer cache old new own how out
 
 -- A pass stands for both of two.
 abbrev pub IsUnited : PassMeans → PassMeans → PassMeans → Type 0

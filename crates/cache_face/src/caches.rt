@@ -4,7 +4,7 @@ ghost use Rattle.std.specs.Prelude.{◌≡◌, ◌<◌, ◌≤◌, ◌^◌, ◌�
 ghost use Rattle.packet_accept.specs.declared.packet.Packet.{Packet};
 ghost use Rattle.flow_parts.specs.declared.fragment.Fragment.{Fragment};
 ghost use Rattle.flow_parts.specs.Sharing.{SharesOut};
-ghost use Rattle.cache_face.specs.Meaning.{CacheMeans, PassMeans, IsFresh, IsAnswer, IsUnited};
+ghost use Rattle.cache_face.specs.Meaning.{CacheMeans, PassMeans, IsFresh, IsMetered, IsUnited};
 ghost use Rattle.cache_face.specs.Notes.{metering};
 
 use crate::metered::Metered;
@@ -34,7 +34,7 @@ pub trait FlowCache: Sync + Drop {
         requires octets { packet.now.octets < 2 ^ 24 }
         ensures own { is_of self.now pass.new }
         ensures note { (shown pass.new).note ≡ metering (shown pass.old).note (packet.now ∷ []) result.out }
-        ensures answer { IsAnswer (means self.now) (shown pass.old) (shown pass.new) packet.now result.how result.out };
+        ensures answer { IsMetered (means self.now) (shown pass.old) (shown pass.new) packet.now result.how result.out };
 
     /// One pass for both, which only `unite` and `close` take where it stands for more than one seat.
     fn unite(&self, first: Self::Pass, second: Self::Pass) -> Self::Pass

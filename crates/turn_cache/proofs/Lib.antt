@@ -1,0 +1,9 @@
+pub mod Totals
+pub mod Frames
+pub mod Answering
+pub mod TakeStep
+pub mod Writing
+pub mod LoadStep
+pub mod CommitStep
+pub mod StoreStep
+pub mod GiveStep

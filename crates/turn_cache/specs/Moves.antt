@@ -1,0 +1,104 @@
+-- What each kind of step does to its seat.
+use Rattle.std.specs.Prelude.{◌≡◌, ◌≢◌, ℕ, Bool, suc, ◌+◌, ◌-◌, ◌*◌, ◌<◌, List, [], ◌∷◌, ◌++◌, Option, Some, false, replicate, length, ◌==◌, if◌then◌else◌, slice_set, slice_index}
+use Rattle.packet_accept.specs.declared.packet.Packet.{Packet}
+use Rattle.flow_parts.specs.declared.fragment.Fragment.{Fragment}
+use Rattle.atomic_table.specs.Table.{Me, Step}
+use Rattle.flow_parts.specs.declared.timeouts.Timeouts.{Timeouts}
+use Rattle.flow_parts.specs.Sharing.{SharesOut}
+use Rattle.cache_face.specs.Keeping.{IsWhole, IsSmall}
+use Rattle.cache_face.specs.Laws.{CanMeter}
+use Rattle.cache_face.specs.Notes.{Note, metering}
+use Rattle.turn_cache.specs.Hands.{Hand, Turn, idle, reading, writing, number_of}
+use Rattle.turn_cache.specs.Places.{set_word}
+
+abbrev pub Sat : Type 0
+Sat = Me (Unit {0}) Hand
+
+-- What a step is about: the number of seats and the set; whether a try is the last; the packets that its fragment stands for
+-- and the fragment handed out, if any; the entry, its words as they were read, and its new ones.
+pub record Move : Type 0 where
+  pub seats : ℕ
+  pub set : ℕ
+  pub last : Bool
+  pub packets : List Packet
+  pub out : Option Fragment
+  pub place : ℕ
+  pub old : List ℕ
+  pub new : List ℕ
+
+-- The turn is taken: the seat reads the set.
+abbrev pub taken : ℕ → Hand → Hand
+taken set hand = record hand { turn = reading set; set = set; read = [] }
+
+-- Another has the turn: a try is lost at the set, and where it is the last, the packets are metered and handed out.
+abbrev pub lost : Move → Hand → Hand
+lost move hand = record hand { lost = hand.lost ++ move.set ∷ []; note = if move.last then metering hand.note move.packets move.out else hand.note }
+
+-- To take a turn tells whose it was: nobody's, or that of another seat, so that there is one.
+abbrev pub Takes : Move → Sat → ℕ → Sat → Type 0
+Takes move m found m' =
+    (m' ≡ (if found == 0 then taken move.set m.0 else lost move m.0, m.1))
+    × (found ≢ 0 → (found ≢ suc (number_of m.0.numbers)) × (move.seats ≢ 1))
+
+-- To load a content word adds it to what was read. The ten words of an entry are whole.
+abbrev pub more_read : List ℕ → Hand → Hand
+more_read words hand = record hand { read = hand.read ++ words }
+
+abbrev pub AreWhole : List ℕ → Type 0
+AreWhole read = (before content : List ℕ) (place : ℕ) → read ≡ before ++ content → length before ≡ 10 * place → place < 4 → length content ≡ 10 → IsWhole content
+
+abbrev pub Loads : Sat → ℕ → Sat → Type 0
+Loads m found m' = (m' ≡ (more_read (found ∷ []) m.0, m.1)) × AreWhole (m.0.read ++ found ∷ [])
+
+-- The first store: the entry is new from here on, and the note grows.
+abbrev pub committed : Move → Hand → Hand
+committed move hand = record hand {
+  turn = writing move.set move.place move.new (slice_set move.old 5 (slice_index move.new 5));
+  note = metering hand.note move.packets move.out;
+}
+
+abbrev pub Commits : Move → Sat → Sat → Type 0
+Commits move m m' = m' ≡ (committed move m.0, m.1)
+
+-- What the seat is at changes alone.
+abbrev pub at_turn : Turn → Hand → Hand
+at_turn turn hand = record hand { turn = turn }
+
+-- Each further store.
+abbrev pub written : ℕ → ℕ → Turn → Turn
+written word value idle = idle
+written word value (reading set) = reading set
+written word value (writing set place new now) = writing set place new (slice_set now (word - set_word set (10 * place)) value)
+
+abbrev pub Stores : Step (Unit {0}) → Sat → Sat → Type 0
+Stores st m m' = m' ≡ (at_turn (written st.word st.first m.0.turn) m.0, m.1)
+
+-- The turn is given back.
+abbrev pub Gives : Sat → Sat → Type 0
+Gives m m' = m' ≡ (at_turn idle m.0, m.1)
+
+-- A try to take the turn of a set. Where it is lost, and is the last, the own fragment is handed out.
+abbrev pub trying : ℕ → ℕ → List Packet → Fragment → Bool → Move
+trying seats set packets own last = record { seats = seats; set = set; last = last; packets = packets; out = Some own; place = 0; old = []; new = [] }
+
+-- An entry of a set is written.
+abbrev pub writes_to : ℕ → ℕ → List Packet → Option Fragment → List ℕ → List ℕ → Move
+writes_to set place packets out old new = record { seats = 0; set = set; last = false; packets = packets; out = out; place = place; old = old; new = new }
+
+-- The fragment stands for packets that a pass of this note can meter.
+pub record IsOwn (limits : Timeouts) (note : Note) (packets : List Packet) (own : Fragment) : Type 0 where
+  pub can : CanMeter note packets
+  pub shares : SharesOut limits packets (own ∷ [])
+  pub small : IsSmall own
+
+-- The turn was taken, after so many lost tries.
+abbrev pub after_tries : ℕ → ℕ → Hand → Hand
+after_tries set tries hand = taken set (record hand { lost = hand.lost ++ replicate tries set })
+
+-- Three tries were lost: the fragment is handed out.
+abbrev pub passed_by : ℕ → List Packet → Fragment → Hand → Hand
+passed_by set packets own hand = record hand { lost = hand.lost ++ replicate 3 set; note = metering hand.note packets (Some own) }
+
+-- A fragment was put into the set whose turn the seat had, by the choice over the entries read.
+abbrev pub filled : List ℕ → List Packet → Option Fragment → Hand → Hand
+filled words packets out hand = record hand { read = words; turn = idle; note = metering hand.note packets out }

@@ -1,0 +1,16 @@
+-- What the cache and its passes mean.
+use Rattle.std.specs.Prelude.{◌≡◌, ℕ, ◌<◌, length, []}
+use Rattle.cache_face.specs.Meaning.{CacheMeans, PassMeans}
+use Rattle.turn_cache.specs.declared.cache.TurnCache.{TurnCache}
+use Rattle.turn_cache.specs.declared.cache.TurnPass.{TurnPass}
+use Rattle.turn_cache.specs.Hands.{entries_of}
+
+abbrev pub means_of : TurnCache → CacheMeans
+means_of cache = record { sets = cache.sets; seats = cache.seats; limits = cache.timeouts }
+
+-- A pass's number of lost tries is the length of its list of them.
+abbrev pub shown_of : TurnPass → PassMeans
+shown_of pass = record { note = pass.seat.me.0.note; lost = length pass.seat.me.0.lost; set = pass.seat.me.0.set; entries = entries_of pass.seat.me.0.read }
+
+abbrev pub IsOf : TurnCache → TurnPass → Type 0
+IsOf cache pass = (pass.seat.table_id ≡ cache.table.shared.table_id) × (pass.seat.me.1 ≡ []) × (0 < length pass.seat.me.0.numbers)

@@ -1,0 +1,134 @@
+//! The rule of the table, and its kinds of step. They stand in proofs alone.
+
+ghost use Rattle.std.specs.Prelude.{List};
+ghost use Rattle.packet_accept.specs.declared.packet.Packet.{Packet};
+ghost use Rattle.turn_cache.specs.Moves.{Move};
+
+use atomic_table::{Join, Play, Split, TableRule};
+use flow_parts::Timeouts;
+use std::marker::{Brand, Model, PhantomData};
+
+/// What a seat knows. No value of it is made.
+pub struct Known {
+    unit: (),
+}
+
+impl Model for Known {
+    ghost use Rattle.turn_cache.specs.Hands.{Hand, spent};
+
+    ghost Value = { Hand };
+
+    ghost view = { λ _. spent };
+}
+
+/// What the table is told once.
+#[derive(Clone, Copy)]
+pub struct Told {
+    pub sets: u64,
+    pub seats: u64,
+    pub timeouts: Timeouts,
+}
+
+/// Turns, contents and notes fit, and the cache keeps.
+pub struct Turns;
+
+impl TableRule<(), Known, Told> for Turns {
+    ghost use Rattle.turn_cache.specs.Ruled.{Ruled};
+    ghost use Rattle.turn_cache.specs.Hands.{new_hand};
+    ghost use Rattle.cache_face.specs.Notes.{unused};
+    ghost use Rattle.std.specs.List.{range_with_len};
+
+    ghost holds = { Ruled };
+
+    ghost first = { λ told. new_hand (range_with_len 0 told.seats) (unused told.seats) };
+}
+
+/// What a step is about. A proof picks it at the call.
+pub trait IsMove {
+    ghost about: { Move };
+}
+
+impl IsMove for Brand {
+    ghost use Rattle.std.specs.Prelude.{None, [], false};
+
+    ghost about = { record { seats = 0; set = 0; last = false; packets = []; out = None; place = 0; old = []; new = [] } };
+}
+
+/// The packets that a fragment stands for. A proof picks them at the call.
+pub trait IsTaken {
+    ghost packets: { List Packet };
+}
+
+impl IsTaken for Brand {
+    ghost use Rattle.std.specs.Prelude.{[]};
+
+    ghost packets = { [] };
+}
+
+/// A turn is taken, or a try lost.
+pub struct Takes<M> {
+    marker: PhantomData<M>,
+}
+
+impl<M: IsMove> Play<(), Known> for Takes<M> {
+    ghost use Rattle.turn_cache.specs.Moves as moves;
+
+    ghost then = { λ _ me found after. moves.Takes M.about me found after };
+}
+
+/// A content word is loaded.
+pub struct Loads;
+
+impl Play<(), Known> for Loads {
+    ghost use Rattle.turn_cache.specs.Moves as moves;
+
+    ghost then = { λ _ me found after. moves.Loads me found after };
+}
+
+/// The first word of an entry is stored.
+pub struct Commits<M> {
+    marker: PhantomData<M>,
+}
+
+impl<M: IsMove> Play<(), Known> for Commits<M> {
+    ghost use Rattle.turn_cache.specs.Moves as moves;
+
+    ghost then = { λ _ me _ after. moves.Commits M.about me after };
+}
+
+/// A further word is stored.
+pub struct Stores;
+
+impl Play<(), Known> for Stores {
+    ghost use Rattle.turn_cache.specs.Moves as moves;
+
+    ghost then = { λ step me _ after. moves.Stores step me after };
+}
+
+/// The turn is given back.
+pub struct Gives;
+
+impl Play<(), Known> for Gives {
+    ghost use Rattle.turn_cache.specs.Moves as moves;
+
+    ghost then = { λ _ me _ after. moves.Gives me after };
+}
+
+/// A seat is split off, or two are united.
+pub struct Parts;
+
+impl Split<Known> for Parts {
+    ghost use Rattle.turn_cache.specs.Hands.{remaining, split_off};
+
+    ghost left = { remaining };
+
+    ghost right = { split_off };
+}
+
+impl Join<Known> for Parts {
+    ghost use Rattle.turn_cache.specs.Hands as hands;
+
+    ghost both = { hands.united };
+
+    ghost spent = { hands.spent };
+}

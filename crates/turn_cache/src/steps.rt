@@ -1,0 +1,155 @@
+//! The five kinds of step on a word.
+
+ghost use Rattle.std.specs.Prelude.{◌≡◌, ◌≢◌, ℕ, ◌+◌, ◌*◌, ◌<◌, ◌≤◌, ◌++◌, length, [], ◌∷◌, List, IsTrue, true, false, slice_set, slice_index};
+ghost use Rattle.flow_parts.specs.declared.fragment.Fragment.{Fragment};
+ghost use Rattle.flow_parts.specs.Parts.{part_words};
+ghost use Rattle.cache_face.specs.Choice as choice;
+ghost use Rattle.cache_face.specs.Keeping.{entry_of};
+ghost use Rattle.turn_cache.specs.Hands.{number_of, idle, reading, writing};
+ghost use Rattle.turn_cache.specs.Moves as moves;
+
+use crate::cache::TurnCache;
+use crate::rule::{Commits, Gives, IsMove, IsTaken, Known, Loads, Stores, Takes};
+use atomic_table::Seat;
+use flow_parts::Fragment;
+use std::marker::Brand;
+
+impl TurnCache {
+    fn take_as<M: IsMove, K: IsTaken>(
+        &self,
+        seat: &mut Seat<(), Known>,
+        number: u64,
+        set: u64,
+        _own: Fragment,
+        _last: bool,
+    ) -> u64
+        requires about { M.about ≡ moves.trying self.now.seats set K.packets _own _last }
+        requires at { seat.old.table_id ≡ self.now.table.shared.table_id }
+        requires idle { (seat.old.me.0.turn ≡ idle) × (0 < length seat.old.me.0.numbers) × (number_of seat.old.me.0.numbers ≡ number) }
+        requires set { set < self.now.sets }
+        requires number { number < 64 }
+        requires own { moves.IsOwn self.now.timeouts seat.old.me.0.note K.packets _own }
+        ensures at { seat.new.table_id ≡ seat.old.table_id }
+        ensures tells { moves.Takes (moves.trying self.now.seats set K.packets _own _last) seat.old.me result seat.new.me }
+    {
+        let word = 64 * set as usize;
+        self.table
+            .shared
+            .compare_exchange::<Takes<M>>(seat, word, 0, number + 1)
+    }
+
+    /// Tries to take the turn of a set. Where another seat has it the try is lost, and where it is the last, the own fragment
+    /// is handed out.
+    pub(crate) fn take<K: IsTaken>(
+        &self,
+        seat: &mut Seat<(), Known>,
+        number: u64,
+        set: u64,
+        own: Fragment,
+        last: bool,
+    ) -> bool
+        requires at { seat.old.table_id ≡ self.now.table.shared.table_id }
+        requires idle { (seat.old.me.0.turn ≡ idle) × (0 < length seat.old.me.0.numbers) × (number_of seat.old.me.0.numbers ≡ number) }
+        requires set { set < self.now.sets }
+        requires number { number < 64 }
+        requires own { moves.IsOwn self.now.timeouts seat.old.me.0.note K.packets own }
+        ensures at { seat.new.table_id ≡ seat.old.table_id }
+        ensures taken { IsTrue result → seat.new.me ≡ (moves.taken set seat.old.me.0, seat.old.me.1) }
+        ensures lost { result ≡ false → (seat.new.me ≡ (moves.lost (moves.trying self.now.seats set K.packets own last) seat.old.me.0, seat.old.me.1)) × (self.now.seats ≢ 1) }
+    {
+        self.take_as::<Brand, K>(seat, number, set, own, last) == 0
+    }
+
+    /// Loads the next content word of the set.
+    pub(crate) fn load_word(&self, seat: &mut Seat<(), Known>, set: u64, k: usize) -> u64
+        requires at { seat.old.table_id ≡ self.now.table.shared.table_id }
+        requires reading { (seat.old.me.0.turn ≡ reading set) × (length seat.old.me.0.read ≡ k) }
+        requires below { (set < self.now.sets) × (k < 40) }
+        ensures at { seat.new.table_id ≡ seat.old.table_id }
+        ensures loads { moves.Loads seat.old.me result seat.new.me }
+    {
+        let word = 64 * set as usize + 16 + k;
+        self.table.shared.load::<Loads>(seat, word)
+    }
+
+    fn commit_as<M: IsMove, K: IsTaken>(
+        &self,
+        seat: &mut Seat<(), Known>,
+        set: u64,
+        place: usize,
+        _old: [u64; 10],
+        new: [u64; 10],
+        _own: Fragment,
+        _kept: Fragment,
+        _out: Option<Fragment>,
+    )
+        requires about { M.about ≡ moves.writes_to set place K.packets _out _old new }
+        requires at { seat.old.table_id ≡ self.now.table.shared.table_id }
+        requires reading { seat.old.me.0.turn ≡ reading set }
+        requires below { (set < self.now.sets) × (place < 4) }
+        requires read { (before after : List ℕ) × (seat.old.me.0.read ≡ before ++ (_old ++ after)) × (length before ≡ 10 * place) }
+        requires own { moves.IsOwn self.now.timeouts seat.old.me.0.note K.packets _own }
+        requires kept { (part_words _kept ≡ new) × choice.Takes self.now.timeouts _own (entry_of _old) _out _kept }
+        ensures at { seat.new.table_id ≡ seat.old.table_id }
+        ensures commits { moves.Commits (moves.writes_to set place K.packets _out _old new) seat.old.me seat.new.me }
+    {
+        let word = 64 * set as usize + 16 + (10 * place + 5);
+        self.table.shared.store::<Commits<M>>(seat, word, new[5]);
+    }
+
+    /// Stores the first word of an entry, its number of packets. From here on the set has its new entry.
+    pub(crate) fn commit<K: IsTaken>(
+        &self,
+        seat: &mut Seat<(), Known>,
+        set: u64,
+        place: usize,
+        old: [u64; 10],
+        new: [u64; 10],
+        own: Fragment,
+        kept: Fragment,
+        out: Option<Fragment>,
+    )
+        requires at { seat.old.table_id ≡ self.now.table.shared.table_id }
+        requires reading { seat.old.me.0.turn ≡ reading set }
+        requires below { (set < self.now.sets) × (place < 4) }
+        requires read { (before after : List ℕ) × (seat.old.me.0.read ≡ before ++ (old ++ after)) × (length before ≡ 10 * place) }
+        requires own { moves.IsOwn self.now.timeouts seat.old.me.0.note K.packets own }
+        requires kept { (part_words kept ≡ new) × choice.Takes self.now.timeouts own (entry_of old) out kept }
+        ensures at { seat.new.table_id ≡ seat.old.table_id }
+        ensures commits { moves.Commits (moves.writes_to set place K.packets out old new) seat.old.me seat.new.me }
+    {
+        self.commit_as::<Brand, K>(seat, set, place, old, new, own, kept, out);
+    }
+
+    /// Stores a further word of the entry.
+    pub(crate) fn store_word(
+        &self,
+        seat: &mut Seat<(), Known>,
+        set: u64,
+        place: usize,
+        k: usize,
+        value: u64,
+    )
+        requires at { seat.old.table_id ≡ self.now.table.shared.table_id }
+        requires writing { (new now : List ℕ) × (seat.old.me.0.turn ≡ writing set place new now) }
+        requires below { (set < self.now.sets) × (place < 4) × (k < 10) }
+        ensures at { seat.new.table_id ≡ seat.old.table_id }
+        ensures stores { (new now : List ℕ) → seat.old.me.0.turn ≡ writing set place new now
+            → seat.new.me ≡ (moves.at_turn (writing set place new (slice_set now k value)) seat.old.me.0, seat.old.me.1) }
+    {
+        let word = 64 * set as usize + 16 + (10 * place + k);
+        self.table.shared.store::<Stores>(seat, word, value);
+    }
+
+    /// Gives the turn back.
+    pub(crate) fn give(&self, seat: &mut Seat<(), Known>, set: u64)
+        requires at { seat.old.table_id ≡ self.now.table.shared.table_id }
+        requires written { (place : ℕ) × (new : List ℕ) × (seat.old.me.0.turn ≡ writing set place new new) }
+        requires below { set < self.now.sets }
+        ensures at { seat.new.table_id ≡ seat.old.table_id }
+        ensures gives { seat.new.me ≡ (moves.at_turn idle seat.old.me.0, seat.old.me.1) }
+    {
+        let word = 64 * set as usize;
+        self.table.shared.store::<Gives>(seat, word, 0);
+    }
+}
