@@ -1,6 +1,10 @@
 pub mod Totals
 pub mod Frames
 pub mod Answering
+pub mod Uniting
+pub mod Splitting
+pub mod Opening
+pub mod Own
 pub mod TakeStep
 pub mod Writing
 pub mod LoadStep

@@ -2,7 +2,9 @@
 #![tactic(auto)]
 
 mod cache;
+mod calls;
 mod metering;
+mod open;
 mod rule;
 mod steps;
 

@@ -1,0 +1,44 @@
+//! A packet is metered.
+
+ghost use Rattle.std.specs.Prelude.{◌≡◌, ◌<◌, ◌^◌, ◌∷◌, [], All};
+ghost use Rattle.cache_face.specs.Meaning.{IsMetered};
+ghost use Rattle.cache_face.specs.Notes.{metering};
+ghost use Rattle.turn_cache.specs.Shown.{means_of, shown_of, IsOf};
+
+use crate::cache::{TurnCache, TurnPass};
+use crate::rule::IsTaken;
+use cache_face::Metered;
+use flow_parts::Fragment;
+use packet_accept::Packet;
+use std::marker::Brand;
+
+impl TurnCache {
+    fn meter_as<K: IsTaken>(&self, pass: &mut TurnPass, packet: &Packet) -> Metered
+        requires picked { K.packets ≡ packet.now ∷ [] }
+        requires own { IsOf self.now pass.old }
+        requires single { (shown_of pass.old).note.seats ≡ 1 }
+        requires number { packet.now.number < 2 ^ 32 }
+        requires rises { All (λ p. p.number < packet.now.number) (shown_of pass.old).note.packets }
+        requires octets { packet.now.octets < 2 ^ 24 }
+        ensures own { IsOf self.now pass.new }
+        ensures note { (shown_of pass.new).note ≡ metering (shown_of pass.old).note (packet.now ∷ []) result.out }
+        ensures answer { IsMetered (means_of self.now) (shown_of pass.old) (shown_of pass.new) packet.now result.how result.out }
+    {
+        let own = Fragment::of(packet);
+        self.put_in::<K>(pass, own)
+    }
+
+    /// Meters a packet whose number is above those that the pass metered. It waits for nobody and takes no memory.
+    pub(crate) fn meter_packet(&self, pass: &mut TurnPass, packet: &Packet) -> Metered
+        requires own { IsOf self.now pass.old }
+        requires single { (shown_of pass.old).note.seats ≡ 1 }
+        requires number { packet.now.number < 2 ^ 32 }
+        requires rises { All (λ p. p.number < packet.now.number) (shown_of pass.old).note.packets }
+        requires octets { packet.now.octets < 2 ^ 24 }
+        ensures own { IsOf self.now pass.new }
+        ensures note { (shown_of pass.new).note ≡ metering (shown_of pass.old).note (packet.now ∷ []) result.out }
+        ensures answer { IsMetered (means_of self.now) (shown_of pass.old) (shown_of pass.new) packet.now result.how result.out }
+    {
+        self.meter_as::<Brand>(pass, packet)
+    }
+}
