@@ -1,0 +1,8 @@
+-- The definitions that contracts cite, a file for each subject.
+pub mod Blocks
+pub mod Options
+pub mod Interfaces
+pub mod Records
+pub mod Reading
+pub mod Index
+pub mod Fronts

@@ -1,0 +1,137 @@
+//! A capture: its first section header looked at, its packets found and read.
+
+ghost use Rattle.std.specs.Prelude.{◌≡◌, ◌+◌, ◌<◌, ◌≤◌, ◌^◌, ◌↔◌, ℕ, All, None, Ok, Err, IfOk, IfErr, OnOk, IsErr, Some, length, slice_get, slice_range};
+ghost use Rattle.octets.specs.declared.endianness.Endianness.{Endianness};
+ghost use Rattle.pcapng_reader.specs.Blocks.{file_order};
+ghost use Rattle.pcapng_reader.specs.Reading.{Found, with_block, found_in};
+ghost use Rattle.pcapng_reader.specs.Index.{HasUnits, IsPlaceIn, IsIndexOf, found_at, record_at, linked_read};
+
+use crate::content::{Content, content_of};
+use crate::front::{Front, begins_section, front_at, magic_order};
+use crate::index::{Place, PngIndex};
+use crate::interface::Interface;
+use crate::record::{PngRecord, enhanced_record, simple_record};
+use octets::Endianness;
+use std::alloc::Global;
+
+/// The bytes do not begin with a section header of a known order of octets.
+#[derive(Clone, Copy, Debug, PartialEq, Eq)]
+pub struct NotPcapng;
+
+/// Why the packets of a capture could not be found.
+#[derive(Clone, Copy, Debug, PartialEq, Eq)]
+pub enum PngFault {
+    /// The block at this offset, counted from the beginning of the file, is malformed or bad.
+    BadBlock(u64),
+    /// There was no memory for the index.
+    NoMemory,
+}
+
+/// A capture file in memory.
+#[derive(Clone, Copy, Debug)]
+pub struct PngCapture<'a> {
+    bytes: &'a [u8],
+}
+
+/// Takes what one block tells: the block from `at` to `to`.
+fn take_block(
+    bytes: &[u8],
+    at: usize,
+    to: usize,
+    order: Endianness,
+    interfaces: &mut Vec<Interface>,
+    places: &mut Vec<Place>,
+) -> Result<(), PngFault>
+    requires forward { at + 12 ≤ to }
+    requires within { to ≤ length bytes.now }
+    requires small { length bytes.now < 2 ^ 32 }
+    requires units { All HasUnits interfaces.old.items }
+    requires whole { All (IsPlaceIn bytes.now) places.old.items }
+    ensures taken { OnOk result (with_block (found_at bytes.now interfaces.old.items places.old.items)
+        (record { at = at; order = order; part = slice_range bytes.now at to })
+        ≡ Ok (found_at bytes.now interfaces.new.items places.new.items)) }
+    ensures bad { (n : ℕ) → result ≡ Err (PngFault.BadBlock n) → with_block (found_at bytes.now interfaces.old.items places.old.items)
+        (record { at = at; order = order; part = slice_range bytes.now at to }) ≡ Err n }
+    ensures units { All HasUnits interfaces.new.items }
+    ensures whole { All (IsPlaceIn bytes.now) places.new.items }
+{
+    let part = &bytes[at..to];
+    let Some(content) = content_of(interfaces.as_slice(), order, part) else {
+        return Err(PngFault::BadBlock(at as u64));
+    };
+    let kept = match content {
+        Content::Section => {
+            interfaces.clear();
+            true
+        }
+        Content::Described(interface) => interfaces.push(interface).is_ok(),
+        Content::Enhanced(interface) => places
+            .push(Place::Enhanced(at as u32, to as u32, order, interface))
+            .is_ok(),
+        Content::Simple => places.push(Place::Simple).is_ok(),
+        Content::Other => true,
+    };
+    if kept {
+        Ok(())
+    } else {
+        Err(PngFault::NoMemory)
+    }
+}
+
+impl<'a> PngCapture<'a> {
+    /// Looks at the beginning of the first section header. `NotPcapng` comes exactly where the first 12 bytes aren't
+    /// there, or their type or their magic aren't those of a section header.
+    pub fn open(bytes: &'a [u8]) -> Result<PngCapture<'a>, NotPcapng>
+        ensures capture { IfOk result (λ c. c.bytes.now ≡ bytes.now) }
+        ensures not_pcapng { IsErr result ↔ (file_order bytes.now ≡ None) }
+    {
+        if bytes.len() < 12 || !begins_section(bytes) || magic_order(bytes).is_none() {
+            return Err(NotPcapng);
+        }
+        Ok(PngCapture { bytes })
+    }
+
+    /// Where its packets stand, in one pass from block to block. The index keeps 32 bytes a packet.
+    pub fn index(&self, alloc: Global) -> Result<PngIndex, PngFault>
+        requires { length self.now.bytes.now < 2 ^ 32 }
+        ensures index { IfOk result (λ index. IsIndexOf index self.now.bytes.now) }
+        ensures bad { (at : ℕ) → result ≡ Err (PngFault.BadBlock at) → found_in self.now.bytes.now ≡ Err at }
+    {
+        let bytes = self.bytes;
+        let mut interfaces: Vec<Interface> = Vec::new(alloc);
+        let mut places: Vec<Place> = Vec::new(alloc);
+        let mut section = Endianness::Little;
+        let mut at = 0;
+        'blocks: loop {
+            let (_, left) = bytes.split_at(at);
+            match front_at(section, left) {
+                Front::Tail => return Ok(PngIndex::new(places)),
+                Front::Malformed => return Err(PngFault::BadBlock(at as u64)),
+                Front::Block(order, len) => {
+                    let to = at + len;
+                    match take_block(bytes, at, to, order, &mut interfaces, &mut places) {
+                        Ok(()) => {}
+                        Err(fault) => return Err(fault),
+                    }
+                    section = order;
+                    at = to;
+                }
+            }
+        }
+    }
+
+    /// The `n`-th record, counted from 0, by its place in the index.
+    #[inline]
+    pub fn record(&self, index: &PngIndex, n: u64) -> PngRecord<'a>
+        requires index { IsIndexOf index.now self.now.bytes.now }
+        requires number { n < length index.now }
+        ensures value { (found : Found) → found_in self.now.bytes.now ≡ Ok found → slice_get found.records n ≡ Some (linked_read result) }
+    {
+        match index.place(n) {
+            Place::Enhanced(from, to, order, interface) => {
+                enhanced_record(interface, *order, &self.bytes[*from as usize..*to as usize])
+            }
+            Place::Simple => simple_record(self.bytes),
+        }
+    }
+}

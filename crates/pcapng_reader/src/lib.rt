@@ -1,0 +1,25 @@
+//! A capture file of the next generation ("pcapng"), read in place: draft-ietf-opsawg-pcapng, sections 3 and 4.
+//!
+//! `PngCapture::open` looks at the first section header, `PngCapture::index` goes over all blocks and finds the packets,
+//! and `PngCapture::record` reads one of them, with the link type and the clock of its interface. Nothing is copied: the
+//! captured octets of a record are a part of the file.
+//!
+//! `specs/Blocks.antt` says which blocks a file has, `specs/Options.antt` which options a block has, and
+//! `specs/Reading.antt` what they tell: the interfaces of a section, and the records of the packets.
+#![tactic(auto)]
+
+mod capture;
+mod content;
+mod front;
+mod index;
+mod interface;
+mod options;
+mod record;
+mod time;
+
+pub use capture::{NotPcapng, PngCapture, PngFault};
+pub use index::PngIndex;
+pub use record::PngRecord;
+
+#[cfg(test)]
+mod tests;

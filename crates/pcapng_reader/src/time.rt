@@ -1,0 +1,66 @@
+//! The time of a packet, by the clock of its interface.
+
+ghost use Rattle.std.specs.Prelude.{◌≡◌, ◌<◌, ◌*◌, ◌/◌};
+ghost use Rattle.pcapng_reader.specs.Records.{fitting, moved, stamp_of};
+ghost use Rattle.pcapng_reader.specs.Index.{HasUnits};
+
+use crate::interface::Interface;
+
+/// A time, in seconds since the beginning of 1970 and nanoseconds.
+#[derive(Clone, Copy, Debug)]
+pub(crate) struct Stamp {
+    pub(crate) seconds: u32,
+    pub(crate) fraction: u32,
+}
+
+/// The stamp of a record without a time. Its fraction is no part of a second.
+pub(crate) const NO_TIME: Stamp = Stamp {
+    seconds: 0,
+    fraction: u32::MAX,
+};
+
+/// Seconds and a fraction, where the seconds fit.
+fn fitting(seconds: u128, fraction: u32) -> Stamp
+    ensures { result ≡ fitting seconds fraction }
+{
+    if seconds < 1 << 32 {
+        Stamp {
+            seconds: seconds as u32,
+            fraction,
+        }
+    } else {
+        NO_TIME
+    }
+}
+
+/// Seconds that are moved by an offset in two's complement, and a fraction.
+fn moved(seconds: u64, offset: u64, fraction: u32) -> Stamp
+    ensures { result ≡ moved seconds offset fraction }
+{
+    let sum = seconds as u128 + offset as u128;
+    if offset < 1 << 63 {
+        fitting(sum, fraction)
+    } else if sum < 1 << 64 {
+        NO_TIME
+    } else {
+        fitting(sum - (1 << 64), fraction)
+    }
+}
+
+/// The rest of a second in nanoseconds, rounded down.
+fn nanoseconds(rest: u64, units: u64) -> u32
+    requires { rest < units }
+    ensures { result ≡ rest * 1000000000 / units }
+{
+    (rest as u128 * 1_000_000_000 / units as u128) as u32
+}
+
+/// The time of so many units, by the clock of an interface.
+pub(crate) fn stamp_of(interface: &Interface, time: u64) -> Stamp
+    requires { HasUnits interface.now }
+    ensures { result ≡ stamp_of interface.now time }
+{
+    let units = interface.units;
+    let fraction = nanoseconds(time % units, units);
+    moved(time / units, interface.offset, fraction)
+}
