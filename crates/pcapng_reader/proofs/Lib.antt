@@ -3,3 +3,8 @@ pub mod Powers
 pub mod Optioned
 pub mod Pieces
 pub mod Placed
+pub mod Raw
+pub mod Written
+pub mod Fitting
+pub mod Gathered
+pub mod Answered

@@ -6,3 +6,7 @@ pub mod Records
 pub mod Reading
 pub mod Index
 pub mod Fronts
+pub mod Filtered
+pub mod Statuses
+pub mod Outcome
+pub mod Filtering

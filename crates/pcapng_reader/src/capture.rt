@@ -1,8 +1,9 @@
 //! A capture: its first section header looked at, its packets found and read.
 
-ghost use Rattle.std.specs.Prelude.{◌≡◌, ◌+◌, ◌<◌, ◌≤◌, ◌^◌, ◌↔◌, ℕ, All, None, Ok, Err, IfOk, IfErr, OnOk, IsErr, Some, length, slice_get, slice_range};
+ghost use Rattle.std.specs.Prelude.{◌≡◌, ◌+◌, ◌<◌, ◌≤◌, ◌^◌, ◌↔◌, ℕ, All, None, Ok, Err, IfOk, IfErr, OnOk, IsErr, IsSome, Some, length, slice_get, slice_range};
 ghost use Rattle.octets.specs.declared.endianness.Endianness.{Endianness};
 ghost use Rattle.pcapng_reader.specs.Blocks.{file_order};
+ghost use Rattle.pcap_reader.specs.Records.{most_captured};
 ghost use Rattle.pcapng_reader.specs.Reading.{Found, with_block, found_in};
 ghost use Rattle.pcapng_reader.specs.Index.{HasUnits, IsPlaceIn, IsIndexOf, found_at, record_at, linked_read};
 
@@ -83,6 +84,7 @@ impl<'a> PngCapture<'a> {
     /// there, or their type or their magic aren't those of a section header.
     pub fn open(bytes: &'a [u8]) -> Result<PngCapture<'a>, NotPcapng>
         ensures capture { IfOk result (λ c. c.bytes.now ≡ bytes.now) }
+        ensures pcapng { OnOk result (IsSome (file_order bytes.now)) }
         ensures not_pcapng { IsErr result ↔ (file_order bytes.now ≡ None) }
     {
         if bytes.len() < 12 || !begins_section(bytes) || magic_order(bytes).is_none() {
@@ -126,6 +128,9 @@ impl<'a> PngCapture<'a> {
         requires index { IsIndexOf index.now self.now.bytes.now }
         requires number { n < length index.now }
         ensures value { (found : Found) → found_in self.now.bytes.now ≡ Ok found → slice_get found.records n ≡ Some (linked_read result) }
+        ensures part { (from : ℕ) × (from + length result.rec.captured.now ≤ length self.now.bytes.now)
+            × (result.rec.captured.now ≡ slice_range self.now.bytes.now from (from + length result.rec.captured.now)) }
+        ensures small { length result.rec.captured.now ≤ most_captured }
     {
         match index.place(n) {
             Place::Enhanced(from, to, order, interface) => {

@@ -15,11 +15,16 @@ mod index;
 mod interface;
 mod options;
 mod record;
+mod running;
+mod status;
 mod time;
+mod writing;
 
 pub use capture::{NotPcapng, PngCapture, PngFault};
 pub use index::PngIndex;
 pub use record::PngRecord;
+pub use running::run_png;
+pub use status::PngStatus;
 
 #[cfg(test)]
 mod tests;

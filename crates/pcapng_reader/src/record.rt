@@ -1,6 +1,7 @@
 //! A record of a capture, with the link type of its interface.
 
 ghost use Rattle.std.specs.Prelude.{◌≡◌, ◌+◌, ◌≤◌, length, slice_range};
+ghost use Rattle.pcap_reader.specs.Records.{most_captured};
 ghost use Rattle.pcapng_reader.specs.Records.{enhanced_record, simple_record, captured_len};
 ghost use Rattle.pcapng_reader.specs.Index.{HasUnits, IsWhole, linked_read};
 
@@ -29,6 +30,8 @@ pub(crate) fn enhanced_record<'a>(
     requires whole { IsWhole order part.now }
     ensures value { linked_read result ≡ enhanced_record interface.now order part.now }
     ensures captured { result.rec.captured.now ≡ slice_range part.now 28 (28 + length result.rec.captured.now) }
+    ensures within { 28 + length result.rec.captured.now ≤ length part.now }
+    ensures small { length result.rec.captured.now ≤ most_captured }
 {
     let upper = order.u32_at(part, 12) as u64;
     let lower = order.u32_at(part, 16) as u64;
@@ -47,7 +50,8 @@ pub(crate) fn enhanced_record<'a>(
 
 /// The record of a simple packet.
 pub(crate) fn simple_record(bytes: &[u8]) -> PngRecord<'_>
-    ensures { linked_read result ≡ simple_record }
+    ensures value { linked_read result ≡ simple_record }
+    ensures empty { length result.rec.captured.now ≡ 0 }
 {
     PngRecord {
         link: 0,

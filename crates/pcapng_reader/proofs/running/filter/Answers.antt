@@ -1,0 +1,33 @@
+-- What was written is the answer, or a beginning of it.
+use Rattle.std.proofs.Common.{◌≡◌, ℕ, List, sym, subst, arith}
+use Rattle.std.specs.Prelude.{take}
+use Rattle.std.specs.Io.KnownBytes.{Appends}
+use Rattle.pcapng_reader.specs.Index.{IsIndexOf, records_at}
+use Rattle.pcapng_reader.specs.Filtered.{capture_of}
+use Rattle.pcapng_reader.proofs.Answered.{answer-is}
+use Rattle.pcapng_reader.proofs.running.filter.Goals as goal
+
+pub returns-in-Ok-write_packets : goal.returns-in-Ok-write_packets
+returns-in-Ok-write_packets g c =
+    let same = c.in-Ok.ensures.capture in
+    let index = subst (λ (b : List ℕ). IsIndexOf c.in-Ok-index.index b) same c.in-Ok-index.ensures.index in
+    record {
+      written = capture_of (records_at c.args.bytes.now c.in-Ok-index.index);
+      answer = answer-is c.args.bytes.now c.in-Ok-index.index c.in-Ok.ensures.pcapng (λ place. let h = c.type_inv.bytes place in omega (arith, h)) index;
+      taken = subst (λ (b : List ℕ). Appends (g.K.Sink.held c.args.output.now) (g.K.Sink.held c.write_packets.new.output) (capture_of (records_at b c.in-Ok-index.index)))
+          same c.in-Ok-write_packets.ensures.whole;
+    }
+
+pub returns : goal.returns
+returns g c =
+    let same = c.in-Ok.ensures.capture in
+    let index = subst (λ (b : List ℕ). IsIndexOf c.in-Ok-index.index b) same c.in-Ok-index.ensures.index in
+    let begun = c.in-Err.ensures.begun in
+    record {
+      written = capture_of (records_at c.args.bytes.now c.in-Ok-index.index);
+      answer = answer-is c.args.bytes.now c.in-Ok-index.index c.in-Ok.ensures.pcapng (λ place. let h = c.type_inv.bytes place in omega (arith, h)) index;
+      count = begun.0;
+      begun = subst (λ (b : List ℕ). Appends (g.K.Sink.held c.args.output.now) (g.K.Sink.held c.write_packets.new.output) (take begun.0 (capture_of (records_at b c.in-Ok-index.index))))
+          same begun.1;
+      cause = c.in-Err.ensures.cause.failed;
+    }
