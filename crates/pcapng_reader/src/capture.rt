@@ -93,7 +93,7 @@ impl<'a> PngCapture<'a> {
         Ok(PngCapture { bytes })
     }
 
-    /// Where its packets stand, in one pass from block to block. The index keeps 32 bytes a packet.
+    /// Where its packets stand, in one pass from block to block. The index keeps 40 bytes a packet.
     pub fn index(&self, alloc: Global) -> Result<PngIndex, PngFault>
         requires { length self.now.bytes.now < 2 ^ 32 }
         ensures index { IfOk result (λ index. IsIndexOf index self.now.bytes.now) }
