@@ -2,6 +2,7 @@
 
 PREFIX ?= /usr/local
 PROGRAM := bin/romtyalig
+PCAPNG := bin/romtyalig-pcapng
 CAPTURE := examples/web-exchange.pcap
 # All that a proof or a build reads: code, definitions, and proofs in folders of any depth.
 SOURCES := $(shell find crates -name out -prune -o \( -name '*.rt' -o -name '*.antt' \) -print)
@@ -11,7 +12,7 @@ SOURCES := $(shell find crates -name out -prune -o \( -name '*.rt' -o -name '*.a
 help:
 	@echo "make demo                 build the program, which proves it, and show the records of a sample capture"
 	@echo "make test                 the gate: prove every crate from nothing, run all tests, then the checks of checks/"
-	@echo "make build                leave the program as $(PROGRAM)"
+	@echo "make build                leave the programs as $(PROGRAM) and $(PCAPNG)"
 	@echo "make check                compare the program with other readers and meters (checks/)"
 	@echo "make install PREFIX=DIR   install the program below DIR, $(PREFIX) by default"
 
@@ -21,7 +22,7 @@ demo: build
 	$(PROGRAM) meter < $(CAPTURE) > bin/web-exchange.ipfix
 	$(PROGRAM) show < bin/web-exchange.ipfix
 
-build: $(PROGRAM)
+build: $(PROGRAM) $(PCAPNG)
 
 # `rt run` proves the crates, builds the program and runs it, here on an empty stream.
 $(PROGRAM): crates.txt $(SOURCES)
@@ -31,6 +32,13 @@ $(PROGRAM): crates.txt $(SOURCES)
 	@mkdir -p bin
 	@cp crates/romtyalig/out/romtyalig $(PROGRAM)
 
+# The same for the filter, here on the file of its stored run.
+$(PCAPNG): crates.txt $(SOURCES)
+	@cd crates/romtyalig_pcapng && rt run -- pcapng < stdin > build.log 2>&1 || { tail -n 20 build.log; exit 1; }
+	@rm -f crates/romtyalig_pcapng/build.log
+	@mkdir -p bin
+	@cp crates/romtyalig_pcapng/out/romtyalig_pcapng $(PCAPNG)
+
 test:
 	@echo "The gate: about an hour on four processors where nothing is proved yet, else the time of what changed."
 	rt ci
@@ -38,12 +46,16 @@ test:
 
 check: build
 	checks/foreign_readers.sh
+	checks/pcapng.sh
 	python3 checks/second_meter.py 20000
 	python3 checks/second_reader.py 20000
 
 install: build
 	install -d $(DESTDIR)$(PREFIX)/bin
 	install -m 755 $(PROGRAM) $(DESTDIR)$(PREFIX)/bin/romtyalig
+	install -m 755 $(PCAPNG) $(DESTDIR)$(PREFIX)/bin/romtyalig-pcapng
+	install -d $(DESTDIR)$(PREFIX)/share/man/man1
+	install -m 644 man/romtyalig-pcapng.1 $(DESTDIR)$(PREFIX)/share/man/man1/romtyalig-pcapng.1
 
 clean:
 	rm -rf bin crates/*/out

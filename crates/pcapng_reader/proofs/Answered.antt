@@ -1,6 +1,6 @@
 -- The capture of the records of an index is the answer.
-use Rattle.std.proofs.Common.{◌≡◌, ℕ, List, Ok, refl}
-use Rattle.std.specs.Prelude.{All, IsSome}
+use Rattle.std.proofs.Common.{ℕ, List, refl}
+use Rattle.std.specs.Prelude.{IsSome}
 use Rattle.octets.specs.Numbers.{AreOctets}
 use Rattle.pcapng_reader.specs.declared.index.Place.{Place}
 use Rattle.pcapng_reader.specs.Blocks.{file_order}

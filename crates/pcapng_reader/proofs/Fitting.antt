@@ -1,8 +1,8 @@
 -- The numbers of a record fit four octets.
-use Rattle.std.proofs.Common.{◌≡◌, ℕ, ◌+◌, ◌-◌, ◌*◌, ◌/◌, ◌%◌, ◌<◌, ◌≤◌, ◌^◌, List, length, get_or, take, drop, refl, sym, ap, ◌∙◌, arith, inl, inr}
-use Rattle.std.specs.Prelude.{All, map, nat_lt, slice_range}
+use Rattle.std.proofs.Common.{ℕ, ◌+◌, ◌-◌, ◌*◌, ◌/◌, ◌%◌, ◌<◌, ◌^◌, List, take, drop, arith, inl, inr}
+use Rattle.std.specs.Prelude.{All, nat_lt, slice_range}
 use Rattle.std.specs.List.{AllByRecursion}
-use Rattle.std.proofs.lemmas.List.{length-take, length-drop, get_or-drop}
+use Rattle.std.proofs.lemmas.List.{length-take, get_or-drop}
 use Rattle.std.proofs.lemmas.List.Elements.{All-map, recursion_from_All, All-weaker}
 use Rattle.std.proofs.lemmas.Bool.{cases_Bool}
 use Rattle.std.proofs.lemmas.Bool.Decides.{nat_tests}
@@ -12,13 +12,11 @@ use Rattle.byteorder.specs.Numbers.{big_from-lt, little_from-lt}
 use Rattle.octets.specs.declared.endianness.Endianness.{Endianness}
 use Rattle.octets.specs.declared.endianness.Endianness.TheVariants.{Little, Big}
 use Rattle.octets.specs.Numbers.{number, AreOctets}
-use Rattle.pcapng_reader.specs.declared.interface.Interface.{Interface}
 use Rattle.pcapng_reader.specs.declared.time.Stamp.{Stamp}
 use Rattle.pcapng_reader.specs.declared.index.Place.{Place}
-use Rattle.pcapng_reader.specs.declared.index.Place.TheVariants as Place
-use Rattle.pcapng_reader.specs.Records.{LinkedRecord, fitting, moved, stamp_of, told_time, captured_len, enhanced_record}
-use Rattle.pcapng_reader.specs.Index.{HasUnits, IsWhole, IsPacketAt, IsPlaceIn, record_at, records_at}
-use Rattle.pcapng_reader.specs.Filtered.{Fits, LinkedFits}
+use Rattle.pcapng_reader.specs.Records.{fitting, moved, told_time, captured_len}
+use Rattle.pcapng_reader.specs.Index.{IsPlaceIn, record_at, records_at}
+use Rattle.pcapng_reader.specs.Filtered.{LinkedFits}
 
 number-fits : (order : Endianness) (octets : List ℕ) → AreOctets octets → number order 4 octets < 2 ^ 32
 unfolding number

@@ -1,8 +1,7 @@
 -- The options that stand one behind the other: the first of them, and none.
-use Rattle.std.proofs.Common.{◌≡◌, ℕ, zero, suc, ◌+◌, ◌*◌, ◌/◌, List, [], ◌∷◌, take, drop, Some, None, refl, sym, ap, ◌∙◌, arith}
+use Rattle.std.proofs.Common.{◌≡◌, ℕ, zero, suc, ◌+◌, List, [], ◌∷◌, take, drop, Some, None, refl, sym, ap, ◌∙◌, arith}
 use Rattle.std.specs.Prelude.{option_and_then}
 use Rattle.octets.specs.declared.endianness.Endianness.{Endianness}
-use Rattle.pcapng_reader.specs.declared.options.NextOption.{NextOption}
 use Rattle.pcapng_reader.specs.declared.options.NextOption.TheVariants as Next
 use Rattle.pcapng_reader.specs.declared.interface.Interface.{Interface}
 use Rattle.pcapng_reader.specs.Options.{CodedValue, padded, next_option, options_from, options_in}

@@ -1,6 +1,6 @@
 -- Powers of ten are some.
-use Rattle.std.proofs.Common.{◌≡◌, ◌<◌, ◌*◌, ◌^◌, ℕ, zero, suc, arith, lit<}
-use Rattle.std.proofs.Math.Nat.{pow-zero, pow-suc}
+use Rattle.std.proofs.Common.{◌<◌, ◌^◌, ℕ, zero, suc, arith, lit<}
+use Rattle.std.proofs.Math.Nat.{pow-suc}
 
 pub ten-pos : (n : ℕ) → 0 < 10 ^ n
 ten-pos zero = lit< tt

@@ -1,6 +1,6 @@
 -- An accepted record is accepted as one of raw IP, too, and gives the same packet.
-use Rattle.std.proofs.Common.{◌≡◌, ℕ, ◌+◌, ◌-◌, ◌*◌, ◌/◌, ◌%◌, ◌<◌, ◌≤◌, ◌⊎◌, true, false, List, length, drop, Some, None, Ok, Err, refl, sym, ap, subst, ◌∙◌, arith, inl, inr}
-use Rattle.std.specs.Prelude.{Result, ◌==◌, nat_lt, option_map}
+use Rattle.std.proofs.Common.{◌≡◌, ℕ, ◌-◌, ◌/◌, ◌≤◌, ◌⊎◌, true, List, length, drop, Some, None, Ok, Err, refl, sym, ap, ◌∙◌, arith, inl, inr}
+use Rattle.std.specs.Prelude.{Result, ◌==◌, option_map}
 use Rattle.std.specs.Result.{result_ok}
 use Rattle.std.proofs.lemmas.Bool.{cases_Bool}
 use Rattle.std.proofs.lemmas.Bool.Decides.{nat_tests}
@@ -10,7 +10,7 @@ use Rattle.packet_headers.specs.declared.fault.HeaderFault.{HeaderFault}
 use Rattle.packet_headers.specs.Link.{LinkPart, link_part, raw_part}
 use Rattle.packet_headers.specs.Packet.{IpPart}
 use Rattle.packet_headers.specs.Ip.{ip_part}
-use Rattle.packet_headers.specs.Ipv4.{ipv4_part, header_length, packet_length}
+use Rattle.packet_headers.specs.Ipv4.{ipv4_part, header_length}
 use Rattle.packet_headers.specs.Ipv6 as V6
 use Rattle.packet_headers.specs.Ipv6.{ipv6_part}
 use Rattle.packet_headers.specs.Transport.{TransportPart}

@@ -1,24 +1,21 @@
 -- What is written reads back: the capture's records are the accepted ones, and its packets are theirs.
-use Rattle.std.proofs.Common.{◌≡◌, ℕ, zero, suc, ◌+◌, ◌-◌, ◌<◌, ◌≤◌, ◌^◌, true, false, List, [], ◌∷◌, ◌++◌, length, take, drop, Some, None, Ok, Err, refl, sym, ap, subst, ◌∙◌, append_assoc, append-nil, arith, inl, inr}
-use Rattle.std.specs.Prelude.{Option, Result, All, map, nat_lt}
-use Rattle.std.specs.List.{concat, filter_map, enumerate_from, cons_option, AllByRecursion}
-use Rattle.std.specs.Result.{result_ok}
-use Rattle.std.proofs.lemmas.List.{length-append, length-drop, drop-drop, drop_at}
-use Rattle.std.proofs.lemmas.List.Elements.{recursion_from_All}
+use Rattle.std.proofs.Common.{◌≡◌, ℕ, ◌+◌, ◌<◌, ◌≤◌, ◌^◌, true, false, List, [], ◌∷◌, ◌++◌, length, drop, Some, None, refl, sym, ap, subst, ◌∙◌, append-nil, arith, inl, inr}
+use Rattle.std.specs.Prelude.{Option, map, nat_lt}
+use Rattle.std.specs.List.{concat, enumerate_from, cons_option, AllByRecursion}
+use Rattle.std.proofs.lemmas.List.{length-append, drop-drop, drop_at}
 use Rattle.std.proofs.lemmas.Bool.Decides.{nat_tests}
 use Rattle.byteorder.specs.Numbers.{little_number-reads_back, length-bytes_low_first}
 use Rattle.octets.specs.declared.endianness.Endianness.TheVariants.{Little}
 use Rattle.octets.specs.Numbers.{number, ordered_octets}
 use Rattle.pcap_reader.specs.File.{CaptureFile, capture_file}
-use Rattle.pcap_reader.specs.Records.{PacketRecord, packet_record, claimed_len, most_captured, begins_with_record, begins_with_damage, parts_of, rest_of, records_of, damage_of, IsRecord, IsCutInto}
+use Rattle.pcap_reader.specs.Records.{PacketRecord, packet_record, claimed_len, begins_with_record, begins_with_damage, parts_of, rest_of, records_of, damage_of, IsRecord, IsCutInto}
 use Rattle.pcap_reader.proofs.Cutting.{file_is_cut_once}
 use Rattle.packet_accept.specs.declared.packet.Packet.{Packet}
-use Rattle.packet_accept.specs.declared.ignored.Ignored.{Ignored}
 use Rattle.packet_accept.specs.Acceptance.{accepted}
 use Rattle.packet_accept.specs.Packets.{answer_to, packets_in, packets_of}
 use Rattle.pcapng_reader.specs.Records.{LinkedRecord}
-use Rattle.pcapng_reader.specs.Filtered.{packets_from, raw_record, raw_if, raw_of, raw_records, four, record_octets, file_header, octets_if, octets_of_record, capture_of, Fits, LinkedFits}
-use Rattle.pcapng_reader.proofs.Raw.{result-cases, IsRawOf, raw-accepted, raw-ignored}
+use Rattle.pcapng_reader.specs.Filtered.{packets_from, raw_records, four, record_octets, file_header, octets_of_record, capture_of, Fits, LinkedFits}
+use Rattle.pcapng_reader.proofs.Raw.{result-cases, raw-accepted, raw-ignored}
 
 four-reads : (n : ℕ) (rest : List ℕ) → n < 2 ^ 32 → number Little 4 (four n ++ rest) ≡ n
 unfolding number ordered_octets

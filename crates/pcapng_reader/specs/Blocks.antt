@@ -1,11 +1,10 @@
 -- The blocks of a file (draft-ietf-opsawg-pcapng, section 3.1), each with the order of octets of its section
 -- (section 4.1).
-use Rattle.std.specs.Prelude.{ℕ, zero, suc, ◌≡◌, ◌+◌, ◌-◌, ◌%◌, ◌≤◌, ◌==◌, ◌||◌, Bool, not, List, [], ◌∷◌, ◌++◌, length, take, nat_lt, if◌then◌else◌, Option, Some, None, Result, Ok, Err}
+use Rattle.std.specs.Prelude.{ℕ, zero, suc, ◌-◌, ◌%◌, ◌==◌, ◌||◌, Bool, not, List, [], ◌∷◌, length, take, nat_lt, if◌then◌else◌, Option, Some, None, Result, Ok, Err}
 use Rattle.octets.specs.declared.endianness.Endianness.{Endianness}
 use Rattle.octets.specs.declared.endianness.Endianness.TheVariants as Order
 use Rattle.octets.specs.Numbers.{ordered_number_at}
 use Rattle.pcapng_reader.specs.declared.front.Front.{Front}
-use Rattle.pcapng_reader.specs.declared.front.Front.TheVariants as Front
 
 -- A block: where it begins in the file, the order of octets of its section, and all its octets.
 pub record Block : Type 0 where

@@ -1,5 +1,5 @@
 -- The packets of a file, and the classic capture of raw IP that they are written as.
-use Rattle.std.specs.Prelude.{ℕ, zero, ◌≡◌, ◌+◌, ◌-◌, ◌<◌, ◌≤◌, ◌^◌, true, List, [], ◌∷◌, ◌++◌, length, map, drop, Option, Some, None, Result, Ok, Err, option_map}
+use Rattle.std.specs.Prelude.{ℕ, ◌+◌, ◌-◌, ◌<◌, ◌≤◌, ◌^◌, true, List, [], ◌∷◌, ◌++◌, length, map, drop, Option, Some, None, Result, Ok, Err, option_map}
 use Rattle.std.specs.List.{concat, filter_map}
 use Rattle.std.specs.Result.{result_ok}
 use Rattle.octets.specs.declared.endianness.Endianness.TheVariants.{Little}

@@ -1,7 +1,6 @@
 -- The code's own: the octets of a block, and of an option, are there.
 use Rattle.std.specs.Prelude.{ℕ, ◌+◌, ◌≤◌, List, length, ⊤}
 use Rattle.pcapng_reader.specs.declared.front.Front.{Front}
-use Rattle.pcapng_reader.specs.declared.front.Front.TheVariants as Front
 use Rattle.pcapng_reader.specs.declared.options.NextOption.{NextOption}
 use Rattle.pcapng_reader.specs.declared.options.NextOption.TheVariants as Next
 use Rattle.pcapng_reader.specs.Options.{padded}

@@ -5,9 +5,7 @@ use Rattle.pcap_reader.specs.Records.{most_captured}
 use Rattle.pcap_reader.specs.Views.{record_read}
 use Rattle.pcapng_reader.specs.declared.interface.Interface.{Interface}
 use Rattle.pcapng_reader.specs.declared.index.Place.{Place}
-use Rattle.pcapng_reader.specs.declared.index.Place.TheVariants as Place
 use Rattle.pcapng_reader.specs.declared.content.Content.{Content}
-use Rattle.pcapng_reader.specs.declared.content.Content.TheVariants as Content
 use Rattle.pcapng_reader.specs.declared.record.PngRecord.{PngRecord}
 use Rattle.pcapng_reader.specs.Records.{LinkedRecord, enhanced_record, simple_record, captured_len}
 use Rattle.pcapng_reader.specs.Reading.{Found, found_in}

@@ -1,12 +1,11 @@
 -- What a file tells, block by block (draft-ietf-opsawg-pcapng, section 4).
-use Rattle.std.specs.Prelude.{ℕ, ◌+◌, ◌-◌, ◌==◌, ◌&&◌, List, [], ◌∷◌, ◌++◌, length, slice_get, nat_le, if◌then◌else◌, Option, Some, None, Result, Ok, Err, option_map}
+use Rattle.std.specs.Prelude.{ℕ, ◌+◌, ◌==◌, ◌&&◌, List, [], ◌∷◌, ◌++◌, length, slice_get, nat_le, if◌then◌else◌, Option, Some, None, Result, Ok, Err, option_map}
 use Rattle.octets.specs.declared.endianness.Endianness.{Endianness}
 use Rattle.octets.specs.Numbers.{ordered_number_at}
 use Rattle.octets.specs.Outcome.{◌>>=◌}
 use Rattle.pcap_reader.specs.Records.{most_captured}
 use Rattle.pcapng_reader.specs.declared.interface.Interface.{Interface}
 use Rattle.pcapng_reader.specs.declared.content.Content.{Content}
-use Rattle.pcapng_reader.specs.declared.content.Content.TheVariants as Content
 use Rattle.pcapng_reader.specs.Blocks.{Block, pieces_of}
 use Rattle.pcapng_reader.specs.Options.{padded}
 use Rattle.pcapng_reader.specs.Interfaces.{interface_told}

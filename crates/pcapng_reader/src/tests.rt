@@ -322,7 +322,8 @@ const HEADER: &[u8] = b"\x4d\x3c\xb2\xa1\x02\0\x04\0\0\0\0\0\0\0\0\0\0\0\x04\0\x
 const WRITTEN: &[u8] = b"\xe8\x03\0\0\0\0\0\0\x1c\0\0\0\x1c\0\0\0";
 
 /// The IP packet of the frame.
-const PART: &[u8] = b"\x45\0\0\x1c\0\0\0\0\x40\x11\0\0\xc0\0\x02\x01\xc0\0\x02\x02\x0f\xa0\0\x35\0\x08\0\0";
+const PART: &[u8] =
+    b"\x45\0\0\x1c\0\0\0\0\x40\x11\0\0\xc0\0\x02\x01\xc0\0\x02\x02\x0f\xa0\0\x35\0\x08\0\0";
 
 /// A run: its words, the pieces of its input, which reads and which writes fail; its status, and the pieces of what it
 /// writes. A read gives 7 bytes at most, and a write takes 5.

@@ -6,10 +6,12 @@ use pcapng_reader::{PngStatus, run_png};
 use std::alloc::Global;
 use std::process::Abort;
 use std::test::Fail;
+use std::thread::Threads;
 
 /// A section, an Ethernet interface, and one enhanced packet at 1000 s: UDP over IPv4 from 192.0.2.1 port 4000 to
 /// 192.0.2.2 port 53.
-const FILE: &[u8] = b"\x0a\x0d\x0d\x0a\x1c\0\0\0\x4d\x3c\x2b\x1a\x01\0\0\0\xff\xff\xff\xff\xff\xff\xff\xff\x1c\0\0\0\
+const FILE: &[u8] =
+    b"\x0a\x0d\x0d\x0a\x1c\0\0\0\x4d\x3c\x2b\x1a\x01\0\0\0\xff\xff\xff\xff\xff\xff\xff\xff\x1c\0\0\0\
     \x01\0\0\0\x14\0\0\0\x01\0\0\0\0\0\x04\0\x14\0\0\0\
     \x06\0\0\0\x4c\0\0\0\0\0\0\0\0\0\0\0\x00\xca\x9a\x3b\x2a\0\0\0\x2a\0\0\0\
     \x02\0\0\0\0\x02\x02\0\0\0\0\x01\x08\0\x45\0\0\x1c\0\0\0\0\x40\x11\0\0\xc0\0\x02\x01\xc0\0\x02\x02\
@@ -27,8 +29,12 @@ fn words(alloc: Global, word: &str) -> Result<Vec<String>, Fail> {
 }
 
 /// What a command of the meter writes of these bytes, where it is done.
-fn metered<'a>(rt: &HostRuntime, word: &str, bytes: &[u8]) -> Result<MemSink<'a>, Fail> {
-    let alloc = rt.alloc();
+fn metered<'a, R: Threads + Abort>(
+    rt: &R,
+    alloc: Global,
+    word: &str,
+    bytes: &[u8],
+) -> Result<MemSink<'a>, Fail> {
     let words = words(alloc, word)?;
     let mut input = MemSource::new(bytes, 65_536, &[]);
     let mut output = MemSink::open(alloc, 1 << 16, 65_536, &[]).expect(rt, "memory");
@@ -54,8 +60,8 @@ fn the_meter_reads_what_is_written(rt: HostRuntime) -> Result<(), Fail> {
     let status = run_png(alloc, words.as_slice(), &mut input, &mut capture);
     assert!(rt; status == PngStatus::Done);
     assert_eq!(rt; capture.held().len(), 68);
-    let stream = metered(&rt, "meter", capture.held())?;
-    let text = metered(&rt, "show", stream.held())?;
+    let stream = metered(&rt, alloc, "meter", capture.held())?;
+    let text = metered(&rt, alloc, "show", stream.held())?;
     assert_eq!(rt; text.held(), LINE.as_bytes());
     Ok(())
 }

@@ -1,5 +1,5 @@
 -- A second has units.
-use Rattle.std.proofs.Common.{◌<◌, sym, subst, ◌≡◌, arith}
+use Rattle.std.proofs.Common.{arith}
 use Rattle.pcapng_reader.proofs.Powers.{ten-pos}
 use Rattle.pcapng_reader.proofs.interface.units_of.Goals as goal
 

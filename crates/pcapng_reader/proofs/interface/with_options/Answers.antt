@@ -1,7 +1,6 @@
 -- One option more, as long as there is one.
-use Rattle.std.proofs.Common.{◌≡◌, ◌∙◌, sym, ap, arith, None, Some, take, drop}
-use Rattle.std.proofs.lemmas.Grind.{common_steps}
-use Rattle.pcapng_reader.specs.Interfaces.{with_options, with_option}
+use Rattle.std.proofs.Common.{◌∙◌, sym, ap}
+use Rattle.pcapng_reader.specs.Interfaces.{with_options}
 use Rattle.pcapng_reader.proofs.Optioned.{options_in-last, options_in-beyond, with_options-more, with_options-bad}
 use Rattle.pcapng_reader.proofs.interface.with_options.Goals as goal
 

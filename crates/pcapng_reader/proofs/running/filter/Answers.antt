@@ -1,5 +1,5 @@
 -- What was written is the answer, or a beginning of it.
-use Rattle.std.proofs.Common.{◌≡◌, ℕ, List, sym, subst, arith}
+use Rattle.std.proofs.Common.{ℕ, List, subst, arith}
 use Rattle.std.specs.Prelude.{take}
 use Rattle.std.specs.Io.KnownBytes.{Appends}
 use Rattle.pcapng_reader.specs.Index.{IsIndexOf, records_at}

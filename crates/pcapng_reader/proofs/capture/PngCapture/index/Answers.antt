@@ -1,10 +1,8 @@
 -- The blocks are read one after the other, to the tail or to the first that is bad.
-use Rattle.std.proofs.Common.{◌≡◌, ◌+◌, ◌∙◌, sym, ap, refl, arith, length, drop, Ok, Err}
-use Rattle.octets.specs.declared.endianness.Endianness.{Endianness}
+use Rattle.std.proofs.Common.{◌≡◌, ◌∙◌, sym, ap, refl, arith, drop, Err}
 use Rattle.pcapng_reader.specs.declared.front.Front.{Front}
-use Rattle.pcapng_reader.specs.declared.front.Front.TheVariants as Front
 use Rattle.pcapng_reader.specs.Blocks.{front}
-use Rattle.pcapng_reader.specs.Index.{found_at, IsIndexOf}
+use Rattle.pcapng_reader.specs.Index.{found_at}
 use Rattle.pcapng_reader.proofs.Pieces.{block-more, block-bad, at-tail, at-malformed}
 use Rattle.pcapng_reader.proofs.capture.PngCapture.index.Goals as goal
 

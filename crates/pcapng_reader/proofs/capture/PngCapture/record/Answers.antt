@@ -1,5 +1,5 @@
 -- What stands at the place of a packet is its record.
-use Rattle.std.proofs.Common.{◌≡◌, ◌∙◌, sym, ap, arith, Some}
+use Rattle.std.proofs.Common.{◌∙◌, sym, ap, Some}
 use Rattle.pcapng_reader.specs.Records.{LinkedRecord}
 use Rattle.pcapng_reader.proofs.Placed.{at-place, record-there, part-of-part}
 use Rattle.pcapng_reader.proofs.capture.PngCapture.record.Goals as goal
