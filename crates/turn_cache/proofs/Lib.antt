@@ -1,6 +1,7 @@
 pub mod Totals
 pub mod Frames
 pub mod Answering
+pub mod Closing
 pub mod Uniting
 pub mod Splitting
 pub mod Opening

@@ -1,4 +1,5 @@
 -- The definitions that contracts cite, a file for each subject.
+pub mod Closing
 pub mod Hands
 pub mod Places
 pub mod Ruled

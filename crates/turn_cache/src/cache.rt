@@ -17,6 +17,7 @@ pub struct TurnCache {
     pub(crate) timeouts: Timeouts,
     ghost told: { (table.shared.key.sets ≡ sets) × (table.shared.key.seats ≡ seats) × (table.shared.key.timeouts ≡ timeouts) },
     ghost counted: { table.shared.table_id.words ≡ 64 * sets },
+    ghost slotless: { table.shared.table_id.slots ≡ 0 },
     ghost sized: { (1 ≤ sets) × (sets ≤ 65536) × (seats ≤ 64) },
 }
 

@@ -1,0 +1,91 @@
+//! The cache as a shared cache, and who opens and closes such caches.
+
+ghost use Rattle.std.specs.Prelude.{◌≡◌, [], ◌++◌, IfOk, unwrap_or, option_map};
+ghost use Rattle.turn_cache.specs.Shown.{means_of, shown_of, IsOf};
+
+use crate::cache::{TurnCache, TurnPass};
+use cache_face::{Caches, FlowCache, Metered, NoMemory};
+use flow_parts::{Fragment, Timeouts};
+use packet_accept::Packet;
+use std::alloc::Global;
+
+impl FlowCache for TurnCache {
+    type Pass = TurnPass;
+
+    ghost means = { means_of };
+
+    ghost shown = { shown_of };
+
+    ghost is_of = { IsOf };
+
+    fn meter(&self, pass: &mut TurnPass, packet: &Packet) -> Metered {
+        self.meter_packet(pass, packet)
+    }
+
+    fn unite(&self, first: TurnPass, second: TurnPass) -> TurnPass {
+        self.join(first, second)
+    }
+
+    fn close(self, alloc: Global, pass: TurnPass) -> Result<Vec<Fragment>, NoMemory> {
+        self.entries(alloc, pass)
+    }
+}
+
+/// Opens and closes caches with one turn for each set.
+#[derive(Drop)]
+pub struct TurnCaches {
+    metered: Option<Vec<Fragment>>,
+}
+
+impl TurnCaches {
+    /// No cache was closed yet.
+    pub fn new() -> TurnCaches
+        ensures { ⟦<TurnCaches as Caches>⟧.metered result ≡ [] }
+    {
+        TurnCaches { metered: None }
+    }
+}
+
+/// Two lists put together.
+fn together(mut parts: Vec<Fragment>, others: Vec<Fragment>) -> Result<Vec<Fragment>, NoMemory>
+    ensures { IfOk result (λ all. all.items ≡ parts.items ++ others.items) }
+{
+    parts.extend_from_slice(others.as_slice())?;
+    Ok(parts)
+}
+
+impl Caches for TurnCaches {
+    type Cache = TurnCache;
+
+    ghost metered = { λ s. unwrap_or (option_map (λ v. v.items) s.metered) [] };
+
+    fn open(
+        &mut self,
+        alloc: Global,
+        sets: u64,
+        seats: usize,
+        timeouts: Timeouts,
+    ) -> Result<(TurnCache, Vec<TurnPass>), NoMemory> {
+        TurnCache::open(alloc, sets, seats, timeouts)
+    }
+
+    fn close(
+        &mut self,
+        alloc: Global,
+        cache: TurnCache,
+        pass: TurnPass,
+        handed: Vec<Fragment>,
+    ) -> Result<(), NoMemory> {
+        let entries = cache.entries(alloc, pass)?;
+        let all = together(handed, entries)?;
+        self.metered = Some(all);
+        Ok(())
+    }
+
+    fn metered(&self) -> &[Fragment] {
+        match &self.metered {
+            Some(parts) => parts.as_slice(),
+            None => &[],
+        }
+    }
+}
