@@ -1,0 +1,93 @@
+//! A table of packets, for any cache: one set, one seat.
+
+ghost use Rattle.std.specs.Prelude.{◌≡◌, ◌+◌, ◌<◌, ◌^◌, All};
+
+use crate::TurnCaches;
+use cache_face::{Caches, FlowCache, How, Metered};
+use flow_key::FlowKey;
+use flow_parts::{Fragment, Timeouts};
+use packet_accept::Packet;
+use std::alloc::Global;
+use std::process::Abort;
+
+/// A packet of a flow, at a second.
+fn packet(number: u32, flow: u16, second: u32) -> Packet
+    ensures { (result.number ≡ number) × (result.octets ≡ 40) }
+{
+    Packet {
+        number: number as u64,
+        key: FlowKey {
+            version: 4,
+            source: 0xC000_0201,
+            destination: 0xC000_0202,
+            protocol: 17,
+            source_port: flow,
+            destination_port: 53,
+        },
+        time: 1000 * second as u64,
+        octets: 40,
+        flags: 0,
+    }
+}
+
+/// Meters a packet.
+fn meter<C: FlowCache>(
+    cache: &C,
+    pass: &mut C::Pass,
+    number: u32,
+    flow: u16,
+    second: u32,
+) -> Metered
+    requires own { C.is_of cache.now pass.old }
+    requires single { (C.shown pass.old).note.seats ≡ 1 }
+    requires rises { All (λ p. p.number < number) (C.shown pass.old).note.packets }
+    ensures own { C.is_of cache.now pass.new }
+    ensures single { (C.shown pass.new).note.seats ≡ 1 }
+    ensures rises { All (λ p. p.number < number + 1) (C.shown pass.new).note.packets }
+{
+    cache.meter(pass, &packet(number, flow, second))
+}
+
+/// Whether a fragment of so many packets of this flow was handed out.
+fn is_out(metered: &Metered, flow: u16, packets: u64) -> bool {
+    match metered.out {
+        Some(part) => part.key.source_port == flow && part.packets == packets,
+        None => false,
+    }
+}
+
+/// How many packets a flow's only fragment has, and 0 where it has none.
+fn packets_of(parts: &[Fragment], flow: u16) -> u64 {
+    let mut packets = 0;
+    for part in parts {
+        if part.key.source_port == flow {
+            packets = part.packets;
+        }
+    }
+    packets
+}
+
+/// Flows 1 to 5 at 5, 1, 3, 4 and 9 s fill four entries, and the fifth puts the oldest out.
+fn puts_the_oldest_out<C: Caches + Drop>(rt: &impl Abort, alloc: Global, mut caches: C) {
+    let timeouts = Timeouts::new(300, 1800);
+    let (cache, mut passes) = caches.open(alloc, 1, 1, timeouts).expect(rt, "memory");
+    let mut pass = passes.pop().expect(rt, "a pass");
+    assert!(rt; meter(&cache, &mut pass, 0, 1, 5).how == How::Opened);
+    assert!(rt; meter(&cache, &mut pass, 1, 2, 1).how == How::Opened);
+    assert!(rt; meter(&cache, &mut pass, 2, 3, 3).how == How::Opened);
+    assert!(rt; meter(&cache, &mut pass, 3, 4, 4).how == How::Opened);
+    let fifth = meter(&cache, &mut pass, 4, 5, 9);
+    assert!(rt; fifth.how == How::Replaced && is_out(&fifth, 2, 1));
+    let sixth = meter(&cache, &mut pass, 5, 2, 10);
+    assert!(rt; sixth.how == How::Replaced && is_out(&sixth, 3, 1));
+    let seventh = meter(&cache, &mut pass, 6, 1, 11);
+    assert!(rt; seventh.how == How::Joined && seventh.out.is_none());
+    let parts = cache.close(alloc, pass).expect(rt, "memory");
+    assert!(rt; parts.len() == 4 && packets_of(&parts, 1) == 2 && packets_of(&parts, 2) == 1);
+    assert!(rt; packets_of(&parts, 4) == 1 && packets_of(&parts, 5) == 1);
+}
+
+#[test]
+fn one_set_and_one_seat(rt: HostRuntime) {
+    puts_the_oldest_out(&rt, rt.alloc(), TurnCaches::new());
+}
