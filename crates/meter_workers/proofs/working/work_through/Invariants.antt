@@ -1,0 +1,19 @@
+use Rattle.std.proofs.Common.{◌≡◌, ◌++◌, ℕ, List}
+use Rattle.pcap_reader.specs.Views.{file_of}
+use Rattle.work_pieces.specs.Passes.{IsPassOf, size_of, drawn_of, seats_of}
+use Rattle.meter_workers.specs.Answers.{answers_from, pieces_of}
+use Rattle.meter_workers.specs.Work.{Did, IsBehind, IsTallied}
+use Rattle.meter_workers.proofs.working.work_through.Given as goal
+
+abbrev pub invariant-loop-turn : goal.invariant-loop-turn
+invariant-loop-turn g l = record {
+  own : g.C.FlowCache.is_of l.cache l.pass;
+  single : (g.C.FlowCache.shown l.pass).note.seats ≡ 1;
+  draws : IsPassOf l.pieces l.draw;
+  seat : seats_of l.draw ≡ 1;
+  did : (drawn : List ℕ) × (drawn_of l.draw ≡ drawn_of l.initial.draw ++ drawn)
+      × Did (g.C.FlowCache.shown l.initial.pass) l.initial.out.items l.initial.tally
+      (pieces_of (size_of l.pieces) (answers_from l.base (file_of l.capture)) drawn) (g.C.FlowCache.shown l.pass) l.out.items l.tally;
+  tallied : IsTallied l.tally;
+  behind : IsBehind (size_of l.pieces) l.base l.initial.tally.captured (drawn_of l.draw) (g.C.FlowCache.shown l.pass).note.packets l.tally.captured;
+}

@@ -1,0 +1,21 @@
+//! Workers that meter a capture through one shared cache, each record once.
+//!
+//! The records are cut into pieces ([`work_pieces`]). A [`Worker`] draws a piece, meters its accepted packets through its
+//! own pass of the cache, and draws the next, until none is left ([`work`]). [`meter_all`] runs one worker for each pass,
+//! all at once, by the toolchain's joins, and unites what they did: the united pass has metered every packet of the
+//! capture, and the tally counts every record. Nothing on the packet's path is shared but the cache and the word that
+//! pieces are drawn from; each worker keeps a tally and a list of its own.
+//!
+//! Everything is generic over the cache ([`FlowCache`](cache_face::FlowCache)), so only its `meter` adds packets to a
+//! pass. A [`Gate`] is told before each piece: tests hold workers there.
+#![tactic(auto)]
+
+mod gate;
+mod working;
+mod worker;
+
+pub use gate::{Gate, OpenGate};
+pub use no_memory::NoMemory;
+
+pub use working::work;
+pub use worker::{WorkState, Worker};
