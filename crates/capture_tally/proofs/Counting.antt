@@ -1,8 +1,9 @@
 -- Counts of answers that are put together.
-use Rattle.std.proofs.Common.{◌≡◌, ◌≤◌, ◌<◌, ◌+◌, ◌*◌, ℕ, suc, List, [], ◌∷◌, ◌++◌, length, Result, Ok, Err, refl, sym, ap, ◌∙◌, subst, arith, Some}
-use Rattle.std.specs.Prelude.{◌^◌, ◌==◌, sum_by, count_by, slice_set, slice_index_or, cond, All}
+use Rattle.std.proofs.Common.{◌≡◌, ◌≤◌, ◌<◌, ◌+◌, ◌*◌, ℕ, List, [], ◌∷◌, ◌++◌, length, Option, Result, Ok, Err, refl, sym, ap, ◌∙◌, subst, arith, Some}
+use Rattle.std.specs.Prelude.{◌^◌, count_by, slice_set, slice_index_or, cond, All}
 use Rattle.std.proofs.lemmas.List.Sums.{sum_by-append, sum_by_push, sum_by-le, count_by-le-length}
-use Rattle.std.proofs.lemmas.List.{length-append}
+use Rattle.std.proofs.lemmas.List.Sorted.{length_permutation, sum_by-IsPermutation}
+use Rattle.std.specs.Prelude.{IsPermutation}
 use Rattle.packet_accept.specs.declared.packet.Packet.{Packet}
 use Rattle.packet_accept.specs.declared.ignored.Ignored.{Ignored}
 use Rattle.packet_accept.specs.declared.ignored.Ignored.TheVariants.{NotIp, Short, BadHeader, ShortTransport, BadTime}
@@ -139,4 +140,22 @@ has-room tally answers is few little =
       accepted = omega (arith, is.accepted, few, packets);
       ignored = subst (λ counts. All (λ count. count < 2 ^ 63) counts) (sym is.ignored) (counts-below answers few);
       octets = omega (arith, is.octets, few, packets, octets);
+    }
+
+-- ---- the order of the answers plays no part
+
+pub tally-permuted : (tally : Tally) (answers others : List (Result Packet Ignored))
+    → (IsPermutation answers others → IsPermutation (packets_in answers) (packets_in others))
+    → ((packets others : List Packet) (clock : Option ℕ) → IsPermutation packets others → IsClock packets clock → IsClock others clock)
+    → IsPermutation answers others → IsTallyOf tally answers → IsTallyOf tally others
+tally-permuted tally answers others packets clocks same is =
+    let alike = packets same in
+    let counted : (number : ℕ) → count_by (is_ignored_for number) answers ≡ count_by (is_ignored_for number) others =
+    λ number. sym (sum_by-IsPermutation (λ x. cond (is_ignored_for number x) 1 0) answers others same) in
+    record {
+      captured = is.captured ∙ sym (length_permutation answers others same);
+      accepted = is.accepted ∙ sym (length_permutation (packets_in answers) (packets_in others) alike);
+      ignored = is.ignored ∙ five _ _ _ _ _ _ _ _ _ _ (counted 1) (counted 2) (counted 3) (counted 4) (counted 5);
+      octets = is.octets ∙ sym (sum_by-IsPermutation (λ (p : Packet). p.octets) (packets_in answers) (packets_in others) alike);
+      clock = clocks (packets_in answers) (packets_in others) tally.clock alike is.clock;
     }

@@ -10,5 +10,5 @@ mod tally;
 #[cfg(test)]
 mod tests;
 
-pub use laws::room_law;
+pub use laws::{order_law, room_law};
 pub use tally::Tally;

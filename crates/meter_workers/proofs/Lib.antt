@@ -1,2 +1,5 @@
 pub mod Records
 pub mod Pieces
+pub mod Taken
+pub mod Whole
+pub mod Uniting

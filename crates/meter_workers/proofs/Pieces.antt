@@ -1,15 +1,12 @@
 -- Records one after the other, and pieces.
-use Rattle.std.proofs.Common.{◌≡◌, ℕ, ◌+◌, ◌-◌, ◌*◌, ◌<◌, ◌≤◌, ◌^◌, List, [], ◌∷◌, ◌++◌, length, get_or, take, drop, Result, Ok, Err, Some, sym, refl, ap, ◌∙◌, subst, arith, append_assoc, append-nil, length-drop, mul-le-mul_right, min}
-use Rattle.std.specs.Prelude.{slice_range, slice_get, All, map}
-use Rattle.std.specs.List.{enumerate_from}
+use Rattle.std.proofs.Common.{◌≡◌, ℕ, ◌+◌, ◌-◌, ◌*◌, ◌<◌, ◌≤◌, ◌^◌, List, [], ◌∷◌, ◌++◌, length, get_or, take, drop, Some, sym, refl, ap, ◌∙◌, subst, arith, append_assoc, append-nil, length-drop, mul-le-mul_right, min}
+use Rattle.std.specs.Prelude.{slice_range, slice_get}
 use Rattle.std.proofs.lemmas.List.{take_more, get_or-drop}
-use Rattle.std.proofs.lemmas.List.Elements.{All-push}
 use Rattle.std.proofs.lemmas.Option.{slice_get_within, get_or_from_slice_get}
 use Rattle.std.proofs.lemmas.Grind.{common_steps}
 use Rattle.pcap_reader.specs.File.{CaptureFile}
 use Rattle.pcap_reader.specs.Records.{PacketRecord, records_of}
 use Rattle.packet_accept.specs.declared.packet.Packet.{Packet}
-use Rattle.packet_accept.specs.declared.ignored.Ignored.{Ignored}
 use Rattle.packet_accept.specs.Acceptance.{accepted}
 use Rattle.packet_accept.specs.Packets.{packets_in, answer_to}
 use Rattle.packet_accept.proofs.FileAnswers.{answer-at, length-answers}

@@ -10,12 +10,13 @@
 //! pass. A [`Gate`] is told before each piece: tests hold workers there.
 #![tactic(auto)]
 
+mod all;
 mod gate;
-mod working;
 mod worker;
+mod working;
 
+pub use all::{Gathered, meter_all};
 pub use gate::{Gate, OpenGate};
 pub use no_memory::NoMemory;
-
-pub use working::work;
 pub use worker::{WorkState, Worker};
+pub use working::work;

@@ -48,7 +48,7 @@ fn count_answer(tally: &mut Tally, answer: &Result<Packet, Ignored>)
 /// Tallies the record with this number, and meters its packet where it has one.
 fn meter_record<C: FlowCache>(
     capture: &Capture<'_>,
-    record: &Record<'_>,
+    rec: &Record<'_>,
     number: u64,
     cache: &C,
     pass: &mut C::Pass,
@@ -63,13 +63,13 @@ fn meter_record<C: FlowCache>(
     requires tallied { IsTallied tally.old }
     ensures own { C.is_of cache.now pass.new }
     ensures did { let file = file_of capture.now in OnOk result (Did (C.shown pass.old) out.old.items tally.old
-        (accepted file.link file.nanos (record_read record.now) number ∷ []) (C.shown pass.new) out.new.items tally.new) }
+        (accepted file.link file.nanos (record_read rec.now) number ∷ []) (C.shown pass.new) out.new.items tally.new) }
     ensures below { AreBelow (number + 1) (C.shown pass.new).note.packets }
     ensures tallied { IsTallied tally.new }
     ensures captured { tally.new.captured ≡ tally.old.captured + 1 }
 {
     packets_law();
-    let answer = accept(capture, record, number);
+    let answer = accept(capture, rec, number);
     count_answer(tally, &answer);
     match answer {
         Ok(packet) => {
@@ -141,6 +141,7 @@ fn work_through<C: FlowCache, G: Gate>(
         × Did (C.shown pass.old) out.old.items tally.old (pieces_of (size_of pieces.now) (answers_from base (file_of capture.now)) drawn)
         (C.shown pass.new) out.new.items tally.new) }
     ensures tallied { OnOk result (IsTallied tally.new) }
+    ensures few { OnOk result (tally.new.captured ≤ tally.old.captured + length index.now.offsets) }
 {
     packets_law();
     for _turn in 0..u64::MAX {
@@ -187,6 +188,7 @@ pub fn work<C: FlowCache, G: Gate>(
         (pieces_of (size_of pieces.now) (answers_from base (file_of capture.now)) drawn)
         (C.shown worker.new.pass) worker.new.out.items worker.new.tally }
     ensures tallied { worker.new.state ≡ WorkState.Finished → IsTallied worker.new.tally }
+    ensures few { worker.new.state ≡ WorkState.Finished → worker.new.tally.captured ≤ worker.old.tally.captured + length index.now.offsets }
 {
     let end = work_through(
         capture,

@@ -1,4 +1,4 @@
-use Rattle.std.proofs.Common.{ap, ◌∙◌}
+use Rattle.std.proofs.Common.{ap}
 use Rattle.cache_face.specs.Notes.{Note}
 use Rattle.meter_workers.proofs.Records.{below-packet, below-same, did-ignored}
 use Rattle.meter_workers.proofs.working.meter_record.Goals as goal

@@ -1,4 +1,4 @@
-use Rattle.std.proofs.Common.{◌≡◌, ◌++◌, ℕ, List}
+use Rattle.std.proofs.Common.{◌≡◌, ◌≤◌, ◌+◌, ◌++◌, ℕ, List, length}
 use Rattle.pcap_reader.specs.Views.{file_of}
 use Rattle.work_pieces.specs.Passes.{IsPassOf, size_of, drawn_of, seats_of}
 use Rattle.meter_workers.specs.Answers.{answers_from, pieces_of}
@@ -15,5 +15,6 @@ invariant-loop-turn g l = record {
       × Did (g.C.FlowCache.shown l.initial.pass) l.initial.out.items l.initial.tally
       (pieces_of (size_of l.pieces) (answers_from l.base (file_of l.capture)) drawn) (g.C.FlowCache.shown l.pass) l.out.items l.tally;
   tallied : IsTallied l.tally;
+  few : l.tally.captured ≤ l.initial.tally.captured + length l.index.offsets;
   behind : IsBehind (size_of l.pieces) l.base l.initial.tally.captured (drawn_of l.draw) (g.C.FlowCache.shown l.pass).note.packets l.tally.captured;
 }

@@ -1,4 +1,4 @@
-use Rattle.std.proofs.Common.{◌≡◌, ◌++◌, sym, ap, ◌∙◌, subst, arith, length}
+use Rattle.std.proofs.Common.{◌≡◌, ◌++◌, sym, ap, subst, arith, length}
 use Rattle.std.proofs.lemmas.List.{length-append}
 use Rattle.packet_accept.specs.Packets.{packets_in}
 use Rattle.packet_accept.specs.Clock.{IsClock, later}
