@@ -8,3 +8,4 @@ pub mod Written
 pub mod Fitting
 pub mod Gathered
 pub mod Answered
+pub mod Cutting

@@ -24,7 +24,7 @@ unfolding front
 nothing-tail section = refl
 
 -- where a block stands, it is the first, and the others are those behind it
-pieces-block : (section order : Endianness) (at len : ℕ) (bytes : List ℕ) → front section bytes ≡ Front.Block order len → 12 ≤ len
+pub pieces-block : (section order : Endianness) (at len : ℕ) (bytes : List ℕ) → front section bytes ≡ Front.Block order len → 12 ≤ len
     → pieces_from section at 0 bytes ≡ Ok (record { at = at; order = order; part = take len bytes })
     ∷ pieces_from order (at + len) 0 (drop len bytes)
 unfolding pieces_from
@@ -39,12 +39,12 @@ pieces-block section order at len (byte ∷ bytes) h long =
     ∙ ap (λ (k : ℕ). pieces_from order k 0 (drop (len - 1) bytes)) there
     ∙ ap (pieces_from order (at + len) 0) left))
 
-pieces-tail : (section : Endianness) (at : ℕ) (bytes : List ℕ) → front section bytes ≡ Front.Tail → pieces_from section at 0 bytes ≡ []
+pub pieces-tail : (section : Endianness) (at : ℕ) (bytes : List ℕ) → front section bytes ≡ Front.Tail → pieces_from section at 0 bytes ≡ []
 unfolding pieces_from
 pieces-tail section at [] h = refl
 pieces-tail section at (byte ∷ bytes) h = rw (h, pieces_from) refl
 
-pieces-malformed : (section : Endianness) (at : ℕ) (bytes : List ℕ) → front section bytes ≡ Front.Malformed
+pub pieces-malformed : (section : Endianness) (at : ℕ) (bytes : List ℕ) → front section bytes ≡ Front.Malformed
     → pieces_from section at 0 bytes ≡ Err at ∷ []
 unfolding pieces_from
 pieces-malformed section at [] h = let e = nothing-tail section in cc

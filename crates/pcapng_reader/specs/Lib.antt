@@ -10,3 +10,4 @@ pub mod Filtered
 pub mod Statuses
 pub mod Outcome
 pub mod Filtering
+pub mod Cut

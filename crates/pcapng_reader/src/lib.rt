@@ -13,6 +13,7 @@ mod content;
 mod front;
 mod index;
 mod interface;
+mod laws;
 mod options;
 mod record;
 mod running;
@@ -22,6 +23,7 @@ mod writing;
 
 pub use capture::{NotPcapng, PngCapture, PngFault};
 pub use index::PngIndex;
+pub use laws::blocks_law;
 pub use record::PngRecord;
 pub use running::run_png;
 pub use status::PngStatus;
