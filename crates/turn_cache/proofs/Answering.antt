@@ -1,5 +1,5 @@
 -- What a pass is told of the fragment that it put in.
-use Rattle.std.proofs.Common.{◌≡◌, ◌≢◌, ◌⊎◌, ℕ, ◌+◌, ◌<◌, ◌≤◌, List, [], ◌∷◌, ◌++◌, length, replicate, Option, refl, sym, ap, ◌∙◌, subst, arith, length-append}
+use Rattle.std.proofs.Common.{◌≡◌, ℕ, ◌+◌, ◌<◌, ◌≤◌, List, ◌++◌, length, replicate, Option, refl, ap, ◌∙◌, arith, length-append}
 use Rattle.std.proofs.lemmas.List.{length-replicate}
 use Rattle.packet_accept.specs.declared.packet.Packet.{Packet}
 use Rattle.flow_key.specs.Key.{set_number}
@@ -7,7 +7,7 @@ use Rattle.flow_parts.specs.declared.fragment.Fragment.{Fragment}
 use Rattle.cache_face.specs.Choice.{IsChoice}
 use Rattle.cache_face.specs.declared.metered.How.{How}
 use Rattle.cache_face.specs.declared.metered.How.TheVariants as how
-use Rattle.cache_face.specs.Meaning.{CacheMeans, PassMeans, IsAnswer, IsChosen, IsPutIn}
+use Rattle.cache_face.specs.Meaning.{CacheMeans, PassMeans, IsAnswer}
 use Rattle.turn_cache.specs.Hands.{Hand, entries_of}
 use Rattle.turn_cache.specs.Moves.{filled, after_tries}
 

@@ -1,11 +1,11 @@
 -- The first word of an entry is stored.
-use Rattle.std.proofs.Common.{◌≡◌, ◌≢◌, ◌⊎◌, inl, inr, ℕ, zero, suc, ◌+◌, ◌*◌, ◌<◌, ◌≤◌, Bool, true, false, cond, eqb, ◌&&◌, List, [], ◌∷◌, ◌++◌, length, map, get_or, set, Option, sym, refl, ap, ◌∙◌, subst, arith, eq-eqb, length-append}
+use Rattle.std.proofs.Common.{◌≡◌, ℕ, suc, ◌+◌, ◌*◌, ◌<◌, true, cond, List, [], ◌++◌, length, map, get_or, set, Option, sym, refl, ap, ◌∙◌, subst, arith, eq-eqb, length-append}
 use Rattle.std.proofs.lemmas.List.{length-set, get_or-set_same, get_or-set_other}
 use mathlib.Core.Logic.{dite}
 use native.Mathlib.Decide.{ℕ_discrete}
-use mathlib.Core.Option.{some, none}
+use mathlib.Core.Option.{some}
 use lib.ListN.{get_elem?}
-use Rattle.atomic_table.specs.Table.{State, Act, Valid, carried_after, stepped, keeps, Allows}
+use Rattle.atomic_table.specs.Table.{keeps, Allows}
 use Rattle.atomic_table.proofs.Lists.{at_map}
 use Rattle.packet_accept.specs.declared.packet.Packet.{Packet}
 use Rattle.flow_parts.specs.declared.fragment.Fragment.{Fragment}
@@ -14,8 +14,8 @@ use Rattle.cache_face.specs.Choice.{Takes}
 use Rattle.cache_face.specs.Keeping.{Keeps, entry_of}
 use Rattle.cache_face.proofs.Keeping.{keeps_taken}
 use Rattle.turn_cache.specs.declared.rule.Told.{Told}
-use Rattle.turn_cache.specs.Hands.{Hand, Turn, idle, reading, writing, number_of, is_at, holding, claim, at_work, total}
-use Rattle.turn_cache.specs.Moves.{Sat, Move, Commits, committed, writes_to, IsOwn}
+use Rattle.turn_cache.specs.Hands.{Hand, Turn, reading, number_of, is_at, holding, claim, at_work}
+use Rattle.turn_cache.specs.Moves.{Sat, Commits, committed, writes_to, IsOwn}
 use Rattle.turn_cache.specs.Places.{turn_word, set_word, content_place}
 use Rattle.turn_cache.specs.Ruled.{Ruled, Fits, FitsTurn, LiveAt}
 use Rattle.turn_cache.proofs.Totals.{total-set}

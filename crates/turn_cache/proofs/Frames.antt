@@ -1,19 +1,17 @@
 -- What a step at one set leaves as it is.
-use Rattle.std.proofs.Common.{◌≡◌, ◌≢◌, ◌⊎◌, inl, inr, ⊎_elim, ℕ, zero, suc, ◌+◌, ◌*◌, ◌<◌, ◌≤◌, Bool, true, false, cond, eqb, ◌&&◌, List, [], ◌∷◌, ◌++◌, length, map, get_or, set, sym, refl, ap, ◌∙◌, subst, arith, eq-eqb, ne_eqb}
-use Rattle.std.proofs.lemmas.List.{length-set, get_or-set_other, get_or-set_same, map-set}
-use mathlib.Core.Logic.{dite}
-use native.Mathlib.Decide.{ℕ_discrete}
-use mathlib.Core.Option.{some, none, some-injective, some-ne-none}
+use Rattle.std.proofs.Common.{◌≡◌, ◌≢◌, ⊎_elim, ℕ, ◌+◌, ◌*◌, ◌<◌, ◌≤◌, Bool, true, false, cond, List, [], length, map, get_or, set, sym, refl, ap, ◌∙◌, subst, arith}
+use Rattle.std.proofs.lemmas.List.{length-set, get_or-set_other, map-set}
+use mathlib.Core.Option.{some}
 use lib.ListN.{get_elem?}
 use Rattle.atomic_table.specs.Table.{State, stepped, keeps}
 use Rattle.atomic_table.proofs.Lists.{at_set, at_map, set_again}
 use Rattle.cache_face.specs.Keeping.{Keeps}
 use Rattle.cache_face.specs.Notes.{Note}
 use Rattle.turn_cache.specs.declared.rule.Told.{Told}
-use Rattle.turn_cache.specs.Hands.{Hand, Turn, idle, reading, writing, is_at, holding, claim, at_work, times, once_below, total}
+use Rattle.turn_cache.specs.Hands.{Hand, Turn, idle, reading, writing, is_at, holding, claim, at_work, times, total}
 use Rattle.turn_cache.specs.Places.{turn_word, set_word, content_place}
 use Rattle.turn_cache.specs.Ruled.{Ruled, Fits, FitsTurn}
-use Rattle.turn_cache.proofs.Totals.{eq_of, ne_of, total-set, total-at, total-two}
+use Rattle.turn_cache.proofs.Totals.{ne_of, total-set, total-two}
 
 -- the turn word of a set is no content word
 pub apart_turn : (set at k : ℕ) → k < 40 → set_word at k ≢ turn_word set

@@ -1,17 +1,15 @@
 -- The turn of a set is given back.
-use Rattle.std.proofs.Common.{◌≡◌, ◌≢◌, ◌⊎◌, inl, inr, ℕ, zero, suc, ◌+◌, ◌*◌, ◌<◌, ◌≤◌, Bool, true, false, cond, eqb, ◌&&◌, List, [], ◌∷◌, length, map, get_or, set, sym, refl, ap, ◌∙◌, subst, arith, eq-eqb, ne_eqb}
-use Rattle.std.proofs.lemmas.List.{length-set, get_or-set_same, get_or-set_other}
+use Rattle.std.proofs.Common.{◌≡◌, ℕ, suc, ◌+◌, ◌*◌, ◌<◌, Bool, true, false, cond, eqb, ◌&&◌, List, [], length, get_or, set, sym, refl, ap, ◌∙◌, subst, arith, eq-eqb, ne_eqb}
+use Rattle.std.proofs.lemmas.List.{get_or-set_same, get_or-set_other}
 use mathlib.Core.Logic.{dite}
 use native.Mathlib.Decide.{ℕ_discrete}
-use mathlib.Core.Option.{some, none}
-use lib.ListN.{get_elem?}
-use Rattle.atomic_table.specs.Table.{State, Act, Valid, carried_after, stepped, keeps, Allows}
+use Rattle.atomic_table.specs.Table.{keeps, Allows}
 use Rattle.cache_face.specs.Keeping.{Keeps}
 use Rattle.turn_cache.specs.declared.rule.Told.{Told}
-use Rattle.turn_cache.specs.Hands.{Hand, Turn, idle, reading, writing, number_of, is_at, holding, claim, at_work, total}
+use Rattle.turn_cache.specs.Hands.{Hand, Turn, idle, writing, number_of, is_at, holding, claim, at_work}
 use Rattle.turn_cache.specs.Moves.{Sat, Gives, at_turn}
 use Rattle.turn_cache.specs.Places.{turn_word, set_word, content_place}
-use Rattle.turn_cache.specs.Ruled.{Ruled, Fits, FitsTurn, LiveAt}
+use Rattle.turn_cache.specs.Ruled.{Ruled, FitsTurn}
 use Rattle.turn_cache.proofs.Totals.{total-set}
 use Rattle.turn_cache.proofs.Frames.{build, notes_same, frame_turn, apart_turn}
 use Rattle.turn_cache.proofs.TakeStep.{one_claim}

@@ -1,20 +1,20 @@
 -- A content word is loaded.
-use Rattle.std.proofs.Common.{◌≡◌, ◌≢◌, ◌⊎◌, inl, inr, ℕ, zero, suc, ◌+◌, ◌*◌, ◌<◌, ◌≤◌, ◌^◌, Bool, true, false, cond, eqb, ◌&&◌, List, [], ◌∷◌, ◌++◌, length, map, get_or, set, sym, refl, ap, ◌∙◌, subst, arith, eq-eqb, length-append}
-use Rattle.std.proofs.lemmas.List.{length-set, set-get_or, get_or-append-add}
+use Rattle.std.proofs.Common.{◌≡◌, ℕ, zero, suc, ◌+◌, ◌*◌, ◌<◌, Bool, true, false, cond, eqb, ◌&&◌, List, [], ◌∷◌, ◌++◌, length, get_or, set, sym, refl, ap, ◌∙◌, subst, arith, eq-eqb, length-append}
+use Rattle.std.proofs.lemmas.List.{set-get_or}
 use Rattle.std.proofs.lemmas.Grind.{same_number_lists}
 use mathlib.Core.Logic.{dite}
 use native.Mathlib.Decide.{ℕ_discrete}
-use mathlib.Core.Option.{some, none, some-injective}
+use mathlib.Core.Option.{some, some-injective}
 use lib.ListN.{get_elem?}
-use Rattle.atomic_table.specs.Table.{State, step, Act, Valid, carried_after, stepped, keeps, Allows}
+use Rattle.atomic_table.specs.Table.{State, keeps, Allows}
 use Rattle.cache_face.specs.Keeping.{Keeps, IsWhole}
 use Rattle.cache_face.proofs.Apart.{all_at}
 use Rattle.turn_cache.specs.declared.rule.Told.{Told}
 use Rattle.turn_cache.specs.Hands.{Hand, Turn, idle, reading, writing, is_at, holding, claim, at_work, total}
-use Rattle.turn_cache.specs.Moves.{Sat, Loads, more_read, AreWhole}
+use Rattle.turn_cache.specs.Moves.{Sat, Loads, more_read}
 use Rattle.turn_cache.specs.Places.{turn_word, set_word, content_place}
-use Rattle.turn_cache.specs.Ruled.{Ruled, Fits, FitsTurn, LiveAt}
-use Rattle.turn_cache.proofs.Totals.{total-set, none_all, eq_of}
+use Rattle.turn_cache.specs.Ruled.{Ruled, Fits, FitsTurn}
+use Rattle.turn_cache.proofs.Totals.{total-set, none_all}
 use Rattle.turn_cache.proofs.Frames.{build, notes_same, not_other}
 
 -- an element within the first of two lists, and behind it

@@ -1,15 +1,15 @@
 -- A seat is split off.
-use Rattle.std.proofs.Common.{◌≡◌, ◌≢◌, ◌⊎◌, inl, inr, ⊎_elim, ℕ, zero, suc, ◌+◌, ◌-◌, ◌*◌, ◌<◌, ◌≤◌, Bool, true, false, cond, List, [], ◌∷◌, ◌++◌, length, map, get_or, set, sym, refl, ap, ◌∙◌, subst, arith}
+use Rattle.std.proofs.Common.{◌≡◌, ◌≢◌, ⊎_elim, ℕ, suc, ◌+◌, List, [], ◌∷◌, ◌++◌, length, map, set, sym, refl, ap, ◌∙◌, subst, arith}
 use Rattle.std.proofs.lemmas.List.{map-set, map-append}
-use mathlib.Core.Option.{some, none}
+use mathlib.Core.Option.{some}
 use lib.ListN.{get_elem?}
-use Rattle.atomic_table.specs.Table.{State, Splits}
+use Rattle.atomic_table.specs.Table.{Splits}
 use Rattle.atomic_table.proofs.Lists.{at_set, at_snoc, at_map}
 use Rattle.cache_face.specs.Keeping.{Keeps}
 use Rattle.cache_face.specs.Notes.{Note, unused, first_note}
 use Rattle.cache_face.proofs.Keeping.{keeps_split}
 use Rattle.turn_cache.specs.declared.rule.Told.{Told}
-use Rattle.turn_cache.specs.Hands.{Hand, Turn, idle, new_hand, holding, claim, at_work, times, total, remaining, split_off}
+use Rattle.turn_cache.specs.Hands.{Hand, new_hand, holding, claim, at_work, times, total, remaining, split_off}
 use Rattle.turn_cache.specs.Ruled.{Ruled, Fits}
 use Rattle.turn_cache.proofs.Totals.{total-set, total-snoc}
 

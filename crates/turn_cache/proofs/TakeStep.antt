@@ -1,9 +1,9 @@
 -- The turn of a set is taken, or a try is lost.
-use Rattle.std.proofs.Common.{◌≡◌, ◌≢◌, ◌⊎◌, inl, inr, ℕ, zero, suc, ◌+◌, ◌*◌, ◌<◌, ◌≤◌, Bool, true, false, cond, eqb, List, [], ◌∷◌, length, map, get_or, set, sym, refl, ap, ◌∙◌, subst, arith, eq-eqb, ne_eqb, Some, if◌then◌else◌}
-use Rattle.std.proofs.lemmas.List.{length-set, set-get_or, get_or-set_same, get_or-set_other}
+use Rattle.std.proofs.Common.{◌≡◌, ◌≢◌, ℕ, zero, suc, ◌+◌, ◌*◌, ◌<◌, ◌≤◌, Bool, true, false, cond, eqb, List, [], ◌∷◌, length, map, get_or, set, sym, refl, ap, ◌∙◌, subst, arith, eq-eqb, ne_eqb, Some, if◌then◌else◌}
+use Rattle.std.proofs.lemmas.List.{set-get_or, get_or-set_same, get_or-set_other}
 use mathlib.Core.Logic.{dite}
 use native.Mathlib.Decide.{ℕ_discrete}
-use mathlib.Core.Option.{some, none, some-injective, some-ne-none}
+use mathlib.Core.Option.{some, some-injective, some-ne-none}
 use lib.ListN.{get_elem?}
 use prog.Atomic.{either}
 use Rattle.atomic_table.specs.Table.{State, Act, Valid, carried_after, stepped, keeps, Allows}
@@ -11,7 +11,6 @@ use Rattle.atomic_table.proofs.Lists.{at_map}
 use Rattle.packet_accept.specs.declared.packet.Packet.{Packet}
 use Rattle.flow_parts.specs.declared.fragment.Fragment.{Fragment}
 use Rattle.cache_face.specs.Keeping.{Keeps}
-use Rattle.cache_face.specs.Laws.{IsUnused}
 use Rattle.cache_face.specs.Notes.{Note, metering}
 use Rattle.cache_face.proofs.Keeping.{keeps_passed}
 use Rattle.turn_cache.specs.declared.rule.Told.{Told}
@@ -19,7 +18,7 @@ use Rattle.turn_cache.specs.Hands.{Hand, Turn, idle, reading, writing, number_of
 use Rattle.turn_cache.specs.Moves.{Sat, Move, Takes, taken, lost, trying, IsOwn}
 use Rattle.turn_cache.specs.Places.{turn_word, set_word}
 use Rattle.turn_cache.specs.Ruled.{Ruled, Fits, FitsTurn, LiveAt}
-use Rattle.turn_cache.proofs.Totals.{total-set, total-at, total-two, some_one, eq_of, once_few, once_in, times_here}
+use Rattle.turn_cache.proofs.Totals.{total-set, total-at, total-two, some_one, once_few, once_in, times_here}
 use Rattle.turn_cache.proofs.Frames.{build, notes_same, notes_set, frame_turn}
 
 few : (b : Bool) (m : ℕ) → cond b 1 0 ≤ cond b (suc m) 0

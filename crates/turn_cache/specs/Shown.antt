@@ -1,5 +1,5 @@
 -- What the cache and its passes mean.
-use Rattle.std.specs.Prelude.{◌≡◌, ℕ, ◌<◌, length, []}
+use Rattle.std.specs.Prelude.{◌≡◌, ◌<◌, length, []}
 use Rattle.cache_face.specs.Meaning.{CacheMeans, PassMeans}
 use Rattle.turn_cache.specs.declared.cache.TurnCache.{TurnCache}
 use Rattle.turn_cache.specs.declared.cache.TurnPass.{TurnPass}

@@ -1,4 +1,4 @@
-use Rattle.std.proofs.Common.{rules, ◌+◌, ◌*◌, sym}
+use Rattle.std.proofs.Common.{◌+◌, ◌*◌, sym}
 use Rattle.std.specs.Slots.{slots_items}
 use Rattle.turn_cache.proofs.Closing.{at_value}
 use Rattle.turn_cache.proofs.close.word.Goals as goal

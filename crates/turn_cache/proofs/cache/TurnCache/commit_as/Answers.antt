@@ -1,4 +1,4 @@
-use Rattle.std.proofs.Common.{rules, slice_index, ◌≡◌, ◌<◌, ◌+◌, ◌*◌, sym, subst, arith, refl}
+use Rattle.std.proofs.Common.{rules, slice_index, ◌+◌, ◌*◌, sym, subst, arith, refl}
 use Rattle.atomic_table.specs.Table.{Allows}
 use Rattle.cache_face.specs.Choice.{Takes}
 use Rattle.cache_face.specs.Keeping.{entry_of}

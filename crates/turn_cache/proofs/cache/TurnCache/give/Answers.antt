@@ -1,4 +1,4 @@
-use Rattle.std.proofs.Common.{◌≡◌, ◌<◌, arith}
+use Rattle.std.proofs.Common.{arith}
 use Rattle.turn_cache.proofs.GiveStep.{gives}
 use Rattle.turn_cache.proofs.cache.TurnCache.give.Goals as goal
 

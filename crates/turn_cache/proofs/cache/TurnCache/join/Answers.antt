@@ -1,4 +1,4 @@
-use Rattle.std.proofs.Common.{rules, arith}
+use Rattle.std.proofs.Common.{arith}
 use Rattle.turn_cache.proofs.Uniting.{joins}
 use Rattle.turn_cache.proofs.cache.TurnCache.join.Goals as goal
 

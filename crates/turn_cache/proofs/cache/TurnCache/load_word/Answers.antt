@@ -1,5 +1,4 @@
-use Rattle.std.proofs.Common.{◌≡◌, ◌<◌, sym, subst, arith}
-use Rattle.turn_cache.specs.declared.rule.Told.{Told}
+use Rattle.std.proofs.Common.{arith}
 use Rattle.turn_cache.proofs.LoadStep.{loads}
 use Rattle.turn_cache.proofs.cache.TurnCache.load_word.Goals as goal
 

@@ -1,4 +1,4 @@
-use Rattle.std.proofs.Common.{rules, ◌≡◌, List, sym, subst, ap, ◌∙◌}
+use Rattle.std.proofs.Common.{List, sym, subst}
 use Rattle.packet_accept.specs.declared.packet.Packet.{Packet}
 use Rattle.turn_cache.specs.Moves.{IsOwn}
 use Rattle.turn_cache.proofs.Own.{one_own}

@@ -1,4 +1,4 @@
-use Rattle.std.proofs.Common.{rules, ◌≡◌, ◌*◌, ◌∙◌, [], List, ℕ, replicate, sym, subst}
+use Rattle.std.proofs.Common.{◌≡◌, ◌*◌, ◌∙◌, [], List, ℕ, replicate, sym, subst}
 use Rattle.std.specs.List.{range_with_len}
 use Rattle.atomic_table.specs.Table.{opening}
 use Rattle.cache_face.specs.Notes.{unused}

@@ -1,7 +1,6 @@
-use Rattle.std.proofs.Common.{rules, ◌≡◌, ◌∙◌, ◌++◌, [], ◌∷◌, List, ℕ, Option, length, refl, sym, ap, subst, get_or}
+use Rattle.std.proofs.Common.{rules, ◌≡◌, ◌∙◌, ◌++◌, [], ◌∷◌, List, ℕ, Option, sym, ap, subst}
 use Rattle.flow_parts.specs.declared.fragment.Fragment.{Fragment}
 use Rattle.cache_face.specs.Choice.{IsChoice}
-use Rattle.cache_face.specs.Keeping.{entry_of}
 use Rattle.turn_cache.specs.Hands.{Hand, entries_of}
 use Rattle.turn_cache.specs.Moves.{Sat, more_read, filled}
 use Rattle.turn_cache.proofs.Writing.{read_four, piece, four_entries}

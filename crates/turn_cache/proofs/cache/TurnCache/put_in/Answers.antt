@@ -1,4 +1,4 @@
-use Rattle.std.proofs.Common.{rules, ◌≡◌, ◌∙◌, sym, ap, subst}
+use Rattle.std.proofs.Common.{◌≡◌, ◌∙◌, sym, ap, subst}
 use Rattle.cache_face.specs.Meaning.{IsAnswer}
 use Rattle.turn_cache.specs.Hands.{Hand}
 use Rattle.turn_cache.specs.Moves.{Sat, filled, after_tries}

@@ -1,7 +1,6 @@
-use Rattle.std.proofs.Common.{rules, ◌≡◌, ◌<◌, ◌≤◌, ◌+◌, ◌*◌, ◌∙◌, ◌++◌, [], ◌∷◌, length, set, get_or, take, refl, sym, ap, subst, arith, List, ℕ}
-use Rattle.std.proofs.lemmas.List.{length-set, length-append, length-take, append_assoc}
-use Rattle.cache_face.specs.Keeping.{IsWhole}
-use Rattle.turn_cache.specs.Hands.{Turn, Hand}
+use Rattle.std.proofs.Common.{◌≡◌, ◌<◌, ◌+◌, ◌∙◌, ◌++◌, [], ◌∷◌, length, set, take, sym, ap, arith, List, ℕ}
+use Rattle.std.proofs.lemmas.List.{length-set, append_assoc}
+use Rattle.turn_cache.specs.Hands.{Hand}
 use Rattle.turn_cache.specs.Moves.{Sat, more_read}
 use Rattle.turn_cache.proofs.Writing.{take_next, take_whole, read_on}
 use Rattle.turn_cache.proofs.cache.TurnCache.read_entry.Goals as goal

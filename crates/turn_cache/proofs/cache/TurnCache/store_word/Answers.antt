@@ -1,4 +1,4 @@
-use Rattle.std.proofs.Common.{◌≡◌, ◌<◌, sym, ap, ◌∙◌, arith}
+use Rattle.std.proofs.Common.{ap, ◌∙◌, arith}
 use Rattle.turn_cache.specs.Moves as moves
 use Rattle.turn_cache.proofs.StoreStep.{stores, written_is}
 use Rattle.turn_cache.proofs.cache.TurnCache.store_word.Goals as goal

@@ -1,9 +1,8 @@
-use Rattle.std.proofs.Common.{◌≡◌, ◌<◌, ◌*◌, ◌+◌, eqb, sym, subst, arith, refl}
+use Rattle.std.proofs.Common.{◌*◌, ◌+◌, eqb, sym, subst, arith}
 use Rattle.atomic_table.specs.Table.{Allows}
 use prog.Atomic.{either}
 use Rattle.turn_cache.specs.Ruled.{Ruled}
 use Rattle.turn_cache.specs.Moves.{Move, Takes, IsOwn}
-use Rattle.turn_cache.specs.declared.rule.Told.{Told}
 use Rattle.turn_cache.proofs.TakeStep.{takes}
 use Rattle.turn_cache.proofs.cache.TurnCache.take_as.Goals as goal
 

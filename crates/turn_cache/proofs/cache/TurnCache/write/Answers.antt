@@ -1,5 +1,5 @@
-use Rattle.std.proofs.Common.{rules, ◌≡◌, ◌∙◌, refl, sym, ap, get_or, set}
-use Rattle.turn_cache.specs.Hands.{Turn, Hand, writing, idle}
+use Rattle.std.proofs.Common.{◌∙◌, ap}
+use Rattle.turn_cache.specs.Hands.{writing, idle}
 use Rattle.turn_cache.specs.Moves.{Sat, at_turn}
 use Rattle.turn_cache.proofs.cache.TurnCache.write.Goals as goal
 

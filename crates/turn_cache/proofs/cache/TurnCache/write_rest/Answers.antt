@@ -1,4 +1,4 @@
-use Rattle.std.proofs.Common.{rules, ◌≡◌, ◌<◌, ◌≤◌, ◌∙◌, length, set, get_or, refl, sym, ap, arith, List, ℕ}
+use Rattle.std.proofs.Common.{rules, ◌≡◌, ◌∙◌, set, get_or, refl, sym, ap, arith, List, ℕ}
 use Rattle.turn_cache.specs.Hands.{Turn, writing}
 use Rattle.turn_cache.specs.Moves.{Sat, at_turn}
 use Rattle.turn_cache.proofs.Writing.{mixed, mixed_none, mixed_all, mixed_next, mixed_here}

@@ -1,4 +1,4 @@
-use Rattle.std.proofs.Common.{◌≡◌, ◌≤◌, length, set, get_or}
+use Rattle.std.proofs.Common.{◌≡◌, ◌≤◌}
 use Rattle.turn_cache.specs.Hands.{writing}
 use Rattle.turn_cache.specs.Moves.{at_turn}
 use Rattle.turn_cache.proofs.Writing.{mixed}

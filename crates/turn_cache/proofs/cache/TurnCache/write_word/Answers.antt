@@ -1,7 +1,3 @@
-use Rattle.std.proofs.Common.{rules, ◌≡◌, ◌∙◌, List, ℕ, set, get_or, refl, sym, ap}
-use Rattle.std.proofs.lemmas.List.{set-get_or}
-use Rattle.turn_cache.specs.Hands.{Turn, writing}
-use Rattle.turn_cache.specs.Moves.{at_turn}
 use Rattle.turn_cache.proofs.cache.TurnCache.write_word.Goals as goal
 
 pub store_word-requires-clause-writing : goal.store_word-requires-clause-writing

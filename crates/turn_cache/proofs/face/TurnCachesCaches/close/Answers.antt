@@ -1,4 +1,4 @@
-use Rattle.std.proofs.Common.{rules, ◌++◌, List, sym, subst, IsPermutation}
+use Rattle.std.proofs.Common.{◌++◌, List, sym, subst}
 use Rattle.std.proofs.lemmas.List.Sorted.{IsPermutation-refl, IsPermutation-sym, IsPermutation-trans, IsPermutation-append_left, IsPermutation-append_comm}
 use Rattle.flow_parts.specs.declared.fragment.Fragment.{Fragment}
 use Rattle.flow_parts.specs.Sharing.{SharesOut}
