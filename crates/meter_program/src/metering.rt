@@ -47,16 +47,16 @@ fn add_part(parts: &mut Vec<Fragment>, answer: &Result<Packet, Ignored>) -> Resu
 fn take_record(
     metered: &mut Metered,
     capture: &Capture<'_>,
-    record: &Record<'_>,
+    rec: &Record<'_>,
     n: u64,
 ) -> Result<(), NoMemory>
     requires { HasRoom metered.old.tally }
     ensures { let file = file_of capture.now in
         OnOk result ((answers : List (Result Packet Ignored)) → AreMetered answers metered.old.parts.items metered.old.tally
-        → AreMetered (answers ++ accepted file.link file.nanos (record_read record.now) n ∷ []) metered.new.parts.items metered.new.tally) }
+        → AreMetered (answers ++ accepted file.link file.nanos (record_read rec.now) n ∷ []) metered.new.parts.items metered.new.tally) }
 {
     packets_law();
-    let answer = accept(capture, record, n);
+    let answer = accept(capture, rec, n);
     metered.tally.add(&answer);
     add_part(&mut metered.parts, &answer)
 }

@@ -1,3 +1,5 @@
+//! A flow record, and the reasons for which a flow ends.
+
 ghost use Rattle.std.specs.Prelude.{ℕ, ◌<◌, ◌^◌};
 
 use flow_parts::Fragment;
