@@ -3,10 +3,11 @@
 #
 #     checks/pcapng.sh
 #
-# editcap (Debian package wireshark-common) writes each capture of examples/ as classic pcap, with microseconds and with
-# nanoseconds, and each of these as pcapng. Each pcapng file goes through `romtyalig-pcapng`, and `meter` must
-# give the same lines of `show` for it as for the capture itself. One line per comparison, or one where editcap is missing;
-# the last line counts. The status is not 0 where any differs.
+# editcap and dumpcap (Debian package wireshark-common) write each capture of examples/ anew: editcap as classic pcap, with
+# microseconds and with nanoseconds, and each of these as pcapng; dumpcap, which reads the capture from a pipe, as classic pcap
+# and as pcapng. Each pcapng file goes through `romtyalig-pcapng`, and `meter` must give the same lines of `show` for every
+# file as for the capture itself. One line per comparison, or one where a tool is missing; the last line counts. The status
+# is not 0 where any differs.
 #
 # ROMTYALIG and ROMTYALIG_PCAPNG are the programs' paths (bin/romtyalig and bin/romtyalig-pcapng unless set).
 set -u
@@ -23,10 +24,12 @@ for needed in "$program" "$filter"; do
         exit 2
     fi
 done
-if ! command -v editcap >/dev/null; then
-    echo "skipped: no editcap (package wireshark-common)"
-    exit 0
-fi
+for needed in editcap dumpcap; do
+    if ! command -v "$needed" >/dev/null; then
+        echo "skipped: no $needed (package wireshark-common)"
+        exit 0
+    fi
+done
 
 work=$(mktemp -d) || exit 2
 trap 'rm -rf "$work"' EXIT
@@ -40,21 +43,36 @@ shown() {
     "$program" meter <"$1" 2>/dev/null | "$program" show 2>/dev/null
 }
 
+# Compares the flows of a classic capture with those wanted.
+compare() {
+    if shown "$2" >"$work/lines" && cmp -s "$work/wanted" "$work/lines"; then
+        echo "same: $1"
+        same=$((same + 1))
+    else
+        echo "DIFFERS: $1"
+        differ=$((differ + 1))
+    fi
+}
+
+# The same for a pcapng file.
+compare_pcapng() {
+    "$filter" pcapng <"$2" >"$work/written" || : >"$work/written"
+    compare "$1" "$work/written"
+}
+
 for capture in "$top"/examples/*.pcap; do
     name=$(basename "$capture" .pcap)
     shown "$capture" >"$work/wanted"
     for format in pcap nsecpcap; do
         editcap -F "$format" "$capture" "$work/classic" || exit 2
+        compare "$name, $format of editcap" "$work/classic"
         editcap -F pcapng "$work/classic" "$work/file.pcapng" || exit 2
-        if "$filter" pcapng <"$work/file.pcapng" >"$work/written" && shown "$work/written" >"$work/lines" &&
-            cmp -s "$work/wanted" "$work/lines"; then
-            echo "same: $name, pcapng of $format"
-            same=$((same + 1))
-        else
-            echo "DIFFERS: $name, pcapng of $format"
-            differ=$((differ + 1))
-        fi
+        compare_pcapng "$name, pcapng of editcap from $format" "$work/file.pcapng"
     done
+    dumpcap -q -P -i - -w "$work/dumped" <"$capture" 2>/dev/null || exit 2
+    compare "$name, pcap of dumpcap" "$work/dumped"
+    dumpcap -q -n -i - -w "$work/dumped" <"$capture" 2>/dev/null || exit 2
+    compare_pcapng "$name, pcapng of dumpcap" "$work/dumped"
 done
 echo "$same the same, $differ that differ"
 [ "$differ" -eq 0 ]
