@@ -5,6 +5,7 @@ pub mod Interfaces
 pub mod Records
 pub mod Reading
 pub mod Index
+pub mod Views
 pub mod Fronts
 pub mod Filtered
 pub mod Statuses

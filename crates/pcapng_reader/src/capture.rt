@@ -5,6 +5,7 @@ ghost use Rattle.octets.specs.declared.endianness.Endianness.{Endianness};
 ghost use Rattle.pcapng_reader.specs.Blocks.{file_order};
 ghost use Rattle.pcap_reader.specs.Records.{most_captured};
 ghost use Rattle.pcapng_reader.specs.Reading.{Found, with_block, found_in};
+ghost use Rattle.pcapng_reader.specs.Views.{bytes_of};
 ghost use Rattle.pcapng_reader.specs.Index.{HasUnits, IsPlaceIn, IsIndexOf, found_at, record_at, linked_read};
 
 use crate::content::{Content, content_of};
@@ -83,7 +84,7 @@ impl<'a> PngCapture<'a> {
     /// Looks at the beginning of the first section header. `NotPcapng` comes exactly where the first 12 bytes aren't
     /// there, or their type or their magic aren't those of a section header.
     pub fn open(bytes: &'a [u8]) -> Result<PngCapture<'a>, NotPcapng>
-        ensures capture { IfOk result (λ c. c.bytes.now ≡ bytes.now) }
+        ensures capture { IfOk result (λ c. bytes_of c ≡ bytes.now) }
         ensures pcapng { OnOk result (IsSome (file_order bytes.now)) }
         ensures not_pcapng { IsErr result ↔ (file_order bytes.now ≡ None) }
     {
@@ -95,9 +96,9 @@ impl<'a> PngCapture<'a> {
 
     /// Where its packets stand, in one pass from block to block. The index keeps 40 bytes a packet.
     pub fn index(&self, alloc: Global) -> Result<PngIndex, PngFault>
-        requires { length self.now.bytes.now < 2 ^ 32 }
-        ensures index { IfOk result (λ index. IsIndexOf index self.now.bytes.now) }
-        ensures bad { (at : ℕ) → result ≡ Err (PngFault.BadBlock at) → found_in self.now.bytes.now ≡ Err at }
+        requires { length (bytes_of self.now) < 2 ^ 32 }
+        ensures index { IfOk result (λ index. IsIndexOf index (bytes_of self.now)) }
+        ensures bad { (at : ℕ) → result ≡ Err (PngFault.BadBlock at) → found_in (bytes_of self.now) ≡ Err at }
     {
         let bytes = self.bytes;
         let mut interfaces: Vec<Interface> = Vec::new(alloc);
@@ -125,11 +126,11 @@ impl<'a> PngCapture<'a> {
     /// The `n`-th record, counted from 0, by its place in the index.
     #[inline]
     pub fn record(&self, index: &PngIndex, n: u64) -> PngRecord<'a>
-        requires index { IsIndexOf index.now self.now.bytes.now }
+        requires index { IsIndexOf index.now (bytes_of self.now) }
         requires number { n < length index.now }
-        ensures value { (found : Found) → found_in self.now.bytes.now ≡ Ok found → slice_get found.records n ≡ Some (linked_read result) }
-        ensures part { (from : ℕ) × (from + length result.rec.captured.now ≤ length self.now.bytes.now)
-            × (result.rec.captured.now ≡ slice_range self.now.bytes.now from (from + length result.rec.captured.now)) }
+        ensures value { (found : Found) → found_in (bytes_of self.now) ≡ Ok found → slice_get found.records n ≡ Some (linked_read result) }
+        ensures part { (from : ℕ) × (from + length result.rec.captured.now ≤ length (bytes_of self.now))
+            × (result.rec.captured.now ≡ slice_range (bytes_of self.now) from (from + length result.rec.captured.now)) }
         ensures small { length result.rec.captured.now ≤ most_captured }
     {
         match index.place(n) {

@@ -7,6 +7,7 @@ ghost use Rattle.meter_io.specs.Causes.{HasCause};
 ghost use Rattle.pcap_reader.specs.Views.{record_read};
 ghost use Rattle.pcap_reader.specs.Records.{most_captured};
 ghost use Rattle.pcapng_reader.specs.Index.{IsIndexOf, linked_read, records_at};
+ghost use Rattle.pcapng_reader.specs.Views.{bytes_of};
 ghost use Rattle.pcapng_reader.specs.Filtered.{raw_of, record_octets, octets_of_record, capture_of, Fits};
 
 use crate::capture::PngCapture;
@@ -107,11 +108,11 @@ pub(crate) fn write_packets<K: Sink>(
     buffer: Vec<u8>,
     output: &mut K,
 ) -> Result<(), Failed>
-    requires index { IsIndexOf index.now capture.now.bytes.now }
+    requires index { IsIndexOf index.now (bytes_of capture.now) }
     requires room { 327696 ≤ vec_capacity buffer }
     requires empty { buffer.items ≡ [] }
-    ensures whole { OnOk result (Appends (K.held output.old) (K.held output.new) (capture_of (records_at capture.now.bytes.now index.now))) }
-    ensures begun { OnErr result ((count : ℕ) × Appends (K.held output.old) (K.held output.new) (take count (capture_of (records_at capture.now.bytes.now index.now)))) }
+    ensures whole { OnOk result (Appends (K.held output.old) (K.held output.new) (capture_of (records_at (bytes_of capture.now) index.now))) }
+    ensures begun { OnErr result ((count : ℕ) × Appends (K.held output.old) (K.held output.new) (take count (capture_of (records_at (bytes_of capture.now) index.now)))) }
     ensures cause { HasCause (K.faults output.old) (K.faults output.new) result }
 {
     let mut buffer = buffer;
