@@ -1,6 +1,6 @@
-//! A table of packets, for any cache: one set, one seat.
+//! Tables of packets, for any cache: one set and one seat, and one set and two seats.
 
-ghost use Rattle.std.specs.Prelude.{◌≡◌, ◌+◌, ◌<◌, ◌^◌, All};
+ghost use Rattle.std.specs.Prelude.{◌≡◌, ◌+◌, ◌<◌, ◌^◌, ◌++◌, All, OnOk, option_to_list};
 
 use crate::TurnCaches;
 use cache_face::{Caches, FlowCache, How, Metered};
@@ -9,6 +9,7 @@ use flow_parts::{Fragment, Timeouts};
 use packet_accept::Packet;
 use std::alloc::Global;
 use std::process::Abort;
+use std::test::Fail;
 
 /// A packet of a flow, at a second.
 fn packet(number: u32, flow: u16, second: u32) -> Packet
@@ -44,8 +45,34 @@ fn meter<C: FlowCache>(
     ensures own { C.is_of cache.now pass.new }
     ensures single { (C.shown pass.new).note.seats ≡ 1 }
     ensures rises { All (λ p. p.number < number + 1) (C.shown pass.new).note.packets }
+    ensures handed { (C.shown pass.new).note.handed ≡ (C.shown pass.old).note.handed ++ option_to_list result.out }
 {
     cache.meter(pass, &packet(number, flow, second))
+}
+
+/// Meters a packet, and keeps the fragment that is handed out.
+fn keep<C: FlowCache>(
+    cache: &C,
+    pass: &mut C::Pass,
+    handed: &mut Vec<Fragment>,
+    number: u32,
+    flow: u16,
+    second: u32,
+) -> Result<How, Fail>
+    requires own { C.is_of cache.now pass.old }
+    requires single { (C.shown pass.old).note.seats ≡ 1 }
+    requires rises { All (λ p. p.number < number) (C.shown pass.old).note.packets }
+    requires handed { handed.old.items ≡ (C.shown pass.old).note.handed }
+    ensures own { C.is_of cache.now pass.new }
+    ensures single { (C.shown pass.new).note.seats ≡ 1 }
+    ensures rises { All (λ p. p.number < number + 1) (C.shown pass.new).note.packets }
+    ensures handed { OnOk result (handed.new.items ≡ (C.shown pass.new).note.handed) }
+{
+    let metered = meter(cache, pass, number, flow, second);
+    if let Some(part) = metered.out {
+        handed.push(part)?;
+    }
+    Ok(metered.how)
 }
 
 /// Whether a fragment of so many packets of this flow was handed out.
@@ -87,7 +114,55 @@ fn puts_the_oldest_out<C: Caches + Drop>(rt: &impl Abort, alloc: Global, mut cac
     assert!(rt; packets_of(&parts, 4) == 1 && packets_of(&parts, 5) == 1);
 }
 
+/// The octets of all fragments.
+fn octets_of(parts: &[Fragment]) -> u64 {
+    let mut octets: u64 = 0;
+    for part in parts {
+        octets = octets.wrapping_add(part.octets);
+    }
+    octets
+}
+
+/// Flows 1 to 4 through one pass, and flow 5 through another, which is handed flow 2's fragment and finds flow 1's entry.
+/// The fragments at the end have the six packets of 40 octets.
+fn keeps_what_two_passes_metered<C: Caches + Drop>(
+    rt: &impl Abort,
+    alloc: Global,
+    mut caches: C,
+) -> Result<(), Fail> {
+    let timeouts = Timeouts::new(300, 1800);
+    let (cache, mut passes) = caches.open(alloc, 1, 2, timeouts).expect(rt, "memory");
+    let mut one = passes.pop().expect(rt, "a pass");
+    let mut other = passes.pop().expect(rt, "a pass");
+    let mut handed = Vec::new(alloc);
+    let mut others = Vec::new(alloc);
+    assert!(rt; keep(&cache, &mut one, &mut handed, 0, 1, 5)? == How::Opened);
+    assert!(rt; keep(&cache, &mut one, &mut handed, 1, 2, 1)? == How::Opened);
+    assert!(rt; keep(&cache, &mut one, &mut handed, 2, 3, 3)? == How::Opened);
+    assert!(rt; keep(&cache, &mut one, &mut handed, 3, 4, 4)? == How::Opened);
+    assert!(rt; keep(&cache, &mut other, &mut others, 4, 5, 9)? == How::Replaced);
+    assert!(rt; keep(&cache, &mut other, &mut others, 5, 1, 11)? == How::Joined);
+    assert!(rt; handed.is_empty() && others.len() == 1 && packets_of(&others, 2) == 1);
+    handed.extend_from_slice(others.as_slice())?;
+    let pass = cache.unite(one, other);
+    caches
+        .close(alloc, cache, pass, handed)
+        .expect(rt, "memory");
+    let parts = caches.metered();
+    assert!(rt; parts.len() == 5 && octets_of(parts) == 240 && packets_of(parts, 1) == 2);
+    assert!(rt; packets_of(parts, 2) == 1 && packets_of(parts, 3) == 1);
+    assert!(rt; packets_of(parts, 4) == 1 && packets_of(parts, 5) == 1);
+    Ok(())
+}
+
 #[test]
 fn one_set_and_one_seat(rt: HostRuntime) {
     puts_the_oldest_out(&rt, rt.alloc(), TurnCaches::new());
+}
+
+#[test]
+fn one_set_and_two_seats(rt: HostRuntime) -> Result<(), Fail> {
+    let caches = TurnCaches::new();
+    assert!(rt; caches.metered().is_empty());
+    keeps_what_two_passes_metered(&rt, rt.alloc(), caches)
 }
