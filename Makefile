@@ -3,6 +3,7 @@
 PREFIX ?= /usr/local
 PROGRAM := bin/romtyalig
 PCAPNG := bin/romtyalig-pcapng
+THREADS := bin/two_threads
 CAPTURE := examples/web-exchange.pcap
 # All that a proof or a build reads: code, definitions, and proofs in folders of any depth.
 SOURCES := $(shell find crates -name out -prune -o \( -name '*.rt' -o -name '*.antt' \) -print)
@@ -39,14 +40,22 @@ $(PCAPNG): crates.txt $(SOURCES)
 	@mkdir -p bin
 	@cp crates/romtyalig_pcapng/out/romtyalig_pcapng $(PCAPNG)
 
+# And for the program of checks/two_threads.sh.
+$(THREADS): crates.txt $(SOURCES)
+	@cd crates/two_threads && rt run < stdin > build.log 2>&1 || { tail -n 20 build.log; exit 1; }
+	@rm -f crates/two_threads/build.log
+	@mkdir -p bin
+	@cp crates/two_threads/out/two_threads $(THREADS)
+
 test:
 	@echo "The gate: about an hour on four processors where nothing is proved yet, else the time of what changed."
 	rt ci
 	@$(MAKE) --no-print-directory check
 
-check: build
+check: build $(THREADS)
 	checks/foreign_readers.sh
 	checks/pcapng.sh
+	checks/two_threads.sh
 	python3 checks/second_meter.py 20000
 	python3 checks/second_reader.py 20000
 

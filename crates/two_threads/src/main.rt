@@ -1,0 +1,79 @@
+//! The program behind `checks/two_threads.sh`: two threads meter the capture of standard input into one cache of four sets.
+//! It writes `whole` where the fragments have just the packets and octets of the tally, `differs` where they don't, and
+//! `not metered` where the capture isn't metered; the status is 0, 1 or 2.
+#![tactic(auto)]
+
+ghost use Rattle.std.specs.Prelude.{◌<◌, ◌≤◌, ◌^◌, length};
+
+use cache_face::Caches;
+use flow_parts::{Fragment, Timeouts};
+use meter_io::{Source, StdSink, StdSource, read_all, write_all};
+use meter_workers::{OpenGate, meter_all};
+use pcap_reader::Capture;
+use std::alloc::Global;
+use std::process::ExitCode;
+use std::thread::Threads;
+use turn_cache::TurnCaches;
+
+/// The most bytes of a capture.
+const CAPTURE_LIMIT: u64 = 1 << 30;
+
+/// How many packets and octets there are.
+#[derive(Clone, Copy, PartialEq, Eq, Debug)]
+struct Counts {
+    packets: u64,
+    octets: u64,
+}
+
+/// Those of all fragments.
+fn counts_of(parts: &[Fragment]) -> Counts {
+    let mut counts = Counts {
+        packets: 0,
+        octets: 0,
+    };
+    for part in parts {
+        counts.packets = counts.packets.wrapping_add(part.packets);
+        counts.octets = counts.octets.wrapping_add(part.octets);
+    }
+    counts
+}
+
+/// Whether the fragments have the packets and the octets of the tally, and none where the capture isn't metered.
+fn is_whole<R: Threads + Sync>(rt: &R, alloc: Global, bytes: &[u8]) -> Option<bool>
+    requires { length bytes.now ≤ 2 ^ 30 }
+{
+    let capture = Capture::open(bytes).ok()?;
+    let index = capture.index(alloc).ok()?;
+    let mut caches = TurnCaches::new();
+    let (cache, passes) = caches.open(alloc, 4, 2, Timeouts::new(300, 1800)).ok()?;
+    let gathered = meter_all(rt, alloc, &capture, &index, &cache, passes, 64, &OpenGate).ok()?;
+    caches
+        .close(alloc, cache, gathered.pass, gathered.parts)
+        .ok()?;
+    let tallied = Counts {
+        packets: gathered.tally.accepted,
+        octets: gathered.tally.octets,
+    };
+    Some(counts_of(caches.metered()) == tallied && tallied.packets > 0)
+}
+
+/// What becomes of the bytes of a source.
+fn checked<R: Threads + Sync, S: Source>(rt: &R, alloc: Global, input: &mut S) -> Option<bool> {
+    let bytes = read_all(alloc, input, CAPTURE_LIMIT).ok()?;
+    is_whole(rt, alloc, bytes.as_slice())
+}
+
+fn main(rt: HostRuntime) -> ExitCode {
+    let alloc = rt.alloc();
+    let mut input = StdSource::new(rt.stdin());
+    let mut output = StdSink::new(rt.stdout());
+    let (line, code): (&[u8], u8) = match checked(&rt, alloc, &mut input) {
+        Some(true) => (b"whole\n", 0),
+        Some(false) => (b"differs\n", 1),
+        None => (b"not metered\n", 2),
+    };
+    match write_all(&mut output, line) {
+        Ok(()) => ExitCode::from(code),
+        Err(_) => ExitCode::from(3),
+    }
+}
