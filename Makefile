@@ -48,7 +48,7 @@ $(THREADS): crates.txt $(SOURCES)
 	@cp crates/two_threads/out/two_threads $(THREADS)
 
 test:
-	@echo "The gate: about an hour on four processors where nothing is proved yet, else the time of what changed."
+	@echo "The gate: more than an hour on four processors where nothing is proved yet, else the time of what changed."
 	rt ci
 	@$(MAKE) --no-print-directory check
 
