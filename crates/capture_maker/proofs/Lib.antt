@@ -1,0 +1,2 @@
+-- The lemmas, a file for each subject.
+pub mod Packets
