@@ -3,3 +3,4 @@ pub mod Causes
 pub mod Edge
 pub mod Memory
 pub mod Reading
+pub mod Sides

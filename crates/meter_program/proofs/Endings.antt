@@ -7,7 +7,8 @@ use Rattle.meter_program.specs.declared.status.Status.{Status}
 use Rattle.meter_program.specs.declared.status.Status.TheVariants.{Done, ReadFault, WriteFault, NotCapture, LinkUnknown, Damaged, TooLarge, NoMemory, Usage, NotStream}
 use Rattle.meter_program.specs.Summary.{summary}
 use Rattle.meter_program.specs.Words.{meter}
-use Rattle.meter_program.specs.Seen.{Seen, IsRead, IsUntouched}
+use Rattle.meter_io.specs.Sides.{IsRead, IsUntouched}
+use Rattle.meter_program.specs.Seen.{Seen}
 use Rattle.meter_program.specs.Metering.{IsGathered, IsWritten, WriteMeans}
 use Rattle.meter_program.specs.Outcome.{Ends, IsMetered}
 use Rattle.pcap_reader.specs.Records.{tail_of}

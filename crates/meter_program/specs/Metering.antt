@@ -16,7 +16,7 @@ use Rattle.meter_program.specs.declared.status.Status.{Status}
 use Rattle.meter_program.specs.declared.status.Status.TheVariants.{Done, ReadFault, WriteFault, NotCapture, LinkUnknown, Damaged, TooLarge, NoMemory, Usage, NotStream}
 use Rattle.meter_program.specs.Gathering.{export_time}
 use Rattle.meter_program.specs.Summary.{summary}
-use Rattle.meter_program.specs.Seen.{Side, HasTaken, HasBegun, HasTakenOrFailed, HasFailed, IsUntouched}
+use Rattle.meter_io.specs.Sides.{Side, HasTaken, HasBegun, HasTakenOrFailed, HasFailed, IsUntouched}
 use Rattle.meter_program.specs.Outcome.{IsCaptureOf}
 
 -- The records, the tally and the tail of an undamaged capture.

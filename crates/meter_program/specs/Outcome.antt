@@ -20,7 +20,8 @@ use Rattle.meter_program.specs.Gathering.{export_time}
 use Rattle.meter_program.specs.Shows.{text_of}
 use Rattle.meter_program.specs.Summary.{count_line, summary}
 use Rattle.meter_program.specs.Statuses.{fault_line}
-use Rattle.meter_program.specs.Seen.{Side, Seen, IsRead, IsTooLarge, IsBroken, IsUntouched, HasTaken, HasBegun, HasTakenOrFailed, HasFailed}
+use Rattle.meter_io.specs.Sides.{Side, IsRead, IsTooLarge, IsBroken, IsWrong, IsUntouched, HasTaken, HasBegun, HasTakenOrFailed, HasFailed}
+use Rattle.meter_program.specs.Seen.{Seen}
 use Rattle.meter_program.specs.Words.{Asked, meter, show}
 
 -- The most bytes of an input: 2^30 of a capture, 2^26 of a stream.
@@ -87,12 +88,6 @@ pub record IsCutOff (asked : Asked) (seen : Seen) : Type 0 where
   pub cause : HasFailed seen.output ⊎ HasFailed seen.notes
 
 -- ---- why a command refuses
-
--- The input was read to its end, and is wrong in this way.
-pub record IsWrong (input : Side) (limit : ℕ) (Fault : List ℕ → Type 0) : Type 0 where
-  pub bytes : List ℕ
-  pub read : IsRead input limit bytes
-  pub fault : Fault bytes
 
 -- The bytes are a capture of this kind.
 abbrev pub IsCaptureOf : (CaptureFile → Type 0) → List ℕ → Type 0

@@ -5,7 +5,8 @@ ghost use Rattle.std.specs.Option.{ForSome};
 ghost use Rattle.meter_program.specs.Gathering.{export_time};
 ghost use Rattle.meter_program.specs.Metering.{IsGathered, CaptureRefuses, WriteMeans};
 ghost use Rattle.meter_program.specs.Outcome.{Ends};
-ghost use Rattle.meter_program.specs.Seen.{IsUntouched, seen_of, side};
+ghost use Rattle.meter_io.specs.Sides.{IsUntouched, side};
+ghost use Rattle.meter_program.specs.Seen.{seen_of};
 ghost use Rattle.meter_program.specs.Words.{meter};
 
 use crate::metering::metered_of;

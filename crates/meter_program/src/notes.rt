@@ -7,7 +7,7 @@ ghost use Rattle.arrayvec.specs.ArrayString.{array_string_len};
 ghost use Rattle.meter_io.specs.Causes.{HasCause};
 ghost use Rattle.meter_program.specs.Statuses.{fault_text, fault_line, stream_fault_text};
 ghost use Rattle.meter_program.specs.Summary.{count_line, ignored_lines, summary};
-ghost use Rattle.meter_program.specs.Seen.{HasTaken, HasBegun, side};
+ghost use Rattle.meter_io.specs.Sides.{HasTaken, HasBegun, side};
 
 use crate::status::Status;
 use arrayvec::ArrayString;

@@ -4,7 +4,8 @@ ghost use Rattle.std.specs.Prelude.{◌≡◌, ◌↔◌, ◌⊎◌, None, map};
 ghost use Rattle.std.specs.String.{string_bytes};
 ghost use Rattle.meter_io.specs.Causes.{Rose};
 ghost use Rattle.meter_program.specs.Outcome.{RunMeans, IsComplete, Ends};
-ghost use Rattle.meter_program.specs.Seen.{IsUntouched, seen_of, side};
+ghost use Rattle.meter_io.specs.Sides.{IsUntouched, side};
+ghost use Rattle.meter_program.specs.Seen.{seen_of};
 ghost use Rattle.meter_program.specs.Words.{asked_by, asked};
 
 use crate::meter::meter;

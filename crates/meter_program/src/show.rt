@@ -2,7 +2,8 @@
 
 ghost use Rattle.std.specs.Prelude.{◌≡◌, codes};
 ghost use Rattle.meter_program.specs.Outcome.{Ends};
-ghost use Rattle.meter_program.specs.Seen.{IsUntouched, seen_of, side};
+ghost use Rattle.meter_io.specs.Sides.{IsUntouched, side};
+ghost use Rattle.meter_program.specs.Seen.{seen_of};
 ghost use Rattle.meter_program.specs.Words.{show};
 
 use crate::lines::shows;

@@ -1,27 +1,26 @@
 -- The code's own: how the part of a run behind the reading ends.
-use Rattle.std.specs.Prelude.{ℕ, ◌≡◌, List, take, None, Err, IsSome}
-use Rattle.std.specs.Io.KnownBytes.{Appends}
+use Rattle.std.specs.Prelude.{ℕ, ◌≡◌, List, None, Err, IsSome}
+use Rattle.meter_io.specs.Sides.{Side, IsUntouched, HasFailed, HasTaken, HasBegun}
 use Rattle.pcapng_reader.specs.declared.status.PngStatus.{PngStatus}
 use Rattle.pcapng_reader.specs.declared.status.PngStatus.TheVariants.{Done, ReadFault, Usage, WriteFault, NotPcapng, BadBlock, TooLarge, NoMemory}
 use Rattle.pcapng_reader.specs.Blocks.{file_order}
 use Rattle.pcapng_reader.specs.Reading.{found_in}
-use Rattle.pcapng_reader.specs.Outcome.{Stream, IsUntouched, IsAnswer, HasFailed}
+use Rattle.pcapng_reader.specs.Outcome.{IsAnswer}
 
 -- The answer to these bytes was written.
-pub record IsWritten (bytes : List ℕ) (output : Stream) : Type 0 where
+pub record IsWritten (bytes : List ℕ) (output : Side) : Type 0 where
   pub written : List ℕ
   pub answer : IsAnswer bytes written
-  pub taken : Appends output.before output.after written
+  pub taken : HasTaken output written
 
 -- A beginning of the answer was written, and a write failed.
-pub record IsBegun (bytes : List ℕ) (output : Stream) : Type 0 where
+pub record IsBegun (bytes : List ℕ) (output : Side) : Type 0 where
   pub written : List ℕ
   pub answer : IsAnswer bytes written
-  pub count : ℕ
-  pub begun : Appends output.before output.after (take count written)
+  pub begun : HasBegun output written
   pub cause : HasFailed output
 
-abbrev pub FilterEnds : List ℕ → Stream → PngStatus → Type 0
+abbrev pub FilterEnds : List ℕ → Side → PngStatus → Type 0
 FilterEnds bytes output Done = IsWritten bytes output
 FilterEnds bytes output WriteFault = IsBegun bytes output
 FilterEnds bytes output NotPcapng = (file_order bytes ≡ None) × IsUntouched output

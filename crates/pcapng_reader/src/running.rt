@@ -3,7 +3,8 @@
 ghost use Rattle.std.specs.Prelude.{◌≡◌, ◌≤◌, ◌^◌, ◌↔◌, map, length, IsFalse};
 ghost use Rattle.std.specs.String.{string_bytes};
 ghost use Rattle.meter_io.specs.Causes.{Rose};
-ghost use Rattle.pcapng_reader.specs.Outcome.{is_command, stream, Ends, IsComplete};
+ghost use Rattle.meter_io.specs.Sides.{side};
+ghost use Rattle.pcapng_reader.specs.Outcome.{is_command, Ends, IsComplete};
 ghost use Rattle.pcapng_reader.specs.Filtering.{FilterEnds};
 
 use crate::capture::{PngCapture, PngFault};
@@ -31,7 +32,7 @@ fn is_command(words: &[String]) -> bool
 /// Writes the packets of the file that these bytes are.
 fn filter<K: Sink>(alloc: Global, bytes: &[u8], output: &mut K) -> PngStatus
     requires { length bytes.now ≤ 2 ^ 30 }
-    ensures { FilterEnds bytes.now (stream K.held K.faults output.old output.new) result }
+    ensures { FilterEnds bytes.now (side K.held K.faults output.old output.new) result }
 {
     let Ok(capture) = PngCapture::open(bytes) else {
         return PngStatus::NotPcapng;
@@ -70,9 +71,9 @@ pub fn run_png<S: Source, K: Sink>(
     output: &mut K,
 ) -> PngStatus
     ensures usage { (result ≡ PngStatus.Usage) ↔ IsFalse (is_command (map string_bytes words.now)) }
-    ensures means { Ends (stream S.left S.faults input.old input.new) (stream K.held K.faults output.old output.new) result }
-    ensures complete { IsComplete (map string_bytes words.now) (stream S.left S.faults input.old input.new)
-        (stream K.held K.faults output.old output.new) result }
+    ensures means { Ends (side S.left S.faults input.old input.new) (side K.held K.faults output.old output.new) result }
+    ensures complete { IsComplete (map string_bytes words.now) (side S.left S.faults input.old input.new)
+        (side K.held K.faults output.old output.new) result }
     ensures read_fault { result ≡ PngStatus.ReadFault → Rose (S.faults input.old) (S.faults input.new) }
     ensures write_fault { result ≡ PngStatus.WriteFault → Rose (K.faults output.old) (K.faults output.new) }
 {

@@ -1,5 +1,6 @@
 use Rattle.std.proofs.Common.{subst, sym}
-use Rattle.meter_program.specs.Seen.{side, seen_of}
+use Rattle.meter_io.specs.Sides.{side}
+use Rattle.meter_program.specs.Seen.{seen_of}
 use Rattle.meter_program.specs.Metering.{IsGathered}
 use Rattle.meter_program.proofs.Endings.{meter-ends}
 use Rattle.meter_program.proofs.meter.meter.Goals as goal

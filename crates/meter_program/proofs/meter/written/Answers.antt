@@ -1,6 +1,6 @@
 use Rattle.std.proofs.Common.{ap, sym, ◌∙◌, refl, length}
 use Rattle.ipfix_writer.specs.Emitting.{EmitterState}
-use Rattle.meter_program.specs.Seen.{side}
+use Rattle.meter_io.specs.Sides.{side}
 use Rattle.meter_program.proofs.Streams.{written-of, wrote-both, wrote-first, wrote-some}
 use Rattle.meter_program.proofs.meter.written.Goals as goal
 

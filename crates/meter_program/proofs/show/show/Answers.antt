@@ -3,7 +3,7 @@ use Rattle.std.specs.Prelude.{codes}
 use Rattle.ipfix_reader.specs.Messages.{decode}
 use Rattle.meter_program.specs.Shows.{text_of}
 use Rattle.meter_program.specs.Summary.{count_line}
-use Rattle.meter_program.specs.Seen.{side, HasTaken}
+use Rattle.meter_io.specs.Sides.{side, HasTaken}
 use Rattle.meter_program.proofs.Streams.{none-begun}
 use Rattle.meter_program.proofs.show.show.Goals as goal
 

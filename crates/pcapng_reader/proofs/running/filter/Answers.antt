@@ -26,8 +26,10 @@ returns g c =
     record {
       written = capture_of (records_at c.args.bytes.now c.in-Ok-index.index);
       answer = answer-is c.args.bytes.now c.in-Ok-index.index c.in-Ok.ensures.pcapng (λ place. let h = c.type_inv.bytes place in omega (arith, h)) index;
-      count = begun.0;
-      begun = subst (λ (b : List ℕ). Appends (g.K.Sink.held c.args.output.now) (g.K.Sink.held c.write_packets.new.output) (take begun.0 (capture_of (records_at b c.in-Ok-index.index))))
-          same begun.1;
+      begun = record {
+        count = begun.0;
+        taken = subst (λ (b : List ℕ). Appends (g.K.Sink.held c.args.output.now) (g.K.Sink.held c.write_packets.new.output) (take begun.0 (capture_of (records_at b c.in-Ok-index.index))))
+            same begun.1;
+      };
       cause = c.in-Err.ensures.cause.failed;
     }
