@@ -4,3 +4,4 @@ pub mod Keeping
 pub mod Laws
 pub mod Meaning
 pub mod Notes
+pub mod Tries

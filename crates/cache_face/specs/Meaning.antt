@@ -1,5 +1,5 @@
 -- What a cache and its passes mean.
-use Rattle.std.specs.Prelude.{◌≡◌, ◌≢◌, ℕ, ◌+◌, ◌<◌, ◌≤◌, List, length, Option, Some}
+use Rattle.std.specs.Prelude.{◌≡◌, ◌≢◌, ℕ, ◌<◌, List, [], ◌++◌, length, All, Option, Some}
 use Rattle.packet_accept.specs.declared.packet.Packet.{Packet}
 use Rattle.flow_key.specs.Key.{set_number}
 use Rattle.flow_parts.specs.declared.fragment.Fragment.{Fragment}
@@ -9,6 +9,7 @@ use Rattle.cache_face.specs.declared.metered.How.{How}
 use Rattle.cache_face.specs.declared.metered.How.TheVariants.{Joined, Opened, Replaced, PassedBy}
 use Rattle.cache_face.specs.Choice.{IsChoice}
 use Rattle.cache_face.specs.Notes.{Note, first_note, merged}
+use Rattle.cache_face.specs.Tries.{LostTry}
 
 -- A cache: its number of sets, its number of seats, and the time-outs by which its fragments' heaps go.
 pub record CacheMeans : Type 0 where
@@ -16,17 +17,25 @@ pub record CacheMeans : Type 0 where
   pub seats : ℕ
   pub limits : Timeouts
 
--- A pass: what it has done, the number of its lost tries, the set that its last try read, and the four entries that it
+-- A pass: what it has done, the tries that it lost, in order, the set that its last try read, and the four entries that it
 -- read there.
 pub record PassMeans : Type 0 where
   pub note : Note
-  pub lost : ℕ
+  pub lost : List LostTry
   pub set : ℕ
   pub entries : List (Option Fragment)
 
 -- A pass of one seat that has done nothing.
 abbrev pub IsFresh : PassMeans → Type 0
-IsFresh pass = (pass.note ≡ first_note) × (pass.lost ≡ 0)
+IsFresh pass = (pass.note ≡ first_note) × (pass.lost ≡ [])
+
+-- Which lost tries are those of a set.
+abbrev pub TriesOf : Type 1
+TriesOf = ℕ → LostTry → Type 0
+
+-- These tries were lost, each at this set: the pass's list has them at its end, and is else as it was.
+abbrev pub HasLost : TriesOf → ℕ → PassMeans → PassMeans → List LostTry → Type 0
+HasLost IsTryOf set old new tries = (new.lost ≡ old.lost ++ tries) × All (IsTryOf set) tries
 
 -- A fragment was put in by the choice over the four entries that the pass read last, in the set of its key.
 pub record IsChosen (cache : CacheMeans) (pass : PassMeans) (own : Fragment) (how : How) (out : Option Fragment) : Type 0 where
@@ -36,27 +45,33 @@ pub record IsChosen (cache : CacheMeans) (pass : PassMeans) (own : Fragment) (ho
   pub kept : Fragment
   pub chosen : IsChoice cache.limits pass.entries own how place out kept
 
--- A fragment was passed by: this call lost three tries, there is another seat, and the fragment itself is handed out.
-pub record IsPassedBy (cache : CacheMeans) (old new : PassMeans) (own : Fragment) (out : Option Fragment) : Type 0 where
-  pub lost : new.lost ≡ old.lost + 3
+-- A fragment was passed by: this call lost three tries at the set of its key, there is another seat, and the fragment itself is
+-- handed out.
+pub record IsPassedBy (cache : CacheMeans) (IsTryOf : TriesOf) (old new : PassMeans) (own : Fragment) (out : Option Fragment) : Type 0 where
+  pub tries : List LostTry
+  pub lost : HasLost IsTryOf (set_number own.key cache.sets) old new tries
+  pub three : length tries ≡ 3
   pub others : cache.seats ≢ 1
   pub out_is : out ≡ Some own
 
--- Where it was put in fewer than three tries were lost.
-abbrev pub IsPutIn : CacheMeans → PassMeans → PassMeans → Fragment → How → Option Fragment → Type 0
-IsPutIn cache old new own how out = IsChosen cache new own how out × (old.lost ≤ new.lost) × (new.lost < old.lost + 3)
+-- A fragment was put in, and fewer than three tries were lost at the set of its key.
+pub record IsPutIn (cache : CacheMeans) (IsTryOf : TriesOf) (old new : PassMeans) (own : Fragment) (how : How) (out : Option Fragment) : Type 0 where
+  pub chosen : IsChosen cache new own how out
+  pub tries : List LostTry
+  pub lost : HasLost IsTryOf (set_number own.key cache.sets) old new tries
+  pub few : length tries < 3
 
 -- Each answer and its cause.
-abbrev pub IsAnswer : CacheMeans → PassMeans → PassMeans → Fragment → How → Option Fragment → Type 0
-IsAnswer cache old new own PassedBy out = IsPassedBy cache old new own out
-IsAnswer cache old new own Joined out = IsPutIn cache old new own Joined out
-IsAnswer cache old new own Opened out = IsPutIn cache old new own Opened out
-IsAnswer cache old new own Replaced out = IsPutIn cache old new own Replaced out
+abbrev pub IsAnswer : CacheMeans → TriesOf → PassMeans → PassMeans → Fragment → How → Option Fragment → Type 0
+IsAnswer cache IsTryOf old new own PassedBy out = IsPassedBy cache IsTryOf old new own out
+IsAnswer cache IsTryOf old new own Joined out = IsPutIn cache IsTryOf old new own Joined out
+IsAnswer cache IsTryOf old new own Opened out = IsPutIn cache IsTryOf old new own Opened out
+IsAnswer cache IsTryOf old new own Replaced out = IsPutIn cache IsTryOf old new own Replaced out
 
 -- A packet is metered as the fragment of it alone.
-abbrev pub IsMetered : CacheMeans → PassMeans → PassMeans → Packet → How → Option Fragment → Type 0
-IsMetered cache old new packet how out = (own : Fragment) × IsAlone packet own × IsAnswer cache old new own how out
+abbrev pub IsMetered : CacheMeans → TriesOf → PassMeans → PassMeans → Packet → How → Option Fragment → Type 0
+IsMetered cache IsTryOf old new packet how out = (own : Fragment) × IsAlone packet own × IsAnswer cache IsTryOf old new own how out
 
 -- A pass stands for both of two.
 abbrev pub IsUnited : PassMeans → PassMeans → PassMeans → Type 0
-IsUnited one other both = (both.note ≡ merged one.note other.note) × (both.lost ≡ one.lost + other.lost)
+IsUnited one other both = (both.note ≡ merged one.note other.note) × (both.lost ≡ one.lost ++ other.lost)

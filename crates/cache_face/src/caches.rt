@@ -1,11 +1,12 @@
 //! A shared cache, and who opens and closes caches.
 
-ghost use Rattle.std.specs.Prelude.{◌≡◌, ◌<◌, ◌≤◌, ◌^◌, ◌∷◌, ◌++◌, List, [], length, All, IfOk, IfErr, OnOk, OnErr, IsPermutation};
+ghost use Rattle.std.specs.Prelude.{◌≡◌, ◌<◌, ◌≤◌, ◌^◌, ◌∷◌, ◌++◌, ℕ, List, [], length, All, IfOk, IfErr, OnOk, OnErr, IsPermutation};
 ghost use Rattle.packet_accept.specs.declared.packet.Packet.{Packet};
 ghost use Rattle.flow_parts.specs.declared.fragment.Fragment.{Fragment};
 ghost use Rattle.flow_parts.specs.Sharing.{SharesOut};
 ghost use Rattle.cache_face.specs.Meaning.{CacheMeans, PassMeans, IsFresh, IsMetered, IsUnited};
 ghost use Rattle.cache_face.specs.Notes.{metering};
+ghost use Rattle.cache_face.specs.Tries.{LostTry};
 
 use crate::metered::Metered;
 use flow_parts::{Fragment, Timeouts};
@@ -25,7 +26,13 @@ pub trait FlowCache: Sync + Drop {
     // The pass is of this cache.
     ghost is_of: { Self → Self.Pass → Type 0 };
 
+    // The lost try is one of the set.
+    ghost is_try_of: { ℕ → LostTry → Type 0 };
+
     /// Meters a packet whose number is above those that the pass metered. It waits for nobody and takes no memory.
+    ///
+    /// The choice over the four entries of the packet's set decides what becomes of it; where other seats were in the way
+    /// three times, it is passed by. The pass lists each lost try, and each is one of the packet's set.
     fn meter(&self, pass: &mut Self::Pass, packet: &Packet) -> Metered
         requires own { is_of self.now pass.old }
         requires single { (shown pass.old).note.seats ≡ 1 }
@@ -34,7 +41,7 @@ pub trait FlowCache: Sync + Drop {
         requires octets { packet.now.octets < 2 ^ 24 }
         ensures own { is_of self.now pass.new }
         ensures note { (shown pass.new).note ≡ metering (shown pass.old).note (packet.now ∷ []) result.out }
-        ensures answer { IsMetered (means self.now) (shown pass.old) (shown pass.new) packet.now result.how result.out };
+        ensures answer { IsMetered (means self.now) is_try_of (shown pass.old) (shown pass.new) packet.now result.how result.out };
 
     /// One pass for both, which only `unite` and `close` take where it stands for more than one seat.
     fn unite(&self, first: Self::Pass, second: Self::Pass) -> Self::Pass

@@ -1,31 +1,67 @@
--- What a pass is told of the fragment that it put in.
-use Rattle.std.proofs.Common.{◌≡◌, ℕ, ◌+◌, ◌<◌, ◌≤◌, List, ◌++◌, length, replicate, Option, refl, ap, ◌∙◌, arith, length-append}
-use Rattle.std.proofs.lemmas.List.{length-replicate}
+-- What a pass is told of the fragment that it put in, or that was passed by.
+use Rattle.std.proofs.Common.{◌≡◌, ◌≢◌, ℕ, zero, suc, ◌<◌, List, ◌++◌, length, map, replicate, Option, Some, ◌∷◌, refl, ap, ◌∙◌, subst, arith, All}
+use Rattle.std.proofs.lemmas.List.{length-replicate, map-append}
+use Rattle.std.proofs.lemmas.List.Elements.{All-nil, All-cons}
 use Rattle.packet_accept.specs.declared.packet.Packet.{Packet}
 use Rattle.flow_key.specs.Key.{set_number}
 use Rattle.flow_parts.specs.declared.fragment.Fragment.{Fragment}
 use Rattle.cache_face.specs.Choice.{IsChoice}
 use Rattle.cache_face.specs.declared.metered.How.{How}
 use Rattle.cache_face.specs.declared.metered.How.TheVariants as how
-use Rattle.cache_face.specs.Meaning.{CacheMeans, PassMeans, IsAnswer}
+use Rattle.cache_face.specs.Meaning.{CacheMeans, PassMeans, HasLost, IsAnswer, IsPassedBy}
+use Rattle.cache_face.specs.Tries.{LostTry, turn_taken}
 use Rattle.turn_cache.specs.Hands.{Hand, entries_of}
-use Rattle.turn_cache.specs.Moves.{filled, after_tries}
+use Rattle.turn_cache.specs.Moves.{filled, after_tries, passed_by}
+use Rattle.turn_cache.specs.Shown.{IsTryOf}
 
 -- what a seat's knowledge means
 abbrev pub hand_means : Hand → PassMeans
-hand_means hand = record { note = hand.note; lost = length hand.lost; set = hand.set; entries = entries_of hand.read }
+hand_means hand = record { note = hand.note; lost = map turn_taken hand.lost; set = hand.set; entries = entries_of hand.read }
 
-answer_is : (cache : CacheMeans) (old new : PassMeans) (own : Fragment) (out : Option Fragment) (place : ℕ) (kept : Fragment) (by : How)
-    → new.set ≡ set_number own.key cache.sets → length new.entries ≡ 4 → IsChoice cache.limits new.entries own by place out kept → old.lost ≤ new.lost → new.lost < old.lost + 3
-    → IsAnswer cache old new own by out
-answer_is cache old new own out place kept how.Joined set four chosen low high = (record { set = set; four = four; place = place; kept = kept; chosen = chosen }, low, high)
-answer_is cache old new own out place kept how.Opened set four chosen low high = (record { set = set; four = four; place = place; kept = kept; chosen = chosen }, low, high)
-answer_is cache old new own out place kept how.Replaced set four chosen low high = (record { set = set; four = four; place = place; kept = kept; chosen = chosen }, low, high)
-answer_is cache old new own out place kept how.PassedBy set four chosen low high = absurd chosen
+-- so many tries that were lost at a set
+tries_at : ℕ → ℕ → List LostTry
+tries_at tries set = replicate tries (turn_taken set)
+
+all_at_set : (tries set : ℕ) → All (IsTryOf set) (tries_at tries set)
+unfolding tries_at
+all_at_set zero set = All-nil (IsTryOf set)
+all_at_set (suc tries) set = All-cons (IsTryOf set) (turn_taken set) (replicate tries (turn_taken set)) refl (all_at_set tries set)
+
+as_tries : (tries set : ℕ) → map turn_taken (replicate tries set) ≡ tries_at tries set
+unfolding tries_at
+as_tries zero set = refl
+as_tries (suc tries) set = ap (λ l. turn_taken set ∷ l) (as_tries tries set)
+
+listed : (lost : List ℕ) (tries set : ℕ) → map turn_taken (lost ++ replicate tries set) ≡ map turn_taken lost ++ tries_at tries set
+listed lost tries set = map-append turn_taken lost (replicate tries set) ∙ ap (λ l. map turn_taken lost ++ l) (as_tries tries set)
+
+so_many : (tries set : ℕ) → length (tries_at tries set) ≡ tries
+unfolding tries_at
+so_many tries set = length-replicate {A = LostTry} tries (turn_taken set)
+
+answer_is : (cache : CacheMeans) (old new : PassMeans) (own : Fragment) (out : Option Fragment) (place : ℕ) (kept : Fragment) (by : How) (tries : List LostTry)
+    → new.set ≡ set_number own.key cache.sets → length new.entries ≡ 4 → IsChoice cache.limits new.entries own by place out kept
+    → HasLost IsTryOf (set_number own.key cache.sets) old new tries → length tries < 3
+    → IsAnswer cache IsTryOf old new own by out
+answer_is cache old new own out place kept how.Joined tries set four chosen lost few = record { chosen = record { set = set; four = four; place = place; kept = kept; chosen = chosen }; tries = tries; lost = lost; few = few }
+answer_is cache old new own out place kept how.Opened tries set four chosen lost few = record { chosen = record { set = set; four = four; place = place; kept = kept; chosen = chosen }; tries = tries; lost = lost; few = few }
+answer_is cache old new own out place kept how.Replaced tries set four chosen lost few = record { chosen = record { set = set; four = four; place = place; kept = kept; chosen = chosen }; tries = tries; lost = lost; few = few }
+answer_is cache old new own out place kept how.PassedBy tries set four chosen lost few = absurd chosen
 
 pub answered : (cache : CacheMeans) (hand : Hand) (own : Fragment) (out : Option Fragment) (place : ℕ) (kept : Fragment) (by : How) (set tries : ℕ) (words : List ℕ) (packets : List Packet)
     → set ≡ set_number own.key cache.sets → tries < 3 → IsChoice cache.limits (entries_of words) own by place out kept
-    → IsAnswer cache (hand_means hand) (hand_means (filled words packets out (after_tries set tries hand))) own by out
+    → IsAnswer cache IsTryOf (hand_means hand) (hand_means (filled words packets out (after_tries set tries hand))) own by out
 answered cache hand own out place kept by set tries words packets is_set few chosen =
-    let more : length (hand.lost ++ replicate tries set) ≡ length hand.lost + tries = length-append hand.lost (replicate tries set) ∙ ap (λ n. length hand.lost + n) (length-replicate {A = ℕ} tries set) in
-    answer_is cache (hand_means hand) (hand_means (filled words packets out (after_tries set tries hand))) own out place kept by is_set refl chosen (omega (arith, more)) (omega (arith, more, few))
+    answer_is cache (hand_means hand) (hand_means (filled words packets out (after_tries set tries hand))) own out place kept by (tries_at tries set) is_set refl chosen
+    (listed hand.lost tries set, subst (λ n. All (IsTryOf n) (tries_at tries set)) is_set (all_at_set tries set)) (let many = so_many tries set in omega (arith, many, few))
+
+pub passed : (cache : CacheMeans) (hand : Hand) (own : Fragment) (set : ℕ) (packets : List Packet)
+    → set ≡ set_number own.key cache.sets → cache.seats ≢ 1
+    → IsPassedBy cache IsTryOf (hand_means hand) (hand_means (passed_by set packets own hand)) own (Some own)
+passed cache hand own set packets is_set others = record {
+  tries = tries_at 3 set;
+  lost = (listed hand.lost 3 set, subst (λ n. All (IsTryOf n) (tries_at 3 set)) is_set (all_at_set 3 set));
+  three = so_many 3 set;
+  others = others;
+  out_is = refl;
+}

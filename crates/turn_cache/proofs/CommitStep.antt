@@ -1,5 +1,5 @@
 -- The first word of an entry is stored.
-use Rattle.std.proofs.Common.{◌≡◌, ℕ, suc, ◌+◌, ◌*◌, ◌<◌, true, cond, List, [], ◌++◌, length, map, get_or, set, Option, sym, refl, ap, ◌∙◌, subst, arith, eq-eqb, length-append}
+use Rattle.std.proofs.Common.{◌≡◌, ⊎_elim, inl, inr, ℕ, suc, ◌+◌, ◌*◌, ◌<◌, true, cond, List, [], ◌++◌, length, map, get_or, set, Option, sym, refl, ap, ◌∙◌, subst, arith, eq-eqb, length-append}
 use Rattle.std.proofs.lemmas.List.{length-set, get_or-set_same, get_or-set_other}
 use mathlib.Core.Logic.{dite}
 use native.Mathlib.Decide.{ℕ_discrete}
@@ -40,9 +40,10 @@ commits told slots id at_set place value packets own kept out before old after n
     let known : FitsTurn told.sets s.words h.contents v.read (reading at_set) = subst (FitsTurn told.sets s.words h.contents v.read) is f.turn in
     let inside : i < length s.words = (let x = h.wide in omega (arith, x, low, low')) in
     let c_in : c < length h.contents = (let x = h.many in omega (arith, x, low, low')) in
+    let as_read : (m : ℕ) → m < 10 → get_or old m 0 ≡ get_or v.read (10 * place + m) 0
+    = λ m lower. sym (ap (λ r. get_or r (10 * place + m) 0) read_is ∙ (ap (λ z. get_or (before ++ (old ++ after)) (z + m) 0) (sym at_place) ∙ (behind before (old ++ after) m ∙ in_front old after m (omega (arith, lower, long))))) in
     let reads : (m : ℕ) → m < 10 → get_or old m 0 ≡ get_or s.words (set_word at_set (10 * place + m)) 0
-    = λ m lower. sym (ap (λ r. get_or r (10 * place + m) 0) read_is ∙ (ap (λ z. get_or (before ++ (old ++ after)) (z + m) 0) (sym at_place) ∙ (behind before (old ++ after) m ∙ in_front old after m (omega (arith, lower, long)))))
-    ∙ known.2 (10 * place + m) (let l : length v.read ≡ length before + (length old + length after) = ap length read_is ∙ (length-append before (old ++ after) ∙ ap (λ z. length before + z) (length-append old after)) in omega (arith, l, at_place, long, lower)) in
+    = λ m lower. as_read m lower ∙ known.2 (10 * place + m) (let l : length v.read ≡ length before + (length old + length after) = ap length read_is ∙ (length-append before (old ++ after) ∙ ap (λ z. length before + z) (length-append old after)) in omega (arith, l, at_place, long, lower)) in
     let content_is : get_or h.contents c [] ≡ old = read_content told s at_set place id v h at is low low' old long reads in
     let there : get_elem? h.contents c ≡ some old = element_at h.contents c [] c_in ∙ ap some content_is in
     let contents' : List (List ℕ) = set h.contents c new in
@@ -63,6 +64,11 @@ commits told slots id at_set place value packets own kept out before old after n
             (λ same. ap (λ x. get_or (set old 5 (get_or new 5 0)) x 0) same ∙ (get_or-set_same old 5 (get_or new 5 0) 0 (omega (arith, long))
             ∙ (sym value_is ∙ sym (ap (λ x. get_or (set s.words i value) (64 * at_set + 16 + (10 * place + x)) 0) same ∙ get_or-set_same s.words i value 0 inside))))
             (λ other. get_or-set_other old 5 m (get_or new 5 0) 0 other ∙ (reads m below ∙ sym (get_or-set_other s.words i (set_word at_set (10 * place + m)) value 0 (λ e. other (omega (arith, e)))))),
+        λ m below. dite (ℕ_discrete m 5)
+            (λ same. inl (ap (λ x. get_or (set old 5 (get_or new 5 0)) x 0) same ∙ (get_or-set_same old 5 (get_or new 5 0) 0 (omega (arith, long)) ∙ ap (λ x. get_or new x 0) (sym same))))
+            (λ other. inr (get_or-set_other old 5 m (get_or new 5 0) 0 other ∙ as_read m below)),
+        known.1,
+        λ m below elsewhere. known.2 m below ∙ sym (get_or-set_other s.words i (set_word at_set m) value 0 (λ e. ⊎_elim (λ before. omega (arith, e, before)) (λ behind. omega (arith, e, behind)) elsewhere)),
       );
     } in (
       w,

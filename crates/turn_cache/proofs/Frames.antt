@@ -26,8 +26,16 @@ turn_frame : (sets n at_set : ℕ) (words : List ℕ) (contents : List (List ℕ
 turn_frame sets n at_set words contents read idle f = f
 turn_frame sets n at_set words contents read (reading at) f =
     (f.0, f.1, λ k low. f.2 k low ∙ sym (get_or-set_other words (turn_word at_set) (set_word at k) n 0 (apart_turn at_set at k (let m = f.1 in omega (arith, low, m)))))
-turn_frame sets n at_set words contents read (writing at place new now) f =
-    (f.0, f.1, f.2, f.3, λ k low. f.4 k low ∙ sym (get_or-set_other words (turn_word at_set) (set_word at (10 * place + k)) n 0 (apart_turn at_set at (10 * place + k) (let m = f.1 in omega (arith, low, m)))))
+turn_frame sets n at_set words contents read (writing at place new now) f = (
+  f.0,
+  f.1,
+  f.2,
+  f.3,
+  λ k low. f.4 k low ∙ sym (get_or-set_other words (turn_word at_set) (set_word at (10 * place + k)) n 0 (apart_turn at_set at (10 * place + k) (let m = f.1 in omega (arith, low, m)))),
+  f.5,
+  f.6,
+  λ k low elsewhere. f.7 k low elsewhere ∙ sym (get_or-set_other words (turn_word at_set) (set_word at k) n 0 (apart_turn at_set at k (let m = f.6 in omega (arith, low, m)))),
+)
 
 -- a turn word changes: what a seat knows of contents is so as before
 pub frame_turn : (sets n at_set : ℕ) (words : List ℕ) (contents : List (List ℕ)) (u : Hand)
@@ -56,6 +64,9 @@ content_frame sets n at_set q low words contents contents' same read (writing at
       f.2,
       same at place ne f.1 ∙ f.3,
       λ k below. f.4 k below ∙ sym (get_or-set_other words (set_word at_set q) (set_word at (10 * place + k)) n 0 (apart_sets at_set at q (10 * place + k) low (let m = f.1 in omega (arith, below, m)) ne)),
+      f.5,
+      f.6,
+      λ k below elsewhere. f.7 k below elsewhere ∙ sym (get_or-set_other words (set_word at_set q) (set_word at k) n 0 (apart_sets at_set at q k low (let m = f.6 in omega (arith, below, m)) ne)),
     )
 
 pub frame_content : (sets n at_set q : ℕ) → q < 40 → (words : List ℕ) (contents contents' : List (List ℕ)) → SameElsewhere at_set contents contents' → (u : Hand) → is_at at_set u.turn ≡ false

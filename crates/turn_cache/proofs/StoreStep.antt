@@ -1,5 +1,5 @@
 -- A further word of an entry is stored.
-use Rattle.std.proofs.Common.{◌≡◌, ℕ, suc, ◌+◌, ◌-◌, ◌*◌, ◌<◌, Bool, true, cond, eqb, ◌&&◌, List, length, get_or, set, sym, refl, ap, ◌∙◌, subst, arith, eq-eqb}
+use Rattle.std.proofs.Common.{◌≡◌, ⊎_elim, inl, inr, ℕ, suc, ◌+◌, ◌-◌, ◌*◌, ◌<◌, Bool, true, cond, eqb, ◌&&◌, List, length, get_or, set, sym, refl, ap, ◌∙◌, subst, arith, eq-eqb}
 use Rattle.std.proofs.lemmas.List.{length-set, get_or-set_same, get_or-set_other}
 use mathlib.Core.Logic.{dite}
 use native.Mathlib.Decide.{ℕ_discrete}
@@ -28,9 +28,9 @@ work_here at_set place q p new now e e' =
 nothing_moved : (at_set : ℕ) (contents : List (List ℕ)) → SameElsewhere at_set contents contents
 nothing_moved at_set contents at place ne low = refl
 
-pub stores : (told : Told) (slots id at_set place k value : ℕ) (new now : List ℕ) (me : Sat) → me.0.turn ≡ writing at_set place new now → at_set < told.sets → place < 4 → k < 10
+pub stores : (told : Told) (slots id at_set place k value : ℕ) (new now : List ℕ) (me : Sat) → me.0.turn ≡ writing at_set place new now → value ≡ get_or new k 0 → at_set < told.sets → place < 4 → k < 10
     → Allows (Ruled told) slots id me (64 * at_set + 16 + (10 * place + k)) (λ _. value) (λ _. Stores (step slots (64 * at_set + 16 + (10 * place + k)) value 0 none) me)
-stores told slots id at_set place k value new now me is low low' low'' s h wide at fits =
+stores told slots id at_set place k value new now me is value_is low low' low'' s h wide at fits =
     let i : ℕ = 64 * at_set + 16 + (10 * place + k) in
     let v : Hand = me.0 in
     let w : Hand = at_turn (writing at_set place new (set now k value)) v in
@@ -54,6 +54,11 @@ stores told slots id at_set place k value new now me is low low' low'' s h wide 
             (λ same. ap (λ x. get_or (set now k value) x 0) same ∙ (get_or-set_same now k value 0 (let l = old.2 in omega (arith, l, low''))
             ∙ sym (ap (λ x. get_or (set s.words i value) (64 * at_set + 16 + (10 * place + x)) 0) same ∙ get_or-set_same s.words i value 0 inside)))
             (λ other. get_or-set_other now k m value 0 other ∙ (old.4 m below ∙ sym (get_or-set_other s.words i (set_word at_set (10 * place + m)) value 0 (λ e. other (omega (arith, e)))))),
+        λ m below. dite (ℕ_discrete m k)
+            (λ same. inl (ap (λ x. get_or (set now k value) x 0) same ∙ (get_or-set_same now k value 0 (let l = old.2 in omega (arith, l, low'')) ∙ (value_is ∙ ap (λ x. get_or new x 0) (sym same)))))
+            (λ other. let was = get_or-set_other now k m value 0 other in ⊎_elim (λ new_one. inl (was ∙ new_one)) (λ as_read. inr (was ∙ as_read)) (old.5 m below)),
+        old.6,
+        λ m below elsewhere. old.7 m below elsewhere ∙ sym (get_or-set_other s.words i (set_word at_set m) value 0 (λ e. ⊎_elim (λ before. omega (arith, e, before)) (λ behind. omega (arith, e, behind, low'')) elsewhere)),
       );
     } in (
       w,

@@ -3,10 +3,10 @@ use Rattle.std.proofs.Common.{◌≡◌, ◌≢◌, ℕ, zero, suc, ◌+◌, ◌
 use Rattle.std.proofs.lemmas.List.{set-get_or, get_or-set_same, get_or-set_other}
 use mathlib.Core.Logic.{dite}
 use native.Mathlib.Decide.{ℕ_discrete}
-use mathlib.Core.Option.{some, some-injective, some-ne-none}
+use mathlib.Core.Option.{none, some, some-injective, some-ne-none}
 use lib.ListN.{get_elem?}
 use prog.Atomic.{either}
-use Rattle.atomic_table.specs.Table.{State, Act, Valid, carried_after, stepped, keeps, Allows}
+use Rattle.atomic_table.specs.Table.{State, Act, Valid, carried_after, step, stepped, keeps, Allows}
 use Rattle.atomic_table.proofs.Lists.{at_map}
 use Rattle.packet_accept.specs.declared.packet.Packet.{Packet}
 use Rattle.flow_parts.specs.declared.fragment.Fragment.{Fragment}
@@ -159,7 +159,8 @@ module _ (told : Told) (id number at_set : ℕ) (packets : List Packet) (own : F
       record { seats = count ∙ f.seats; gone = λ none. absurd (let one = owned.can.single in omega (arith, none, one, count)); live = f.live; turn = subst (FitsTurn told.sets (set s.words (turn_word at_set) n) h.contents me.0.read) (sym no_turn) tt }
       (subst (Keeps told.timeouts h.contents) (sym (notes_set s.views id w)) (kept_lost last))
 
-  tells : (seats : ℕ) → seats ≡ told.seats → get_or s.words (turn_word at_set) 0 ≢ 0 → (get_or s.words (turn_word at_set) 0 ≢ suc (number_of me.0.numbers)) × (seats ≢ 1)
+  tells : (seats : ℕ) → seats ≡ told.seats → get_or s.words (turn_word at_set) 0 ≢ 0
+      → (other : ℕ) × (get_or s.words (turn_word at_set) 0 ≡ suc other) × (other < seats) × (other ≢ number_of me.0.numbers) × (seats ≢ 1)
   tells seats all nz =
       let sum = h.turns at_set low in
       let one = some_one (claim at_set) s.views (omega (arith, sum, nz)) in
@@ -171,30 +172,33 @@ module _ (told : Told) (id number at_set : ℕ) (packets : List Packet) (own : F
       let all_claims = one_claim at_set s.views j u (h.once at_set) one.2 holding_u in
       let live_u = alive at_set (length u.numbers) u.turn holds_it (h.each j u one.2).live in
       let ne = apart_numbers told s id j me.0 u h other at one.2 live live_u in (
-        (λ same. ne (omega (arith, same, sum, all_claims, claim_u))),
+        number_of u.numbers,
+        sym sum ∙ (all_claims ∙ claim_u),
+        (let b = number_low told s j u h one.2 live_u in omega (arith, b, all)),
+        ne,
         λ single. ne (let a = number_low told s id me.0 h at live in let b = number_low told s j u h one.2 live_u in omega (arith, a, b, single, all)),
       )
 
 pub takes : (told : Told) (slots id number at_set seats : ℕ) (packets : List Packet) (own : Fragment) (last : Bool) (me : Sat) → seats ≡ told.seats
     → me.0.turn ≡ idle → 0 < length me.0.numbers → number_of me.0.numbers ≡ number → at_set < told.sets → IsOwn told.timeouts me.0.note packets own
-    → Allows (Ruled told) slots id me (64 * at_set) (λ n. either (eqb n 0) (number + 1) n) (Takes (trying seats at_set packets own last) me)
+    → Allows (Ruled told) slots id me (64 * at_set) (λ n. either (eqb n 0) (number + 1) n) (Takes (trying seats at_set packets own last) (step slots (64 * at_set) 0 (number + 1) none) me)
 takes told slots id number at_set seats packets own last me all no_turn live numbered low owned s h wide at fits =
     let n : ℕ = get_or s.words (64 * at_set) 0 in
     let move : Move = trying seats at_set packets own last in
     let Goal : Bool → Type 0 = λ b. (w : Hand) × (a : Act (Unit {0})) × Valid s.homes me.1 a × Ruled told (stepped s (64 * at_set) (either b (number + 1) n) id me.1 w a)
-    × ((◌≡◌ {A = Sat} (w, carried_after me.1 a) (if b then taken at_set me.0 else lost move me.0, me.1)) × (n ≢ 0 → (n ≢ suc (number_of me.0.numbers)) × (seats ≢ 1))) in
+    × ((64 * at_set ≡ turn_word at_set) × ((◌≡◌ {A = Sat} (w, carried_after me.1 a) (if b then taken at_set me.0 else lost move me.0, me.1)) × (n ≢ 0 → (other : ℕ) × (n ≡ suc other) × (other < seats) × (other ≢ number_of me.0.numbers) × (seats ≢ 1)))) in
     dite (ℕ_discrete n 0)
     (λ free. subst Goal (sym (eq-eqb n 0 free)) (
       taken at_set me.0,
       keeps,
       tt,
       took told id number at_set packets own last me no_turn live numbered low owned s h at free,
-      (refl, λ nz. absurd (nz free)),
+      (refl, (refl, λ nz. absurd (nz free))),
     ))
     (λ nz. subst Goal (sym (ne_eqb n 0 nz)) (
       lost move me.0,
       keeps,
       tt,
       missed told id number at_set packets own last me no_turn live numbered low owned s h at seats,
-      (refl, tells told id number at_set packets own last me no_turn live numbered low owned s h at seats all),
+      (refl, (refl, tells told id number at_set packets own last me no_turn live numbered low owned s h at seats all)),
     ))

@@ -9,7 +9,7 @@ use Rattle.cache_face.specs.Keeping.{IsWhole, IsSmall}
 use Rattle.cache_face.specs.Laws.{CanMeter}
 use Rattle.cache_face.specs.Notes.{Note, metering}
 use Rattle.turn_cache.specs.Hands.{Hand, Turn, idle, reading, writing, number_of}
-use Rattle.turn_cache.specs.Places.{set_word}
+use Rattle.turn_cache.specs.Places.{turn_word, set_word}
 
 abbrev pub Sat : Type 0
 Sat = Me (Unit {0}) Hand
@@ -34,11 +34,15 @@ taken set hand = record hand { turn = reading set; set = set; read = [] }
 abbrev pub lost : Move → Hand → Hand
 lost move hand = record hand { lost = hand.lost ++ move.set ∷ []; note = if move.last then metering hand.note move.packets move.out else hand.note }
 
--- To take a turn tells whose it was: nobody's, or that of another seat, so that there is one.
-abbrev pub Takes : Move → Sat → ℕ → Sat → Type 0
-Takes move m found m' =
+-- To try to take a turn tells whose it was: nobody's, or that of another seat.
+abbrev pub Tells : Move → Sat → ℕ → Sat → Type 0
+Tells move m found m' =
     (m' ≡ (if found == 0 then taken move.set m.0 else lost move m.0, m.1))
-    × (found ≢ 0 → (found ≢ suc (number_of m.0.numbers)) × (move.seats ≢ 1))
+    × (found ≢ 0 → (other : ℕ) × (found ≡ suc other) × (other < move.seats) × (other ≢ number_of m.0.numbers) × (move.seats ≢ 1))
+
+-- The turn of a set is tried at the turn word of that set.
+abbrev pub Takes : Move → Step (Unit {0}) → Sat → ℕ → Sat → Type 0
+Takes move st m found m' = (st.word ≡ turn_word move.set) × Tells move m found m'
 
 -- To load a content word adds it to what was read. The ten words of an entry are whole.
 abbrev pub more_read : List ℕ → Hand → Hand

@@ -1,5 +1,5 @@
 -- The rule of the table, which holds between any two steps.
-use Rattle.std.specs.Prelude.{◌≡◌, ℕ, ◌+◌, ◌*◌, ◌<◌, ◌≤◌, List, [], length, map, slice_index, slice_index_or}
+use Rattle.std.specs.Prelude.{◌≡◌, ◌⊎◌, ℕ, ◌+◌, ◌*◌, ◌<◌, ◌≤◌, List, [], length, map, slice_index, slice_index_or}
 use mathlib.Core.Option.{some}
 use lib.ListN.{get_elem?}
 use Rattle.atomic_table.specs.Table.{State}
@@ -9,8 +9,8 @@ use Rattle.turn_cache.specs.declared.rule.Told.{Told}
 use Rattle.turn_cache.specs.Hands.{Hand, Turn, idle, reading, writing, holding, claim, at_work, times, once_below, total}
 use Rattle.turn_cache.specs.Places.{turn_word, set_word, content_place}
 
--- What a seat is at is so: the words that it read under the turn are there; the entry that it writes is kept as its new
--- words, and its words are as the seat knows them.
+-- What a seat is at is so. The words that it read under the turn are there, but for those of the entry that it writes. That
+-- entry is kept as its new words; its words are as the seat knows them, each as the new one or still as it was read.
 abbrev pub FitsTurn : ℕ → List ℕ → List (List ℕ) → List ℕ → Turn → Type 0
 FitsTurn sets words contents read idle = Unit {0}
 FitsTurn sets words contents read (reading set) =
@@ -18,6 +18,8 @@ FitsTurn sets words contents read (reading set) =
 FitsTurn sets words contents read (writing set place new now) =
     (set < sets) × (place < 4) × (length now ≡ 10) × (slice_index_or contents (content_place set place) [] ≡ new)
     × ((k : ℕ) → k < 10 → slice_index now k ≡ slice_index words (set_word set (10 * place + k)))
+    × ((k : ℕ) → k < 10 → (slice_index now k ≡ slice_index new k) ⊎ (slice_index now k ≡ slice_index read (10 * place + k)))
+    × (length read ≤ 40) × ((k : ℕ) → k < length read → (k < 10 * place) ⊎ (10 * place + 10 ≤ k) → slice_index read k ≡ slice_index words (set_word set k))
 
 -- Who isn't idle is live.
 abbrev pub LiveAt : ℕ → Turn → Type 0

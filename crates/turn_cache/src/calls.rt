@@ -3,7 +3,7 @@
 ghost use Rattle.std.specs.Prelude.{◌≡◌, ◌<◌, ◌^◌, ◌∷◌, [], All};
 ghost use Rattle.cache_face.specs.Meaning.{IsMetered};
 ghost use Rattle.cache_face.specs.Notes.{metering};
-ghost use Rattle.turn_cache.specs.Shown.{means_of, shown_of, IsOf};
+ghost use Rattle.turn_cache.specs.Shown.{means_of, shown_of, IsOf, IsTryOf};
 
 use crate::cache::{TurnCache, TurnPass};
 use crate::rule::IsTaken;
@@ -22,7 +22,7 @@ impl TurnCache {
         requires octets { packet.now.octets < 2 ^ 24 }
         ensures own { IsOf self.now pass.new }
         ensures note { (shown_of pass.new).note ≡ metering (shown_of pass.old).note (packet.now ∷ []) result.out }
-        ensures answer { IsMetered (means_of self.now) (shown_of pass.old) (shown_of pass.new) packet.now result.how result.out }
+        ensures answer { IsMetered (means_of self.now) IsTryOf (shown_of pass.old) (shown_of pass.new) packet.now result.how result.out }
     {
         let own = Fragment::of(packet);
         self.put_in::<K>(pass, own)
@@ -37,7 +37,7 @@ impl TurnCache {
         requires octets { packet.now.octets < 2 ^ 24 }
         ensures own { IsOf self.now pass.new }
         ensures note { (shown_of pass.new).note ≡ metering (shown_of pass.old).note (packet.now ∷ []) result.out }
-        ensures answer { IsMetered (means_of self.now) (shown_of pass.old) (shown_of pass.new) packet.now result.how result.out }
+        ensures answer { IsMetered (means_of self.now) IsTryOf (shown_of pass.old) (shown_of pass.new) packet.now result.how result.out }
     {
         self.meter_as::<Brand>(pass, packet)
     }

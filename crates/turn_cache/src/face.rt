@@ -1,7 +1,7 @@
 //! The cache as a shared cache, and who opens and closes such caches.
 
 ghost use Rattle.std.specs.Prelude.{◌≡◌, [], ◌++◌, IfOk, unwrap_or, option_map};
-ghost use Rattle.turn_cache.specs.Shown.{means_of, shown_of, IsOf};
+ghost use Rattle.turn_cache.specs.Shown.{means_of, shown_of, IsOf, IsTryOf};
 
 use crate::cache::{TurnCache, TurnPass};
 use cache_face::{Caches, FlowCache, Metered, NoMemory};
@@ -17,6 +17,8 @@ impl FlowCache for TurnCache {
     ghost shown = { shown_of };
 
     ghost is_of = { IsOf };
+
+    ghost is_try_of = { IsTryOf };
 
     fn meter(&self, pass: &mut TurnPass, packet: &Packet) -> Metered {
         self.meter_packet(pass, packet)

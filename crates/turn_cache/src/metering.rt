@@ -10,7 +10,7 @@ ghost use Rattle.cache_face.specs.Meaning.{IsAnswer};
 ghost use Rattle.cache_face.specs.Notes.{metering};
 ghost use Rattle.turn_cache.specs.Hands.{number_of, idle, reading, writing, entries_of};
 ghost use Rattle.turn_cache.specs.Moves as moves;
-ghost use Rattle.turn_cache.specs.Shown.{means_of, shown_of, IsOf};
+ghost use Rattle.turn_cache.specs.Shown.{means_of, shown_of, IsOf, IsTryOf};
 
 use crate::cache::{TurnCache, TurnPass};
 use crate::rule::{IsTaken, Known};
@@ -79,7 +79,7 @@ impl TurnCache {
         value: u64,
     )
         requires at { seat.old.table_id ≡ self.now.table.shared.table_id }
-        requires writing { (new now : List ℕ) × (seat.old.me.0.turn ≡ writing set place new now) × (slice_index now k ≡ stands) }
+        requires writing { (new now : List ℕ) × (seat.old.me.0.turn ≡ writing set place new now) × (slice_index now k ≡ stands) × (slice_index new k ≡ value) }
         requires below { (set < self.now.sets) × (place < 4) × (k < 10) }
         ensures at { seat.new.table_id ≡ seat.old.table_id }
         ensures written { (new now : List ℕ) → seat.old.me.0.turn ≡ writing set place new now → slice_index now k ≡ stands
@@ -172,7 +172,7 @@ impl TurnCache {
         requires fragment { moves.IsOwn self.now.timeouts (shown_of pass.old).note K.packets own }
         ensures own { IsOf self.now pass.new }
         ensures note { (shown_of pass.new).note ≡ metering (shown_of pass.old).note K.packets result.out }
-        ensures answer { IsAnswer (means_of self.now) (shown_of pass.old) (shown_of pass.new) own result.how result.out }
+        ensures answer { IsAnswer (means_of self.now) IsTryOf (shown_of pass.old) (shown_of pass.new) own result.how result.out }
     {
         let set = own.key.set_of(self.sets);
         let number = pass.number;

@@ -73,7 +73,7 @@ pub struct Takes<M> {
 impl<M: IsMove> Play<(), Known> for Takes<M> {
     ghost use Rattle.turn_cache.specs.Moves as moves;
 
-    ghost then = { λ _ me found after. moves.Takes M.about me found after };
+    ghost then = { λ step me found after. moves.Takes M.about step me found after };
 }
 
 /// A content word is loaded.

@@ -30,7 +30,7 @@ impl TurnCache {
         requires number { number < 64 }
         requires own { moves.IsOwn self.now.timeouts seat.old.me.0.note K.packets _own }
         ensures at { seat.new.table_id ≡ seat.old.table_id }
-        ensures tells { moves.Takes (moves.trying self.now.seats set K.packets _own _last) seat.old.me result seat.new.me }
+        ensures tells { moves.Tells (moves.trying self.now.seats set K.packets _own _last) seat.old.me result seat.new.me }
     {
         let word = 64 * set as usize;
         self.table
@@ -131,7 +131,7 @@ impl TurnCache {
         value: u64,
     )
         requires at { seat.old.table_id ≡ self.now.table.shared.table_id }
-        requires writing { (new now : List ℕ) × (seat.old.me.0.turn ≡ writing set place new now) }
+        requires writing { (new now : List ℕ) × (seat.old.me.0.turn ≡ writing set place new now) × (slice_index new k ≡ value) }
         requires below { (set < self.now.sets) × (place < 4) × (k < 10) }
         ensures at { seat.new.table_id ≡ seat.old.table_id }
         ensures stores { (new now : List ℕ) → seat.old.me.0.turn ≡ writing set place new now

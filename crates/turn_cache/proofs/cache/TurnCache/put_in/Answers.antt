@@ -1,9 +1,9 @@
-use Rattle.std.proofs.Common.{◌≡◌, ◌∙◌, sym, ap, subst}
-use Rattle.cache_face.specs.Meaning.{IsAnswer}
+use Rattle.std.proofs.Common.{◌≡◌, ◌∙◌, Some, sym, ap, subst}
+use Rattle.cache_face.specs.Meaning.{IsAnswer, IsPassedBy}
 use Rattle.turn_cache.specs.Hands.{Hand}
 use Rattle.turn_cache.specs.Moves.{Sat, filled, after_tries}
-use Rattle.turn_cache.specs.Shown.{means_of, shown_of}
-use Rattle.turn_cache.proofs.Answering.{answered, hand_means}
+use Rattle.turn_cache.specs.Shown.{means_of, shown_of, IsTryOf}
+use Rattle.turn_cache.proofs.Answering.{answered, passed, hand_means}
 use Rattle.turn_cache.proofs.cache.TurnCache.put_in.Goals as goal
 
 pub returns-then-take_turn-clause-answer : goal.returns-then-take_turn-clause-answer
@@ -12,6 +12,12 @@ returns-then-take_turn-clause-answer g c =
     let put = c.put.ensures.filled in
     let is : c.put.new.seat.me.0 ≡ filled put.0 g.K.IsTaken.packets c.put.result.out (after_tries c.set_of-set.result turn.0 c.args.pass.now.seat.me.0)
     = ap (λ (m : Sat). m.0) put.1 ∙ ap (λ (m : Sat). filled put.0 g.K.IsTaken.packets c.put.result.out m.0) turn.2 in
-    subst (λ (h : Hand). IsAnswer (means_of c.args.self.now) (shown_of c.args.pass.now) (hand_means h) c.args.own c.put.result.how c.put.result.out) (sym is)
+    subst (λ (h : Hand). IsAnswer (means_of c.args.self.now) IsTryOf (shown_of c.args.pass.now) (hand_means h) c.args.own c.put.result.how c.put.result.out) (sym is)
     (answered (means_of c.args.self.now) c.args.pass.now.seat.me.0 c.args.own c.put.result.out put.2.0 put.2.1 c.put.result.how c.set_of-set.result turn.0 put.0 g.K.IsTaken.packets
     c.set_of-set.ensures.number turn.1 put.2.2)
+
+pub returns-clause-answer : goal.returns-clause-answer
+returns-clause-answer g c =
+    let lost = c.take_turn.ensures.lost c.if-take_turn.false in
+    subst (λ (h : Hand). IsPassedBy (means_of c.args.self.now) IsTryOf (shown_of c.args.pass.now) (hand_means h) c.args.own (Some c.args.own)) (sym (ap (λ (m : Sat). m.0) lost.0))
+    (passed (means_of c.args.self.now) c.args.pass.now.seat.me.0 c.args.own c.set_of-set.result g.K.IsTaken.packets c.set_of-set.ensures.number lost.1)

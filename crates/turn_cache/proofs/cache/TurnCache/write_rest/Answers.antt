@@ -19,6 +19,7 @@ write_word-requires-clause-writing c = (
   mixed c.loop-k.k c.args.new (set c.args.old 5 (get_or c.args.new 5 0)),
   ap (λ (m : Sat). m.0.turn) c.loop-k.invariant.me,
   mixed_here c.loop-k.k c.args.new (set c.args.old 5 (get_or c.args.new 5 0)) (search rules) (search rules),
+  refl,
 )
 
 pub loop-k-preserved : goal.loop-k-preserved
