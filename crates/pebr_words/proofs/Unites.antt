@@ -1,5 +1,5 @@
 -- Two views become one: no core and no word changes, and two notes are merged.
-use Rattle.std.proofs.Common.{◌≡◌, ◌≢◌, ℕ, zero, suc, ◌+◌, ◌<◌, List, [], ◌∷◌, ◌++◌, length, set, sym, refl, ap, ◌∙◌, subst, ⊎_elim, arith, append_assoc}
+use Rattle.std.proofs.Common.{◌≡◌, ◌≢◌, ℕ, zero, suc, ◌+◌, ◌<◌, List, [], ◌∷◌, ◌++◌, length, map, set, sym, refl, ap, ◌∙◌, subst, ⊎_elim, arith, append_assoc}
 use Rattle.std.specs.List.{flat_map}
 use Rattle.pebr_words.specs.Pasts.{History}
 use Rattle.pebr_words.specs.Making.{past_in}
@@ -153,3 +153,19 @@ united_lists {N} f merged empty (own ∷ others) (own' ∷ others') live live' =
     both : (xs ys : List (Held N)) → flat_map (λ held. f held.past) (xs ++ ys) ≡ flat_map (λ held. f held.past) xs ++ flat_map (λ held. f held.past) ys
     both [] ys = refl
     both (x ∷ xs) ys = ap (λ l. f x.past ++ l) (both xs ys) ∙ sym (append_assoc (f x.past) (flat_map (λ held. f held.past) xs) (flat_map (λ held. f held.past) ys))
+
+-- how many numbers the view has, and which
+pub united_count : {N : Type 0} (merged : N → N → N) (empty : N) (view view' : List (Held N)) → length (united merged empty view view') ≡ length view + length view'
+united_count merged empty [] view' = omega arith
+united_count merged empty (own ∷ others) [] = omega arith
+united_count {N} merged empty (own ∷ others) (own' ∷ others') = let e = length-append others ((record own' { note = empty }) ∷ others') in omega (arith, e)
+
+pub united_numbers : {N : Type 0} (merged : N → N → N) (empty : N) (view view' : List (Held N)) → 0 < length view → 0 < length view'
+    → map (λ held. held.number) (united merged empty view view') ≡ map (λ held. held.number) view ++ map (λ held. held.number) view'
+united_numbers merged empty [] view' live live' = absurd (omega (arith, live))
+united_numbers merged empty (own ∷ others) [] live live' = absurd (omega (arith, live'))
+united_numbers {N} merged empty (own ∷ others) (own' ∷ others') live live' = ap (λ l. own.number ∷ l) (both others ((record own' { note = empty }) ∷ others'))
+  where
+    both : (xs ys : List (Held N)) → map (λ held. held.number) (xs ++ ys) ≡ map (λ held. held.number) xs ++ map (λ held. held.number) ys
+    both [] ys = refl
+    both (x ∷ xs) ys = ap (λ l. x.number ∷ l) (both xs ys)

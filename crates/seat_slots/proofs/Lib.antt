@@ -1,3 +1,4 @@
 pub mod Changes
 pub mod Tags
 pub mod Keeping
+pub mod Listing

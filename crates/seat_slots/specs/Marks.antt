@@ -1,8 +1,8 @@
 -- The code's own: what a mark says of a slot, what changes make of a mark, and the lists that go with the marks.
-use Rattle.std.specs.Prelude.{◌≡◌, ◌⊎◌, ℕ, ◌+◌, ◌<◌, ◌≤◌, nat_le, nat_lt, ◌&&◌, if◌then◌else◌, Bool, true, false, List, Option, map, drop, length, count_by, slice_index, slice_index_or}
+use Rattle.std.specs.Prelude.{◌≡◌, ◌⊎◌, ℕ, ◌+◌, ◌<◌, ◌≤◌, nat_le, nat_lt, ◌&&◌, if◌then◌else◌, Bool, true, false, List, Option, map, drop, length, count_by, cond, ◌==◌, slice_index, slice_index_or}
 use Rattle.pebr_core.specs.declared.kinds.Retired.{Retired}
 use Rattle.pebr_core.specs.declared.kinds.Retired.TheVariants as retire
-use Rattle.pebr_core.specs.State.{is_retired}
+use Rattle.pebr_core.specs.State.{has, is_retired}
 use Rattle.pebr_core.specs.Steps.{is_above_tags}
 use Rattle.seat_slots.specs.declared.marks.Mark.{Mark}
 use Rattle.seat_slots.specs.declared.marks.Mark.TheVariants as mark
@@ -56,6 +56,14 @@ changed change.Unkeep mark.Untagged = mark.Untagged
 changed change.Unkeep (mark.Tagged tag) = mark.Tagged tag
 changed change.Unkeep (mark.Kept tag) = mark.Tagged tag
 
+-- retired, and not kept
+abbrev pub is_given : Mark → Bool
+is_given mark.Other = false
+is_given mark.Fresh = false
+is_given mark.Untagged = true
+is_given (mark.Tagged tag) = true
+is_given (mark.Kept tag) = false
+
 abbrev pub mark_at : List Mark → ℕ → Mark
 mark_at marks slot = slice_index_or marks slot mark.Other
 
@@ -95,3 +103,16 @@ sets_of marks room = record { fresh = map is_fresh marks; retired = map retired_
 -- at first, so many slots from one on are fresh
 abbrev pub first_mark : ℕ → ℕ → ℕ → Mark
 first_mark first count slot = if nat_le first slot && nat_lt slot (first + count) then mark.Fresh else mark.Other
+
+-- how often a list has a slot
+abbrev pub times : ℕ → List ℕ → ℕ
+times slot slots = count_by (λ other. other == slot) slots
+
+-- The list has each slot of the set once, and no other.
+pub record AreOnce (fresh : List Bool) (slots : List ℕ) : Type 0 where
+  pub once : (slot : ℕ) → times slot slots ≡ cond (has fresh slot) 1 0
+  pub long : length slots ≡ count_by (λ mark. mark) fresh
+
+-- the least slot is the last
+abbrev pub AreFalling : List ℕ → Type 0
+AreFalling slots = (i j : ℕ) → i ≤ j → j < length slots → slice_index slots j ≤ slice_index slots i

@@ -1,5 +1,5 @@
 -- The slots of a seat: for each slot, whether it is fresh, whether it is retired and with which tag, and whether the scan keeps it.
-use Rattle.std.specs.Prelude.{ℕ, Bool, true, List, Option, Some, None, nat_lt, map}
+use Rattle.std.specs.Prelude.{ℕ, suc, Bool, true, false, List, [], ◌∷◌, Option, Some, None, nat_lt, map}
 use Rattle.pebr_core.specs.declared.kinds.Retired.{Retired}
 use Rattle.pebr_core.specs.State.{is_retired}
 use Rattle.pebr_core.specs.Steps.{without}
@@ -19,3 +19,9 @@ given sets = without (map is_retired sets.retired) sets.kept
 abbrev pub is_above : Option ℕ → ℕ → Bool
 is_above None epoch = true
 is_above (Some tag) epoch = nat_lt tag epoch
+
+-- the least slot of a set, and the number past its end where it has none
+abbrev pub least : List Bool → ℕ
+least [] = 0
+least (true ∷ marks) = 0
+least (false ∷ marks) = suc (least marks)

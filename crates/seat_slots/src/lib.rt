@@ -2,6 +2,7 @@
 //! which its scan keeps. The memory for it is taken once.
 #![tactic(auto)]
 
+mod fresh;
 mod marks;
 mod slots;
 

@@ -1,7 +1,7 @@
 //! What a slot is to a seat.
 
 ghost use Rattle.std.specs.Prelude.{◌≡◌, ◌<◌, ◌≤◌, ℕ, drop, map, length};
-ghost use Rattle.seat_slots.specs.Marks.{is_fresh, is_retired_mark, changed, AreListed, AreSlots};
+ghost use Rattle.seat_slots.specs.Marks.{is_fresh, is_retired_mark, is_given, changed, AreListed, AreSlots};
 
 /// What a slot is to a seat.
 #[derive(Clone, Copy, Debug)]
@@ -42,6 +42,13 @@ impl Mark {
         ensures { result ≡ is_retired_mark self }
     {
         matches!(self, Mark::Untagged | Mark::Tagged(_) | Mark::Kept(_))
+    }
+
+    /// Whether it is retired and not kept.
+    pub fn is_given(self) -> bool
+        ensures { result ≡ is_given self }
+    {
+        matches!(self, Mark::Untagged | Mark::Tagged(_))
     }
 
     fn changed(self, change: Change) -> Mark

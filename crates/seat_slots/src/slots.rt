@@ -8,8 +8,9 @@ ghost use Rattle.pebr_core.specs.Kept.{IsWithinLimits};
 ghost use Rattle.seat_slots.specs.declared.marks.Mark.TheVariants as mark;
 ghost use Rattle.seat_slots.specs.Marks.{first_mark, mark_at};
 ghost use Rattle.std.specs.List.{range_with_len};
-ghost use Rattle.seat_slots.specs.Sets.{given, is_above};
+ghost use Rattle.seat_slots.specs.Sets.{given, is_above, least};
 
+use crate::fresh::{falling_from, free_all, let_fall, place_of};
 use crate::marks::{Change, Mark, change_from};
 use no_memory::NoMemory;
 use pebr_core::Shape;
@@ -18,11 +19,14 @@ use std::marker::Model;
 use std::mem;
 
 /// What the slots are to a seat. A step changes a mark and a count; a Note goes over the slots that were
-/// retired since the last, and a Give over those that are retired.
+/// retired since the last. A Give goes over those that are retired, and sorts the fresh ones. No call goes
+/// over all slots, and the least fresh slot is the last of a list.
 #[derive(Debug, Drop)]
 pub struct SeatSlots {
     /// What each slot is.
     marks: Vec<Mark>,
+    /// The fresh slots, each once, the least last.
+    fresh: Vec<usize>,
     /// The retired slots, in the order in which they were retired, and how many of them have a tag.
     retired: Vec<usize>,
     tagged: usize,
@@ -36,15 +40,16 @@ pub struct SeatSlots {
 }
 
 impl Model for SeatSlots {
-    ghost use Rattle.std.specs.Prelude.{◌≤◌, vec_capacity};
+    ghost use Rattle.std.specs.Prelude.{◌≡◌, ◌≤◌, ◌+◌, map, length, vec_capacity};
     ghost use Rattle.seat_slots.specs.Sets.{Sets};
-    ghost use Rattle.seat_slots.specs.Marks.{sets_of, AreKept};
+    ghost use Rattle.seat_slots.specs.Marks.{is_fresh, sets_of, AreKept, AreOnce, AreFalling};
 
     ghost Value = { Sets };
 
     ghost view = { λ s. sets_of s.marks.items s.room };
 
-    ghost invariant = { λ s. AreKept s.marks.items s.retired.items s.kept.items s.tagged s.newest s.newest_kept s.room × (s.room ≤ vec_capacity s.retired) × (s.room ≤ vec_capacity s.kept) };
+    ghost invariant = { λ s. AreKept s.marks.items s.retired.items s.kept.items s.tagged s.newest s.newest_kept s.room × (s.room ≤ vec_capacity s.retired) × (s.room ≤ vec_capacity s.kept)
+        × AreOnce (map is_fresh s.marks.items) s.fresh.items × AreFalling s.fresh.items × (s.room ≤ vec_capacity s.fresh) × (length s.fresh.items + length s.retired.items ≡ s.room) };
 }
 
 impl SeatSlots {
@@ -61,11 +66,14 @@ impl SeatSlots {
         ensures room { IfOk result (λ slots. slots.room ≡ slots_per_seat shape) }
     {
         let room = shape.slots_per_seat();
-        let marks = first_marks(alloc, shape.slot_count(), shape.roots + seat * room, room)?;
+        let first = shape.roots + seat * room;
+        let marks = first_marks(alloc, shape.slot_count(), first, room)?;
+        let fresh = falling_from(alloc, first, room)?;
         let retired = Vec::with_capacity(alloc, room)?;
         let kept = Vec::with_capacity(alloc, room)?;
         Ok(SeatSlots {
             marks,
+            fresh,
             retired,
             tagged: 0,
             kept,
@@ -87,6 +95,21 @@ impl SeatSlots {
         ensures { result ≡ is_retired (slice_index_or self.now.retired slot retire.No) }
     {
         mark_of(&self.marks, slot).is_retired()
+    }
+
+    /// How many slots are fresh.
+    pub fn fresh_len(&self) -> usize
+        ensures { result ≡ count_by (λ mark. mark) self.now.fresh }
+    {
+        self.fresh.len()
+    }
+
+    /// The least fresh slot.
+    pub fn least_fresh(&self) -> usize
+        requires { 0 < count_by (λ mark. mark) self.now.fresh }
+        ensures { result ≡ least self.now.fresh }
+    {
+        self.fresh[self.fresh.len() - 1]
     }
 
     /// How many slots are retired.
@@ -135,6 +158,8 @@ impl SeatSlots {
         ensures kept { self.new.kept ≡ self.old.kept }
         ensures room { self.new.room ≡ self.old.room }
     {
+        let place = place_of(&self.fresh, new);
+        self.fresh.remove(place);
         self.marks[new] = Mark::Other;
         self.marks[old] = Mark::Untagged;
         self.retired.push_reserved(old);
@@ -167,7 +192,8 @@ impl SeatSlots {
     {
         let left = self.kept.len();
         let given = self.retired.len() - left;
-        change_from(&mut self.marks, &self.retired, 0, Change::Free);
+        free_all(&mut self.marks, &mut self.fresh, &self.retired);
+        let_fall(&mut self.fresh);
         change_from(&mut self.marks, &self.kept, 0, Change::Unkeep);
         mem::swap(&mut self.retired, &mut self.kept);
         self.kept.clear();

@@ -1,10 +1,10 @@
-use Rattle.std.proofs.Common.{◌≡◌, ℕ, List, ◌++◌, ◌∙◌, sym, ap, subst, arith}
+use Rattle.std.proofs.Common.{◌≡◌, ℕ, List, length, map, ◌++◌, ◌∙◌, sym, ap, subst, arith}
 use mathlib.Core.Option.{some}
 use lib.ListN.{get_elem?}
 use Rattle.atomic_table.specs.Table.{Me}
 use Rattle.pebr_words.specs.declared.views.Held.{Held}
 use Rattle.pebr_words.specs.Ruled.{remaining}
-use Rattle.pebr_words.proofs.Unites.{unites, united_rest, united_lists}
+use Rattle.pebr_words.proofs.Unites.{unites, united_rest, united_lists, united_count, united_numbers}
 use Rattle.std.specs.List.{flat_map}
 use Rattle.pebr_words.specs.Making.{past_in}
 use Rattle.pebr_words.proofs.words.Words.unite.Goals as goal
@@ -41,3 +41,14 @@ returns-clause-ejections g c =
     let is = ap (λ (m : Me (Unit {0}) (List (Held _))). m.0) c.join_seat.ensures.2 in
     ap (λ (view : List (Held _)). (past_in view).ejections ++ flat_map (λ held. held.past.ejections) (remaining view)) is
     ∙ united_lists (λ past. past.ejections) g.P.RootProtocol.merged g.P.RootProtocol.empty c.args.first.inner.me.0 c.args.second.inner.me.0 c.requires.at.0.2 c.requires.at.1.2
+
+pub returns-clause-count : goal.returns-clause-count
+returns-clause-count g c =
+    let is = ap (λ (m : Me (Unit {0}) (List (Held _))). m.0) c.join_seat.ensures.2 in
+    ap (λ (view : List (Held _)). length view) is ∙ united_count g.P.RootProtocol.merged g.P.RootProtocol.empty c.args.first.inner.me.0 c.args.second.inner.me.0
+
+pub returns-clause-numbers : goal.returns-clause-numbers
+returns-clause-numbers g c =
+    let is = ap (λ (m : Me (Unit {0}) (List (Held _))). m.0) c.join_seat.ensures.2 in
+    ap (λ (view : List (Held _)). map (λ held. held.number) view) is
+    ∙ united_numbers g.P.RootProtocol.merged g.P.RootProtocol.empty c.args.first.inner.me.0 c.args.second.inner.me.0 c.requires.at.0.2 c.requires.at.1.2

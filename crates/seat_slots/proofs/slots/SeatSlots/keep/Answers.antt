@@ -1,12 +1,13 @@
-use Rattle.std.proofs.Common.{◌≡◌, ◌<◌, length, get_or, set, true, cond, Some, sym, ap, ◌∙◌, subst, arith, refl}
+use Rattle.std.proofs.Common.{◌≡◌, ◌<◌, length, map, get_or, set, true, cond, Some, sym, ap, ◌∙◌, subst, arith, refl}
 use Rattle.std.proofs.lemmas.List.{length-map}
 use Rattle.pebr_core.specs.declared.kinds.Retired.TheVariants as retire
 use Rattle.pebr_core.specs.State.{is_retired}
 use Rattle.seat_slots.specs.declared.marks.Mark.TheVariants as mark
 use Rattle.seat_slots.specs.Sets.{Sets}
-use Rattle.seat_slots.specs.Marks.{retired_as, mark_at, AreKept}
+use Rattle.seat_slots.specs.Marks.{is_fresh, retired_as, mark_at, AreKept}
 use Rattle.seat_slots.proofs.Changes.{get_or_map}
 use Rattle.seat_slots.proofs.Keeping.{mark_read, kept_already, kept_room, keep_kept, kept_fresh, kept_retired, kept_set}
+use Rattle.seat_slots.proofs.Listing.{once_as}
 use Rattle.seat_slots.proofs.slots.SeatSlots.keep.Goals as goal
 
 pub push_reserved-requires : goal.push_reserved-requires
@@ -33,6 +34,10 @@ invariant_of-self c =
       subst (λ l. AreKept (set marks c.args.slot (mark.Kept c.in-Tagged.tag)) inside.retired.items l inside.tagged inside.newest (Some c.newer.result) inside.room) (sym c.push_reserved.ensures.items) kept,
       c.self.invariant.1,
       omega (arith, c.self.invariant.2, c.push_reserved.ensures.capacity),
+      once_as (map is_fresh marks) _ inside.fresh.items (kept_fresh marks inside.retired.items inside.kept.items inside.tagged inside.newest inside.newest_kept inside.room h c.args.slot c.in-Tagged.tag is in_range) c.self.invariant.3,
+      c.self.invariant.4,
+      c.self.invariant.5,
+      c.self.invariant.6,
     )
 
 pub returns-in-Tagged-clause-fresh : goal.returns-in-Tagged-clause-fresh

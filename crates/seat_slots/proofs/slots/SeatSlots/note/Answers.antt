@@ -6,6 +6,7 @@ use Rattle.seat_slots.specs.Sets.{Sets, is_above}
 use Rattle.seat_slots.specs.Marks.{is_fresh, retired_as, is_kept, changed, AreListed, AreSlots, AreKept}
 use Rattle.seat_slots.proofs.Changes.{map_both, map_as, map_const}
 use Rattle.seat_slots.proofs.Keeping.{note_listed, unkeep_listed, note_keeps, noted_fresh, noted_retired, noted_kept, noted_is, note_kept, noted_marks, changed_slots}
+use Rattle.seat_slots.proofs.Listing.{once_as}
 use Rattle.seat_slots.proofs.slots.SeatSlots.note.Goals as goal
 
 pub change_from-requires-clause-listed : goal.change_from-requires-clause-listed
@@ -36,6 +37,11 @@ invariant_of-self c =
           (subst (λ n. AreKept (noted_marks c.args.epoch inside.marks.items) inside.retired.items [] n c.noted-self-inside.result None inside.room) (sym len) kept)),
       c.self.invariant.1,
       omega (arith, c.self.invariant.2, c.clear.ensures.capacity),
+      once_as (map is_fresh inside.marks.items) _ inside.fresh.items
+          (ap (map is_fresh) is ∙ map_as is_fresh is_fresh (changed change.Unkeep) (changed (change.Note c.args.epoch)) (noted_fresh c.args.epoch) inside.marks.items) c.self.invariant.3,
+      c.self.invariant.4,
+      c.self.invariant.5,
+      c.self.invariant.6,
     )
 
 pub returns-clause-fresh : goal.returns-clause-fresh
