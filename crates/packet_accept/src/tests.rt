@@ -6,6 +6,9 @@ use Kind::{BigMicros, BigNanos, LittleMicros, LittleNanos};
 use Want::{Gives, No};
 use flow_key::FlowKey;
 use pcap_reader::Capture;
+use samples::frames::{
+    ARP, COOKED, ETHERNET, IPV4, UDP, V4_ADDRESSES, V4_UDP, V6, V6_ADDRESSES, ZEROS,
+};
 use std::alloc::{AllocError, Global};
 use std::process::Abort;
 use std::test::Fail;
@@ -57,45 +60,14 @@ macro_rules! records {
     };
 }
 
-/// The addresses of Ethernet.
-const ETHERNET: &[u8] = b"\x02\0\0\0\0\x02\x02\0\0\0\0\x01";
-
-/// The first fourteen octets of Linux cooked version 1.
-const COOKED: &[u8] = b"\0\0\0\x01\0\x06\x02\0\0\0\0\x01\0\0";
-
-/// The type of IPv4.
-const IPV4: &[u8] = b"\x08\0";
-
-/// The type of ARP.
-const ARP: &[u8] = b"\x08\x06";
-
 /// A customer tag.
 const TAG: &[u8] = b"\x81\0\0\x05";
-
-/// An IPv4 header of a packet of 28 octets with protocol 17, from 192.0.2.1 to 192.0.2.2.
-const V4_UDP: &[u8] = b"\x45\0\0\x1c\0\0\0\0\x40\x11\0\0\xc0\0\x02\x01\xc0\0\x02\x02";
 
 /// The same with a total length of 0.
 const V4_OFFLOADED: &[u8] = b"\x45\0\0\0\0\0\0\0\x40\x11\0\0\xc0\0\x02\x01\xc0\0\x02\x02";
 
-/// Those addresses.
-const V4_ADDRESSES: &[u8] = b"\xc0\0\x02\x01\xc0\0\x02\x02";
-
-/// The first four octets of IPv6.
-const V6: &[u8] = b"\x60\0\0\0";
-
-/// Addresses of IPv6, from 2001:db8::1 to 2001:db8::2.
-const V6_ADDRESSES: &[u8] =
-    b"\x20\x01\x0d\xb8\0\0\0\0\0\0\0\0\0\0\0\x01\x20\x01\x0d\xb8\0\0\0\0\0\0\0\0\0\0\0\x02";
-
-/// UDP from port 4000 to port 53.
-const UDP: &[u8] = b"\x0f\xa0\0\x35\0\x08\0\0";
-
 /// TCP from port 1025 to port 443, a header of 20 octets with the control bits 0x010.
 const TCP: &[u8] = b"\x04\x01\x01\xbb\0\0\0\x01\0\0\0\0\x50\x10\0\0\0\0\0\0";
-
-/// More octets, of data or of padding.
-const ZEROS: &[u8] = &[0; 26];
 
 const TIMES: &[Row] = records! {
     LittleMicros 1 at 1000, 0 [ETHERNET, IPV4, V4_UDP, UDP] 42 of 42 => Gives(4, 17, 4000, 53, 1_000_000, 28, 0);

@@ -6,6 +6,10 @@ ghost use Rattle.packet_headers.specs.Link.{IsIpVersion};
 use crate::{HeaderFault, IpView, LinkView, TcpView, UdpView};
 use HeaderFault::{BadHeader, NotIp, Short};
 use Want::{Ip, Link, Packet, Transport};
+use samples::frames::{
+    ARP, COOKED, ETHERNET, IPV4, IPV6, TCP_PORTS, UDP, V4_ADDRESSES, V4_UDP, V6, V6_ADDRESSES,
+    ZEROS,
+};
 use std::alloc::{AllocError, Global};
 use std::process::Abort;
 use std::test::Fail;
@@ -44,51 +48,14 @@ macro_rules! frames {
     };
 }
 
-/// The addresses of Ethernet.
-const ETHERNET: &[u8] = b"\x02\0\0\0\0\x02\x02\0\0\0\0\x01";
-
-/// The first fourteen octets of Linux cooked version 1.
-const COOKED: &[u8] = b"\0\0\0\x01\0\x06\x02\0\0\0\0\x01\0\0";
-
-/// The type of IPv4.
-const IPV4: &[u8] = b"\x08\0";
-
-/// The type of IPv6.
-const IPV6: &[u8] = b"\x86\xdd";
-
-/// The type of ARP.
-const ARP: &[u8] = b"\x08\x06";
-
 /// The type of a customer tag.
 const CUSTOMER: &[u8] = b"\x81\0";
 
 /// The type of a service tag.
 const SERVICE: &[u8] = b"\x88\xa8";
 
-/// An IPv4 header of a packet of 28 octets with protocol 17, from 192.0.2.1 to 192.0.2.2.
-const V4_UDP: &[u8] = b"\x45\0\0\x1c\0\0\0\0\x40\x11\0\0\xc0\0\x02\x01\xc0\0\x02\x02";
-
-/// The addresses of such a header.
-const V4_ADDRESSES: &[u8] = b"\xc0\0\x02\x01\xc0\0\x02\x02";
-
 /// Four octets of options: three times no operation, and the end.
 const OPTION: &[u8] = b"\x01\x01\x01\0";
-
-/// The first four octets of IPv6.
-const V6: &[u8] = b"\x60\0\0\0";
-
-/// Addresses of IPv6, from 2001:db8::1 to 2001:db8::2.
-const V6_ADDRESSES: &[u8] =
-    b"\x20\x01\x0d\xb8\0\0\0\0\0\0\0\0\0\0\0\x01\x20\x01\x0d\xb8\0\0\0\0\0\0\0\0\0\0\0\x02";
-
-/// UDP from port 4000 to port 53.
-const UDP: &[u8] = b"\x0f\xa0\0\x35\0\x08\0\0";
-
-/// The first twelve octets of TCP, from port 1025 to port 443.
-const TCP_PORTS: &[u8] = b"\x04\x01\x01\xbb\0\0\0\x01\0\0\0\0";
-
-/// More octets, of an option, of data or of padding.
-const ZEROS: &[u8] = &[0; 26];
 
 /// Link parts: headers, tags 0 to 3, and the first octet of raw IP.
 const LINK_PARTS: &[Row] = frames! {

@@ -8,27 +8,16 @@ use crate::gather;
 use flow_key::FlowKey;
 use flow_parts::{Fragment, Timeouts};
 use packet_accept::Packet;
+use samples::udp_key;
 use std::alloc::Global;
 use std::process::Abort;
 use std::test::Fail;
-
-/// UDP from this port of 192.0.2.1 to 192.0.2.2:53.
-fn key(source_port: u16) -> FlowKey {
-    FlowKey {
-        version: 4,
-        source: 0xC000_0201,
-        destination: 0xC000_0202,
-        protocol: 17,
-        source_port,
-        destination_port: 53,
-    }
-}
 
 /// The fragment of one packet of 28 octets from this port at this time.
 fn alone(source_port: u16, time: u64) -> Fragment {
     Fragment::of(&Packet {
         number: 0,
-        key: key(source_port),
+        key: udp_key(source_port),
         time,
         octets: 28,
         flags: 0,
@@ -187,7 +176,7 @@ fn joins_again_below(rt: HostRuntime) -> Result<(), Fail> {
     assert!(rt;
         gathered[0].part
             == Fragment {
-                key: key(4000),
+                key: udp_key(4000),
                 packets: 6,
                 octets: 300,
                 first: 0,
@@ -322,7 +311,7 @@ fn wide(source_port: u16, first: u64, last: u64) -> Fragment
     requires { first ≤ last }
 {
     Fragment {
-        key: key(source_port),
+        key: udp_key(source_port),
         packets: 2,
         octets: 100,
         first,
