@@ -5,8 +5,8 @@ ghost use Rattle.cache_face.specs.Choice.{IsSmallEntry};
 ghost use Rattle.cache_face.specs.Keeping.{IsSmall};
 
 use crate::{Choice, How, choose};
-use flow_key::FlowKey;
 use flow_parts::{Fragment, Timeouts};
+use samples::udp_key;
 
 /// A fragment of two packets with this source port, from one second to another.
 fn part(source_port: u16, first: u32, last: u32) -> Fragment
@@ -14,14 +14,7 @@ fn part(source_port: u16, first: u32, last: u32) -> Fragment
     ensures { IsSmall result }
 {
     Fragment {
-        key: FlowKey {
-            version: 4,
-            source: 0xC000_0201,
-            destination: 0xC000_0202,
-            protocol: 17,
-            source_port,
-            destination_port: 53,
-        },
+        key: udp_key(source_port),
         packets: 2,
         octets: 80,
         first: 1000 * first as u64,

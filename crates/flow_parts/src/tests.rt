@@ -5,23 +5,12 @@ ghost use Rattle.std.specs.Prelude.{◌+◌, ◌<◌, ◌^◌};
 use crate::{Fragment, Timeouts};
 use flow_key::FlowKey;
 use packet_accept::Packet;
-
-/// UDP from this port of 192.0.2.1 to 192.0.2.2:53.
-fn key(source_port: u16) -> FlowKey {
-    FlowKey {
-        version: 4,
-        source: 0xC000_0201,
-        destination: 0xC000_0202,
-        protocol: 17,
-        source_port,
-        destination_port: 53,
-    }
-}
+use samples::udp_key;
 
 fn packet(source_port: u16, time: u64) -> Packet {
     Packet {
         number: 7,
-        key: key(source_port),
+        key: udp_key(source_port),
         time,
         octets: 28,
         flags: 0x10,
@@ -32,7 +21,7 @@ fn fragment(source_port: u16, first: u64, length: u32) -> Fragment
     requires { first + length < 2 ^ 64 }
 {
     Fragment {
-        key: key(source_port),
+        key: udp_key(source_port),
         packets: 3,
         octets: 100,
         first,
@@ -144,11 +133,11 @@ fn sums_and_spans(rt: HostRuntime) {
     assert!(rt; timeouts.fits(&part, &late));
     let more = timeouts.absorb(part, &late);
     assert!(rt; more.packets == 4 && more.octets == 128 && more.flags == 0x12);
-    assert!(rt; more.first == 1_000_000 && more.last == 1_300_000 && more.key == key(4000));
+    assert!(rt; more.first == 1_000_000 && more.last == 1_300_000 && more.key == udp_key(4000));
     assert!(rt; timeouts.joinable(&more, &part));
     let both = timeouts.join(more, part);
     assert!(rt; both.packets == 7 && both.octets == 228 && both.flags == 0x12);
-    assert!(rt; both.first == 1_000_000 && both.last == 1_300_000 && both.key == key(4000));
+    assert!(rt; both.first == 1_000_000 && both.last == 1_300_000 && both.key == udp_key(4000));
 }
 
 /// TCP or UDP from 192.0.2.1:40000 to 192.0.2.2:80, by the protocol number.

@@ -1,16 +1,14 @@
 //! Streams made by hand from the standard, and what is read of them.
 
-ghost use Rattle.std.specs.Prelude.{◌<◌, IfSome};
-
 use crate::{StreamError, StreamFault, flow_of, read_stream};
 use StreamFault::{
     BadLength, BadPadding, BadSequence, BadTemplate, BadVersion, Cut, NoTemplate, Withdrawal,
 };
 use Want::{Fault, Records};
-use flow_key::FlowKey;
 use flow_parts::Fragment;
 use ipfix_model::DataRecord;
 use record_ledger::FlowRecord;
+use samples::{octets_of, tcp_over_ipv6, udp_key};
 use std::alloc::{AllocError, Global};
 use std::process::Abort;
 use std::test::Fail;
@@ -36,39 +34,26 @@ macro_rules! streams {
 }
 
 /// The end of a message's header: export time and sequence number 0, and domain 1.
-const TAIL: [u8; 12] = [0, 0, 0, 0, 0, 0, 0, 0, 0, 0, 0, 1];
+const TAIL: &str = "00000000 00000000 00000001";
 
-/// The value of a hexadecimal digit.
-fn digit(byte: u8) -> Option<u8>
-    ensures { IfSome result (λ value. value < 16) }
-{
-    match byte {
-        b'0'..=b'9' => Some(byte - b'0'),
-        b'a'..=b'f' => Some(byte - b'a' + 10),
-        _ => None,
+/// The pieces of a text between its letters `M`, with [`TAIL`] for each of these.
+fn push_pieces<'a>(pieces: &mut Vec<&'a str>, text: &'a str) -> Result<(), Fail> {
+    for (count, piece) in text.split('M').enumerate() {
+        if count > 0 {
+            pieces.push(TAIL)?;
+        }
+        pieces.push(piece)?;
     }
+    Ok(())
 }
 
-/// The bytes that hexadecimal digits stand for; `M` stands for [`TAIL`], and spaces are for reading alone.
-fn bytes_of(alloc: Global, text: &str) -> Result<Vec<u8>, AllocError> {
-    let mut bytes = Vec::new(alloc);
-    let mut half = None;
-    for byte in text.bytes() {
-        if byte == b'M' {
-            bytes.extend_from_slice(TAIL.as_slice())?;
-        }
-        let Some(low) = digit(byte) else {
-            continue;
-        };
-        half = match half {
-            None => Some(low),
-            Some(high) => {
-                bytes.push(high << 4 | low)?;
-                None
-            }
-        };
+/// The octets that hexadecimal digits stand for; `M` stands for [`TAIL`].
+fn bytes_of(alloc: Global, texts: &[&str]) -> Result<Vec<u8>, Fail> {
+    let mut pieces = Vec::new(alloc);
+    for text in texts {
+        push_pieces(&mut pieces, text)?;
     }
-    Ok(bytes)
+    octets_of(alloc, pieces.as_slice())
 }
 
 /// Records as text: domain and template, each element with its value in hexadecimal digits, and a semicolon.
@@ -96,7 +81,7 @@ fn text_of(alloc: Global, records: &[DataRecord]) -> Result<String, AllocError> 
 /// Each stream gives what is wanted of it.
 fn check_rows<R: Abort + AllocGlobal>(rt: &R, rows: &[Row]) -> Result<(), Fail> {
     for row in rows {
-        let bytes = bytes_of(rt.alloc(), row.stream)?;
+        let bytes = bytes_of(rt.alloc(), &[row.stream])?;
         match read_stream(rt.alloc(), bytes.as_slice()) {
             Ok(records) => {
                 let text = text_of(rt.alloc(), records.as_slice())?;
@@ -234,15 +219,6 @@ const TEMPLATES: &str = "000a0074 000003e9 00000000 00000001 0002 0064\
 const UDP: &str =
     "c0000201 c0000202 0fa0 0035 11 0000 0000000000000002 0000000000000038 00000000000f4240 00000000000f4628 04";
 
-/// The bytes of pieces of text.
-fn joined(alloc: Global, pieces: &[&str]) -> Result<Vec<u8>, AllocError> {
-    let mut bytes = Vec::new(alloc);
-    for piece in pieces {
-        bytes.extend_from_slice(bytes_of(alloc, piece)?.as_slice())?;
-    }
-    Ok(bytes)
-}
-
 /// The first `count` bytes.
 fn front(bytes: &[u8], count: usize) -> &[u8] {
     let (front, _) = bytes.split_at(count.min(bytes.len()));
@@ -251,7 +227,7 @@ fn front(bytes: &[u8], count: usize) -> &[u8] {
 
 /// The flow record that the only data record of a stream is.
 fn flow_in(alloc: Global, pieces: &[&str]) -> Result<Option<FlowRecord>, Fail> {
-    let bytes = joined(alloc, pieces)?;
+    let bytes = bytes_of(alloc, pieces)?;
     match read_stream(alloc, bytes.as_slice()) {
         Ok(records) => match records.as_slice() {
             [only] => Ok(flow_of(only)),
@@ -263,16 +239,8 @@ fn flow_in(alloc: Global, pieces: &[&str]) -> Result<Option<FlowRecord>, Fail> {
 
 /// The flow record of [`UDP`].
 fn udp_flow() -> FlowRecord {
-    let key = FlowKey {
-        version: 4,
-        source: 0xc000_0201,
-        destination: 0xc000_0202,
-        protocol: 17,
-        source_port: 4000,
-        destination_port: 53,
-    };
     let part = Fragment {
-        key,
+        key: udp_key(4000),
         packets: 2,
         octets: 56,
         first: 1_000_000,
@@ -289,7 +257,7 @@ fn a_written_stream_is_read(rt: HostRuntime) -> Result<(), Fail> {
         flow_in(rt.alloc(), &[TEMPLATES, head, UDP])?,
         Some(udp_flow())
     );
-    let bytes = joined(rt.alloc(), &[TEMPLATES, head, UDP])?;
+    let bytes = bytes_of(rt.alloc(), &[TEMPLATES, head, UDP])?;
     let whole = bytes.as_slice();
     assert_eq!(rt; whole.len(), 184);
     assert_eq!(rt;
@@ -306,16 +274,8 @@ fn a_written_stream_is_read(rt: HostRuntime) -> Result<(), Fail> {
 
 /// TCP from 2001:db8::1 to 2001:db8::2: one packet at 5 s, forced end.
 fn tcp_flow(source_port: u16, destination_port: u16, octets: u64, flags: u16) -> FlowRecord {
-    let key = FlowKey {
-        version: 6,
-        source: 0x2001_0db8_0000_0000_0000_0000_0000_0001,
-        destination: 0x2001_0db8_0000_0000_0000_0000_0000_0002,
-        protocol: 6,
-        source_port,
-        destination_port,
-    };
     let part = Fragment {
-        key,
+        key: tcp_over_ipv6(source_port, destination_port),
         packets: 1,
         octets,
         first: 5000,
@@ -333,7 +293,7 @@ fn records_over_ipv6_are_flows(rt: HostRuntime) -> Result<(), Fail> {
     let segment =
         "0401 01bb 06 0010 0000000000000001 000000000000004c 0000000000001388 0000000000001388 04";
     let head = "000a00a4 00000005 00000000 00000001 0101 0094";
-    let bytes = joined(
+    let bytes = bytes_of(
         rt.alloc(),
         &[TEMPLATES, head, addresses, fragment, addresses, segment],
     )?;
@@ -408,15 +368,15 @@ fn other_records_are_no_flows(rt: HostRuntime) -> Result<(), Fail> {
 
 #[test]
 fn a_message_may_hold_28_records(rt: HostRuntime) -> Result<(), Fail> {
-    let mut bytes = joined(rt.alloc(), &[TEMPLATES, "000a0554 M 0100 0544"])?;
+    let mut bytes = bytes_of(rt.alloc(), &[TEMPLATES, "000a0554 M 0100 0544"])?;
     for _ in 0..28 {
-        bytes.extend_from_slice(bytes_of(rt.alloc(), UDP)?.as_slice())?;
+        bytes.extend_from_slice(bytes_of(rt.alloc(), &[UDP])?.as_slice())?;
     }
-    bytes.extend_from_slice(bytes_of(
+    let last = bytes_of(
         rt.alloc(),
-        "000a0044 00000000 0000001c 00000001 0100 0034",
-    )?.as_slice())?;
-    bytes.extend_from_slice(bytes_of(rt.alloc(), UDP)?.as_slice())?;
+        &["000a0044 00000000 0000001c 00000001 0100 0034", UDP],
+    )?;
+    bytes.extend_from_slice(last.as_slice())?;
     assert_eq!(rt; bytes.len(), 116 + 1364 + 68);
     let records = read_stream(rt.alloc(), bytes.as_slice()).map_err(|_| Fail::from("no stream"))?;
     assert_eq!(rt; records.len(), 29);
@@ -433,7 +393,7 @@ fn long_values_are_read(rt: HostRuntime) -> Result<(), Fail> {
         ("000a011f M", "01000103 fe", 254),
         ("000a0122 M", "01000106 ff00ff", 255),
     ] {
-        let mut bytes = joined(rt.alloc(), &[head, template, set])?;
+        let mut bytes = bytes_of(rt.alloc(), &[head, template, set])?;
         for _ in 0..length {
             bytes.push(b'a')?;
         }

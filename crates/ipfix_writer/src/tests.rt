@@ -3,10 +3,10 @@
 ghost use Rattle.std.specs.Prelude.{◌≤◌, ◌<◌, ◌^◌};
 
 use crate::{Emitter, emit_all, layout};
-use flow_key::FlowKey;
 use flow_parts::Fragment;
 use meter_io::{Failed, MemSink};
 use record_ledger::FlowRecord;
+use samples::{octets_of, tcp_over_ipv6, udp_key};
 use std::alloc::Global;
 use std::test::Fail;
 
@@ -15,42 +15,13 @@ const TEMPLATES: &str = "0000000000000001000200640100000b00080004000c00040007000
     00b00020004000100060002000200080001000800980008009900080088000\
     10101000b001b0010001c001000070002000b000200040001000600020002000800010008009800080099000800880001";
 
-/// The value of a hexadecimal digit, and 0 for any other byte.
-fn digit(byte: u8) -> u8
-    ensures { result < 16 }
-{
-    match byte {
-        b'0'..=b'9' => byte - b'0',
-        b'a'..=b'f' => byte - b'a' + 10,
-        _ => 0,
-    }
-}
-
-/// Appends the bytes that the hexadecimal digits stand for.
-fn append_hex(bytes: &mut Vec<u8>, text: &str) -> Result<(), Fail> {
-    for pair in text.as_bytes().chunks_exact(2) {
-        if let [high, low] = pair {
-            bytes.push(digit(*high) * 16 + digit(*low))?;
-        }
-    }
-    Ok(())
-}
-
 /// A record of UDP over IPv4 from this port.
 fn over_ipv4(source_port: u16, packets: u64, octets: u64, last: u64) -> FlowRecord
     requires some { 1 ≤ packets }
     requires later { 1000000 ≤ last }
 {
-    let key = FlowKey {
-        version: 4,
-        source: 0xc000_0201,
-        destination: 0xc000_0202,
-        protocol: 17,
-        source_port,
-        destination_port: 53,
-    };
     let part = Fragment {
-        key,
+        key: udp_key(source_port),
         packets,
         octets,
         first: 1_000_000,
@@ -62,16 +33,8 @@ fn over_ipv4(source_port: u16, packets: u64, octets: u64, last: u64) -> FlowReco
 
 /// A record of TCP over IPv6, 2001:db8::1 to 2001:db8::2, at 5 s.
 fn over_ipv6(source_port: u16, destination_port: u16, octets: u64, flags: u16) -> FlowRecord {
-    let key = FlowKey {
-        version: 6,
-        source: 0x2001_0db8_0000_0000_0000_0000_0000_0001,
-        destination: 0x2001_0db8_0000_0000_0000_0000_0000_0002,
-        protocol: 6,
-        source_port,
-        destination_port,
-    };
     let part = Fragment {
-        key,
+        key: tcp_over_ipv6(source_port, destination_port),
         packets: 1,
         octets,
         first: 5000,
@@ -90,11 +53,7 @@ fn is_laid_out(
     time_bytes: &str,
     data: &str,
 ) -> Result<bool, Fail> {
-    let mut wanted = Vec::new(alloc);
-    append_hex(&mut wanted, "000a0074")?;
-    append_hex(&mut wanted, time_bytes)?;
-    append_hex(&mut wanted, TEMPLATES)?;
-    append_hex(&mut wanted, data)?;
+    let wanted = octets_of(alloc, &["000a0074", time_bytes, TEMPLATES, data])?;
     let bytes = layout(alloc, records, 1400, time).map_err(|_| Fail::from("no memory"))?;
     Ok(bytes.as_slice() == wanted.as_slice())
 }

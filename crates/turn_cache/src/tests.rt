@@ -4,9 +4,9 @@ ghost use Rattle.std.specs.Prelude.{◌≡◌, ◌+◌, ◌<◌, ◌^◌, ◌++�
 
 use crate::TurnCaches;
 use cache_face::{Caches, FlowCache, How, Metered};
-use flow_key::FlowKey;
 use flow_parts::{Fragment, Timeouts};
 use packet_accept::Packet;
+use samples::udp_key;
 use std::alloc::Global;
 use std::process::Abort;
 use std::test::Fail;
@@ -17,14 +17,7 @@ fn packet(number: u32, flow: u16, second: u32) -> Packet
 {
     Packet {
         number: number as u64,
-        key: FlowKey {
-            version: 4,
-            source: 0xC000_0201,
-            destination: 0xC000_0202,
-            protocol: 17,
-            source_port: flow,
-            destination_port: 53,
-        },
+        key: udp_key(flow),
         time: 1000 * second as u64,
         octets: 40,
         flags: 0,
