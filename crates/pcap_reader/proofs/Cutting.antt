@@ -32,7 +32,7 @@ unfolding begins_with_record
 test-from_Holds order bytes h = let a = h.header in let b = h.small in let c = h.enough in grind (arith, nat_tests)
 
 -- a record with something behind it claims what it claims alone
-claimed_len-append : (order : Endianness) (part more : List ℕ) → 16 ≤ length part
+pub claimed_len-append : (order : Endianness) (part more : List ℕ) → 16 ≤ length part
     → claimed_len order (part ++ more) ≡ claimed_len order part
 claimed_len-append order part more h = number-drop-append order 4 8 part more (omega arith)
 
@@ -98,7 +98,7 @@ CutFrom-record order bytes at end h later =
     }
 
 -- where the test says that a record stands, it ends within the bytes
-ends_at : (order : Endianness) (bytes : List ℕ) (at : ℕ) → at ≤ length bytes
+pub ends_at : (order : Endianness) (bytes : List ℕ) (at : ℕ) → at ≤ length bytes
     → begins_with_record order (drop at bytes) ≡ true
     → EndsAt order bytes at (at + (16 + claimed_len order (drop at bytes)))
 ends_at order bytes at within h =
@@ -126,9 +126,9 @@ cut_from (suc fuel) order bytes at within all =
     ]
 
 -- the definitions cut the file
-pub file_is_cut : (file : CaptureFile) → 24 ≤ length file.bytes → IsCutInto file (parts_of file) (rest_of file)
+pub file_is_cut : (file : CaptureFile) → file.start ≤ length file.bytes → IsCutInto file (parts_of file) (rest_of file)
 file_is_cut file h =
-    let cut = cut_from (length file.bytes) file.order file.bytes 24 h (omega arith) in
+    let cut = cut_from (length file.bytes) file.order file.bytes file.start h (omega arith) in
     record { together = cut.together; records = cut.records; ended = cut.ended }
 
 -- records behind some front, and a rest that begins with no record, are those from the front's end on
@@ -170,20 +170,20 @@ parts_are order (part ∷ parts) front rest bytes at len together records ended 
     ap (λ (ps : List (List ℕ)). part ∷ ps) later ∙ ap (λ (p : List ℕ). p ∷ record_parts order end bytes) (sym front_is)
     ∙ sym split
 
-one_cut : (file : CaptureFile) (parts : List (List ℕ)) (rest : List ℕ) → 24 ≤ length file.bytes
+one_cut : (file : CaptureFile) (parts : List (List ℕ)) (rest : List ℕ) → file.start ≤ length file.bytes
     → IsCutInto file parts rest → (parts ≡ parts_of file) × (rest ≡ rest_of file)
 one_cut file parts rest h cut =
-    let front = take 24 file.bytes in
-    let len : length front ≡ 24 = omega (arith, length-take 24 file.bytes) in
-    let same = parts_are file.order parts front rest file.bytes 24 len cut.together cut.records cut.ended in
-    let left : rest ≡ drop (24 + length (concat parts)) file.bytes =
-    sym (ap (drop (24 + length (concat parts))) (cut.together ∙ sym (append_assoc front (concat parts) rest))
-    ∙ drop_at (front ++ concat parts) rest (24 + length (concat parts))
+    let front = take file.start file.bytes in
+    let len : length front ≡ file.start = omega (arith, length-take file.start file.bytes) in
+    let same = parts_are file.order parts front rest file.bytes file.start len cut.together cut.records cut.ended in
+    let left : rest ≡ drop (file.start + length (concat parts)) file.bytes =
+    sym (ap (drop (file.start + length (concat parts))) (cut.together ∙ sym (append_assoc front (concat parts) rest))
+    ∙ drop_at (front ++ concat parts) rest (file.start + length (concat parts))
     (omega (arith, len, length-append front (concat parts)))) in
-    (same, left ∙ ap (λ (ps : List (List ℕ)). drop (24 + length (concat ps)) file.bytes) same)
+    (same, left ∙ ap (λ (ps : List (List ℕ)). drop (file.start + length (concat ps)) file.bytes) same)
 
 -- there is one way to cut a file
-pub file_is_cut_once : (file : CaptureFile) → 24 ≤ length file.bytes → IsOnlyCut file (parts_of file) (rest_of file)
+pub file_is_cut_once : (file : CaptureFile) → file.start ≤ length file.bytes → IsOnlyCut file (parts_of file) (rest_of file)
 file_is_cut_once file h = record { cut = file_is_cut file h; only = λ parts rest. one_cut file parts rest h }
 
 -- each record has 16 bytes and more
@@ -194,12 +194,12 @@ long_parts order (part ∷ parts) records =
     omega (arith, records.0.header, long_parts order parts records.1, length-append part (concat parts))
 
 -- so a file has no more records than it has room for
-pub few_parts : (file : CaptureFile) → 24 ≤ length file.bytes
-    → 24 + 16 * length (parts_of file) + length (rest_of file) ≤ length file.bytes
+pub few_parts : (file : CaptureFile) → file.start ≤ length file.bytes
+    → file.start + 16 * length (parts_of file) + length (rest_of file) ≤ length file.bytes
 few_parts file h =
     let cut = file_is_cut file h in
-    let all : length file.bytes ≡ length (take 24 file.bytes) +
+    let all : length file.bytes ≡ length (take file.start file.bytes) +
     (length (concat (parts_of file)) + length (rest_of file)) =
-    ap length cut.together ∙ length-append (take 24 file.bytes) (concat (parts_of file) ++ rest_of file)
-    ∙ ap (λ (k : ℕ). length (take 24 file.bytes) + k) (length-append (concat (parts_of file)) (rest_of file)) in
-    omega (arith, all, length-take 24 file.bytes, long_parts file.order (parts_of file) cut.records)
+    ap length cut.together ∙ length-append (take file.start file.bytes) (concat (parts_of file) ++ rest_of file)
+    ∙ ap (λ (k : ℕ). length (take file.start file.bytes) + k) (length-append (concat (parts_of file)) (rest_of file)) in
+    omega (arith, all, length-take file.start file.bytes, long_parts file.order (parts_of file) cut.records)

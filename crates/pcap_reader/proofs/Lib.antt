@@ -3,3 +3,7 @@ pub mod Cutting
 pub mod Parts
 pub mod Place
 pub mod Search
+pub mod Filled
+pub mod Joined
+pub mod InParts
+pub mod Headed

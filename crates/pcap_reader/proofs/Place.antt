@@ -39,14 +39,14 @@ stands_at order (part ∷ parts) front rest bytes at (suc n) len together record
     (regrouped ∙ sym (append_assoc front part (concat parts ++ rest))) records.1 (omega arith)
 
 -- the n-th record of a file stands where the index says
-record_stands : (file : CaptureFile) (index : Offsets) (n : ℕ) → 24 ≤ length file.bytes → IsIndexOf index file
+record_stands : (file : CaptureFile) (index : Offsets) (n : ℕ) → file.start ≤ length file.bytes → IsIndexOf index file
     → n < length index.offsets
     → StandsAt file.order file.bytes (get_or (parts_of file) n []) (get_or index.offsets n 0)
 record_stands file index n long is within =
     let cut = file_is_cut file long in
     let count = is.count ∙ length-map (parts_of file) (packet_record file.order) in
-    rw is.offsets (stands_at file.order (parts_of file) (take 24 file.bytes) (rest_of file) file.bytes 24 n
-    (omega (arith, length-take 24 file.bytes)) cut.together cut.records (omega (arith, count)))
+    rw is.offsets (stands_at file.order (parts_of file) (take file.start file.bytes) (rest_of file) file.bytes file.start n
+    (omega (arith, length-take file.start file.bytes)) cut.together cut.records (omega (arith, count)))
 
 -- what its place in the bytes holds of a record
 pub record Reads (order : Endianness) (bytes part : List ℕ) (at : ℕ) : Type 0 where
@@ -83,7 +83,7 @@ Reads-from_place order bytes part at stands =
           (omega (arith, claim, is.whole, length-drop 16 part));
     }
 
-pub record_reads : (file : CaptureFile) (index : Offsets) (n : ℕ) → 24 ≤ length file.bytes → IsIndexOf index file
+pub record_reads : (file : CaptureFile) (index : Offsets) (n : ℕ) → file.start ≤ length file.bytes → IsIndexOf index file
     → n < length index.offsets
     → Reads file.order file.bytes (get_or (parts_of file) n []) (get_or index.offsets n 0)
 record_reads file index n long is within =

@@ -12,17 +12,17 @@ use Rattle.pcap_reader.proofs.Cutting.{few_parts}
 use Rattle.pcap_reader.proofs.Parts.{record_parts-record, record_parts-rest}
 
 -- the offsets found, with those from this place on, are all, and the rest begins behind the records from here on
-pub record Found (order : Endianness) (bytes offsets : List ℕ) (at : ℕ) : Type 0 where
-  pub all : offsets ++ offsets_from at (record_parts order at bytes) ≡ offsets_from 24 (record_parts order 24 bytes)
-  pub rest : at + length (concat (record_parts order at bytes)) ≡ 24 + length (concat (record_parts order 24 bytes))
+pub record Found (order : Endianness) (start : ℕ) (bytes offsets : List ℕ) (at : ℕ) : Type 0 where
+  pub all : offsets ++ offsets_from at (record_parts order at bytes) ≡ offsets_from start (record_parts order start bytes)
+  pub rest : at + length (concat (record_parts order at bytes)) ≡ start + length (concat (record_parts order start bytes))
   pub within : at ≤ length bytes
 
-pub Found-start : (order : Endianness) (bytes : List ℕ) → 24 ≤ length bytes → Found order bytes [] 24
-Found-start order bytes h = record { all = refl; rest = refl; within = h }
+pub Found-start : (order : Endianness) (start : ℕ) (bytes : List ℕ) → start ≤ length bytes → Found order start bytes [] start
+Found-start order start bytes h = record { all = refl; rest = refl; within = h }
 
-pub Found-record : (order : Endianness) (bytes offsets : List ℕ) (at end : ℕ) → EndsAt order bytes at end
-    → Found order bytes offsets at → Found order bytes (offsets ++ at ∷ []) end
-Found-record order bytes offsets at end h found =
+pub Found-record : (order : Endianness) (start : ℕ) (bytes offsets : List ℕ) (at end : ℕ) → EndsAt order bytes at end
+    → Found order start bytes offsets at → Found order start bytes (offsets ++ at ∷ []) end
+Found-record order start bytes offsets at end h found =
     let part = take (16 + claimed_len order (drop at bytes)) (drop at bytes) in
     let split = record_parts-record order bytes at end h in
     let len : at + length part ≡ end = omega (
@@ -49,11 +49,11 @@ length-offsets_from from [] = refl
 length-offsets_from from (part ∷ parts) = ap suc (length-offsets_from (from + length part) parts)
 
 -- at a place where no record stands the offsets are all, and the rest begins here
-pub Found-ended : (order : Endianness) (bytes offsets : List ℕ) (at : ℕ)
-    → begins_with_record order (drop at bytes) ≡ false → Found order bytes offsets at
-    → (offsets ≡ offsets_from 24 (record_parts order 24 bytes))
-    × (24 + length (concat (record_parts order 24 bytes)) ≡ at)
-Found-ended order bytes offsets at h found =
+pub Found-ended : (order : Endianness) (start : ℕ) (bytes offsets : List ℕ) (at : ℕ)
+    → begins_with_record order (drop at bytes) ≡ false → Found order start bytes offsets at
+    → (offsets ≡ offsets_from start (record_parts order start bytes))
+    × (start + length (concat (record_parts order start bytes)) ≡ at)
+Found-ended order start bytes offsets at h found =
     let none = record_parts-rest order bytes at h in
     let all : offsets ++ offsets_from at (record_parts order at bytes) ≡ offsets =
     ap (λ (parts : List (List ℕ)). offsets ++ offsets_from at parts) none ∙ append-nil offsets in
@@ -63,42 +63,42 @@ Found-ended order bytes offsets at h found =
 
 -- at the rest the index is whole
 pub Found-index : (file : CaptureFile) (index : Offsets) (at : ℕ)
-    → begins_with_record file.order (drop at file.bytes) ≡ false → Found file.order file.bytes index.offsets at
+    → begins_with_record file.order (drop at file.bytes) ≡ false → Found file.order file.start file.bytes index.offsets at
     → index.tail ≡ length file.bytes - at → IsIndexOf index file
 Found-index file index at h found tail =
-    let ended = Found-ended file.order file.bytes index.offsets at h found in
+    let ended = Found-ended file.order file.start file.bytes index.offsets at h found in
     record {
       offsets = ended.0;
       tail = tail ∙ sym (length-drop at file.bytes) ∙ ap (λ (k : ℕ). length (drop k file.bytes)) (sym ended.1);
-      count = ap length ended.0 ∙ length-offsets_from 24 (parts_of file)
+      count = ap length ended.0 ∙ length-offsets_from file.start (parts_of file)
           ∙ sym (length-map (parts_of file) (packet_record file.order));
     }
 
 -- at the rest there is no damage
 pub Found-sound : (file : CaptureFile) (offsets : List ℕ) (at : ℕ) → IsRest file.order (drop at file.bytes)
-    → Found file.order file.bytes offsets at → damage_of file ≡ None
+    → Found file.order file.start file.bytes offsets at → damage_of file ≡ None
 Found-sound file offsets at h found =
-    let ended = Found-ended file.order file.bytes offsets at h.no_record found in
+    let ended = Found-ended file.order file.start file.bytes offsets at h.no_record found in
     rw (ended.1, h.no_damage) refl
 
-damage-no_record : (order : Endianness) (bytes : List ℕ) → begins_with_damage order bytes ≡ true
+pub damage-no_record : (order : Endianness) (bytes : List ℕ) → begins_with_damage order bytes ≡ true
     → begins_with_record order bytes ≡ false
 unfolding begins_with_damage begins_with_record
 damage-no_record order bytes h = grind (arith, nat_tests)
 
 -- where a claim of too much stands, there is the damage
 pub Found-damage : (file : CaptureFile) (offsets : List ℕ) (at : ℕ)
-    → begins_with_damage file.order (drop at file.bytes) ≡ true → Found file.order file.bytes offsets at
+    → begins_with_damage file.order (drop at file.bytes) ≡ true → Found file.order file.start file.bytes offsets at
     → damage_of file ≡ Some at
 Found-damage file offsets at h found =
     let none : begins_with_record file.order (drop at file.bytes) ≡ false =
     damage-no_record file.order (drop at file.bytes) h in
-    let ended = Found-ended file.order file.bytes offsets at none found in
+    let ended = Found-ended file.order file.start file.bytes offsets at none found in
     rw (ended.1, h) refl
 
 -- an index has no more records than the file has room for
-pub few_records : (file : CaptureFile) (index : Offsets) → 24 ≤ length file.bytes → IsIndexOf index file
-    → 24 + 16 * length index.offsets + index.tail ≤ length file.bytes
+pub few_records : (file : CaptureFile) (index : Offsets) → file.start ≤ length file.bytes → IsIndexOf index file
+    → file.start + 16 * length index.offsets + index.tail ≤ length file.bytes
 few_records file index h is =
     let count = is.count ∙ length-map (parts_of file) (packet_record file.order) in
     omega (arith, count, is.tail, few_parts file h)

@@ -1,15 +1,17 @@
 -- The file header (draft-ietf-opsawg-pcap, section 4).
 use Rattle.std.specs.Prelude.{ℕ, ◌==◌, ◌&&◌, Bool, true, false, List, length, nat_lt, if◌then◌else◌, Option, Some, None}
 use Rattle.std.specs.Option.{option_and_then}
+use Rattle.std.specs.Prelude.{IsSomeAnd}
 use Rattle.octets.specs.Numbers.{ordered_number_at}
 pub use Rattle.link_types.specs.Links.{IsKnownLink}
 use Rattle.octets.specs.declared.endianness.Endianness.{Endianness}
 use Rattle.octets.specs.declared.endianness.Endianness.TheVariants.{Little, Big}
 
--- A capture file: all its bytes, the order of the bytes in its fields, whether its fractions of a second are
--- nanoseconds, and its link type.
+-- A capture file, or a part of one: all its bytes, where its records begin, the order of the bytes in its fields,
+-- whether its fractions of a second are nanoseconds, and its link type.
 pub record CaptureFile : Type 0 where
   pub bytes : List ℕ
+  pub start : ℕ
   pub order : Endianness
   pub nanos : Bool
   pub link : ℕ
@@ -31,13 +33,17 @@ told_by_magic magic =
 abbrev pub is_version_2_4 : Endianness → List ℕ → Bool
 is_version_2_4 order bytes = ordered_number_at order 4 2 bytes == 2 && ordered_number_at order 6 2 bytes == 4
 
--- The capture file that the bytes are, where they begin with a file header. The link type is the whole last
--- field, four bytes from 20 on. The fields between the version and it say nothing here.
+-- The capture file that the bytes are, where they begin with a file header. Its records begin behind the header. The
+-- link type is the whole last field, four bytes from 20 on. The fields between the version and it say nothing here.
 unfoldable pub capture_file : List ℕ → Option CaptureFile
 capture_file bytes =
     if nat_lt (length bytes) file_header_len then None else
     option_and_then
     (λ m. if is_version_2_4 m.0 bytes
-    then Some (record { bytes = bytes; order = m.0; nanos = m.1; link = ordered_number_at m.0 20 4 bytes })
+    then Some (record { bytes = bytes; start = file_header_len; order = m.0; nanos = m.1; link = ordered_number_at m.0 20 4 bytes })
     else None)
     (told_by_magic (ordered_number_at Big 0 4 bytes))
+
+-- The bytes are a capture file of this kind.
+abbrev pub IsCaptureOf : (CaptureFile → Type 0) → List ℕ → Type 0
+IsCaptureOf kind bytes = IsSomeAnd (capture_file bytes) kind

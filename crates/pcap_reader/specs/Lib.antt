@@ -5,4 +5,6 @@ pub mod File
 pub mod Records
 pub mod Index
 pub mod Views
+pub mod Windows
+pub mod Filling
 pub mod Front

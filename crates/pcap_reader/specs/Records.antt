@@ -3,7 +3,7 @@ use Rattle.std.specs.Prelude.{ℕ, zero, suc, ◌≡◌, ◌+◌, ◌≤◌, ◌
 use Rattle.std.specs.List.{concat, AllByRecursion}
 use Rattle.octets.specs.declared.endianness.Endianness.{Endianness}
 use Rattle.octets.specs.Numbers.{ordered_number_at}
-use Rattle.pcap_reader.specs.File.{CaptureFile, file_header_len}
+use Rattle.pcap_reader.specs.File.{CaptureFile}
 
 -- A record has at most so many captured bytes.
 abbrev pub most_captured : ℕ
@@ -35,13 +35,13 @@ record_parts order zero (byte ∷ bytes) =
     (15 + claimed_len order (byte ∷ bytes)) bytes
     else []
 
--- The records of a file, each as all its bytes: they stand behind the file header.
+-- The records of a file, each as all its bytes.
 abbrev pub parts_of : CaptureFile → List (List ℕ)
-parts_of file = record_parts file.order file_header_len file.bytes
+parts_of file = record_parts file.order file.start file.bytes
 
--- Where the rest begins: behind the file header and all records.
+-- Where the rest begins: behind all records.
 abbrev pub rest_offset : CaptureFile → ℕ
-rest_offset file = file_header_len + length (concat (parts_of file))
+rest_offset file = file.start + length (concat (parts_of file))
 
 -- What is left behind the records.
 abbrev pub rest_of : CaptureFile → List ℕ
@@ -82,7 +82,7 @@ offsets_from from (part ∷ parts) = from ∷ offsets_from (from + length part) 
 
 -- Where the records of a file begin.
 abbrev pub record_offsets : CaptureFile → List ℕ
-record_offsets file = offsets_from file_header_len (parts_of file)
+record_offsets file = offsets_from file.start (parts_of file)
 
 -- ---- the law above these definitions
 
@@ -92,9 +92,9 @@ pub record IsRecord (order : Endianness) (part : List ℕ) : Type 0 where
   pub small : claimed_len order part ≤ most_captured
   pub whole : length part ≡ 16 + claimed_len order part
 
--- The file is a file header, then these records, then this rest, which begins with no record.
+-- The file is what stands before its records, then these records, then this rest, which begins with no record.
 pub record IsCutInto (file : CaptureFile) (parts : List (List ℕ)) (rest : List ℕ) : Type 0 where
-  pub together : file.bytes ≡ take file_header_len file.bytes ++ (concat parts ++ rest)
+  pub together : file.bytes ≡ take file.start file.bytes ++ (concat parts ++ rest)
   pub records : AllByRecursion (IsRecord file.order) parts
   pub ended : begins_with_record file.order rest ≡ false
 

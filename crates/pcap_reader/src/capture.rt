@@ -1,34 +1,21 @@
 //! A capture: its header read, its records found and read.
 
 ghost use Rattle.std.specs.Prelude.{◌≤◌, length};
-ghost use Rattle.pcap_reader.specs.File.{file_header_len};
 
 use crate::front::{Front, front_at};
-use crate::header::{FILE_HEADER, FileHeader, read_header};
+use crate::head::{CaptureError, Head};
+use crate::header::FILE_HEADER;
 use crate::index::{IndexError, RecordIndex};
 use crate::record::{Record, record_at};
-use link_types::LinkType;
-use octets::Endianness;
 use std::alloc::Global;
 
-/// Why some bytes are no capture that can be read.
-#[derive(Clone, Copy, Debug, PartialEq, Eq)]
-pub enum CaptureError {
-    /// They do not begin with the file header of a classic capture.
-    NotCapture,
-    /// They do, and the link type is this one, which is none of Ethernet (1), raw IP (101) and Linux cooked
-    /// version 1 (113).
-    LinkUnknown(u32),
-}
-
-/// A capture file in memory, whose header was read.
+/// A capture file in memory, whose header was read, or a part of one.
 #[derive(Clone, Copy, Debug)]
 pub struct Capture<'a> {
     bytes: &'a [u8],
-    order: Endianness,
-    nanos: bool,
-    link: LinkType,
-    ghost whole: { file_header_len ≤ length bytes.now },
+    start: usize,
+    head: Head,
+    ghost whole: { start ≤ length bytes.now },
 }
 
 impl<'a> Capture<'a> {
@@ -37,7 +24,7 @@ impl<'a> Capture<'a> {
     ghost use Rattle.pcap_reader.specs.File.{capture_file};
     ghost use Rattle.pcap_reader.specs.Records.{IsOnlyCut, parts_of, rest_of, damage_of, records_of, most_captured};
     ghost use Rattle.pcap_reader.specs.Index.{IsIndexOf};
-    ghost use Rattle.pcap_reader.specs.Views.{file_of, record_read};
+    ghost use Rattle.pcap_reader.specs.Views.{file_of, part_of, record_read};
 
     /// Reads the file header of a classic capture, 24 bytes. Its magic number is one of four, its version is 2.4, and
     /// its link type is the whole last field, so that one with a nonzero upper half is unknown.
@@ -48,24 +35,35 @@ impl<'a> Capture<'a> {
         ensures not_capture { (result ≡ Err CaptureError.NotCapture) ↔ (capture_file bytes.now ≡ None) }
         ensures link_unknown { (n : ℕ) → (result ≡ Err (CaptureError.LinkUnknown n)) ↔ IsSomeAnd (capture_file bytes.now) (λ file. (file.link ≡ n) × ¬ IsKnownLink n) }
     {
-        let Some(header) = read_header(bytes) else {
-            return Err(CaptureError::NotCapture);
-        };
-        let FileHeader { order, nanos, link } = header;
-        match LinkType::of(link) {
-            Some(link) => Ok(Capture {
-                bytes,
-                order,
-                nanos,
-                link,
-            }),
-            None => Err(CaptureError::LinkUnknown(link)),
-        }
+        let head = Head::of(bytes)?;
+        let start = FILE_HEADER;
+        Ok(Capture { bytes, start, head })
+    }
+
+    /// A part of a capture: bytes whose records begin at the first of them, and are read as the file header says.
+    pub fn part(head: Head, bytes: &'a [u8]) -> Capture<'a>
+        ensures part { file_of result ≡ part_of head bytes.now }
+        ensures known { IsKnownLink (file_of result).link }
+    {
+        let start = 0;
+        Capture { bytes, start, head }
     }
 
     /// Where its records begin, and how many bytes are left behind them, in one pass from record to record. The index
     /// keeps four bytes a record.
     pub fn index(&self, alloc: Global) -> Result<RecordIndex, IndexError>
+        requires { length (file_of self.now).bytes < 2 ^ 32 }
+        ensures cut { let file = file_of self.now in IsOnlyCut file (parts_of file) (rest_of file) }
+        ensures index { IfOk result (λ index. IsIndexOf index (file_of self.now)) }
+        ensures few { IfOk result (λ index. (file_of self.now).start + 16 * length index.offsets + index.tail ≤ length (file_of self.now).bytes) }
+        ensures undamaged { OnOk result (damage_of (file_of self.now) ≡ None) }
+        ensures damaged { (at : ℕ) → result ≡ Err (IndexError.Damaged at) → damage_of (file_of self.now) ≡ Some at }
+    {
+        self.index_into(alloc, RecordIndex::none(alloc))
+    }
+
+    /// The same, in the memory of an index that isn't needed any more. More is taken only where it has too little.
+    pub fn index_into(&self, _alloc: Global, index: RecordIndex) -> Result<RecordIndex, IndexError>
         requires { length (file_of self.now).bytes < 2 ^ 32 }
 
         // The records are the one way to cut the file into a file header, records and a rest.
@@ -73,16 +71,16 @@ impl<'a> Capture<'a> {
 
         // The index has the place of each record, and the length of the rest.
         ensures index { IfOk result (λ index. IsIndexOf index (file_of self.now)) }
-        ensures few { IfOk result (λ index. 24 + 16 * length index.offsets + index.tail ≤ length (file_of self.now).bytes) }
+        ensures few { IfOk result (λ index. (file_of self.now).start + 16 * length index.offsets + index.tail ≤ length (file_of self.now).bytes) }
 
         // Damage is the first record header that claims too much.
         ensures undamaged { OnOk result (damage_of (file_of self.now) ≡ None) }
         ensures damaged { (at : ℕ) → result ≡ Err (IndexError.Damaged at) → damage_of (file_of self.now) ≡ Some at }
     {
-        let mut offsets: Vec<u32> = Vec::new(alloc);
-        let mut at = FILE_HEADER;
+        let mut offsets = index.cleared();
+        let mut at = self.start;
         'records: loop {
-            match front_at(self.order, self.bytes, at) {
+            match front_at(self.head.order, self.bytes, at) {
                 Front::Record(end) => {
                     if offsets.push(at as u32).is_err() {
                         return Err(IndexError::NoMemory);
@@ -108,7 +106,7 @@ impl<'a> Capture<'a> {
         ensures within { slice_index index.now.offsets n + 16 + length result.captured.now ≤ length (file_of self.now).bytes }
         ensures small { length result.captured.now ≤ most_captured }
     {
-        record_at(self.order, self.bytes, index.offset(n))
+        record_at(self.head.order, self.bytes, index.offset(n))
     }
 
     /// The link type: 1, 101 or 113.
@@ -117,7 +115,7 @@ impl<'a> Capture<'a> {
         ensures link { result ≡ (file_of self.now).link }
         ensures known { IsKnownLink result }
     {
-        self.link.number()
+        self.head.link.number()
     }
 
     /// Whether fractions of a second are nanoseconds, and not microseconds.
@@ -125,6 +123,6 @@ impl<'a> Capture<'a> {
     pub fn nanos(&self) -> bool
         ensures { result ≡ (file_of self.now).nanos }
     {
-        self.nanos
+        self.head.nanos
     }
 }

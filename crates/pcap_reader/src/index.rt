@@ -1,7 +1,10 @@
 //! Where the records of a capture begin.
 
-ghost use Rattle.std.specs.Prelude.{◌≡◌, ◌<◌, length, slice_index};
+ghost use Rattle.std.specs.Prelude.{◌≡◌, ◌<◌, [], length, slice_index, IfOk};
 
+use crate::front::RECORD_HEADER;
+use meter_io::NoMemory;
+use std::alloc::Global;
 use std::marker::Model;
 
 /// Why the records of a capture could not be found.
@@ -30,6 +33,30 @@ impl Model for RecordIndex {
 }
 
 impl RecordIndex {
+    /// An index of no records, which takes no memory yet.
+    pub fn none(alloc: Global) -> RecordIndex
+        ensures { result ≡ record { offsets = []; tail = 0 } }
+    {
+        RecordIndex::new(Vec::new(alloc), 0)
+    }
+
+    /// An index of no records, with room for all that so many bytes can have: a record has 16 bytes at least.
+    pub fn with_room(alloc: Global, bytes: usize) -> Result<RecordIndex, NoMemory>
+        ensures { IfOk result (λ index. index ≡ record { offsets = []; tail = 0 }) }
+    {
+        let offsets = Vec::with_capacity(alloc, bytes / RECORD_HEADER)?;
+        Ok(RecordIndex::new(offsets, 0))
+    }
+
+    /// The memory of the offsets, without any.
+    pub(crate) fn cleared(self) -> Vec<u32>
+        ensures { result.items ≡ [] }
+    {
+        let mut offsets = self.offsets;
+        offsets.clear();
+        offsets
+    }
+
     /// The index of these offsets and this tail.
     pub(crate) fn new(offsets: Vec<u32>, tail: u64) -> RecordIndex
         ensures offsets { result.offsets ≡ offsets.items }

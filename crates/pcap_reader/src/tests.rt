@@ -1,6 +1,9 @@
 //! File headers, cuts of a file into records, and fields in both orders.
 
+ghost use Rattle.std.specs.Prelude.{◌<◌};
+
 use super::*;
+use meter_io::{Failed, MemSource};
 use std::alloc::Global;
 use std::process::Abort;
 use std::test::Fail;
@@ -158,6 +161,78 @@ fn fields_in_either_order(rt: HostRuntime) -> Result<(), Fail> {
             assert_eq!(rt; read.original, 0x090a_0b0c);
             assert_eq!(rt; read.captured, captured.as_slice());
         }
+    }
+    Ok(())
+}
+
+/// How a window of 262,184 bytes is filled from so many bytes, and how many it then has.
+fn filled(
+    alloc: Global,
+    count: usize,
+    most: u64,
+    piece: usize,
+    fails: u64,
+) -> Result<(Result<FillEnd, Failed>, usize), Fail>
+    requires { 0 < piece }
+{
+    let bytes = vec![in alloc; 7u8; count]?;
+    let fails = [fails];
+    let mut source = MemSource::new(&bytes, piece, fails.as_slice());
+    let mut window = Window::open(alloc, 262_184)?;
+    let end = window.fill(&mut source, most);
+    Ok((end, window.bytes().len()))
+}
+
+#[test]
+fn what_ends_the_filling_of_a_window(rt: HostRuntime) -> Result<(), Fail> {
+    let table = [
+        (0, 10, 4, 0, Ok(FillEnd::Ended), 0),
+        (10, 10, 4, 0, Ok(FillEnd::Spent), 10),
+        (10, 11, 4, 0, Ok(FillEnd::Ended), 10),
+        (10, 0, 4, 0, Ok(FillEnd::Spent), 0),
+        (10, 10, 4, 2, Err(Failed), 4),
+        (262_184, 262_184, 300_000, 0, Ok(FillEnd::Spent), 262_184),
+        (262_184, 262_185, 300_000, 0, Ok(FillEnd::Full), 262_184),
+        (262_183, 262_185, 300_000, 0, Ok(FillEnd::Ended), 262_183),
+        (300_000, 300_000, 65_536, 0, Ok(FillEnd::Full), 262_184),
+        (300_000, 300_000, 65_536, 3, Err(Failed), 131_072),
+    ];
+    for (count, most, piece, fails, end, len) in table {
+        assert!(rt; piece > 0);
+        let got = filled(rt.alloc(), count, most, piece, fails)?;
+        assert_eq!(rt; got, (end, len), "{count} bytes, at most {most}");
+    }
+    Ok(())
+}
+
+#[test]
+fn two_parts_of_a_capture(rt: HostRuntime) -> Result<(), Fail> {
+    let alloc = rt.alloc();
+    let (first, second) = RECORD.split_at(7);
+    let before = joined(alloc, &[&LITTLE, &RECORD, &PACKET, first])?;
+    let behind = joined(alloc, &[second, &PACKET, b"tail"])?;
+    let all = joined(alloc, &[&before, &behind])?;
+    let mut source = MemSource::new(&all, all.len().max(1), &[]);
+    let mut window = Window::open(alloc, 262_184)?;
+    assert_eq!(rt;
+        window.fill(&mut source, before.len() as u64),
+        Ok(FillEnd::Spent)
+    );
+    let head = Head::of(window.bytes()).ok().ok_or("a file header")?;
+    assert!(rt; window.bytes().len() >= 24);
+    window.keep(24);
+    let mut index = RecordIndex::with_room(alloc, 262_184)?;
+    for (count, tail) in [(1, 7), (1, 4)] {
+        let part = Capture::part(head, window.bytes());
+        assert!(rt; window.bytes().len() < 1 << 32);
+        index = part.index_into(alloc, index).ok().ok_or("an index")?;
+        assert_eq!(rt; (index.count(), index.tail()), (count, tail));
+        assert!(rt; index.count() > 0);
+        assert_eq!(rt; part.record(&index, 0).captured, PACKET.as_slice());
+        let from = window.bytes().len() - tail as usize;
+        assert!(rt; from <= window.bytes().len());
+        window.keep(from);
+        assert!(rt; window.fill(&mut source, behind.len() as u64).is_ok());
     }
     Ok(())
 }

@@ -108,13 +108,13 @@ written-raws (linked ∷ records) =
 
 -- the capture that is written
 abbrev pub written_file : List LinkedRecord → CaptureFile
-written_file records = record { bytes = capture_of records; order = Little; nanos = true; link = 101 }
+written_file records = record { bytes = capture_of records; start = 24; order = Little; nanos = true; link = 101 }
 
 header-long : (rest : List ℕ) → nat_lt (length (file_header ++ rest)) 24 ≡ false
 header-long rest = let long = length-append file_header rest in grind (arith, nat_tests)
 
 header-reads : (rest : List ℕ) → capture_file (file_header ++ rest)
-    ≡ Some (record { bytes = file_header ++ rest; order = Little; nanos = true; link = 101 })
+    ≡ Some (record { bytes = file_header ++ rest; start = 24; order = Little; nanos = true; link = 101 })
 unfolding capture_file number
 header-reads rest = rw (header-long rest) refl
 

@@ -4,12 +4,12 @@ use Rattle.std.proofs.lemmas.Grind.{common_steps}
 use Rattle.pcap_reader.specs.Views.{file_of}
 use Rattle.pcap_reader.proofs.Cutting.{file_is_cut_once}
 use Rattle.pcap_reader.proofs.Search.{Found-record, Found-index, Found-sound, Found-damage, few_records}
-use Rattle.pcap_reader.proofs.capture.Capture.index.Goals as goal
+use Rattle.pcap_reader.proofs.capture.Capture.index_into.Goals as goal
 
 pub records-preserved : goal.records-preserved
 records-preserved c =
     let grown : c.push.new.self.items ≡ c.records.offsets.items ++ c.records.at ∷ [] = grind (arith, common_steps) in
-    rw grown (Found-record _ _ _ _ _ c.in-Record.ensures c.records.invariant)
+    rw grown (Found-record _ _ _ _ _ _ c.in-Record.ensures c.records.invariant)
 
 pub returns-in-Damage-clause-damaged : goal.returns-in-Damage-clause-damaged
 returns-in-Damage-clause-damaged c = λ at e.
