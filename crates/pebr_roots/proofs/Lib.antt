@@ -1,0 +1,4 @@
+pub mod Passing
+pub mod Scans
+pub mod Whole
+pub mod Dealing

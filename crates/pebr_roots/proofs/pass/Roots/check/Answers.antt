@@ -1,0 +1,10 @@
+use Rattle.std.proofs.Common.{sym, subst}
+use Rattle.pebr_roots.specs.Under.{AreUnder}
+use Rattle.pebr_roots.proofs.Passing.{under_checked}
+use Rattle.pebr_roots.specs.Passes.{known_by}
+use Rattle.pebr_roots.proofs.pass.Roots.check.Goals as goal
+
+pub invariant_of-pass : goal.invariant_of-pass
+invariant_of-pass g c =
+    let pass = c.args.pass.now in
+    record { slots = subst (AreUnder pass.under.items) (sym c.check.ensures.known) (under_checked pass.under.items c.check.result (known_by pass) pass.slots) }

@@ -1,0 +1,4 @@
+pub mod Under
+pub mod Ends
+pub mod Passes
+pub mod Collecting

@@ -1,0 +1,84 @@
+//! Opening: the roots, and a pass for each number.
+
+ghost use Rattle.std.specs.Prelude.{◌≡◌, ◌*◌, ◌<◌, ℕ, ◌∷◌, [], ◌++◌, length, replicate, IfOk, OnOk, All, slice_index_or};
+ghost use Rattle.pebr_core.specs.Kept.{IsWithinLimits};
+ghost use Rattle.pebr_words.specs.Opening.{rows_of};
+ghost use Rattle.pebr_words.specs.Seats.{IsOpenedSeat, AreOpened, shape_of};
+ghost use Rattle.pebr_roots.specs.Passes.{shape_at, fixed_at, IsOpenedPass, AreOpenedPasses};
+
+use crate::pass::{RootPass, Roots};
+use pebr_core::start_is_sound;
+use pebr_shields::{NoMemory, RootProtocol, Seat, Shape, Words};
+use std::alloc::Global;
+
+/// One value more.
+fn put<T: Drop>(list: &mut Vec<T>, value: T) -> Result<(), NoMemory>
+    ensures { OnOk result (list.new.items ≡ list.old.items ++ value ∷ []) }
+{
+    list.push(value)?;
+    Ok(())
+}
+
+impl<P: RootProtocol> Roots<P> {
+    /// Room for the slots under the shields of a pass.
+    fn no_slots(&self, alloc: Global) -> Result<Vec<usize>, NoMemory>
+        ensures { IfOk result (λ under. under.items ≡ replicate (shape_at self.now).shields 0) }
+    {
+        let under = Vec::from_elem(alloc, 0usize, self.words.shape().shields)?;
+        Ok(under)
+    }
+
+    /// The pass of a seat that was opened.
+    fn pass(&self, seat: Seat<P>, under: Vec<usize>, number: usize) -> RootPass<P>
+        requires opened { IsOpenedSeat self.now.words P.first number seat }
+        requires inside { number < (shape_at self.now).seats }
+        requires under { under.items ≡ replicate (shape_at self.now).shields 0 }
+        ensures { IsOpenedPass self.now P.first number result }
+    {
+        start_is_sound();
+        RootPass { seat, under }
+    }
+
+    /// A pass for each seat. The last seat is taken first, so the passes are turned round at the end.
+    fn deal(&self, alloc: Global, mut seats: Vec<Seat<P>>) -> Result<Vec<RootPass<P>>, NoMemory>
+        requires { AreOpened self.now.words P.first (shape_at self.now).seats seats.items }
+        ensures { IfOk result (λ passes. AreOpenedPasses self.now P.first passes.items) }
+    {
+        let mut passes = Vec::new(alloc);
+        for _turn in 0..seats.len() {
+            let Some(seat) = seats.pop() else {
+                return Err(NoMemory);
+            };
+            let under = self.no_slots(alloc)?;
+            let pass = self.pass(seat, under, seats.len());
+            put(&mut passes, pass)?;
+        }
+        passes.reverse();
+        Ok(passes)
+    }
+
+    /// Roots with these contents, one after another, and a pass for each number. The protocol keeps with the
+    /// first note at each pass.
+    ///
+    /// # Errors
+    ///
+    /// `NoMemory` where no memory was left.
+    pub fn open(
+        alloc: Global,
+        shape: Shape,
+        fixed: P::Fixed,
+        contents: &[u64],
+    ) -> Result<(Roots<P>, Vec<RootPass<P>>), NoMemory>
+        requires limits { IsWithinLimits shape }
+        requires long { length contents.now ≡ shape.roots * shape.width }
+        requires keeps { P.keeps fixed (rows_of shape contents.now) (replicate shape.seats P.first) }
+        requires whole { All P.whole (rows_of shape contents.now) }
+        ensures roots { IfOk result (λ r. (shape_at r.0 ≡ shape) × (fixed_at r.0 ≡ fixed)) }
+        ensures passes { IfOk result (λ r. AreOpenedPasses r.0 P.first r.1.items) }
+    {
+        let (words, seats) = Words::open(alloc, shape, fixed, contents)?;
+        let roots = Roots { words };
+        let passes = roots.deal(alloc, seats)?;
+        Ok((roots, passes))
+    }
+}
