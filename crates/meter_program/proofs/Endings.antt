@@ -1,18 +1,16 @@
 -- How a command ends, from what its parts say.
-use Rattle.std.proofs.Common.{◌≡◌, ◌≤◌, ◌^◌, ℕ, List, length, refl}
+use Rattle.std.proofs.Common.{◌^◌, ℕ, List, length}
 use Rattle.capture_tally.specs.declared.tally.Tally.{Tally}
 use Rattle.record_ledger.specs.declared.record.FlowRecord.{FlowRecord}
-use Rattle.ipfix_writer.specs.Layout.{IsLayoutOf}
 use Rattle.meter_program.specs.declared.status.Status.{Status}
-use Rattle.meter_program.specs.declared.status.Status.TheVariants.{Done, ReadFault, WriteFault, NotCapture, LinkUnknown, Damaged, TooLarge, NoMemory, Usage, NotStream}
+use Rattle.meter_program.specs.declared.status.Status.TheVariants.{Done, ReadFault, WriteFault, NotCapture, LinkUnknown, Damaged, TooLarge, NoMemory, Usage, NotStream, BadSchedule}
 use Rattle.meter_program.specs.Summary.{summary}
 use Rattle.meter_program.specs.Words.{meter}
 use Rattle.meter_io.specs.Sides.{IsRead, IsUntouched}
 use Rattle.meter_program.specs.Seen.{Seen}
 use Rattle.meter_program.specs.Metering.{IsGathered, IsWritten, WriteMeans}
 use Rattle.meter_program.specs.Outcome.{Ends, IsMetered}
-use Rattle.pcap_reader.specs.Records.{tail_of}
-use Rattle.std.proofs.Common.{ap, sym, subst}
+use Rattle.std.proofs.Common.{ap}
 
 metered : (idle active size : ℕ) (capture written : List ℕ) (records : List FlowRecord) (tally : Tally) (tail messages : ℕ)
     → IsGathered idle active capture records tally tail → IsWritten size records tally written messages
@@ -67,3 +65,4 @@ meter-ends idle active size seen bytes records tally tail (LinkUnknown link) rea
 meter-ends idle active size seen bytes records tally tail (Damaged at) read gathered wrote = absurd wrote
 meter-ends idle active size seen bytes records tally tail TooLarge read gathered wrote = absurd wrote
 meter-ends idle active size seen bytes records tally tail (NotStream fault) read gathered wrote = absurd wrote
+meter-ends idle active size seen bytes records tally tail (BadSchedule line) read gathered wrote = absurd wrote

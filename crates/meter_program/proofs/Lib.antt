@@ -1,4 +1,5 @@
 pub mod Endings
-pub mod GivenValues
 pub mod Packets
 pub mod Streams
+pub mod Places
+pub mod Causes

@@ -1,6 +1,6 @@
 -- Answers that are metered one after the other.
-use Rattle.std.proofs.Common.{◌≡◌, ◌≤◌, ◌<◌, ◌+◌, ℕ, List, [], ◌∷◌, ◌++◌, take, length, refl, sym, ap, ◌∙◌, subst, arith, append-nil, Option, Some, None, Result, Ok, Err, add-one}
-use Rattle.std.specs.Prelude.{slice_get, OnOk, IfOk, IfSome, ◌^◌, ◌*◌, All, Any, sum_by}
+use Rattle.std.proofs.Common.{◌≡◌, ◌≤◌, ◌<◌, ◌+◌, ℕ, List, [], ◌∷◌, ◌++◌, take, length, sym, ap, ◌∙◌, subst, arith, append-nil, Option, Some, None, Result, Ok, Err, add-one}
+use Rattle.std.specs.Prelude.{slice_get, OnOk, IfOk, IfSome, ◌^◌, ◌*◌, All, sum_by}
 use Rattle.std.proofs.lemmas.List.Elements.{All-cons, All-append}
 use Rattle.std.proofs.lemmas.List.Sorted.{IsPermutation-refl, IsPermutation-sym, IsPermutation-to_front}
 use Rattle.std.proofs.lemmas.List.Sums.{sum_by_push}

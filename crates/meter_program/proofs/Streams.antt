@@ -10,7 +10,7 @@ use Rattle.ipfix_writer.specs.Layout.{IsLayout, IsLayoutOf, BeginsLayout}
 use Rattle.ipfix_reader.specs.Flows.{flows_of}
 use Rattle.meter_program.specs.Gathering.{export_time}
 use Rattle.meter_program.specs.Summary.{summary}
-use Rattle.meter_io.specs.Sides.{Side, HasTaken, HasBegun, HasTakenOrFailed, HasFailed}
+use Rattle.meter_io.specs.Sides.{Side, HasTaken, HasBegun, HasFailed}
 use Rattle.meter_program.specs.Metering.{IsWritten, WroteBoth, WroteSome}
 
 -- an object took the beginning that some bytes are

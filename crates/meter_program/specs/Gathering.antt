@@ -1,5 +1,5 @@
 -- The code's own: what is known of the answers that were metered so far.
-use Rattle.std.specs.Prelude.{◌≡◌, ℕ, ◌*◌, ◌<◌, ◌≤◌, ◌^◌, ◌/◌, List, length, sum_by, All, Option, Some, None, Result, IfOk}
+use Rattle.std.specs.Prelude.{ℕ, ◌*◌, ◌<◌, ◌≤◌, ◌^◌, ◌/◌, List, length, sum_by, All, Option, Some, None, Result}
 use Rattle.packet_accept.specs.declared.packet.Packet.{Packet}
 use Rattle.packet_accept.specs.declared.ignored.Ignored.{Ignored}
 use Rattle.packet_accept.specs.Packets.{packets_in}

@@ -4,5 +4,7 @@ pub mod Summary
 pub mod Gathering
 pub mod Words
 pub mod Shows
+pub mod Replays
 pub mod Outcome
 pub mod Metering
+pub mod Replaying

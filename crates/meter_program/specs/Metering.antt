@@ -13,7 +13,7 @@ use Rattle.record_ledger.specs.Sessions.{IsSessions, IsUncut, AreRecordsOf}
 use Rattle.ipfix_writer.specs.Layout.{IsLayoutOf}
 use Rattle.ipfix_reader.specs.Flows.{flows_of}
 use Rattle.meter_program.specs.declared.status.Status.{Status}
-use Rattle.meter_program.specs.declared.status.Status.TheVariants.{Done, ReadFault, WriteFault, NotCapture, LinkUnknown, Damaged, TooLarge, NoMemory, Usage, NotStream}
+use Rattle.meter_program.specs.declared.status.Status.TheVariants.{Done, ReadFault, WriteFault, NotCapture, LinkUnknown, Damaged, TooLarge, NoMemory, Usage, NotStream, BadSchedule}
 use Rattle.meter_program.specs.Gathering.{export_time}
 use Rattle.meter_program.specs.Summary.{summary}
 use Rattle.meter_io.specs.Sides.{Side, HasTaken, HasBegun, HasTakenOrFailed, HasFailed, IsUntouched}
@@ -46,6 +46,7 @@ CaptureRefuses bytes WriteFault = ⊥
 CaptureRefuses bytes Usage = ⊥
 CaptureRefuses bytes TooLarge = ⊥
 CaptureRefuses bytes (NotStream fault) = ⊥
+CaptureRefuses bytes (BadSchedule line) = ⊥
 
 -- The bytes are the layout of the records in so many messages, and decode to them.
 pub record IsWritten (size : ℕ) (records : List FlowRecord) (tally : Tally) (bytes : List ℕ) (messages : ℕ) : Type 0 where
@@ -81,3 +82,4 @@ WriteMeans size records tally tail output notes (LinkUnknown link) = ⊥
 WriteMeans size records tally tail output notes (Damaged at) = ⊥
 WriteMeans size records tally tail output notes TooLarge = ⊥
 WriteMeans size records tally tail output notes (NotStream fault) = ⊥
+WriteMeans size records tally tail output notes (BadSchedule line) = ⊥

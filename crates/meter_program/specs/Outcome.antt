@@ -1,5 +1,5 @@
 -- What a run means, by its words and its status.
-use Rattle.std.specs.Prelude.{◌≡◌, ◌⊎◌, ◌≤◌, ◌*◌, ◌^◌, ℕ, List, length, Option, Some, None, Ok, Err, IsSomeAnd, All, codes, ⊤}
+use Rattle.std.specs.Prelude.{◌≡◌, ◌⊎◌, ◌≤◌, ◌*◌, ◌^◌, ℕ, List, length, [], Option, Some, None, Ok, Err, IsSomeAnd, All, codes, ⊤}
 use Rattle.pcap_reader.specs.File.{CaptureFile, capture_file, IsKnownLink}
 use Rattle.pcap_reader.specs.Records.{damage_of, tail_of}
 use Rattle.packet_accept.specs.declared.packet.Packet.{Packet}
@@ -15,19 +15,29 @@ use Rattle.ipfix_model.specs.declared.values.DataRecord.{DataRecord}
 use Rattle.ipfix_reader.specs.Messages.{decode}
 use Rattle.ipfix_reader.specs.Flows.{flows_of}
 use Rattle.meter_program.specs.declared.status.Status.{Status}
-use Rattle.meter_program.specs.declared.status.Status.TheVariants.{Done, ReadFault, WriteFault, NotCapture, LinkUnknown, Damaged, TooLarge, NoMemory, Usage, NotStream}
+use Rattle.meter_program.specs.declared.status.Status.TheVariants.{Done, ReadFault, WriteFault, NotCapture, LinkUnknown, Damaged, TooLarge, NoMemory, Usage, NotStream, BadSchedule}
 use Rattle.meter_program.specs.Gathering.{export_time}
 use Rattle.meter_program.specs.Shows.{text_of}
 use Rattle.meter_program.specs.Summary.{count_line, summary}
 use Rattle.meter_program.specs.Statuses.{fault_line}
 use Rattle.meter_io.specs.Sides.{Side, IsRead, IsTooLarge, IsBroken, IsWrong, IsUntouched, HasTaken, HasBegun, HasTakenOrFailed, HasFailed}
 use Rattle.meter_program.specs.Seen.{Seen}
-use Rattle.meter_program.specs.Words.{Asked, meter, show}
+use Rattle.meter_program.specs.Words.{Asked, meter, show, make, schedule}
+use Rattle.meter_program.specs.Replays.{bad_line, replay_text}
+use Rattle.capture_maker.specs.Made.{capture_of}
+use Rattle.pebr_core.specs.declared.kinds.Shape.{Shape}
+use Rattle.pebr_core.specs.declared.kinds.Step.{Step}
+use Rattle.schedule_text.specs.Grammar.{schedule_of}
 
--- The most bytes of an input: 2^30 of a capture, 2^26 of a stream.
-abbrev pub limit_of : Asked → ℕ
-limit_of (meter idle active size) = 2 ^ 30
-limit_of show = 2 ^ 26
+-- ---- what a command reads
+
+-- The input was read to its end, at most 2^30 bytes of a capture, 2^26 of a stream, 2^20 of a schedule. `make` reads
+-- nothing.
+abbrev pub HasRead : Asked → Side → List ℕ → Type 0
+HasRead (meter idle active size) input bytes = IsRead input (2 ^ 30) bytes
+HasRead show input bytes = IsRead input (2 ^ 26) bytes
+HasRead (make seed packets keys) input bytes = IsUntouched input × (bytes ≡ [])
+HasRead schedule input bytes = IsRead input (2 ^ 20) bytes
 
 -- ---- what a command writes, where it is done
 
@@ -60,26 +70,42 @@ pub record IsShown (stream written noted : List ℕ) : Type 0 where
   pub lines : written ≡ text_of records
   pub count : noted ≡ count_line (codes "records") (length records)
 
+-- What is written is the capture of the seed.
+pub record IsMade (seed packets keys : ℕ) (written noted : List ℕ) : Type 0 where
+  pub octets : written ≡ capture_of seed packets keys
+  pub count : noted ≡ count_line (codes "packets") packets
+
+-- The bytes are a schedule without a bad line. What is written is its replay.
+pub record IsReplayed (text written noted : List ℕ) : Type 0 where
+  pub shape : Shape
+  pub steps : List Step
+  pub read : schedule_of text ≡ Ok (shape, steps)
+  pub enabled : bad_line text ≡ None
+  pub lines : written ≡ replay_text shape steps
+  pub count : noted ≡ count_line (codes "steps") (length steps)
+
 -- What the command writes to the output and to the notes for this input.
 abbrev pub IsAnswer : Asked → List ℕ → List ℕ → List ℕ → Type 0
 IsAnswer (meter idle active size) input written noted = IsMetered idle active size input written noted
 IsAnswer show input written noted = IsShown input written noted
+IsAnswer (make seed packets keys) input written noted = IsMade seed packets keys written noted
+IsAnswer schedule input written noted = IsReplayed input written noted
 
--- All was done: the input was read to its end, and the output and the notes took the answer to it.
+-- All was done: the input was read, and the output and the notes took the answer to it.
 pub record IsDone (asked : Asked) (seen : Seen) : Type 0 where
   pub bytes : List ℕ
-  pub read : IsRead seen.input (limit_of asked) bytes
+  pub read : HasRead asked seen.input bytes
   pub written : List ℕ
   pub noted : List ℕ
   pub answer : IsAnswer asked bytes written noted
   pub output : HasTaken seen.output written
   pub notes : HasTaken seen.notes noted
 
--- A write failed: the input was read to its end, and the output and the notes took a beginning of the answer each, the
+-- A write failed: the input was read, and the output and the notes took a beginning of the answer each, the
 -- output all of it where none of its own calls failed.
 pub record IsCutOff (asked : Asked) (seen : Seen) : Type 0 where
   pub bytes : List ℕ
-  pub read : IsRead seen.input (limit_of asked) bytes
+  pub read : HasRead asked seen.input bytes
   pub written : List ℕ
   pub noted : List ℕ
   pub answer : IsAnswer asked bytes written noted
@@ -94,34 +120,66 @@ abbrev pub IsCaptureOf : (CaptureFile → Type 0) → List ℕ → Type 0
 IsCaptureOf kind bytes = IsSomeAnd (capture_file bytes) kind
 
 -- Why `meter` refuses with a status; never with the others.
-abbrev pub MeterRefuses : Side → ℕ → Status → Type 0
-MeterRefuses input limit ReadFault = IsBroken input limit
-MeterRefuses input limit TooLarge = IsTooLarge input limit
-MeterRefuses input limit NotCapture = IsWrong input limit (λ bytes. capture_file bytes ≡ None)
-MeterRefuses input limit (LinkUnknown link) = IsWrong input limit (IsCaptureOf (λ file. (file.link ≡ link) × ¬ IsKnownLink link))
-MeterRefuses input limit (Damaged at) = IsWrong input limit (IsCaptureOf (λ file. IsKnownLink file.link × (damage_of file ≡ Some at)))
-MeterRefuses input limit NoMemory = ⊤
-MeterRefuses input limit Done = ⊥
-MeterRefuses input limit WriteFault = ⊥
-MeterRefuses input limit Usage = ⊥
-MeterRefuses input limit (NotStream fault) = ⊥
+abbrev pub MeterRefuses : Side → Status → Type 0
+MeterRefuses input ReadFault = IsBroken input (2 ^ 30)
+MeterRefuses input TooLarge = IsTooLarge input (2 ^ 30)
+MeterRefuses input NotCapture = IsWrong input (2 ^ 30) (λ bytes. capture_file bytes ≡ None)
+MeterRefuses input (LinkUnknown link) = IsWrong input (2 ^ 30) (IsCaptureOf (λ file. (file.link ≡ link) × ¬ IsKnownLink link))
+MeterRefuses input (Damaged at) = IsWrong input (2 ^ 30) (IsCaptureOf (λ file. IsKnownLink file.link × (damage_of file ≡ Some at)))
+MeterRefuses input NoMemory = ⊤
+MeterRefuses input Done = ⊥
+MeterRefuses input WriteFault = ⊥
+MeterRefuses input Usage = ⊥
+MeterRefuses input (NotStream fault) = ⊥
+MeterRefuses input (BadSchedule line) = ⊥
 
 -- Why `show` refuses with a status; never with the others.
-abbrev pub ShowRefuses : Side → ℕ → Status → Type 0
-ShowRefuses input limit ReadFault = IsBroken input limit
-ShowRefuses input limit TooLarge = IsTooLarge input limit
-ShowRefuses input limit (NotStream fault) = IsWrong input limit (λ bytes. decode bytes ≡ Err fault)
-ShowRefuses input limit NoMemory = ⊤
-ShowRefuses input limit Done = ⊥
-ShowRefuses input limit WriteFault = ⊥
-ShowRefuses input limit Usage = ⊥
-ShowRefuses input limit NotCapture = ⊥
-ShowRefuses input limit (LinkUnknown link) = ⊥
-ShowRefuses input limit (Damaged at) = ⊥
+abbrev pub ShowRefuses : Side → Status → Type 0
+ShowRefuses input ReadFault = IsBroken input (2 ^ 26)
+ShowRefuses input TooLarge = IsTooLarge input (2 ^ 26)
+ShowRefuses input (NotStream fault) = IsWrong input (2 ^ 26) (λ bytes. decode bytes ≡ Err fault)
+ShowRefuses input NoMemory = ⊤
+ShowRefuses input Done = ⊥
+ShowRefuses input WriteFault = ⊥
+ShowRefuses input Usage = ⊥
+ShowRefuses input NotCapture = ⊥
+ShowRefuses input (LinkUnknown link) = ⊥
+ShowRefuses input (Damaged at) = ⊥
+ShowRefuses input (BadSchedule line) = ⊥
+
+-- Why `make` refuses with a status: only for want of memory. It reads nothing then either.
+abbrev pub MakeRefuses : Side → Status → Type 0
+MakeRefuses input NoMemory = IsUntouched input
+MakeRefuses input Done = ⊥
+MakeRefuses input ReadFault = ⊥
+MakeRefuses input WriteFault = ⊥
+MakeRefuses input Usage = ⊥
+MakeRefuses input NotCapture = ⊥
+MakeRefuses input (LinkUnknown link) = ⊥
+MakeRefuses input (Damaged at) = ⊥
+MakeRefuses input TooLarge = ⊥
+MakeRefuses input (NotStream fault) = ⊥
+MakeRefuses input (BadSchedule line) = ⊥
+
+-- Why `schedule` refuses with a status; never with the others.
+abbrev pub ScheduleRefuses : Side → Status → Type 0
+ScheduleRefuses input ReadFault = IsBroken input (2 ^ 20)
+ScheduleRefuses input TooLarge = IsTooLarge input (2 ^ 20)
+ScheduleRefuses input (BadSchedule line) = IsWrong input (2 ^ 20) (λ bytes. bad_line bytes ≡ Some line)
+ScheduleRefuses input NoMemory = ⊤
+ScheduleRefuses input Done = ⊥
+ScheduleRefuses input WriteFault = ⊥
+ScheduleRefuses input Usage = ⊥
+ScheduleRefuses input NotCapture = ⊥
+ScheduleRefuses input (LinkUnknown link) = ⊥
+ScheduleRefuses input (Damaged at) = ⊥
+ScheduleRefuses input (NotStream fault) = ⊥
 
 abbrev pub Refuses : Asked → Side → Status → Type 0
-Refuses (meter idle active size) input status = MeterRefuses input (limit_of (meter idle active size)) status
-Refuses show input status = ShowRefuses input (limit_of show) status
+Refuses (meter idle active size) input status = MeterRefuses input status
+Refuses show input status = ShowRefuses input status
+Refuses (make seed packets keys) input status = MakeRefuses input status
+Refuses schedule input status = ScheduleRefuses input status
 
 -- The command refused: it has a cause, nothing was written, and the notes tell it so.
 pub record IsRefused (asked : Asked) (seen : Seen) (told : Type 0) (status : Status) : Type 0 where
@@ -141,12 +199,14 @@ Ends asked seen told (Damaged at) = IsRefused asked seen told (Damaged at)
 Ends asked seen told TooLarge = IsRefused asked seen told TooLarge
 Ends asked seen told NoMemory = IsRefused asked seen told NoMemory
 Ends asked seen told (NotStream fault) = IsRefused asked seen told (NotStream fault)
+Ends asked seen told (BadSchedule line) = IsRefused asked seen told (BadSchedule line)
 
 -- ---- a run
 
--- The words ask for nothing: nothing is read, nothing is written, and the notes say so.
+-- The words ask for nothing, or memory was out before they were read: nothing is read, nothing is written, and the notes
+-- say so.
 pub record IsUsage (seen : Seen) (status : Status) : Type 0 where
-  pub usage : status ≡ Usage
+  pub usage : (status ≡ Usage) ⊎ (status ≡ NoMemory)
   pub input : IsUntouched seen.input
   pub output : IsUntouched seen.output
   pub notes : HasTakenOrFailed seen.notes (fault_line status)
@@ -158,11 +218,14 @@ RunMeans (Some asked) seen status = Ends asked seen (HasTakenOrFailed seen.notes
 
 -- ---- when a run is done
 
--- The input is one that the command takes.
-abbrev pub IsValid : Asked → List ℕ → Type 0
-IsValid (meter idle active size) bytes =
-    (length bytes ≤ 2 ^ 30) × IsCaptureOf (λ file. IsKnownLink file.link × (damage_of file ≡ None)) bytes
-IsValid show bytes = (length bytes ≤ 2 ^ 26) × (records : List DataRecord) × (decode bytes ≡ Ok records)
+-- The input is one that the command takes; `make` takes any.
+abbrev pub IsValid : Asked → Side → Type 0
+IsValid (meter idle active size) input =
+    (bytes : List ℕ) × (input.before ≡ Some bytes) × (length bytes ≤ 2 ^ 30) × IsCaptureOf (λ file. IsKnownLink file.link × (damage_of file ≡ None)) bytes
+IsValid show input =
+    (bytes : List ℕ) × (input.before ≡ Some bytes) × (length bytes ≤ 2 ^ 26) × (records : List DataRecord) × (decode bytes ≡ Ok records)
+IsValid (make seed packets keys) input = ⊤
+IsValid schedule input = (bytes : List ℕ) × (input.before ≡ Some bytes) × (length bytes ≤ 2 ^ 20) × (bad_line bytes ≡ None)
 
 -- No call of an object failed.
 pub record IsQuiet (seen : Seen) : Type 0 where
@@ -173,5 +236,4 @@ pub record IsQuiet (seen : Seen) : Type 0 where
 -- For a command and an input that it takes, where no call failed, the run is done, or memory is out.
 abbrev pub IsComplete : Option Asked → Seen → Status → Type 0
 IsComplete words seen status =
-    (asked : Asked) (bytes : List ℕ) → words ≡ Some asked → seen.input.before ≡ Some bytes → IsValid asked bytes
-    → IsQuiet seen → (status ≡ Done) ⊎ (status ≡ NoMemory)
+    (asked : Asked) → words ≡ Some asked → IsValid asked seen.input → IsQuiet seen → (status ≡ Done) ⊎ (status ≡ NoMemory)

@@ -1,5 +1,5 @@
 -- Data records as text: a line for each, with its template and then its fields.
-use Rattle.std.specs.Prelude.{ℕ, Bool, ◌==◌, ◌&&◌, nat_le, if◌then◌else◌, List, [], ◌∷◌, ◌++◌, length, map, flat_map, Option, Some, None, is_none, codes, decimal}
+use Rattle.std.specs.Prelude.{ℕ, ◌==◌, ◌&&◌, nat_le, if◌then◌else◌, List, ◌++◌, length, map, flat_map, Option, Some, None, is_none, codes, decimal}
 use Rattle.octets.specs.Numbers.{number_at}
 use Rattle.hex.specs.Hex.{encode_lower}
 use Rattle.std.specs.List.{join_with_byte}

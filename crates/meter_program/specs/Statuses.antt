@@ -3,7 +3,7 @@ use Rattle.std.specs.Prelude.{ℕ, Bool, true, false, List, [], ◌++◌, codes,
 use Rattle.ipfix_reader.specs.declared.fault.StreamFault.{StreamFault}
 use Rattle.ipfix_reader.specs.declared.fault.StreamFault.TheVariants.{Cut, BadVersion, BadLength, NoTemplate, BadTemplate, BadPadding, BadSequence, Withdrawal}
 use Rattle.meter_program.specs.declared.status.Status.{Status}
-use Rattle.meter_program.specs.declared.status.Status.TheVariants.{Done, ReadFault, Usage, WriteFault, NotCapture, LinkUnknown, Damaged, TooLarge, NoMemory, NotStream}
+use Rattle.meter_program.specs.declared.status.Status.TheVariants.{Done, ReadFault, Usage, WriteFault, NotCapture, LinkUnknown, Damaged, TooLarge, NoMemory, NotStream, BadSchedule}
 
 -- The exit status.
 abbrev pub exit_status : Status → ℕ
@@ -17,6 +17,7 @@ exit_status (Damaged at) = 6
 exit_status TooLarge = 7
 exit_status NoMemory = 8
 exit_status (NotStream fault) = 9
+exit_status (BadSchedule line) = 10
 
 -- Whether nothing was done: all statuses but that of a run that is done, and of one whose write failed.
 abbrev pub is_refusal : Status → Bool
@@ -30,6 +31,7 @@ is_refusal (Damaged at) = true
 is_refusal TooLarge = true
 is_refusal NoMemory = true
 is_refusal (NotStream fault) = true
+is_refusal (BadSchedule line) = true
 
 -- A fault of a stream: its kind and its offset.
 abbrev pub stream_fault_text : StreamFault → List ℕ
@@ -54,6 +56,7 @@ fault_text (Damaged at) = codes "damaged at " ++ decimal at
 fault_text TooLarge = codes "too large"
 fault_text NoMemory = codes "no memory"
 fault_text (NotStream fault) = codes "not a stream: " ++ stream_fault_text fault
+fault_text (BadSchedule line) = codes "bad schedule line " ++ decimal line
 
 -- The line of a status in the notes.
 abbrev pub fault_line : Status → List ℕ

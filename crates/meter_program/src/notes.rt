@@ -150,6 +150,7 @@ fn append_fault(text: &mut Text, status: &Status)
             text.push_str("not a stream: ");
             append_stream_fault(text, fault);
         }
+        Status::BadSchedule(line) => append_numbered(text, "bad schedule line ", *line),
     }
 }
 

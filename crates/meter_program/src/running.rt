@@ -1,6 +1,6 @@
 //! The top call.
 
-ghost use Rattle.std.specs.Prelude.{◌≡◌, ◌↔◌, ◌⊎◌, None, map};
+ghost use Rattle.std.specs.Prelude.{◌≡◌, ◌⊎◌, None, map};
 ghost use Rattle.std.specs.String.{string_bytes};
 ghost use Rattle.meter_io.specs.Causes.{Rose};
 ghost use Rattle.meter_program.specs.Outcome.{RunMeans, IsComplete, Ends};
@@ -8,11 +8,14 @@ ghost use Rattle.meter_io.specs.Sides.{IsUntouched, side};
 ghost use Rattle.meter_program.specs.Seen.{seen_of};
 ghost use Rattle.meter_program.specs.Words.{asked_by, asked};
 
+use crate::make::make;
 use crate::meter::meter;
 use crate::notes::fault_line;
+use crate::schedule::schedule;
 use crate::show::show;
 use crate::status::Status;
 use crate::words::{Command, command_of};
+use command_words::OptionsError;
 use meter_io::{Sink, Source};
 use std::alloc::Global;
 use std::thread::Threads;
@@ -32,6 +35,8 @@ fn command<S: Source, K: Sink, N: Sink>(
     match command {
         Command::Meter(settings) => meter(alloc, settings, input, output, notes),
         Command::Show => show(alloc, input, output, notes),
+        Command::Make(settings) => make(alloc, settings, output, notes),
+        Command::Schedule => schedule(alloc, input, output, notes),
     }
 }
 
@@ -41,6 +46,8 @@ fn command<S: Source, K: Sink, N: Sink>(
 /// |---|---|---|---|
 /// | `meter` | a capture, at most 2^30 bytes | the stream of its flow records | the summary, eleven lines |
 /// | `show` | a stream, at most 2^26 bytes | a line for each data record | how many records |
+/// | `make` | nothing | the capture of a seed | how many packets |
+/// | `schedule` | a schedule, at most 2^20 bytes | its replay | how many steps |
 ///
 /// The input is read to its end before anything is written. At a refusal, any status but `Done` and `WriteFault`,
 /// nothing is written to `output`, and one line that names the refusal goes to `notes`; where that write fails, the
@@ -54,6 +61,8 @@ fn command<S: Source, K: Sink, N: Sink>(
 /// - `NotCapture`, `LinkUnknown`, `Damaged`: `meter`, exactly where the bytes read are no capture, have another link
 ///   type than 1, 101 and 113, or a record that claims too much.
 /// - `NotStream`: `show`, exactly where the bytes read have that fault.
+/// - `BadSchedule`: `schedule`, exactly where the text read is out of the grammar, with the first such line, or is in it and
+///   a step isn't enabled, with the line of the first.
 /// - `TooLarge`: exactly where more bytes came than the command's limit.
 /// - `NoMemory`: out of memory, at any point before the first write.
 pub fn run<R: Threads, S: Source, K: Sink, N: Sink>(
@@ -64,7 +73,8 @@ pub fn run<R: Threads, S: Source, K: Sink, N: Sink>(
     output: &mut K,
     notes: &mut N,
 ) -> Status
-    ensures usage { (result ≡ Status.Usage) ↔ (asked_by (map string_bytes words.now) ≡ None) }
+    ensures usage { result ≡ Status.Usage → asked_by (map string_bytes words.now) ≡ None }
+    ensures nothing { asked_by (map string_bytes words.now) ≡ None → (result ≡ Status.Usage) ⊎ (result ≡ Status.NoMemory) }
     ensures means { RunMeans (asked_by (map string_bytes words.now)) (seen_of (side S.left S.faults input.old input.new)
         (side K.held K.faults output.old output.new) (side N.held N.faults notes.old notes.new)) result }
     ensures complete { IsComplete (asked_by (map string_bytes words.now)) (seen_of (side S.left S.faults input.old input.new)
@@ -73,9 +83,10 @@ pub fn run<R: Threads, S: Source, K: Sink, N: Sink>(
     ensures write_fault { result ≡ Status.WriteFault
         → Rose (K.faults output.old) (K.faults output.new) ⊎ Rose (N.faults notes.old) (N.faults notes.new) }
 {
-    let status = match command_of(words) {
-        None => Status::Usage,
-        Some(asked) => command(alloc, &asked, input, output, notes),
+    let status = match command_of(alloc, words) {
+        Err(OptionsError::NotOptions) => Status::Usage,
+        Err(OptionsError::NoMemory) => Status::NoMemory,
+        Ok(asked) => command(alloc, &asked, input, output, notes),
     };
     if status.is_refusal() {
         // A refusal stays what it is where its line can't be written.

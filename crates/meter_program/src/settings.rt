@@ -1,4 +1,4 @@
-//! The settings of the meter.
+//! The settings of commands.
 
 ghost use Rattle.std.specs.Prelude.{◌≤◌};
 
@@ -14,4 +14,17 @@ pub struct Settings {
     pub ghost idle_bounds: { (1 ≤ idle) × (idle ≤ 86400) },
     pub ghost active_bounds: { (1 ≤ active) × (active ≤ 86400) },
     pub ghost size_bounds: { (116 ≤ size) × (size ≤ 65535) },
+}
+
+/// The settings of the command `make`.
+#[derive(Clone, Copy, Debug, PartialEq, Eq)]
+pub struct Making {
+    /// The seed of the capture.
+    pub seed: u64,
+    /// How many packets it has, from 1 to 1,000,000.
+    pub packets: u32,
+    /// How many keys they may have, from 1 to 4096.
+    pub keys: u16,
+    pub ghost packets_bounds: { (1 ≤ packets) × (packets ≤ 1000000) },
+    pub ghost keys_bounds: { (1 ≤ keys) × (keys ≤ 4096) },
 }

@@ -6,11 +6,11 @@ ghost use Rattle.meter_io.specs.Sides.{IsUntouched, side};
 ghost use Rattle.meter_program.specs.Seen.{seen_of};
 ghost use Rattle.meter_program.specs.Words.{show};
 
+use crate::ending::write_and_count;
 use crate::lines::shows;
-use crate::notes::count;
 use crate::status::Status;
 use ipfix_reader::{StreamError, read_stream};
-use meter_io::{Failed, ReadError, Sink, Source, read_all, write_all};
+use meter_io::{Failed, ReadError, Sink, Source, read_all};
 use std::alloc::Global;
 
 /// The most bytes of a stream.
@@ -42,11 +42,13 @@ pub fn show<S: Source, K: Sink, N: Sink>(
     let Ok(text) = shows(alloc, records.as_slice()) else {
         return Status::NoMemory;
     };
-    match write_all(output, text.as_slice()) {
-        Ok(()) => {}
-        Err(Failed) => return Status::WriteFault,
-    }
-    match count(notes, "records", records.len() as u64) {
+    match write_and_count(
+        output,
+        notes,
+        text.as_slice(),
+        "records",
+        records.len() as u64,
+    ) {
         Ok(()) => Status::Done,
         Err(Failed) => Status::WriteFault,
     }

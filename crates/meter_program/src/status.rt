@@ -30,6 +30,8 @@ pub enum Status {
     NoMemory,
     /// The stream has this fault.
     NotStream(StreamFault),
+    /// This line is the first bad one of the schedule, counted from 1.
+    BadSchedule(u64),
 }
 
 impl From<NoMemory> for Status {
@@ -63,6 +65,7 @@ impl Status {
             Status::TooLarge => 7,
             Status::NoMemory => 8,
             Status::NotStream(_) => 9,
+            Status::BadSchedule(_) => 10,
         }
     }
 }

@@ -1,14 +1,15 @@
 //! Whole runs: captures and streams octet by octet, what is written of them, and what is noted.
 
 use crate::{Status, run};
-use hex::decode;
 use meter_io::{MemSink, MemSource};
+use samples::octets_of;
 use std::alloc::Global;
 use std::test::Fail;
 use std::thread::Threads;
 
 mod captures;
 mod faults;
+mod schedules;
 mod streams;
 
 /// A capture's header: little-endian, microseconds, Ethernet.
@@ -33,22 +34,9 @@ const TWO_PACKETS_RECORD: &str =
     "000a0044 000003e9 00000000 00000001 0100 0034 c0000201 c0000202 0fa0 0035 11 0000 \
     0000000000000002 0000000000000038 00000000000f4240 00000000000f4628 04";
 
-/// The bytes that hexadecimal digits in several pieces stand for; spaces are skipped.
-fn bytes_of(alloc: Global, pieces: &[&str]) -> Result<Vec<u8>, Fail> {
-    let mut digits = Vec::new(alloc);
-    for piece in pieces {
-        for byte in piece.as_bytes() {
-            if *byte != b' ' {
-                digits.push(*byte)?;
-            }
-        }
-    }
-    decode(alloc, digits.as_slice()).map_err(|_| Fail::from("no hexadecimal digits"))
-}
-
 /// A capture of two such frames a second apart.
 fn two_packets(alloc: Global) -> Result<Vec<u8>, Fail> {
-    bytes_of(alloc, &[HEADER, AT_1000, FRAME, AT_1001, FRAME])
+    octets_of(alloc, &[HEADER, AT_1000, FRAME, AT_1001, FRAME])
 }
 
 /// The words of a command line.

@@ -1,12 +1,13 @@
-//! The words of a command line, read by hand.
+//! The words of a command line: the name of a command and its options.
 
-ghost use Rattle.std.specs.Prelude.{◌≡◌, ℕ, List, Some, ◌≤◌, ◌+◌, ◌∷◌, [], map, length, option_map, option_and_then, IfSome, codes};
-ghost use Rattle.std.specs.List.{list_any};
-ghost use Rattle.std.specs.Str.{bytes_eq};
+ghost use Rattle.std.specs.Prelude.{◌≡◌, [], None, Some, map, IfOk, IfErr};
 ghost use Rattle.std.specs.String.{string_bytes};
-ghost use Rattle.meter_program.specs.Words.{number_of, within, are_options, values_of, setting_by, meter_by, asked_by, asked, meter, setting_after};
+ghost use Rattle.command_words.specs.Options.{values_of};
+ghost use Rattle.meter_program.specs.Words.{meter_options, make_options, meter_with, make_with, asked_with, asked_by, asked, meter, make};
 
-use crate::settings::Settings;
+use crate::settings::{Making, Settings};
+use command_words::{OptionRule, OptionsError, values_of};
+use std::alloc::Global;
 
 #[cfg(test)]
 mod tests;
@@ -18,130 +19,150 @@ pub enum Command {
     Meter(Settings),
     /// Reads a stream of flows and writes it as text.
     Show,
+    /// Writes a made capture.
+    Make(Making),
+    /// Reads a schedule and writes its replay.
+    Schedule,
 }
 
-/// The names of the options of `meter`.
-const IDLE: &str = "--idle";
+/// The options of `meter`.
+static METER: [OptionRule<'static>; 6] = [
+    OptionRule {
+        name: "idle",
+        low: 1,
+        high: 86_400,
+        default: Some(300),
+    },
+    OptionRule {
+        name: "active",
+        low: 1,
+        high: 86_400,
+        default: Some(1800),
+    },
+    OptionRule {
+        name: "workers",
+        low: 1,
+        high: 64,
+        default: Some(1),
+    },
+    OptionRule {
+        name: "sets",
+        low: 1,
+        high: 65_536,
+        default: Some(4096),
+    },
+    OptionRule {
+        name: "piece",
+        low: 1,
+        high: 65_536,
+        default: Some(256),
+    },
+    OptionRule {
+        name: "size",
+        low: 116,
+        high: 65_535,
+        default: Some(1400),
+    },
+];
 
-const ACTIVE: &str = "--active";
+/// The options of `make`.
+static MAKE: [OptionRule<'static>; 3] = [
+    OptionRule {
+        name: "seed",
+        low: 0,
+        high: u64::MAX,
+        default: None,
+    },
+    OptionRule {
+        name: "packets",
+        low: 1,
+        high: 1_000_000,
+        default: None,
+    },
+    OptionRule {
+        name: "keys",
+        low: 1,
+        high: 4096,
+        default: Some(64),
+    },
+];
 
-const SIZE: &str = "--size";
+/// The options of `show` and of `schedule`.
+static NONE: [OptionRule<'static>; 0] = [];
 
-/// The number that one to twenty decimal digits write.
-fn number(word: &str) -> Option<u128>
-    ensures { result ≡ number_of word.now }
+/// The settings that the options of `meter` give. How many workers, sets and records of a piece there are is read, and
+/// changes nothing yet.
+fn settings(alloc: Global, options: &[String]) -> Result<Settings, OptionsError>
+    ensures settings { IfOk result (λ s. asked_with meter_options meter_with (map string_bytes options.now) ≡ Some (meter s.idle s.active s.size)) }
+    ensures refused { IfErr result (λ error. error ≡ OptionsError.NotOptions → asked_with meter_options meter_with (map string_bytes options.now) ≡ None) }
 {
-    let digits = word.as_bytes();
-    if digits.is_empty() || digits.len() > 20 {
-        return None;
-    }
-    let mut number: u128 = 0;
-    for digit in digits {
-        if !digit.is_ascii_digit() {
-            return None;
-        }
-        number = number * 10 + (*digit - b'0') as u128;
-    }
-    Some(number)
+    let values = match values_of(alloc, METER.as_slice(), options) {
+        Ok(values) => values,
+        Err(error) => return Err(error),
+    };
+    let [idle, active, _workers, _sets, _piece, size] = values.as_slice() else {
+        unreachable!()
+    };
+    Ok(Settings {
+        idle: *idle as u32,
+        active: *active as u32,
+        size: *size as u32,
+    })
 }
 
-/// The number that a word writes, where it is from `low` to `high`.
-fn number_within(word: &str, low: u32, high: u32) -> Option<u32>
-    ensures { result ≡ option_and_then (within low high) (number_of word.now) }
+/// The settings that the options of `make` give.
+fn making(alloc: Global, options: &[String]) -> Result<Making, OptionsError>
+    ensures settings { IfOk result (λ s. asked_with make_options make_with (map string_bytes options.now) ≡ Some (make s.seed s.packets s.keys)) }
+    ensures refused { IfErr result (λ error. error ≡ OptionsError.NotOptions → asked_with make_options make_with (map string_bytes options.now) ≡ None) }
 {
-    let number = number(word)?;
-    if low as u128 <= number && number <= high as u128 {
-        Some(number as u32)
-    } else {
-        None
-    }
+    let values = values_of(alloc, MAKE.as_slice(), options)?;
+    let [seed, packets, keys] = values.as_slice() else {
+        unreachable!()
+    };
+    Ok(Making {
+        seed: *seed,
+        packets: *packets as u32,
+        keys: *keys as u16,
+    })
 }
 
-/// Whether a word is the name of an option of `meter`.
-fn is_option(word: &str) -> bool
-    ensures { result ≡ list_any (bytes_eq word.now) (codes "--idle" ∷ codes "--active" ∷ codes "--size" ∷ []) }
+/// Reads the words of a command without options.
+fn nothing(alloc: Global, options: &[String]) -> Result<(), OptionsError>
+    ensures none { IfOk result (λ _. values_of [] (map string_bytes options.now) ≡ Some []) }
+    ensures refused { IfErr result (λ error. error ≡ OptionsError.NotOptions → values_of [] (map string_bytes options.now) ≡ None) }
 {
-    word == IDLE || word == ACTIVE || word == SIZE
+    let _values = values_of(alloc, NONE.as_slice(), options)?;
+    Ok(())
 }
 
-/// Whether words are pairs of the name of an option and a value.
-fn are_pairs(words: &[String]) -> bool
-    ensures { result ≡ are_options (codes "--idle" ∷ codes "--active" ∷ codes "--size" ∷ []) (map string_bytes words.now) }
-{
-    let mut rest = words;
-    while let [name, _, more @ ..] = rest {
-        if !is_option(name.as_str()) {
-            return false;
-        }
-        rest = more;
-    }
-    rest.is_empty()
-}
-
-/// The number of one more value of an option; none where there was one already, or where it is out of range.
-fn only_number(given: Option<u32>, value: &str, low: u32, high: u32) -> Option<u32>
-    ensures value { (default : ℕ) → (values : List (List ℕ)) →
-        setting_after default low high given (value.now ∷ values)
-        ≡ option_and_then (λ number. setting_after default low high (Some number) values) result }
-    ensures low { IfSome result (λ number. low ≤ number) }
-    ensures high { IfSome result (λ number. number ≤ high) }
-{
-    match given {
-        Some(_) => None,
-        None => number_within(value, low, high),
-    }
-}
-
-/// The setting of this name among options: the number of its one value, or the default.
-fn setting(options: &[String], name: &str, default: u32, low: u32, high: u32) -> Option<u32>
-    requires low { low ≤ default }
-    requires high { default ≤ high }
-    ensures value { result ≡ setting_by default low high (values_of name.now (map string_bytes options.now)) }
-    ensures low { IfSome result (λ number. low ≤ number) }
-    ensures high { IfSome result (λ number. number ≤ high) }
-{
-    let mut given: Option<u32> = None;
-    let mut rest = options;
-    while let [option, value, more @ ..] = rest {
-        if option.as_str() == name {
-            match only_number(given, value.as_str(), low, high) {
-                Some(number) => given = Some(number),
-                None => return None,
-            }
-        }
-        rest = more;
-    }
-    Some(given.unwrap_or(default))
-}
-
-/// The settings that the options of `meter` give.
-fn settings(options: &[String]) -> Option<Settings>
-    ensures { option_map (λ s. meter s.idle s.active s.size) result ≡ meter_by (map string_bytes options.now) }
-{
-    if !are_pairs(options) {
-        return None;
-    }
-    let idle = setting(options, IDLE, 300, 1, 86_400)?;
-    let active = setting(options, ACTIVE, 1800, 1, 86_400)?;
-    let size = setting(options, SIZE, 1400, 116, 65_535)?;
-    Some(Settings { idle, active, size })
-}
-
-/// The command that the words behind the program's name ask for; none where they are no command line.
+/// The command that the words behind the program's name ask for.
 ///
-/// The first word is `meter` or `show`. `meter` takes the options `--idle` and `--active`, in seconds from 1 to 86,400,
-/// by default 300 and 1800, and `--size`, in octets from 116 to 65,535, by default 1400; each at most once, in any
-/// order, as its name and then its value, a word of one to twenty decimal digits. `show` takes none.
-pub fn command_of(words: &[String]) -> Option<Command>
-    ensures { option_map asked result ≡ asked_by (map string_bytes words.now) }
+/// | First word | Options: name, least and greatest value, default |
+/// |---|---|
+/// | `meter` | `idle` 1 to 86,400 seconds, 300; `active` 1 to 86,400 seconds, 1800; `workers` 1 to 64, 1; `sets` 1 to 65,536, 4096; `piece` 1 to 65,536 records, 256; `size` 116 to 65,535 octets, 1400 |
+/// | `make` | `seed` 0 to 2^64 - 1, must be given; `packets` 1 to 1,000,000, must be given; `keys` 1 to 4096, 64 |
+/// | `show`, `schedule` | none |
+///
+/// - `NotOptions`: exactly where the words are no such command line.
+/// - `NoMemory`: out of memory.
+pub fn command_of(alloc: Global, words: &[String]) -> Result<Command, OptionsError>
+    ensures command { IfOk result (λ command. asked_by (map string_bytes words.now) ≡ Some (asked command)) }
+    ensures refused { IfErr result (λ error. error ≡ OptionsError.NotOptions → asked_by (map string_bytes words.now) ≡ None) }
 {
-    let (name, options) = words.split_first()?;
+    let Some((name, options)) = words.split_first() else {
+        return Err(OptionsError::NotOptions);
+    };
     if name.as_str() == "meter" {
-        let settings = settings(options)?;
-        Some(Command::Meter(settings))
-    } else if name.as_str() == "show" && options.is_empty() {
-        Some(Command::Show)
+        Ok(Command::Meter(settings(alloc, options)?))
+    } else if name.as_str() == "show" {
+        nothing(alloc, options)?;
+        Ok(Command::Show)
+    } else if name.as_str() == "make" {
+        Ok(Command::Make(making(alloc, options)?))
+    } else if name.as_str() == "schedule" {
+        nothing(alloc, options)?;
+        Ok(Command::Schedule)
     } else {
-        None
+        Err(OptionsError::NotOptions)
     }
 }

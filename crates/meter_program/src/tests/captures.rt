@@ -1,23 +1,21 @@
 //! The command `meter` on captures.
 
-use super::{
-    AT_1000, AT_1001, FRAME, HEADER, Ran, TEMPLATES, TWO_PACKETS_RECORD, bytes_of, run_over,
-    two_packets,
-};
+use super::{AT_1000, AT_1001, FRAME, HEADER, TEMPLATES, TWO_PACKETS_RECORD, run_over};
 use crate::Status;
+use samples::octets_of;
 use std::alloc::Global;
 use std::test::Fail;
 use std::thread::Threads;
 
 /// A capture of UDP packets, each with its second, its microsecond and its source port.
 fn capture_of(alloc: Global, packets: &[(u32, u32, u16)]) -> Result<Vec<u8>, Fail> {
-    let mut capture = bytes_of(alloc, &[HEADER])?;
-    let lengths = bytes_of(alloc, &["2a000000 2a000000"])?;
-    let before = bytes_of(
+    let mut capture = octets_of(alloc, &[HEADER])?;
+    let lengths = octets_of(alloc, &["2a000000 2a000000"])?;
+    let before = octets_of(
         alloc,
         &["020000000002 020000000001 0800 4500001c 00000000 40110000 c0000201 c0000202"],
     )?;
-    let behind = bytes_of(alloc, &["0035 0008 0000"])?;
+    let behind = octets_of(alloc, &["0035 0008 0000"])?;
     for (second, microsecond, port) in packets {
         capture.extend_from_slice(second.to_le_bytes().as_slice())?;
         capture.extend_from_slice(microsecond.to_le_bytes().as_slice())?;
@@ -46,21 +44,21 @@ type Sent = (u32, u8, &'static str, &'static str, u16, u16);
 /// A capture of such packets, each with 40 octets of its headers, at a second and some milliseconds; a side is an
 /// address and a port in hexadecimal.
 fn exchange_of(alloc: Global, second: u32, packets: &[Sent]) -> Result<Vec<u8>, Fail> {
-    let mut capture = bytes_of(alloc, &[HEADER])?;
+    let mut capture = octets_of(alloc, &[HEADER])?;
     for (ms, protocol, source, destination, octets, flags) in packets {
         let (second, ms) = (second.saturating_add(*ms / 1000), *ms % 1000);
         capture.extend_from_slice(second.to_le_bytes().as_slice())?;
         capture.extend_from_slice((ms * 1000).to_le_bytes().as_slice())?;
         capture.extend_from_slice(54u32.to_le_bytes().as_slice())?;
         capture.extend_from_slice((14 + *octets as u32).to_le_bytes().as_slice())?;
-        capture.extend_from_slice(bytes_of(
+        capture.extend_from_slice(octets_of(
             alloc,
             &["020000000002 020000000001 0800 4500"],
         )?.as_slice())?;
         capture.extend_from_slice(octets.to_be_bytes().as_slice())?;
         capture.extend_from_slice(&[0, 0, 0, 0, 64, *protocol, 0, 0])?;
-        let source = bytes_of(alloc, &[source])?;
-        let destination = bytes_of(alloc, &[destination])?;
+        let source = octets_of(alloc, &[source])?;
+        let destination = octets_of(alloc, &[destination])?;
         capture.extend_from_slice(source.as_slice().get(..4).unwrap_or(&[]))?;
         capture.extend_from_slice(destination.as_slice().get(..4).unwrap_or(&[]))?;
         capture.extend_from_slice(source.as_slice().get(4..).unwrap_or(&[]))?;
@@ -81,70 +79,72 @@ const ASKING: &str = "0a000005 c350";
 
 const RESOLVER: &str = "0a000001 0035";
 
+/// Captures with ends of flows: a name, the second of the packets, the packets, and what `show` says of the records.
+static ENDS: [(&str, u32, &[Sent], &str); 5] = [
+    (
+        "a packet behind the end",
+        0,
+        &[
+            (1000, 6, CLIENT, SERVER, 40, 0x002),
+            (2000, 6, CLIENT, SERVER, 40, 0x011),
+            (3000, 6, CLIENT, SERVER, 40, 0x010),
+        ],
+        "256 8=10.0.0.5 12=198.51.100.7 7=40000 11=80 4=6 6=19 2=2 1=80 152=1000 153=2000 136=3\n\
+        256 8=10.0.0.5 12=198.51.100.7 7=40000 11=80 4=6 6=16 2=1 1=40 152=3000 153=3000 136=4\n",
+    ),
+    (
+        "the end first in the file",
+        0,
+        &[
+            (2000, 6, CLIENT, SERVER, 40, 0x011),
+            (1000, 6, CLIENT, SERVER, 40, 0x010),
+        ],
+        "256 8=10.0.0.5 12=198.51.100.7 7=40000 11=80 4=6 6=17 2=2 1=80 152=1000 153=2000 136=3\n",
+    ),
+    (
+        "a reset",
+        0,
+        &[
+            (1000, 6, CLIENT, SERVER, 40, 0x004),
+            (2000, 6, CLIENT, SERVER, 40, 0x010),
+        ],
+        "256 8=10.0.0.5 12=198.51.100.7 7=40000 11=80 4=6 6=4 2=1 1=40 152=1000 153=1000 136=3\n\
+        256 8=10.0.0.5 12=198.51.100.7 7=40000 11=80 4=6 6=16 2=1 1=40 152=2000 153=2000 136=4\n",
+    ),
+    (
+        "the same bits on UDP",
+        0,
+        &[
+            (1000, 17, CLIENT, SERVER, 40, 0x005),
+            (2000, 17, CLIENT, SERVER, 40, 0x010),
+        ],
+        "256 8=10.0.0.5 12=198.51.100.7 7=40000 11=80 4=17 6=0 2=2 1=80 152=1000 153=2000 136=4\n",
+    ),
+    (
+        "a web exchange",
+        1_700_000_000,
+        &[
+            (10, 17, ASKING, RESOLVER, 60, 0),
+            (25, 17, RESOLVER, ASKING, 76, 0),
+            (30, 6, CLIENT, SERVER, 60, 0x002),
+            (50, 6, SERVER, CLIENT, 60, 0x012),
+            (51, 6, CLIENT, SERVER, 52, 0x010),
+            (52, 6, CLIENT, SERVER, 152, 0x018),
+            (72, 6, SERVER, CLIENT, 52, 0x010),
+            (80, 6, SERVER, CLIENT, 1500, 0x018),
+            (90, 6, CLIENT, SERVER, 40, 0x004),
+        ],
+        "256 8=10.0.0.5 12=10.0.0.1 7=50000 11=53 4=17 6=0 2=1 1=60 152=1700000000010 153=1700000000010 136=4\n\
+        256 8=10.0.0.1 12=10.0.0.5 7=53 11=50000 4=17 6=0 2=1 1=76 152=1700000000025 153=1700000000025 136=4\n\
+        256 8=198.51.100.7 12=10.0.0.5 7=80 11=40000 4=6 6=26 2=3 1=1612 152=1700000000050 153=1700000000080 136=4\n\
+        256 8=10.0.0.5 12=198.51.100.7 7=40000 11=80 4=6 6=30 2=4 1=304 152=1700000000030 153=1700000000090 136=3\n",
+    ),
+];
+
 #[test]
 fn ends_of_flows_cut_records(rt: HostRuntime) -> Result<(), Fail> {
     let alloc = rt.alloc();
-    let rows: [(&str, u32, &[Sent], &str); 5] = [
-        (
-            "a packet behind the end",
-            0,
-            &[
-                (1000, 6, CLIENT, SERVER, 40, 0x002),
-                (2000, 6, CLIENT, SERVER, 40, 0x011),
-                (3000, 6, CLIENT, SERVER, 40, 0x010),
-            ],
-            "256 8=10.0.0.5 12=198.51.100.7 7=40000 11=80 4=6 6=19 2=2 1=80 152=1000 153=2000 136=3\n\
-            256 8=10.0.0.5 12=198.51.100.7 7=40000 11=80 4=6 6=16 2=1 1=40 152=3000 153=3000 136=4\n",
-        ),
-        (
-            "the end first in the file",
-            0,
-            &[
-                (2000, 6, CLIENT, SERVER, 40, 0x011),
-                (1000, 6, CLIENT, SERVER, 40, 0x010),
-            ],
-            "256 8=10.0.0.5 12=198.51.100.7 7=40000 11=80 4=6 6=17 2=2 1=80 152=1000 153=2000 136=3\n",
-        ),
-        (
-            "a reset",
-            0,
-            &[
-                (1000, 6, CLIENT, SERVER, 40, 0x004),
-                (2000, 6, CLIENT, SERVER, 40, 0x010),
-            ],
-            "256 8=10.0.0.5 12=198.51.100.7 7=40000 11=80 4=6 6=4 2=1 1=40 152=1000 153=1000 136=3\n\
-            256 8=10.0.0.5 12=198.51.100.7 7=40000 11=80 4=6 6=16 2=1 1=40 152=2000 153=2000 136=4\n",
-        ),
-        (
-            "the same bits on UDP",
-            0,
-            &[
-                (1000, 17, CLIENT, SERVER, 40, 0x005),
-                (2000, 17, CLIENT, SERVER, 40, 0x010),
-            ],
-            "256 8=10.0.0.5 12=198.51.100.7 7=40000 11=80 4=17 6=0 2=2 1=80 152=1000 153=2000 136=4\n",
-        ),
-        (
-            "a web exchange",
-            1_700_000_000,
-            &[
-                (10, 17, ASKING, RESOLVER, 60, 0),
-                (25, 17, RESOLVER, ASKING, 76, 0),
-                (30, 6, CLIENT, SERVER, 60, 0x002),
-                (50, 6, SERVER, CLIENT, 60, 0x012),
-                (51, 6, CLIENT, SERVER, 52, 0x010),
-                (52, 6, CLIENT, SERVER, 152, 0x018),
-                (72, 6, SERVER, CLIENT, 52, 0x010),
-                (80, 6, SERVER, CLIENT, 1500, 0x018),
-                (90, 6, CLIENT, SERVER, 40, 0x004),
-            ],
-            "256 8=10.0.0.5 12=10.0.0.1 7=50000 11=53 4=17 6=0 2=1 1=60 152=1700000000010 153=1700000000010 136=4\n\
-            256 8=10.0.0.1 12=10.0.0.5 7=53 11=50000 4=17 6=0 2=1 1=76 152=1700000000025 153=1700000000025 136=4\n\
-            256 8=198.51.100.7 12=10.0.0.5 7=80 11=40000 4=6 6=26 2=3 1=1612 152=1700000000050 153=1700000000080 136=4\n\
-            256 8=10.0.0.5 12=198.51.100.7 7=40000 11=80 4=6 6=30 2=4 1=304 152=1700000000030 153=1700000000090 136=3\n",
-        ),
-    ];
-    for (name, second, packets, wanted) in rows {
+    for (name, second, packets, wanted) in ENDS {
         let capture = exchange_of(alloc, second, packets)?;
         let text = shown(&rt, alloc, capture.as_slice())?;
         assert_eq!(rt; text.as_slice(), wanted.as_bytes(), "{name}");
@@ -155,82 +155,102 @@ fn ends_of_flows_cut_records(rt: HostRuntime) -> Result<(), Fail> {
 /// A record of such packets: source port, packets, octets, first and last millisecond, and reason.
 type Line = (u16, u64, u64, u64, u64, u8);
 
+/// Captures of one flow and of two: a name, the packets by second, microsecond and port, and the records.
+static GAPS: [(&str, &[(u32, u32, u16)], &[Line]); 9] = [
+    ("no packet", &[], &[]),
+    (
+        "one second apart",
+        &[(1000, 0, 4000), (1001, 0, 4000)],
+        &[(4000, 2, 56, 1_000_000, 1_001_000, 4)],
+    ),
+    (
+        "in another order",
+        &[(1001, 0, 4000), (1000, 0, 4000)],
+        &[(4000, 2, 56, 1_000_000, 1_001_000, 4)],
+    ),
+    (
+        "exactly idle",
+        &[(1000, 0, 4000), (1300, 0, 4000)],
+        &[(4000, 2, 56, 1_000_000, 1_300_000, 4)],
+    ),
+    (
+        "a millisecond more",
+        &[(1000, 0, 4000), (1300, 1000, 4000)],
+        &[
+            (4000, 1, 28, 1_000_000, 1_000_000, 1),
+            (4000, 1, 28, 1_300_001, 1_300_001, 4),
+        ],
+    ),
+    (
+        "another flow later",
+        &[(1000, 0, 4000), (1301, 0, 4001)],
+        &[
+            (4000, 1, 28, 1_000_000, 1_000_000, 1),
+            (4001, 1, 28, 1_301_000, 1_301_000, 4),
+        ],
+    ),
+    (
+        "a bad time",
+        &[(1000, 0, 4000), (1001, 1_000_000, 4000)],
+        &[(4000, 1, 28, 1_000_000, 1_000_000, 4)],
+    ),
+    (
+        "exactly active",
+        &[
+            (1000, 0, 4000),
+            (1200, 0, 4000),
+            (1400, 0, 4000),
+            (1600, 0, 4000),
+            (1800, 0, 4000),
+            (2000, 0, 4000),
+            (2200, 0, 4000),
+            (2400, 0, 4000),
+            (2600, 0, 4000),
+            (2800, 0, 4000),
+        ],
+        &[(4000, 10, 280, 1_000_000, 2_800_000, 4)],
+    ),
+    (
+        "a millisecond more than active",
+        &[
+            (1000, 0, 4000),
+            (1200, 0, 4000),
+            (1400, 0, 4000),
+            (1600, 0, 4000),
+            (1800, 0, 4000),
+            (2000, 0, 4000),
+            (2200, 0, 4000),
+            (2400, 0, 4000),
+            (2600, 0, 4000),
+            (2800, 1000, 4000),
+        ],
+        &[
+            (4000, 9, 252, 1_000_000, 2_600_000, 2),
+            (4000, 1, 28, 2_800_001, 2_800_001, 4),
+        ],
+    ),
+];
+
+/// What `show` says of such records.
+fn lines_of(alloc: Global, records: &[Line]) -> Result<String, Fail> {
+    let mut text = String::new(alloc);
+    for (port, packets, octets, first, last, reason) in records {
+        let line = format!(in alloc;
+            "256 8=192.0.2.1 12=192.0.2.2 7={port} 11=53 4=17 6=0 2={packets} 1={octets} 152={first} 153={last} 136={reason}\n"
+        )?;
+        text.push_str(line.as_str())?;
+    }
+    Ok(text)
+}
+
 #[test]
 fn gaps_and_spans_cut_records(rt: HostRuntime) -> Result<(), Fail> {
     let alloc = rt.alloc();
-    let one: Line = (4000, 2, 56, 1_000_000, 1_001_000, 4);
-    let spaced = [1000, 1200, 1400, 1600, 1800, 2000, 2200, 2400, 2600];
-    let mut exactly = Vec::new(alloc);
-    let mut longer = Vec::new(alloc);
-    for second in spaced {
-        exactly.push((second, 0, 4000))?;
-        longer.push((second, 0, 4000))?;
-    }
-    exactly.push((2800, 0, 4000))?;
-    longer.push((2800, 1000, 4000))?;
-    let rows: [(&str, &[(u32, u32, u16)], &[Line]); 9] = [
-        ("no packet", &[], &[]),
-        (
-            "one second apart",
-            &[(1000, 0, 4000), (1001, 0, 4000)],
-            &[one],
-        ),
-        (
-            "in another order",
-            &[(1001, 0, 4000), (1000, 0, 4000)],
-            &[one],
-        ),
-        (
-            "exactly idle",
-            &[(1000, 0, 4000), (1300, 0, 4000)],
-            &[(4000, 2, 56, 1_000_000, 1_300_000, 4)],
-        ),
-        (
-            "a millisecond more",
-            &[(1000, 0, 4000), (1300, 1000, 4000)],
-            &[
-                (4000, 1, 28, 1_000_000, 1_000_000, 1),
-                (4000, 1, 28, 1_300_001, 1_300_001, 4),
-            ],
-        ),
-        (
-            "another flow later",
-            &[(1000, 0, 4000), (1301, 0, 4001)],
-            &[
-                (4000, 1, 28, 1_000_000, 1_000_000, 1),
-                (4001, 1, 28, 1_301_000, 1_301_000, 4),
-            ],
-        ),
-        (
-            "a bad time",
-            &[(1000, 0, 4000), (1001, 1_000_000, 4000)],
-            &[(4000, 1, 28, 1_000_000, 1_000_000, 4)],
-        ),
-        (
-            "exactly active",
-            exactly.as_slice(),
-            &[(4000, 10, 280, 1_000_000, 2_800_000, 4)],
-        ),
-        (
-            "a millisecond more than active",
-            longer.as_slice(),
-            &[
-                (4000, 9, 252, 1_000_000, 2_600_000, 2),
-                (4000, 1, 28, 2_800_001, 2_800_001, 4),
-            ],
-        ),
-    ];
-    for (name, packets, records) in rows {
-        let mut wanted = String::new(alloc);
-        for (port, packets, octets, first, last, reason) in records {
-            let line = format!(in alloc;
-                "256 8=192.0.2.1 12=192.0.2.2 7={port} 11=53 4=17 6=0 2={packets} 1={octets} 152={first} 153={last} 136={reason}\n"
-            )?;
-            wanted.push_str(line.as_str())?;
-        }
+    for (name, packets, records) in GAPS {
         let capture = capture_of(alloc, packets)?;
         let text = shown(&rt, alloc, capture.as_slice())?;
-        assert_eq!(rt; text.as_slice(), wanted.as_bytes(), "{name}");
+        let wanted = lines_of(alloc, records)?;
+        assert_eq!(rt; text.as_slice(), wanted.as_str().as_bytes(), "{name}");
     }
     Ok(())
 }
@@ -245,7 +265,7 @@ type Row = (
     &'static str,
 );
 
-const ROWS: [Row; 8] = [
+static ROWS: [Row; 8] = [
     (
         "two packets",
         &[HEADER, AT_1000, FRAME, AT_1001, FRAME],
@@ -350,8 +370,8 @@ const ROWS: [Row; 8] = [
 fn captures_end_with_these_bytes(rt: HostRuntime) -> Result<(), Fail> {
     let alloc = rt.alloc();
     for (name, capture, time, messages, summary) in ROWS {
-        let input = bytes_of(alloc, capture)?;
-        let wanted = bytes_of(alloc, &["000a0074", time, TEMPLATES, messages])?;
+        let input = octets_of(alloc, capture)?;
+        let wanted = octets_of(alloc, &["000a0074", time, TEMPLATES, messages])?;
         let ran = run_over(&rt, alloc, "meter", input.as_slice())?;
         assert_eq!(rt; ran.status, Status::Done, "{name}");
         assert_eq!(rt; ran.output.as_slice(), wanted.as_slice(), "{name}");
@@ -360,45 +380,32 @@ fn captures_end_with_these_bytes(rt: HostRuntime) -> Result<(), Fail> {
     Ok(())
 }
 
+/// What `meter` refuses: the input, the status and its line.
+static REFUSED: [(&str, Status, &str); 4] = [
+    ("", Status::NotCapture, "not a capture\n"),
+    (
+        "d4c3b2a1 02000400 00000000 00000000 00000400 010000",
+        Status::NotCapture,
+        "not a capture\n",
+    ),
+    (
+        "d4c3b2a1 02000400 00000000 00000000 00000400 69000000",
+        Status::LinkUnknown(105),
+        "link type 105\n",
+    ),
+    (
+        "d4c3b2a1 02000400 00000000 00000000 00000400 01000000 e8030000 00000000 01000400 01000400",
+        Status::Damaged(24),
+        "damaged at 24\n",
+    ),
+];
+
 #[test]
 fn other_inputs_are_refused(rt: HostRuntime) -> Result<(), Fail> {
     let alloc = rt.alloc();
-    let rows: [(&str, &str, Status, &str); 6] = [
-        ("meter", "", Status::NotCapture, "not a capture\n"),
-        (
-            "meter",
-            "d4c3b2a1 02000400 00000000 00000000 00000400 010000",
-            Status::NotCapture,
-            "not a capture\n",
-        ),
-        (
-            "meter",
-            "d4c3b2a1 02000400 00000000 00000000 00000400 69000000",
-            Status::LinkUnknown(105),
-            "link type 105\n",
-        ),
-        (
-            "meter",
-            "d4c3b2a1 02000400 00000000 00000000 00000400 01000000 e8030000 00000000 01000400 01000400",
-            Status::Damaged(24),
-            "damaged at 24\n",
-        ),
-        (
-            "meter --size 115",
-            "d4c3b2a1 02000400 00000000 00000000 00000400 01000000",
-            Status::Usage,
-            "usage: meter, show, make, schedule or selftest\n",
-        ),
-        (
-            "",
-            "",
-            Status::Usage,
-            "usage: meter, show, make, schedule or selftest\n",
-        ),
-    ];
-    for (line, input, status, note) in rows {
-        let input = bytes_of(alloc, &[input])?;
-        let ran = run_over(&rt, alloc, line, input.as_slice())?;
+    for (input, status, note) in REFUSED {
+        let input = octets_of(alloc, &[input])?;
+        let ran = run_over(&rt, alloc, "meter", input.as_slice())?;
         assert_eq!(rt; ran.status, status, "{note}");
         assert_eq!(rt; ran.output.len(), 0, "{note}");
         assert_eq!(rt; ran.notes.as_slice(), note.as_bytes());
@@ -424,7 +431,7 @@ fn messages_are_filled(rt: HostRuntime) -> Result<(), Fail> {
         (1488, "0000001c"),
     ] {
         let number = ran.output.as_slice().get(at..at + 4).unwrap_or(&[]);
-        assert_eq!(rt; number, bytes_of(alloc, &[wanted])?.as_slice(), "at {at}");
+        assert_eq!(rt; number, octets_of(alloc, &[wanted])?.as_slice(), "at {at}");
     }
     let showed = run_over(&rt, alloc, "show", ran.output.as_slice())?;
     let lines = showed.output.iter().filter(|byte| **byte == b'\n').count();

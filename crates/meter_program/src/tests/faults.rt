@@ -73,6 +73,7 @@ fn statuses_have_their_codes(rt: HostRuntime) -> Result<(), Fail> {
         (Status::TooLarge, 7),
         (Status::NoMemory, 8),
         (Status::NotStream(StreamFault::Cut { at: 0 }), 9),
+        (Status::BadSchedule(2), 10),
     ];
     for (status, code) in rows {
         assert_eq!(rt; status.code(), code);

@@ -1,8 +1,9 @@
 //! The command `show` on streams.
 
-use super::{bytes_of, run_over, two_packets};
+use super::{run_over, two_packets};
 use crate::Status;
 use ipfix_reader::StreamFault;
+use samples::octets_of;
 use std::test::Fail;
 
 #[test]
@@ -36,37 +37,39 @@ fn a_stream_is_shown_whole_or_refused(rt: HostRuntime) -> Result<(), Fail> {
 /// A message's sequence number 0 and domain 1, behind its export time.
 const ZEROS: &str = "00000000 00000000 00000001";
 
+/// Messages, and what is noted of them.
+static HOSTILE: [(&[&str], &str); 9] = [
+    (&["000a0010", ZEROS], "records 0\n"),
+    (&["00090010", ZEROS], "not a stream: version at 0\n"),
+    (&["000a0008", ZEROS], "not a stream: length at 0\n"),
+    (
+        &["000a0018", ZEROS, "01000008 00000000"],
+        "not a stream: template 256 at 16\n",
+    ),
+    (
+        &["000a0018", ZEROS, "00020008 01000000"],
+        "not a stream: withdrawal at 20\n",
+    ),
+    (
+        &["000a0018", ZEROS, "00020008 00ff0001"],
+        "not a stream: bad template at 20\n",
+    ),
+    (
+        &["000a0015", ZEROS, "00020005 01"],
+        "not a stream: padding at 20\n",
+    ),
+    (
+        &["000a0010", ZEROS, "000a0010 00000000 00000001 00000001"],
+        "not a stream: sequence at 16\n",
+    ),
+    (&["000a0011", ZEROS], "not a stream: cut at 0\n"),
+];
+
 #[test]
 fn hostile_streams_have_their_fault(rt: HostRuntime) -> Result<(), Fail> {
     let alloc = rt.alloc();
-    let rows: [(&[&str], &str); 9] = [
-        (&["000a0010", ZEROS], "records 0\n"),
-        (&["00090010", ZEROS], "not a stream: version at 0\n"),
-        (&["000a0008", ZEROS], "not a stream: length at 0\n"),
-        (
-            &["000a0018", ZEROS, "01000008 00000000"],
-            "not a stream: template 256 at 16\n",
-        ),
-        (
-            &["000a0018", ZEROS, "00020008 01000000"],
-            "not a stream: withdrawal at 20\n",
-        ),
-        (
-            &["000a0018", ZEROS, "00020008 00ff0001"],
-            "not a stream: bad template at 20\n",
-        ),
-        (
-            &["000a0015", ZEROS, "00020005 01"],
-            "not a stream: padding at 20\n",
-        ),
-        (
-            &["000a0010", ZEROS, "000a0010 00000000 00000001 00000001"],
-            "not a stream: sequence at 16\n",
-        ),
-        (&["000a0011", ZEROS], "not a stream: cut at 0\n"),
-    ];
-    for (pieces, note) in rows {
-        let input = bytes_of(alloc, pieces)?;
+    for (pieces, note) in HOSTILE {
+        let input = octets_of(alloc, pieces)?;
         let ran = run_over(&rt, alloc, "show", input.as_slice())?;
         assert_eq!(rt; ran.output.len(), 0, "{note}");
         assert_eq!(rt; ran.notes.as_slice(), note.as_bytes());

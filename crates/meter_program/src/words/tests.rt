@@ -1,82 +1,153 @@
 //! Command lines.
 
 use crate::words::{Command, command_of};
+use command_words::OptionsError;
+use std::alloc::Global;
 use std::test::Fail;
 
-fn command(rt: &HostRuntime, words: &[&str]) -> Result<Option<Command>, Fail> {
-    let mut owned = Vec::new(rt.alloc());
-    for word in words {
-        owned.push(String::from_str(rt.alloc(), word)?)?;
+/// What a line of words with single spaces between them asks for: 1 for `meter` with its two time-outs and its message size,
+/// 2 for `show`, 3 for `make` with its seed, packets and keys, 4 for `schedule`; nothing where it is no command line.
+fn numbers(alloc: Global, line: &str) -> Result<Option<[u64; 4]>, Fail> {
+    let mut words = Vec::new(alloc);
+    for word in line.split(' ') {
+        words.push(String::from_str(alloc, word)?)?;
     }
-    Ok(command_of(owned.as_slice()))
+    match command_of(alloc, words.as_slice()) {
+        Ok(Command::Meter(s)) => Ok(Some([1, s.idle as u64, s.active as u64, s.size as u64])),
+        Ok(Command::Show) => Ok(Some([2, 0, 0, 0])),
+        Ok(Command::Make(s)) => Ok(Some([3, s.seed, s.packets as u64, s.keys as u64])),
+        Ok(Command::Schedule) => Ok(Some([4, 0, 0, 0])),
+        Err(OptionsError::NotOptions) => Ok(None),
+        Err(OptionsError::NoMemory) => Err(Fail::from("no memory")),
+    }
 }
+
+/// Lines that are none.
+static OTHERS: [&str; 69] = [
+    "",
+    "meters",
+    "Meter",
+    "help",
+    "--help",
+    "meter --help",
+    "meter --version",
+    "meter -h",
+    "selftest",
+    "meter --idle 0",
+    "meter --idle 86401",
+    "meter --active 0",
+    "meter --active=86401",
+    "meter --workers 0",
+    "meter --workers 65",
+    "meter --sets 0",
+    "meter --sets=65537",
+    "meter --piece 0",
+    "meter --piece 65537",
+    "meter --size 115",
+    "meter --size=65536",
+    "meter --idle 000000000000000000005",
+    "meter --idle=99999999999999999999",
+    "meter --idle 5 --idle 5",
+    "meter --idle=5 --idle 6",
+    "meter --idle=5 --idle=5",
+    "meter --idle",
+    "meter --idle=",
+    "meter --idle ",
+    "meter --idle= 5",
+    "meter --idle +5",
+    "meter --idle -5",
+    "meter --idle 5s",
+    "meter --idle 0x5",
+    "meter --idle 5=5",
+    "meter --idle --size 200",
+    "meter --",
+    "meter -- --idle 5",
+    "meter --idle 5 --",
+    "meter --idle --",
+    "meter x",
+    "meter --idle 5 6",
+    "meter ",
+    "meter --idel 5",
+    "meter --idl 5",
+    "meter --idl=5",
+    "meter --id 5",
+    "meter -idle 5",
+    "meter -i 5",
+    "meter --IDLE 5",
+    "meter idle=5",
+    "meter --=5",
+    "meter --seed 1",
+    "show x",
+    "show ",
+    "show --",
+    "show --idle 5",
+    "schedule x",
+    "schedule --seed 1",
+    "make",
+    "make --seed 1",
+    "make --packets 1",
+    "make --seed 1 --packets 0",
+    "make --seed 1 --packets 1000001",
+    "make --seed 18446744073709551616 --packets 1",
+    "make --seed 1 --packets 1 --keys 0",
+    "make --seed 1 --packets 1 --keys 4097",
+    "make --seed 1 --seed 1 --packets 1",
+    "make --seed 1 --packets 1 --idle 5",
+];
 
 #[test]
 fn other_words_are_no_command(rt: HostRuntime) -> Result<(), Fail> {
-    let lines: [&[&str]; 25] = [
-        &[],
-        &[""],
-        &["make", "--seed", "1"],
-        &["Meter"],
-        &["show", "x"],
-        &["meter", "x"],
-        &["meter", "--"],
-        &["meter", "--", "5"],
-        &["meter", "--idle"],
-        &["meter", "--idle", ""],
-        &["meter", "--idle", "0"],
-        &["meter", "--idle", "86401"],
-        &["meter", "--idle", "+5"],
-        &["meter", "--idle", "5s"],
-        &["meter", "--idle", "\u{665}"],
-        &["meter", "--idle=5"],
-        &["meter", "--idel", "5"],
-        &["meter", "--idle", "5", "--idle", "5"],
-        &["meter", "--idle", "5", "--size", "200", "--idle", "6"],
-        &["meter", "--idle", "5", "6"],
-        &["meter", "--active", "0"],
-        &["meter", "--active", "86401"],
-        &["meter", "--size", "115"],
-        &["meter", "--size", "65536"],
-        &["meter", "--idle", "000000000000000000005"],
-    ];
-    for words in lines {
-        assert_eq!(rt; command(&rt, words)?, None, "{words:?}");
+    for line in OTHERS {
+        assert_eq!(rt; numbers(rt.alloc(), line)?, None, "{line}");
+    }
+    Ok(())
+}
+
+/// Lines, and what they ask for.
+static COMMANDS: [(&str, [u64; 4]); 22] = [
+    ("meter", [1, 300, 1800, 1400]),
+    ("show", [2, 0, 0, 0]),
+    ("schedule", [4, 0, 0, 0]),
+    ("meter --idle 1", [1, 1, 1800, 1400]),
+    ("meter --idle=86400", [1, 86400, 1800, 1400]),
+    ("meter --active 1", [1, 300, 1, 1400]),
+    ("meter --active=86400", [1, 300, 86400, 1400]),
+    ("meter --workers 1", [1, 300, 1800, 1400]),
+    ("meter --workers=64", [1, 300, 1800, 1400]),
+    ("meter --sets 1", [1, 300, 1800, 1400]),
+    ("meter --sets=65536", [1, 300, 1800, 1400]),
+    ("meter --piece 1", [1, 300, 1800, 1400]),
+    ("meter --piece=65536", [1, 300, 1800, 1400]),
+    ("meter --size 116", [1, 300, 1800, 116]),
+    ("meter --size=65535", [1, 300, 1800, 65535]),
+    ("meter --active 10 --idle=007", [1, 7, 10, 1400]),
+    ("meter --idle 00000000000000086400", [1, 86400, 1800, 1400]),
+    (
+        "meter --size 200 --piece=1 --sets 2 --workers=3 --active 4 --idle=5",
+        [1, 5, 4, 200],
+    ),
+    ("make --seed 0 --packets 1", [3, 0, 1, 64]),
+    (
+        "make --seed=18446744073709551615 --packets=1000000",
+        [3, 18446744073709551615, 1000000, 64],
+    ),
+    ("make --keys 1 --packets 2 --seed 3", [3, 3, 2, 1]),
+    (
+        "make --packets 2 --seed 00000000000000000003 --keys=4096",
+        [3, 3, 2, 4096],
+    ),
+];
+
+#[test]
+fn commands_have_their_settings(rt: HostRuntime) -> Result<(), Fail> {
+    for (line, wanted) in COMMANDS {
+        assert_eq!(rt; numbers(rt.alloc(), line)?, Some(wanted), "{line}");
     }
     Ok(())
 }
 
 #[test]
-fn commands_have_their_settings(rt: HostRuntime) -> Result<(), Fail> {
-    let lines: [(&[&str], u32, u32, u32); 7] = [
-        (&["meter"], 300, 1800, 1400),
-        (&["meter", "--active", "10", "--idle", "007"], 7, 10, 1400),
-        (
-            &["meter", "--idle", "00000000000000086400"],
-            86_400,
-            1800,
-            1400,
-        ),
-        (&["meter", "--idle", "1"], 1, 1800, 1400),
-        (&["meter", "--size", "65535"], 300, 1800, 65_535),
-        (&["meter", "--size", "116"], 300, 1800, 116),
-        (
-            &["meter", "--size", "512", "--idle", "5", "--active", "86400"],
-            5,
-            86_400,
-            512,
-        ),
-    ];
-    for (words, idle, active, size) in lines {
-        match command(&rt, words)? {
-            Some(Command::Meter(settings)) => {
-                assert_eq!(rt; settings.idle, idle, "{words:?}");
-                assert_eq!(rt; settings.active, active, "{words:?}");
-                assert_eq!(rt; settings.size, size, "{words:?}");
-            }
-            _ => return Err(Fail::from("not the command meter")),
-        }
-    }
-    assert_eq!(rt; command(&rt, &["show"])?, Some(Command::Show));
+fn no_words_are_no_command(rt: HostRuntime) -> Result<(), Fail> {
+    assert_eq!(rt; command_of(rt.alloc(), &[]), Err(OptionsError::NotOptions));
     Ok(())
 }

@@ -1,6 +1,5 @@
-use Rattle.std.proofs.Common.{◌≤◌, ◌<◌, ◌^◌, ℕ, length, subst, sym, arith, slice_index}
+use Rattle.std.proofs.Common.{◌≤◌, ◌^◌, length, arith}
 use Rattle.std.proofs.Math.Nat.{pow-le-pow_right}
-use Rattle.octets.specs.Numbers.{AreOctets, number_at}
 use Rattle.meter_program.proofs.lines.append_number.Goals as goal
 
 pub overflow_cast-number : goal.overflow_cast-number

@@ -1,4 +1,4 @@
-use Rattle.std.proofs.Common.{subst, sym}
+use Rattle.std.proofs.Common.{subst}
 use Rattle.meter_io.specs.Sides.{side}
 use Rattle.meter_program.specs.Seen.{seen_of}
 use Rattle.meter_program.specs.Metering.{IsGathered}

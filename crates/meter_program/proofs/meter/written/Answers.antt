@@ -1,4 +1,4 @@
-use Rattle.std.proofs.Common.{ap, sym, ◌∙◌, refl, length}
+use Rattle.std.proofs.Common.{ap, ◌∙◌, refl}
 use Rattle.ipfix_writer.specs.Emitting.{EmitterState}
 use Rattle.meter_io.specs.Sides.{side}
 use Rattle.meter_program.proofs.Streams.{written-of, wrote-both, wrote-first, wrote-some}

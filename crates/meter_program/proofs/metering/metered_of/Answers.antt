@@ -1,7 +1,7 @@
-use Rattle.std.proofs.Common.{◌≤◌, ◌<◌, sym, subst, arith, length, take}
+use Rattle.std.proofs.Common.{◌≤◌, sym, subst, arith, length, take}
 use Rattle.std.proofs.lemmas.List.{take_all}
 use Rattle.pcap_reader.specs.Views.{file_of, record_read}
-use Rattle.packet_accept.specs.Packets.{answers_of, packets_in}
+use Rattle.packet_accept.specs.Packets.{answers_of}
 use Rattle.meter_program.specs.Gathering.{AreMetered}
 use Rattle.meter_program.proofs.Packets.{room-before, take-one-more}
 use Rattle.meter_program.proofs.metering.metered_of.Goals as goal

@@ -1,10 +1,6 @@
-use Rattle.std.proofs.Common.{◌≡◌, [], ◌∷◌, ◌++◌, List, Result, Ok, Err, subst}
-use Rattle.packet_accept.specs.declared.packet.Packet.{Packet}
-use Rattle.packet_accept.specs.declared.ignored.Ignored.{Ignored}
 use Rattle.pcap_reader.specs.Views.{file_of, record_read}
 use Rattle.packet_accept.specs.Acceptance.{accepted}
-use Rattle.meter_program.specs.Gathering.{AreMetered}
-use Rattle.meter_program.proofs.Packets.{metered-more, ordinary-answer, metered-on-ok}
+use Rattle.meter_program.proofs.Packets.{ordinary-answer, metered-on-ok}
 use Rattle.meter_program.proofs.metering.take_record.Goals as goal
 
 pub returns : goal.returns

@@ -1,0 +1,40 @@
+//! The command `make`.
+
+ghost use Rattle.std.specs.Prelude.{◌≡◌, codes};
+ghost use Rattle.meter_io.specs.Sides.{Side, IsUntouched, side};
+ghost use Rattle.meter_program.specs.Outcome.{Ends};
+ghost use Rattle.meter_program.specs.Seen.{seen_of};
+ghost use Rattle.meter_program.specs.Words.{make};
+
+use crate::ending::write_and_count;
+use crate::settings::Making;
+use crate::status::Status;
+use capture_maker::capture;
+use meter_io::{Failed, Sink};
+use std::alloc::Global;
+
+/// Writes the capture of a seed to the output, and notes how many packets it has. It reads nothing.
+pub fn make<K: Sink, N: Sink>(
+    alloc: Global,
+    settings: &Making,
+    output: &mut K,
+    notes: &mut N,
+) -> Status
+    ensures { (input : Side) → IsUntouched input → let seen = seen_of input (side K.held K.faults output.old output.new)
+        (side N.held N.faults notes.old notes.new)
+        in Ends (make settings.now.seed settings.now.packets settings.now.keys) seen (IsUntouched seen.notes) result }
+{
+    let Ok(bytes) = capture(alloc, settings.seed, settings.packets, settings.keys) else {
+        return Status::NoMemory;
+    };
+    match write_and_count(
+        output,
+        notes,
+        bytes.as_slice(),
+        "packets",
+        settings.packets as u64,
+    ) {
+        Ok(()) => Status::Done,
+        Err(Failed) => Status::WriteFault,
+    }
+}
