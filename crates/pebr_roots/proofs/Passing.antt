@@ -1,6 +1,7 @@
 -- What is used of a pass: the slot under a valid shield, the least fresh slot, and that a seat has its number of slots.
 use Rattle.std.proofs.Common.{◌≡◌, ◌≢◌, ℕ, zero, suc, ◌<◌, Bool, true, false, List, [], ◌∷◌, length, get_or, set, map, replicate, Some, unwrap_or, cond, refl, sym, ap, ◌∙◌, subst, ⊎_elim, arith, count_by}
 use Rattle.std.specs.Prelude.{IsTrue}
+use Rattle.std.specs.List.{list_all}
 use Rattle.std.proofs.lemmas.Bool.{false≢true}
 use Rattle.std.proofs.lemmas.List.{get_or_default, get_or-set_other}
 use Rattle.std.proofs.lemmas.List.Sums.{sum_by-cons}
@@ -13,7 +14,7 @@ use Rattle.pebr_core.specs.declared.kinds.ShieldAt.{ShieldAt}
 use Rattle.pebr_core.specs.declared.kinds.ShieldAt.TheVariants as shield
 use Rattle.pebr_core.specs.declared.kinds.Step.{Step}
 use Rattle.pebr_core.specs.declared.kinds.Answer.{Answer}
-use Rattle.pebr_core.specs.State.{State, Seat, has, seat_at, shield_at, slot_under, slots_per_seat}
+use Rattle.pebr_core.specs.State.{State, Seat, has, seat_at, is_down, shield_at, slot_under, slots_per_seat}
 use Rattle.pebr_core.specs.Steps.{is_enabled, after, validated, checked, after_shield, is_shielded}
 use Rattle.pebr_core.specs.Kept.{IsSound, held_count}
 use Rattle.pebr_core.specs.Frames.{seat_of, LeavesTheRest}
@@ -121,3 +122,7 @@ pub read_again : {whole : List ℕ → Type 0} {shape : Shape} (i slot word valu
 read_again {whole} {shape} i slot word value known past known' past' sure past_is known_is shielded read at slot_is word_is =
     let now : IsSure whole shape known (past_after (step.Read i slot word) (answer.Word value) known past) = subst (λ k. IsSure whole shape k (past_after (step.Read i slot word) (answer.Word value) known past)) known_is (subst (λ p. IsSure whole shape known' p) past_is sure) in
     now.same (record { slot = slot; word = word; value = value }) read (0, refl) (suc at.0, at.1) (sym slot_is) (sym word_is) shielded
+
+pub down_all : (count : ℕ) → list_all is_down (replicate count shield.Down) ≡ true
+down_all zero = refl
+down_all (suc count) = down_all count

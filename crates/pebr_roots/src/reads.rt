@@ -1,10 +1,11 @@
 //! Loading a root, checking, reading under a shield, and taking the shields down.
 
 ghost use Rattle.std.specs.Prelude.{◌≡◌, ℕ, ◌<◌, IsTrue, true, false, List};
+ghost use Rattle.std.specs.List.{list_all};
 ghost use Rattle.pebr_core.specs.declared.kinds.Step.TheVariants as step;
 ghost use Rattle.pebr_core.specs.declared.kinds.Answer.TheVariants as answer;
 ghost use Rattle.pebr_core.specs.declared.kinds.ShieldAt.TheVariants as shield;
-ghost use Rattle.pebr_core.specs.State.{has, is_out, shield_at, slot_count};
+ghost use Rattle.pebr_core.specs.State.{has, is_out, is_down, shield_at, slot_count};
 ghost use Rattle.pebr_words.specs.Pasts.{Read};
 ghost use Rattle.pebr_words.specs.Ruled.{IsIn, IsSure, HasReadWhole};
 ghost use Rattle.pebr_shields.specs.declared.checked.Checked.TheVariants as checked;
@@ -77,6 +78,7 @@ impl<P: RootProtocol> Roots<P> {
         ensures same { IsSame self.now pass.old pass.new }
         ensures note { note_by P.first pass.new ≡ note_by P.first pass.old }
         ensures known { known_by pass.new ≡ cleared_seat (shape_at self.now) (known_by pass.old) }
+        ensures down { IsTrue (list_all is_down (known_by pass.new).shields) }
         ensures past { past_by pass.new ≡ cleared_past (shape_at self.now) (past_by pass.old) }
         ensures sure { IsSure P.whole (shape_at self.now) (known_by pass.new) (past_by pass.new) }
     {
