@@ -3,6 +3,7 @@
 PREFIX ?= /usr/local
 PROGRAM := bin/romtyalig
 PCAPNG := bin/romtyalig-pcapng
+PAIR := bin/romtyalig-pair
 THREADS := bin/two_threads
 CAPTURE := examples/web-exchange.pcap
 # All that a proof or a build reads: code, definitions, and proofs in folders of any depth.
@@ -13,9 +14,9 @@ SOURCES := $(shell find crates -name out -prune -o \( -name '*.rt' -o -name '*.a
 help:
 	@echo "make demo                 build the program, which proves it, and show the records of a sample capture"
 	@echo "make test                 the gate: prove every crate from nothing, run all tests, then the checks of checks/"
-	@echo "make build                leave the programs as $(PROGRAM) and $(PCAPNG)"
+	@echo "make build                leave the programs as $(PROGRAM), $(PCAPNG) and $(PAIR)"
 	@echo "make check                compare the program with other readers and meters (checks/)"
-	@echo "make install PREFIX=DIR   install the program below DIR, $(PREFIX) by default"
+	@echo "make install PREFIX=DIR   install the programs below DIR, $(PREFIX) by default"
 
 demo: build
 	@echo "The records of $(CAPTURE): an ARP request, a DNS query and its reply, and a TCP exchange."
@@ -23,7 +24,7 @@ demo: build
 	$(PROGRAM) meter < $(CAPTURE) > bin/web-exchange.ipfix
 	$(PROGRAM) show < bin/web-exchange.ipfix
 
-build: $(PROGRAM) $(PCAPNG)
+build: $(PROGRAM) $(PCAPNG) $(PAIR)
 
 # `rt run` proves the crates, builds the program and runs it, here on an empty stream.
 $(PROGRAM): crates.txt $(SOURCES)
@@ -33,12 +34,18 @@ $(PROGRAM): crates.txt $(SOURCES)
 	@mkdir -p bin
 	@cp crates/romtyalig/out/romtyalig $(PROGRAM)
 
-# The same for the filter, here on the file of its stored run.
+# The same for the two filters, here on the files of their stored runs.
 $(PCAPNG): crates.txt $(SOURCES)
 	@cd crates/romtyalig_pcapng && rt run -- pcapng < stdin > build.log 2>&1 || { tail -n 20 build.log; exit 1; }
 	@rm -f crates/romtyalig_pcapng/build.log
 	@mkdir -p bin
 	@cp crates/romtyalig_pcapng/out/romtyalig_pcapng $(PCAPNG)
+
+$(PAIR): crates.txt $(SOURCES)
+	@cd crates/romtyalig_pair && rt run -- pair < stdin > build.log 2>&1 || { tail -n 20 build.log; exit 1; }
+	@rm -f crates/romtyalig_pair/build.log
+	@mkdir -p bin
+	@cp crates/romtyalig_pair/out/romtyalig_pair $(PAIR)
 
 # And for the program of checks/two_threads.sh.
 $(THREADS): crates.txt $(SOURCES)
@@ -55,16 +62,20 @@ test:
 check: build $(THREADS)
 	checks/foreign_readers.sh
 	checks/pcapng.sh
+	checks/biflows.sh
 	checks/two_threads.sh
 	python3 checks/second_meter.py 20000
 	python3 checks/second_reader.py 20000
+	python3 checks/second_pairer.py 2000
 
 install: build
 	install -d $(DESTDIR)$(PREFIX)/bin
 	install -m 755 $(PROGRAM) $(DESTDIR)$(PREFIX)/bin/romtyalig
 	install -m 755 $(PCAPNG) $(DESTDIR)$(PREFIX)/bin/romtyalig-pcapng
+	install -m 755 $(PAIR) $(DESTDIR)$(PREFIX)/bin/romtyalig-pair
 	install -d $(DESTDIR)$(PREFIX)/share/man/man1
 	install -m 644 man/romtyalig-pcapng.1 $(DESTDIR)$(PREFIX)/share/man/man1/romtyalig-pcapng.1
+	install -m 644 man/romtyalig-pair.1 $(DESTDIR)$(PREFIX)/share/man/man1/romtyalig-pair.1
 
 clean:
 	rm -rf bin crates/*/out

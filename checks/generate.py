@@ -11,6 +11,7 @@ cooked.pcap      Linux cooked packets with nanoseconds, greatest byte first
 late.pcap        raw IP at the last seconds that a capture can say
 counts.pcap      one key of more octets than 32 bits hold
 keys.pcap        600 keys of both versions, taking turns, in no order of time
+both_ways.pcap   40 conversations of both versions, each packet in one of the two directions, with pauses
 """
 
 import ipaddress
@@ -184,6 +185,22 @@ def keys() -> bytes:
     return capture(packets, RAW)
 
 
+def both_ways() -> bytes:
+    packets = []
+    for place in range(600):
+        talk, out = place * 7919 % 40, place * 31 % 7 < 4
+        time = START + place * 104_729 % 60_000 + 7_000 * (place % 3)
+        ports = (1024 + talk, 443) if out else (443, 1024 + talk)
+        if talk % 3 > 0:
+            ends = ("192.0.2.1", "198.51.100.7") if out else ("198.51.100.7", "192.0.2.1")
+            packet = raw4(TCP, *ends, segment(*ports, 0x010 | 1 << talk % 12, bytes(place % 50)))
+        else:
+            ends = ("2001:db8::1", "2001:db8::2") if out else ("2001:db8::2", "2001:db8::1")
+            packet = raw6(UDP, *ends, datagram(*ports, bytes(place % 50)))
+        packets.append((time, packet))
+    return capture(packets, RAW)
+
+
 def main() -> None:
     folder = Path(sys.argv[1])
     mixed = [(START + 999, cooked(0x0800, raw4(UDP, "192.0.2.1", "192.0.2.2", datagram(5, 6)))),
@@ -197,6 +214,7 @@ def main() -> None:
         "late": late(),
         "counts": counts(),
         "keys": keys(),
+        "both_ways": both_ways(),
     }
     for name, content in written.items():
         (folder / f"{name}.pcap").write_bytes(content)

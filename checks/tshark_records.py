@@ -3,8 +3,8 @@
 
     tshark -n -r STREAM -T pdml | python3 checks/tshark_records.py [SIZE]
 
-One line per data record: the template number, then per field in tshark's order NUMBER=VALUE. The values are those that
-tshark shows; no byte of the stream is decoded here. Any remark of tshark's, such as that of an unexpected sequence number
+One line per data record: the template number, then per field in tshark's order NUMBER=VALUE, where 29305. stands in front of
+the number of a reverse element (RFC 5103). The values are those that tshark shows; no byte of the stream is decoded here. Any remark of tshark's, such as that of an unexpected sequence number
 or of a malformed message, and any message of more than SIZE octets, ends the program with status 1.
 """
 
@@ -53,13 +53,18 @@ ELEMENTS = {
 
 
 def record_line(template: str, flow: ElementTree.Element) -> str:
-    line = template
+    line, seen = template, set()
     for part in flow:
         for field in part if part.get("name") == "cflow.timedelta" else [part]:
-            if field.get("name") not in ELEMENTS:
+            name = field.get("name")
+            if name not in ELEMENTS:
                 sys.exit(f"a field that no record of a flow has: {field.get('showname')}")
-            number, value = ELEMENTS[field.get("name")]
-            line += f" {number}={value(field.get('show'))}"
+            number, value = ELEMENTS[name]
+            # tshark says of which element a field is the reverse, but for times.
+            if part is field and (name in seen) != (f"(Reverse Type {number} " in field.get("showname")):
+                sys.exit(f"a field of the wrong direction: {field.get('showname')}")
+            line += f" {'29305.' if name in seen else ''}{number}={value(field.get('show'))}"
+            seen.add(name)
     return line
 
 

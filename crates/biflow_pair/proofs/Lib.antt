@@ -7,3 +7,5 @@ pub mod BiRecords
 pub mod BiStreams
 pub mod Valid
 pub mod Once
+pub mod Whole
+pub mod Complete
