@@ -1,5 +1,5 @@
 -- The records of biflows.
-use Rattle.std.proofs.Common.{◌≡◌, ◌≤◌, ◌+◌, ◌==◌, ℕ, Bool, true, false, List, [], ◌∷◌, ◌++◌, length, if◌then◌else◌, Option, Some, None, refl, sym, ap, ◌∙◌, arith, append_assoc, append-nil, length-append}
+use Rattle.std.proofs.Common.{◌≡◌, ◌≤◌, ◌+◌, ℕ, Bool, true, false, List, [], ◌∷◌, ◌++◌, length, Option, Some, None, refl, ap, ◌∙◌, arith, append_assoc, append-nil, length-append}
 use Rattle.octets.specs.Numbers.{octets_of}
 use Rattle.record_ledger.specs.declared.record.FlowRecord.{FlowRecord}
 use Rattle.ipfix_model.specs.Templates.{v4_template, v4_fields, v6_template, v6_fields, v4_bi_template, v4_bi_fields, v6_bi_template, v6_bi_fields}

@@ -7,10 +7,10 @@ use Rattle.ipfix_model.specs.declared.values.DataRecord.{DataRecord}
 use Rattle.ipfix_reader.specs.declared.fault.StreamFault.{StreamFault}
 use Rattle.ipfix_reader.specs.Messages.{decode}
 use Rattle.ipfix_reader.specs.Flows.{flows_in, flows_of}
-use Rattle.meter_io.specs.Sides.{Side, HasFailed, IsRead}
+use Rattle.meter_io.specs.Sides.{Side, HasFailed}
 use Rattle.biflow_pair.specs.declared.status.PairStatus.{PairStatus}
 use Rattle.biflow_pair.specs.declared.status.PairStatus.TheVariants.{Done, ReadFault, Usage, WriteFault, TooLarge, NoMemory, NotStream, NotFlows}
-use Rattle.biflow_pair.specs.Outcome.{Ends, IsValid, limit}
+use Rattle.biflow_pair.specs.Outcome.{Ends, IsValid}
 use Rattle.biflow_pair.specs.Pairing.{IsFirstOther}
 use Rattle.biflow_pair.specs.Words.{Asked}
 use Rattle.biflow_pair.proofs.Whole.{flows-decode, each-flow}

@@ -3,7 +3,6 @@ use Rattle.std.proofs.Common.{◌≡◌, ◌&&◌, ◌==◌, ℕ, Bool, true, fa
 use Rattle.std.specs.Map.{lookup}
 use Rattle.indexmap.specs.IndexMap.{insert_entry}
 use Rattle.flow_key.specs.declared.key.FlowKey.{FlowKey}
-use Rattle.flow_key.specs.Fields.{KeyFields, fields_of}
 use Rattle.flow_key.proofs.KeyFields.{same_fields}
 use Rattle.biflow_pair.specs.Mates.{is_same}
 use Rattle.biflow_pair.specs.Chains.{place_in}

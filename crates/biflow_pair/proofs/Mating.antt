@@ -11,7 +11,7 @@ use Rattle.biflow_pair.specs.declared.biflow.Biflow.{Biflow}
 use Rattle.biflow_pair.specs.Pairs.{first_mate, without_mate, IsFirstPair, ArePaired}
 use Rattle.biflow_pair.specs.Chains.{HasKeyAt, IsPlace, IsFirstPlace, ArePlaces, AreLinks, RisesFrom, untaken, TakesMate, TakesPair, pair_list}
 use Rattle.biflow_pair.proofs.Keys.{same_key, same_itself}
-use Rattle.biflow_pair.proofs.Taking.{IsSet, NoneIsTaken, none_taken, MateIsTaken, IsMateAt, mate_taken, has_key, front_of, untaken-linked}
+use Rattle.biflow_pair.proofs.Taking.{IsSet, none_taken, mate_taken, has_key, front_of, untaken-linked}
 
 differ : false ≡ true → ⊥
 differ is = cc

@@ -1,8 +1,8 @@
 -- The order of records by first time, last time and key.
-use Rattle.std.proofs.Common.{◌≤◌, ◌<◌, ℕ, List, length, get_or, false, ◌≡◌, refl}
+use Rattle.std.proofs.Common.{List, get_or, false, ◌≡◌, refl}
 use Rattle.std.specs.Cmp.{IsTotalOrder, IsStrictWeakOrder}
 use Rattle.std.specs.List.Sorted.{IsSorted}
-use Rattle.std.specs.Ordering.{is_lt, nat_cmp, ordering_then}
+use Rattle.std.specs.Ordering.{is_lt, ordering_then}
 use Rattle.std.specs.declared.cmp.Ordering.{Ordering}
 use Rattle.std.specs.declared.cmp.Ordering.TheVariants.{Less, Equal, Greater}
 use Rattle.std.proofs.lemmas.Cmp.{nat_cmp_total, on_total, then_total}

@@ -1,14 +1,13 @@
 -- Records are taken out of those that aren't taken yet.
-use Rattle.std.proofs.Common.{◌≡◌, ◌<◌, ◌≤◌, ◌+◌, ◌-◌, ◌&&◌, max, ℕ, suc, Bool, true, false, not, nat_le, List, [], ◌∷◌, length, drop, get_or, Option, Some, None, if◌then◌else◌, inl, inr, refl, sym, ap, subst, ◌∙◌, arith, add-one, length-drop}
+use Rattle.std.proofs.Common.{◌≡◌, ◌<◌, ◌≤◌, ◌+◌, ℕ, suc, Bool, true, false, nat_le, List, [], ◌∷◌, length, drop, get_or, Some, None, if◌then◌else◌, inl, inr, refl, sym, ap, subst, ◌∙◌, arith, add-one, length-drop}
 use Rattle.std.proofs.Math.Seq.{drop-cons}
 use Rattle.std.proofs.lemmas.List.{drop_all, get_or_default}
 use Rattle.std.proofs.lemmas.Bool.{cases_lt, leb-true, le-leb, lt-leb}
 use Rattle.flow_key.specs.declared.key.FlowKey.{FlowKey}
-use Rattle.flow_parts.specs.Joining.{gap}
 use Rattle.record_ledger.specs.declared.record.FlowRecord.{FlowRecord}
-use Rattle.biflow_pair.specs.Mates.{is_same, is_reverse, are_mates}
+use Rattle.biflow_pair.specs.Mates.{is_same, are_mates}
 use Rattle.biflow_pair.specs.Pairs.{first_mate, without_mate}
-use Rattle.biflow_pair.specs.Chains.{HasKeyAt, IsPlace, IsFirstPlace, untaken}
+use Rattle.biflow_pair.specs.Chains.{HasKeyAt, IsFirstPlace, untaken}
 use Rattle.biflow_pair.proofs.Keys.{same_key, same_itself}
 
 differ : false ≡ true → ⊥

@@ -1,10 +1,9 @@
 -- The code's own: data records of one template are of one length, as the writer's trait for them says.
-use Rattle.std.proofs.Common.{◌≡◌, ◌+◌, ◌==◌, ℕ, Bool, true, false, length, if◌then◌else◌, Option, Some, None, refl, sym, ap, ◌∙◌, arith}
+use Rattle.std.proofs.Common.{◌≡◌, ◌==◌, ℕ, Bool, true, false, length, if◌then◌else◌, Option, Some, None, refl, sym, ◌∙◌, arith}
 use Rattle.record_ledger.specs.declared.record.FlowRecord.{FlowRecord}
 use Rattle.ipfix_model.specs.Fields.{record_length}
 use Rattle.ipfix_model.specs.Templates.{v4_template, v4_fields, v6_template, v6_fields, template_of, v4_bi_template, v4_bi_fields, v6_bi_template, v6_bi_fields, bi_template_of, bi_fields_of}
 use Rattle.ipfix_model.specs.Values.{bi_field_value}
-use Rattle.ipfix_writer.specs.Encoding.{data_record}
 use Rattle.ipfix_writer.specs.DataSizes.{length-record_bytes, length-data_record}
 use Rattle.biflow_pair.specs.declared.biflow.Biflow.{Biflow}
 use Rattle.biflow_pair.specs.BiLayout.{bi_record, encode_both, encode_biflow}

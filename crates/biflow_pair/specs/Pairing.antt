@@ -1,9 +1,9 @@
 -- What a stream of flow records becomes as a stream of biflows.
-use Rattle.std.specs.Prelude.{◌≡◌, ◌≢◌, ℕ, ◌<◌, ◌/◌, ◌%◌, ◌^◌, max, List, [], ◌∷◌, length, Option, Some, None, Ok, Err, slice_index_or, IsPermutation}
+use Rattle.std.specs.Prelude.{◌≡◌, ◌≢◌, ℕ, ◌<◌, ◌/◌, ◌%◌, ◌^◌, max, List, [], ◌∷◌, length, Some, None, Ok, Err, slice_index_or, IsPermutation}
 use Rattle.record_ledger.specs.declared.record.FlowRecord.{FlowRecord}
 use Rattle.ipfix_model.specs.declared.values.DataRecord.{DataRecord}
 use Rattle.ipfix_reader.specs.Messages.{decode}
-use Rattle.ipfix_reader.specs.Flows.{flow, flows_in, flows_of}
+use Rattle.ipfix_reader.specs.Flows.{flow, flows_of}
 use Rattle.biflow_pair.specs.declared.biflow.Biflow.{Biflow}
 use Rattle.biflow_pair.specs.declared.stream.PairError.{PairError}
 use Rattle.biflow_pair.specs.declared.stream.PairError.TheVariants.{NotStream, NotFlows, NoMemory}

@@ -1,5 +1,5 @@
 -- The message with the four templates, part by part.
-use Rattle.std.proofs.Common.{◌∙◌, arith, ap, length}
+use Rattle.std.proofs.Common.{arith, ap, length}
 use Rattle.biflow_pair.proofs.BiRecords.{length-v4_record, length-v6_record, length-v4_bi_record, length-v6_bi_record, longer_by-v4, longer_by-v6, longer_by-v4_bi, bi_template_message-written}
 use Rattle.biflow_pair.proofs.encoding.append_templates.Goals as goal
 

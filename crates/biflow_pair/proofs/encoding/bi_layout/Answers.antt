@@ -1,5 +1,4 @@
 -- Each biflow fits a message.
-use Rattle.std.proofs.Common.{arith}
 use Rattle.biflow_pair.proofs.BiRecords.{biflow-fits}
 use Rattle.biflow_pair.proofs.encoding.bi_layout.Goals as goal
 

@@ -1,4 +1,4 @@
-use Rattle.std.proofs.Common.{◌∙◌, ◌+◌, ap}
+use Rattle.std.proofs.Common.{◌+◌, ap}
 use Rattle.biflow_pair.proofs.BiRecords.{length-bi_template_records, length-bi_template_message}
 use Rattle.biflow_pair.proofs.laws.bi_lengths_are_fixed.Goals as goal
 

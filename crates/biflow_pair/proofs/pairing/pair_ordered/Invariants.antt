@@ -1,8 +1,8 @@
 -- What is left gives what all of the records give.
-use Rattle.std.proofs.Common.{◌≡◌, ◌≤◌, ◌-◌, ◌++◌, List, length, drop}
+use Rattle.std.proofs.Common.{◌≤◌, ◌-◌, ◌++◌, List, length, drop}
 use Rattle.biflow_pair.specs.declared.biflow.Biflow.{Biflow}
 use Rattle.biflow_pair.specs.Pairs.{ArePaired}
-use Rattle.biflow_pair.specs.Chains.{ArePlaces, AreLinks, untaken, place_of}
+use Rattle.biflow_pair.specs.Chains.{ArePlaces, untaken, place_of}
 use Rattle.biflow_pair.proofs.pairing.pair_ordered.Given as goal
 
 abbrev pub invariant-loop-place : goal.invariant-loop-place

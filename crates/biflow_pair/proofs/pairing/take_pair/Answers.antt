@@ -1,5 +1,5 @@
 -- The record at the place, and its mate.
-use Rattle.std.proofs.Common.{◌+◌, ℕ, sym, subst, arith, get_or}
+use Rattle.std.proofs.Common.{◌+◌, sym, subst, arith, get_or}
 use Rattle.record_ledger.specs.declared.record.FlowRecord.{FlowRecord}
 use Rattle.biflow_pair.specs.Chains.{IsFirstPlace, place_of}
 use Rattle.biflow_pair.proofs.Linking.{places-behind}

@@ -1,7 +1,5 @@
-use Rattle.std.proofs.Common.{◌≡◌, Some, sym, ap, ◌∙◌, subst}
 use Rattle.meter_io.specs.Sides.{side}
-use Rattle.biflow_pair.specs.Outcome.{Ends}
-use Rattle.biflow_pair.specs.Words.{Asked, asked}
+use Rattle.biflow_pair.specs.Words.{asked}
 use Rattle.biflow_pair.proofs.Complete.{completes}
 use Rattle.biflow_pair.proofs.running.run_pair.Goals as goal
 

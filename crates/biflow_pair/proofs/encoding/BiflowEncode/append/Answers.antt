@@ -1,5 +1,5 @@
 -- The record of the forward flow, and then the values of the reverse one.
-use Rattle.std.proofs.Common.{◌∙◌, ◌++◌, ◌+◌, sym, ap, arith, length, append_assoc, length-append}
+use Rattle.std.proofs.Common.{◌∙◌, ◌++◌, sym, ap, arith, length, append_assoc, length-append}
 use Rattle.ipfix_writer.specs.Encoding.{data_record}
 use Rattle.ipfix_writer.specs.DataParts.{counts_part}
 use Rattle.biflow_pair.specs.BiLayout.{encode_both}
