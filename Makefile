@@ -16,7 +16,7 @@ help:
 	@echo "make test                 the gate: prove every crate from nothing, run all tests, then the checks of checks/"
 	@echo "make build                leave the programs as $(PROGRAM), $(PCAPNG) and $(PAIR)"
 	@echo "make check                compare the program with other readers and meters (checks/)"
-	@echo "make install PREFIX=DIR   install the programs below DIR, $(PREFIX) by default"
+	@echo "make install PREFIX=DIR   install programs, pages and completions below DIR, $(PREFIX) by default"
 
 demo: build
 	@echo "The records of $(CAPTURE): an ARP request, a DNS query and its reply, and a TCP exchange."
@@ -60,6 +60,9 @@ test:
 	@$(MAKE) --no-print-directory check
 
 check: build $(THREADS)
+	checks/shell.sh
+	checks/page.sh
+	checks/operators.sh
 	checks/foreign_readers.sh
 	checks/pcapng.sh
 	checks/biflows.sh
@@ -67,6 +70,7 @@ check: build $(THREADS)
 	python3 checks/second_meter.py 20000
 	python3 checks/second_reader.py 20000
 	python3 checks/second_pairer.py 2000
+	python3 checks/second_maker.py
 
 install: build
 	install -d $(DESTDIR)$(PREFIX)/bin
@@ -74,8 +78,11 @@ install: build
 	install -m 755 $(PCAPNG) $(DESTDIR)$(PREFIX)/bin/romtyalig-pcapng
 	install -m 755 $(PAIR) $(DESTDIR)$(PREFIX)/bin/romtyalig-pair
 	install -d $(DESTDIR)$(PREFIX)/share/man/man1
-	install -m 644 man/romtyalig-pcapng.1 $(DESTDIR)$(PREFIX)/share/man/man1/romtyalig-pcapng.1
-	install -m 644 man/romtyalig-pair.1 $(DESTDIR)$(PREFIX)/share/man/man1/romtyalig-pair.1
+	install -m 644 man/romtyalig.1 man/romtyalig-pcapng.1 man/romtyalig-pair.1 $(DESTDIR)$(PREFIX)/share/man/man1
+	install -d $(DESTDIR)$(PREFIX)/share/bash-completion/completions
+	install -m 644 completions/romtyalig.bash $(DESTDIR)$(PREFIX)/share/bash-completion/completions/romtyalig
+	install -d $(DESTDIR)$(PREFIX)/share/zsh/vendor-completions
+	install -m 644 completions/_romtyalig $(DESTDIR)$(PREFIX)/share/zsh/vendor-completions/_romtyalig
 
 clean:
 	rm -rf bin crates/*/out

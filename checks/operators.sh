@@ -1,0 +1,136 @@
+#!/bin/bash
+# Runs the commands of docs/OPERATORS.md, and compares what each gives with what `show` says of the same flows.
+#
+#     checks/operators.sh
+#
+# Each block there that is marked `run: NAME, with PROGRAM` is taken as it stands and run in a folder with the files that it
+# names. One line for each; a block whose program is missing is skipped with one line. The status is not 0 where any differs.
+#
+# ROMTYALIG and ROMTYALIG_PCAPNG are the programs' paths (bin/romtyalig and bin/romtyalig-pcapng unless set).
+set -u
+
+here=$(cd "$(dirname "$0")" && pwd)
+top=$(dirname "$here")
+program=${ROMTYALIG:-$top/bin/romtyalig}
+filter=${ROMTYALIG_PCAPNG:-$top/bin/romtyalig-pcapng}
+export LC_ALL=C TZ=UTC
+
+for needed in "$program" "$filter"; do
+    if [ ! -x "$needed" ]; then
+        echo "no program at $needed" >&2
+        exit 2
+    fi
+done
+
+work=$(mktemp -d) || exit 2
+trap 'rm -rf "$work"' EXIT
+trap 'exit 2' HUP INT TERM
+mkdir "$work/bin" "$work/collected"
+ln -s "$program" "$work/bin/romtyalig"
+ln -s "$filter" "$work/bin/romtyalig-pcapng"
+ln -s "$top/examples" "$work/examples"
+PATH="$work/bin:$PATH"
+cd "$work" || exit 2
+
+cp examples/web-exchange.pcap capture.pcap
+gzip -k capture.pcap
+python3 - <<'PYTHON'
+# The capture in two, cut behind its fourth record.
+import struct
+capture = open('capture.pcap', 'rb').read()
+place = 24
+for _ in range(4):
+    place += 16 + struct.unpack_from('<L', capture, place + 8)[0]
+open('first.pcap', 'wb').write(capture[:place])
+open('second.pcap', 'wb').write(capture[:24] + capture[place:])
+PYTHON
+command -v editcap >/dev/null && editcap -F pcapng capture.pcap capture.pcapng
+romtyalig meter <capture.pcap >wanted.ipfix 2>/dev/null
+romtyalig show <wanted.ipfix >lines 2>/dev/null
+
+# The values of fields of each record, a line each: values 8 12
+values() {
+    awk -v wanted="$*" '{
+        split("", value)
+        for (i = 2; i <= NF; i++) { split($i, pair, "="); value[pair[1]] = pair[2] }
+        count = split(wanted, names, " ")
+        line = value[names[1]]
+        for (i = 2; i <= count; i++) line = line " " value[names[i]]
+        print line
+    }' lines
+}
+
+# The commands of the block of this name.
+block() {
+    awk -v mark="<!-- run: $1, " 'index($0, mark) == 1 { found = 1; next }
+        found && /^```sh/ { inside = 1; next }
+        inside && /^```/ { exit }
+        inside' "$top/docs/OPERATORS.md"
+}
+
+same=0
+differ=0
+
+# Runs a block and then its comparison: compare NAME PROGRAM COMPARISON
+compare() {
+    if ! command -v "$2" >/dev/null; then
+        echo "skipped: $1, no $2"
+        return
+    fi
+    block "$1" >commands
+    if [ -s commands ] && bash -eu commands >out 2>said && "$3"; then
+        echo "same: $1"
+        same=$((same + 1))
+    else
+        echo "DIFFERS: $1"
+        head -n 5 said | sed 's/^/    /'
+        differ=$((differ + 1))
+    fi
+}
+
+same_stream() { cmp flows.ipfix wanted.ipfix && rm flows.ipfix; }
+same_lines() { cmp out lines; }
+same_dump() {
+    grep -o 'octetDeltaCount *: *[0-9]*' out | grep -o '[0-9]*$' >got
+    values 1 | cmp - got
+}
+same_fields() {
+    tr ',' '\n' <out | tr -s '\t\n' '\n' | grep . | sort >got
+    values 8 12 2 1 | tr ' ' '\n' | sort | cmp - got
+}
+same_columns() {
+    tail -n +2 flows.csv | tr -d '"' | cut -d, -f1-8,11 | tr ',' ' ' >got
+    values 8 12 7 11 4 6 2 1 136 | cmp - got
+}
+same_talkers() {
+    tail -n +2 out | tr -s ' ' >got
+    values 8 1 | awk '{ sum[$1] += $2 } END { for (a in sum) print a, sum[a] }' | sort -k2,2nr | cmp - got
+}
+drawn() { grep -q '</svg>' octets.svg; }
+same_collected() {
+    awk '{ gsub(/:/, " "); print $1, $2, $3, $4, $5, $6, $7 }' out | sort >got
+    values 4 8 7 12 11 2 1 | sort | cmp - got
+}
+
+compare progress pv same_stream
+compare compressed zcat same_stream
+compare several mergecap same_stream
+if [ -e capture.pcapng ]; then
+    compare pcapng romtyalig-pcapng same_stream
+else
+    echo "skipped: pcapng, no editcap"
+fi
+cp wanted.ipfix flows.ipfix
+compare show romtyalig same_lines
+compare text ipfixDump same_dump
+compare wireshark tshark same_fields
+compare csv ipfix2csv same_columns
+if [ -e flows.csv ]; then
+    compare talkers mlr same_talkers
+    compare picture gnuplot drawn
+else
+    echo "skipped: talkers and picture, no CSV"
+fi
+compare collector nfcapd same_collected
+echo "$same the same, $differ that differ"
+[ "$differ" -eq 0 ]

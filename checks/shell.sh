@@ -1,0 +1,79 @@
+#!/bin/bash
+# The program in a shell, as an operator meets it: each command's exit status and the lines that it leaves on standard error.
+#
+#     checks/shell.sh
+#
+# One line for each row of the table at the end. The status is not 0 where any differs. ROMTYALIG is the program's path
+# (bin/romtyalig unless set).
+set -u
+
+here=$(cd "$(dirname "$0")" && pwd)
+top=$(dirname "$here")
+program=${ROMTYALIG:-$top/bin/romtyalig}
+export LC_ALL=C
+
+if [ ! -x "$program" ]; then
+    echo "no program at $program" >&2
+    exit 2
+fi
+work=$(mktemp -d) || exit 2
+trap 'rm -rf "$work"' EXIT
+trap 'exit 2' HUP INT TERM
+cd "$work" || exit 2
+mkdir bin folder
+ln -s "$program" bin/romtyalig
+PATH="$work/bin:$PATH"
+capture=$top/examples/web-exchange.pcap
+export capture
+romtyalig meter <"$capture" >whole 2>summary
+head -c 100 whole >begun
+head -c 40 "$capture" | tail -c 16 >rest
+
+same=0
+differ=0
+
+# A command, its exit status, what standard error has, and what standard output has: row NAME STATUS NOTES OUTPUT COMMAND. The
+# notes and the output are files.
+row() {
+    : >notes
+    : >output
+    bash -c "$5" >output 2>notes
+    got=$?
+    if [ "$got" -eq "$2" ] && cmp -s notes "$3" && cmp -s output "$4"; then
+        echo "same: $1"
+        same=$((same + 1))
+    else
+        echo "DIFFERS: $1: status $got, $(head -n 1 notes)"
+        differ=$((differ + 1))
+    fi
+}
+
+# A file with this line.
+line() {
+    echo "$1" >"line $1"
+    echo "line $1"
+}
+
+: >none
+usage=$(line "usage: meter, show, make, schedule or selftest")
+
+row "a capture" 0 summary whole 'romtyalig meter <"$capture"'
+row "no words" 2 "$usage" none 'romtyalig <"$capture"'
+row "a wrong word" 2 "$usage" none 'romtyalig metre <"$capture"'
+row "a wrong option" 2 "$usage" none 'romtyalig meter --idel 5 <"$capture"'
+row "help" 2 "$usage" none 'romtyalig --help <"$capture"'
+row "a folder as input" 1 "$(line "read fault")" none 'romtyalig meter <folder'
+row "a closed input" 1 "$(line "read fault")" none 'romtyalig meter <&-'
+row "an empty input" 4 "$(line "not a capture")" none 'romtyalig meter </dev/null'
+row "a text as capture" 4 "$(line "not a capture")" none 'echo text that is no capture at all | romtyalig meter'
+row "a stream as capture" 4 "$(line "not a capture")" none 'romtyalig meter <whole'
+row "a capture as stream" 9 "$(line "not a stream: version at 0")" none 'romtyalig show <"$capture"'
+row "a stream cut off" 9 "$(line "not a stream: cut at 0")" none 'romtyalig show <begun'
+row "a full device" 3 none none 'romtyalig meter <"$capture" >/dev/full'
+row "a full device of show" 3 none none 'romtyalig show <whole >/dev/full'
+row "a closed pipe" 3 none none '{ sleep 1; romtyalig meter <"$capture"; echo $? >status; } | :; exit "$(cat status)"'
+row "notes to a full device" 3 none whole 'romtyalig meter <"$capture" 2>/dev/full'
+row "notes of a refusal to a full device" 4 none none 'romtyalig meter </dev/null 2>/dev/full'
+row "notes of a wrong word to a closed standard error" 2 none none 'romtyalig metre 2>&-'
+echo "$same the same, $differ that differ"
+[ "$differ" -eq 0 ]
