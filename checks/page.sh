@@ -31,7 +31,7 @@ in_page() {
     awk -v command="$1" '/^\.Cm / { found = ($2 == command) } /^\.Sh DESCRIPTION/ { exit } found && /Fl -/' man/romtyalig.1 |
         grep -o 'Fl -[a-z]*' | sed 's/Fl /-/' | sort
 }
-in_readme() { grep "^| \`$1\` |" README.md | grep -o '`--[a-z]*`' | tr -d '`' | sort; }
+in_readme() { awk -F'|' -v command=" \`$1\` " '$3 == command && $2 ~ /--/ { gsub(/[` ]/, "", $2); print $2 }' README.md | sort; }
 in_bash() { grep "^    $1) options=" completions/romtyalig.bash | grep -o -e '--[a-z]*' | sort; }
 in_zsh() {
     awk -v command="$1" '$1 == command ")" { found = 1 } found && /;;/ { exit } found' completions/_romtyalig |
