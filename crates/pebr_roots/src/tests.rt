@@ -354,3 +354,21 @@ fn a_pass_is_stopped_behind_each_call(rt: HostRuntime) {
         assert!(rt; retired >= 2 && left <= 1);
     }
 }
+
+fn shared<T: Sync>(_value: &T) {}
+
+fn moved<T: Send>(value: T) -> T {
+    value
+}
+
+#[test]
+fn threads_share_roots(rt: HostRuntime) {
+    let alloc = rt.alloc();
+    let Ok((roots, first, second)) = two(alloc) else {
+        panic!(rt; "no memory");
+    };
+    shared(&roots);
+    let first = moved(first);
+    assert_eq!(rt; (first.fresh(), first.retired()), (3, 0));
+    assert_eq!(rt; second.fresh(), 3);
+}
