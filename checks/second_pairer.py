@@ -152,14 +152,17 @@ def line_of(forward: Flow, reverse: Flow | None) -> str:
 
 def random_flow(chance: random.Random, idle: int) -> Flow:
     version, width = chance.choice(((4, 4), (4, 4), (6, 16)))
-    ends = [bytes(width - 1) + bytes([chance.randrange(1, 3)]) for _ in range(2)]
+    ends = [bytes(width - 1) + bytes([end]) for end in chance.choice(((1, 2), (2, 1), (1, 2), (2, 1), (1, 1)))]
+    ports = (53, 54) if ends[0] < ends[1] else (54, 53)
+    if chance.random() < 0.2:
+        ports = chance.choice(((53, 54), (54, 53), (53, 53)))
     first = chance.choice((0, 1_000_000)) + chance.choice((0, 0, 1, 500 * idle, 1000 * idle, 1000 * idle + 1, 2000 * idle))
     last = first + chance.choice((0, 0, 1, 500 * idle))
     counts = (
         chance.randrange(1 << 12), chance.choice((1, 2, 2**64 - 1)), chance.choice((0, 40, 2**64 - 1)),
         first, last, chance.randrange(256),
     )
-    return Flow(version, *ends, chance.choice((6, 17)), (chance.choice((53, 54)), chance.choice((53, 54))), counts)
+    return Flow(version, *ends, chance.choice((6, 6, 17)), ports, counts)
 
 
 def compare(wanted: int, seed: int) -> None:
