@@ -3,3 +3,5 @@ pub mod Pieces
 pub mod Taken
 pub mod Whole
 pub mod Uniting
+pub mod Held
+pub mod Reading

@@ -128,3 +128,7 @@ behind-more size base counted n stop captured captured' drawn packets below with
 -- as many answers as records
 pub answers-count : (base : ℕ) (file : CaptureFile) → length (answers_from base file) ≡ length (records_of file)
 answers-count base file = length-answers (answer_to file) base (records_of file)
+
+-- numbers below one are below a greater one
+pub below-more : (one other : ℕ) (packets : List Packet) → one ≤ other → AreBelow one packets → AreBelow other packets
+below-more one other packets le below = λ k d inside. (let h = below k d inside in omega (arith, h, le))

@@ -6,17 +6,25 @@
 //! capture, and the tally counts every record. Nothing on the packet's path is shared but the cache and the word that
 //! pieces are drawn from; each worker keeps a tally and a list of its own.
 //!
+//! A capture that is too long for the memory is metered in windows ([`meter_windows`]): the passes live across them, and each
+//! window has pieces of its own.
+//!
 //! Everything is generic over the cache ([`FlowCache`](cache_face::FlowCache)), so only its `meter` adds packets to a
 //! pass. A [`Gate`] is told before each piece: tests hold workers there.
 #![tactic(auto)]
 
 mod all;
+mod fault;
 mod gate;
+mod part;
+mod windows;
 mod worker;
 mod working;
 
 pub use all::{Gathered, meter_all};
+pub use fault::MeterFault;
 pub use gate::{Gate, OpenGate};
 pub use no_memory::NoMemory;
+pub use windows::{WindowGathered, meter_windows};
 pub use worker::{WorkState, Worker};
 pub use working::work;

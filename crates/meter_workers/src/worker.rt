@@ -27,3 +27,10 @@ pub struct Worker<C: FlowCache> {
     pub tally: Tally,
     pub state: WorkState,
 }
+
+/// What a worker holds between two parts of a capture: its pass of the cache, and the fragments that the cache handed it.
+#[derive(Drop)]
+pub(crate) struct Held<C: FlowCache> {
+    pub(crate) pass: C::Pass,
+    pub(crate) out: Vec<Fragment>,
+}

@@ -142,6 +142,7 @@ fn work_through<C: FlowCache, G: Gate>(
         (C.shown pass.new) out.new.items tally.new) }
     ensures tallied { OnOk result (IsTallied tally.new) }
     ensures few { OnOk result (tally.new.captured ≤ tally.old.captured + length index.now.offsets) }
+    ensures below { OnOk result (AreBelow (base + length index.now.offsets) (C.shown pass.new).note.packets) }
 {
     packets_law();
     for _turn in 0..u64::MAX {
@@ -189,6 +190,7 @@ pub fn work<C: FlowCache, G: Gate>(
         (C.shown worker.new.pass) worker.new.out.items worker.new.tally }
     ensures tallied { worker.new.state ≡ WorkState.Finished → IsTallied worker.new.tally }
     ensures few { worker.new.state ≡ WorkState.Finished → worker.new.tally.captured ≤ worker.old.tally.captured + length index.now.offsets }
+    ensures below { worker.new.state ≡ WorkState.Finished → AreBelow (base + length index.now.offsets) (C.shown worker.new.pass).note.packets }
 {
     let end = work_through(
         capture,

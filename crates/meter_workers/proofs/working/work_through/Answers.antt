@@ -3,7 +3,7 @@ use Rattle.pcap_reader.specs.Views.{file_of}
 use Rattle.work_pieces.specs.Passes.{size_of, drawn_of}
 use Rattle.meter_workers.specs.Answers.{answers_from}
 use Rattle.meter_workers.specs.Work.{AreBelow, IsBehind}
-use Rattle.meter_workers.proofs.Pieces.{did-none, did-piece, behind-none, behind-next, behind-more, answers-count}
+use Rattle.meter_workers.proofs.Pieces.{did-none, did-piece, behind-none, behind-next, behind-more, below-more, answers-count}
 use Rattle.meter_workers.proofs.working.work_through.Goals as goal
 
 pub loop-turn-init : goal.loop-turn-init
@@ -18,6 +18,7 @@ loop-turn-init g c =
       tallied = c.requires.tallied;
       few = omega arith;
       behind = behind-none (size_of c.args.pieces.now) c.args.base c.args.tally.now.captured (drawn_of c.args.draw.now) pass.note.packets c.requires.below;
+      below = below-more c.args.base _ pass.note.packets (omega arith) c.requires.below;
     }
 
 pub meter_piece-requires-clause-few : goal.meter_piece-requires-clause-few
@@ -69,4 +70,5 @@ loop-turn-preserved g c =
       behind = subst (λ l. IsBehind size c.args.base c.args.tally.now.captured l after.note.packets c.meter_piece.new.tally.captured) (sym some.2)
           (behind-more size c.args.base c.args.tally.now.captured n c.in-Some.piece.end c.loop-turn.tally.captured c.meter_piece.new.tally.captured (drawn_of c.loop-turn.draw)
           after.note.packets told.below within next.1 (subst (λ k. c.meter_piece.new.tally.captured + k ≡ c.loop-turn.tally.captured + c.in-Some.piece.end) some.0 told.captured));
+      below = below-more (c.args.base + c.in-Some.piece.end) _ after.note.packets (omega (arith, c.in-Some.ensures.within.2, c.requires.whole)) told.below;
     }

@@ -2,7 +2,7 @@ use Rattle.std.proofs.Common.{◌≡◌, ◌≤◌, ◌+◌, ◌++◌, ℕ, List
 use Rattle.pcap_reader.specs.Views.{file_of}
 use Rattle.work_pieces.specs.Passes.{IsPassOf, size_of, drawn_of, seats_of}
 use Rattle.meter_workers.specs.Answers.{answers_from, pieces_of}
-use Rattle.meter_workers.specs.Work.{Did, IsBehind, IsTallied}
+use Rattle.meter_workers.specs.Work.{Did, AreBelow, IsBehind, IsTallied}
 use Rattle.meter_workers.proofs.working.work_through.Given as goal
 
 abbrev pub invariant-loop-turn : goal.invariant-loop-turn
@@ -17,4 +17,5 @@ invariant-loop-turn g l = record {
   tallied : IsTallied l.tally;
   few : l.tally.captured ≤ l.initial.tally.captured + length l.index.offsets;
   behind : IsBehind (size_of l.pieces) l.base l.initial.tally.captured (drawn_of l.draw) (g.C.FlowCache.shown l.pass).note.packets l.tally.captured;
+  below : AreBelow (l.base + length l.index.offsets) (g.C.FlowCache.shown l.pass).note.packets;
 }
