@@ -96,10 +96,7 @@ fn settings(alloc: Global, options: &[String]) -> Result<Settings, OptionsError>
     ensures settings { IfOk result (λ s. asked_with meter_options meter_with (map string_bytes options.now) ≡ Some (meter s.idle s.active s.size)) }
     ensures refused { IfErr result (λ error. error ≡ OptionsError.NotOptions → asked_with meter_options meter_with (map string_bytes options.now) ≡ None) }
 {
-    let values = match values_of(alloc, METER.as_slice(), options) {
-        Ok(values) => values,
-        Err(error) => return Err(error),
-    };
+    let values = values_of(alloc, METER.as_slice(), options)?;
     let [idle, active, _workers, _sets, _piece, size] = values.as_slice() else {
         unreachable!()
     };

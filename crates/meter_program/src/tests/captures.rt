@@ -7,24 +7,22 @@ use std::alloc::Global;
 use std::test::Fail;
 use std::thread::Threads;
 
+/// The hexadecimal digits of a record with a frame of 42 bytes: UDP over IPv4 from this port of 192.0.2.1 to 192.0.2.2:53.
+fn record_of(alloc: Global, second: u32, microsecond: u32, port: u16) -> Result<String, Fail> {
+    let (second, microsecond) = (second.swap_bytes(), microsecond.swap_bytes());
+    let text = format!(in alloc;
+        "{second:08x}{microsecond:08x}2a0000002a00000002000000000202000000000108004500001c0000000040110000c0000201c0000202{port:04x}003500080000"
+    )?;
+    Ok(text)
+}
+
 /// A capture of UDP packets, each with its second, its microsecond and its source port.
 fn capture_of(alloc: Global, packets: &[(u32, u32, u16)]) -> Result<Vec<u8>, Fail> {
-    let mut capture = octets_of(alloc, &[HEADER])?;
-    let lengths = octets_of(alloc, &["2a000000 2a000000"])?;
-    let before = octets_of(
-        alloc,
-        &["020000000002 020000000001 0800 4500001c 00000000 40110000 c0000201 c0000202"],
-    )?;
-    let behind = octets_of(alloc, &["0035 0008 0000"])?;
+    let mut text = String::new(alloc);
     for (second, microsecond, port) in packets {
-        capture.extend_from_slice(second.to_le_bytes().as_slice())?;
-        capture.extend_from_slice(microsecond.to_le_bytes().as_slice())?;
-        capture.extend_from_slice(lengths.as_slice())?;
-        capture.extend_from_slice(before.as_slice())?;
-        capture.extend_from_slice(port.to_be_bytes().as_slice())?;
-        capture.extend_from_slice(behind.as_slice())?;
+        text.push_str(record_of(alloc, *second, *microsecond, *port)?.as_str())?;
     }
-    Ok(capture)
+    octets_of(alloc, &[HEADER, text.as_str()])
 }
 
 /// What `show` says of what `meter` writes of a capture; empty where either isn't done.
@@ -38,46 +36,43 @@ fn shown(rt: &impl Threads, alloc: Global, capture: &[u8]) -> Result<Vec<u8>, Fa
     }
 }
 
-/// A packet of TCP or UDP over IPv4: its millisecond, protocol, source, destination, octets and TCP flags.
-type Sent = (u32, u8, &'static str, &'static str, u16, u16);
+/// A side of a flow: an address and a port in hexadecimal.
+type End = (&'static str, &'static str);
 
-/// A capture of such packets, each with 40 octets of its headers, at a second and some milliseconds; a side is an
-/// address and a port in hexadecimal.
+/// A packet of TCP or UDP over IPv4: its millisecond, protocol, source, destination, octets and TCP flags.
+type Sent = (u32, u8, End, End, u16, u16);
+
+/// The hexadecimal digits of a record with such a packet, of which 54 bytes are captured.
+fn sent_record(alloc: Global, second: u32, sent: &Sent) -> Result<String, Fail> {
+    let (millisecond, protocol, (source, from), (destination, to), octets, flags) = sent;
+    let second = second.saturating_add(*millisecond / 1000).swap_bytes();
+    let microsecond = (*millisecond % 1000 * 1000).swap_bytes();
+    let original = (14 + *octets as u32).swap_bytes();
+    let bits = *flags % 4096 + 0x5000;
+    let text = format!(in alloc;
+        "{second:08x}{microsecond:08x}36000000{original:08x}0200000000020200000000010800\
+        4500{octets:04x}0000000040{protocol:02x}0000{source}{destination}{from}{to}0000000000000000{bits:04x}000000000000"
+    )?;
+    Ok(text)
+}
+
+/// A capture of such packets from a second on.
 fn exchange_of(alloc: Global, second: u32, packets: &[Sent]) -> Result<Vec<u8>, Fail> {
-    let mut capture = octets_of(alloc, &[HEADER])?;
-    for (ms, protocol, source, destination, octets, flags) in packets {
-        let (second, ms) = (second.saturating_add(*ms / 1000), *ms % 1000);
-        capture.extend_from_slice(second.to_le_bytes().as_slice())?;
-        capture.extend_from_slice((ms * 1000).to_le_bytes().as_slice())?;
-        capture.extend_from_slice(54u32.to_le_bytes().as_slice())?;
-        capture.extend_from_slice((14 + *octets as u32).to_le_bytes().as_slice())?;
-        capture.extend_from_slice(octets_of(
-            alloc,
-            &["020000000002 020000000001 0800 4500"],
-        )?.as_slice())?;
-        capture.extend_from_slice(octets.to_be_bytes().as_slice())?;
-        capture.extend_from_slice(&[0, 0, 0, 0, 64, *protocol, 0, 0])?;
-        let source = octets_of(alloc, &[source])?;
-        let destination = octets_of(alloc, &[destination])?;
-        capture.extend_from_slice(source.as_slice().get(..4).unwrap_or(&[]))?;
-        capture.extend_from_slice(destination.as_slice().get(..4).unwrap_or(&[]))?;
-        capture.extend_from_slice(source.as_slice().get(4..).unwrap_or(&[]))?;
-        capture.extend_from_slice(destination.as_slice().get(4..).unwrap_or(&[]))?;
-        capture.extend_from_slice(&[0, 0, 0, 0, 0, 0, 0, 0])?;
-        capture.extend_from_slice((*flags % 4096 + 0x5000).to_be_bytes().as_slice())?;
-        capture.extend_from_slice(&[0, 0, 0, 0, 0, 0])?;
+    let mut text = String::new(alloc);
+    for sent in packets {
+        text.push_str(sent_record(alloc, second, sent)?.as_str())?;
     }
-    Ok(capture)
+    octets_of(alloc, &[HEADER, text.as_str()])
 }
 
 /// The two sides of a web exchange and of the query before it.
-const CLIENT: &str = "0a000005 9c40";
+const CLIENT: End = ("0a000005", "9c40");
 
-const SERVER: &str = "c6336407 0050";
+const SERVER: End = ("c6336407", "0050");
 
-const ASKING: &str = "0a000005 c350";
+const ASKING: End = ("0a000005", "c350");
 
-const RESOLVER: &str = "0a000001 0035";
+const RESOLVER: End = ("0a000001", "0035");
 
 /// Captures with ends of flows: a name, the second of the packets, the packets, and what `show` says of the records.
 static ENDS: [(&str, u32, &[Sent], &str); 5] = [
