@@ -1,5 +1,5 @@
 -- The records of bytes with more behind them.
-use Rattle.std.proofs.Common.{◌≡◌, ℕ, ◌+◌, ◌*◌, ◌≤◌, ◌<◌, true, false, List, [], ◌∷◌, ◌++◌, length, take, drop, Some, None, refl, sym, ap, ◌∙◌, append_assoc, arith, inl, inr}
+use Rattle.std.proofs.Common.{◌≡◌, ℕ, ◌+◌, ◌≤◌, ◌<◌, true, false, List, [], ◌∷◌, ◌++◌, length, take, drop, Some, None, refl, sym, ap, ◌∙◌, append_assoc, arith, inl, inr}
 use Rattle.std.specs.Prelude.{map}
 use Rattle.std.specs.List.{concat, AllByRecursion}
 use Rattle.std.proofs.lemmas.List.{take-append-le, length-append, length-drop, length-take, length-map, map-append}
@@ -8,9 +8,9 @@ use Rattle.std.proofs.lemmas.Bool.{cases_Bool, cases_lt}
 use Rattle.std.proofs.lemmas.Bool.Decides.{nat_tests}
 use Rattle.octets.specs.declared.endianness.Endianness.{Endianness}
 use Rattle.pcap_reader.specs.File.{CaptureFile}
-use Rattle.pcap_reader.specs.Records.{claimed_len, most_captured, records_of, begins_with_record, begins_with_damage, parts_of, rest_of, rest_offset, tail_of, damage_of, packet_record, IsRecord, IsCutInto}
+use Rattle.pcap_reader.specs.Records.{claimed_len, most_captured, begins_with_record, begins_with_damage, parts_of, rest_of, rest_offset, tail_of, damage_of, packet_record, IsRecord, IsCutInto}
 use Rattle.pcap_reader.specs.Windows.{grown, part_with, GoesOn, BeginsWithMore}
-use Rattle.pcap_reader.proofs.Cutting.{file_is_cut, file_is_cut_once, claimed_len-append, ends_at, few_parts}
+use Rattle.pcap_reader.proofs.Cutting.{file_is_cut, file_is_cut_once, claimed_len-append, ends_at}
 use Rattle.pcap_reader.proofs.Parts.{record_parts-record, record_parts-rest}
 use Rattle.pcap_reader.proofs.Search.{damage-no_record}
 
@@ -147,7 +147,3 @@ begins_with_more file long =
           let d : begins_with_damage file.order left ≡ true = long-begins file.order left enough missing in
           inr (rw (here, d) refl)
     ]
-
--- so many records fit
-pub few_in_file : (file : CaptureFile) → file.start ≤ length file.bytes → file.start + 16 * length (records_of file) + tail_of file ≤ length file.bytes
-few_in_file file h = omega (arith, few_parts file h, length-map (parts_of file) (packet_record file.order))

@@ -1,6 +1,6 @@
 //! Laws on files that are read in parts, for proofs above. The call does nothing.
 
-ghost use Rattle.std.specs.Prelude.{◌≡◌, ◌+◌, ◌*◌, ◌≤◌, ◌<◌, ◌++◌, ◌∷◌, [], ℕ, List, Some, None, length, flat_map};
+ghost use Rattle.std.specs.Prelude.{◌≡◌, ◌+◌, ◌≤◌, ◌<◌, ◌++◌, ◌∷◌, [], ℕ, List, Some, None, length, flat_map};
 ghost use Rattle.std.specs.List.{AllByRecursion};
 ghost use Rattle.std.specs.Option.{option_map};
 ghost use Rattle.pcap_reader.specs.File.{CaptureFile, capture_file, file_header_len};
@@ -33,6 +33,5 @@ pub fn parts_law()
     // A part with room for the longest record.
     ensures full { (file : CaptureFile) → file.start + 16 + most_captured ≤ length file.bytes → BeginsWithMore file }
     ensures short { (file : CaptureFile) → file.start ≤ length file.bytes → damage_of file ≡ None → tail_of file < 16 + most_captured }
-    ensures few { (file : CaptureFile) → file.start ≤ length file.bytes → file.start + 16 * length (records_of file) + tail_of file ≤ length file.bytes }
     ensures whole { (file : CaptureFile) → file.start ≤ length file.bytes → rest_offset file + tail_of file ≡ length file.bytes }
 {}

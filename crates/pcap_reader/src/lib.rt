@@ -25,7 +25,6 @@ mod window;
 pub use capture::Capture;
 pub use fill_end::FillEnd;
 pub use head::{CaptureError, Head};
-pub use header::FILE_HEADER;
 pub use index::{IndexError, RecordIndex};
 pub use laws::parts_law;
 pub use meter_io::NoMemory;

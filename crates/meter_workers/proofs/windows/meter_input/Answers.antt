@@ -1,7 +1,7 @@
 -- The windows, one behind the other.
-use Rattle.std.proofs.Common.{◌≡◌, ◌+◌, ◌-◌, ◌++◌, ◌≤◌, ℕ, List, length, drop, Err, arith, refl, sym, subst, ap, ◌∙◌}
+use Rattle.std.proofs.Common.{◌≡◌, ◌+◌, ◌-◌, ◌^◌, ◌++◌, ◌≤◌, ℕ, List, length, drop, Err, arith, refl, sym, subst, ap, ◌∙◌}
 use Rattle.std.specs.Prelude.{All, flat_map}
-use Rattle.std.proofs.lemmas.List.{length-append, take-append-drop}
+use Rattle.std.proofs.lemmas.List.{length-append, length-map, take-append-drop}
 use Rattle.std.proofs.KnownBytes.{Consumes-trans}
 use Rattle.std.specs.Io.KnownBytes.{Consumes}
 use Rattle.packet_accept.specs.declared.packet.Packet.{Packet}
@@ -9,7 +9,8 @@ use Rattle.pcap_reader.specs.File.{CaptureFile}
 use Rattle.pcap_reader.specs.Views.{file_of, headed_by}
 use Rattle.meter_workers.specs.Windows.{IsRefused}
 use Rattle.pcap_reader.specs.Windows.{grown, front_of}
-use Rattle.pcap_reader.specs.Records.{rest_of, tail_of}
+use Rattle.pcap_reader.proofs.Cutting.{few_parts}
+use Rattle.pcap_reader.specs.Records.{parts_of, records_of, packet_record, rest_of, tail_of}
 use Rattle.pcap_reader.specs.Filling.{WindowState}
 use Rattle.meter_workers.specs.declared.worker.Held.{Held}
 use Rattle.meter_workers.specs.Sharing.{IsHeld}
@@ -157,3 +158,21 @@ returns-in-Err-fill_input-clause-refused g c = λ first had.
     (cut-refused first (g.S.Source.left c.loop-metering.source) (g.S.Source.left c.fill_input.new.source) (g.S.Source.faults c.args.source.now)
     (g.S.Source.faults c.loop-metering.source) (g.S.Source.faults c.fill_input.new.source) (at.0.bytes ++ at.1) told.got (c.loop-metering.input.taken + length told.got)
     c.loop-metering.input.limit c.in-Err-fill_input.broken c.loop-metering.invariant.quiet (at.3 first had) told.given count told.cut).0
+
+-- a file so long has no more records
+pub meter_window-requires-clause-long : goal.meter_window-requires-clause-long
+meter_window-requires-clause-long g c = λ picked lives.
+    let at = c.loop-metering.invariant.at in
+    let file = at.0 in
+    let few = few_parts file at.2.long in
+    let records : length (records_of file) ≡ length (parts_of file) = length-map (parts_of file) (packet_record file.order) in
+    let shows : c.split_at.result.1.now ≡ drop c.loop-metering.from c.loop-metering.input.window.bytes = c.split_at.ensures.back ∙ ap (drop c.loop-metering.from) c.bytes.ensures in
+    let own : length (file_of c.part-part.result).bytes ≡ length (rest_of file ++ at.1) =
+    ap (λ (f : CaptureFile). length f.bytes) c.part-part.ensures.part ∙ ap length (shows ∙ at.2.left) in
+    let whole : c.loop-metering.input.taken ≡ length file.bytes + length at.1 = omega (arith, at.2.count, length-append file.bytes at.1) in
+    let taken : c.loop-metering.input.taken ≤ 2 ^ 30 = omega (arith, c.loop-metering.invariant.within, c.loop-metering.invariant.limit, c.requires.within.1) in
+    let long : length (file_of c.part-part.result).bytes ≤ 2 ^ 30 = omega (arith, own, length-append (rest_of file) at.1, few, whole, taken) in
+    let counted : c.loop-metering.metering.tally.captured ≤ 2 ^ 30 =
+    omega (arith, at.2.tallied.captured, c.packets_law.ensures.count file, records, few, whole, taken) in
+    let both : (length (file_of c.part-part.result).bytes ≤ 2 ^ 30) × (c.loop-metering.metering.tally.captured ≤ 2 ^ 30) = (long, counted) in
+    both

@@ -1,5 +1,5 @@
 -- The laws are lemmas.
-use Rattle.pcap_reader.proofs.Joined.{goes_on, damage_stays, begins_with_more, short_rest, few_in_file, rest_whole}
+use Rattle.pcap_reader.proofs.Joined.{goes_on, damage_stays, begins_with_more, short_rest, rest_whole}
 use Rattle.pcap_reader.proofs.InParts.{records_in_parts, rest_in_parts, damage_in_parts, sound_in_parts}
 use Rattle.pcap_reader.proofs.Headed.{header_grown, grows_from_front}
 use Rattle.pcap_reader.proofs.laws.parts_law.Goals as goal
@@ -36,6 +36,3 @@ returns-clause-short c = short_rest
 
 pub returns-clause-whole : goal.returns-clause-whole
 returns-clause-whole c = rest_whole
-
-pub returns-clause-few : goal.returns-clause-few
-returns-clause-few c = few_in_file
