@@ -1,0 +1,152 @@
+//! Where windows cut a capture, and where reading ends.
+
+ghost use Rattle.std.specs.Prelude.{◌≤◌, ◌^◌};
+
+use super::{LIMIT, ONE, Setting, metered};
+use meter_io::MemSource;
+use meter_workers::{MeterFault, OpenGate};
+use std::alloc::Global;
+use std::test::Fail;
+use std::thread::Threads;
+
+/// A file header: least byte first, microseconds, version 2.4, raw IP.
+static HEADER: [u8; 24] = [
+    0xd4, 0xc3, 0xb2, 0xa1, 2, 0, 4, 0, 0, 0, 0, 0, 0, 0, 0, 0, 0, 0, 4, 0, 101, 0, 0, 0,
+];
+
+/// The same with link type 105.
+static UNKNOWN: [u8; 24] = [
+    0xd4, 0xc3, 0xb2, 0xa1, 2, 0, 4, 0, 0, 0, 0, 0, 0, 0, 0, 0, 0, 0, 4, 0, 105, 0, 0, 0,
+];
+
+/// A record header that claims 262,145 captured bytes.
+static DAMAGE: [u8; 16] = [0xe8, 3, 0, 0, 0, 0, 0, 0, 1, 0, 4, 0, 1, 0, 4, 0];
+
+/// A record header that claims 100 captured bytes.
+static HUNDRED: [u8; 16] = [0xe8, 3, 0, 0, 0, 0, 0, 0, 100, 0, 0, 0, 100, 0, 0, 0];
+
+/// A capture: a file header, records of so many captured bytes, and some bytes behind them.
+#[derive(Clone, Copy)]
+struct Row {
+    header: &'static [u8],
+    records: &'static [u32],
+    behind: &'static [u8],
+}
+
+/// The bytes of a capture.
+fn bytes_of(alloc: Global, row: &Row) -> Result<Vec<u8>, Fail> {
+    let mut bytes = Vec::new(alloc);
+    bytes.extend_from_slice(row.header)?;
+    for captured in row.records {
+        bytes.extend_from_slice(&[0xe8, 3, 0, 0, 0, 0, 0, 0])?;
+        bytes.extend_from_slice(&captured.to_le_bytes())?;
+        bytes.extend_from_slice(&captured.to_le_bytes())?;
+        let data = vec![in alloc; 0u8; *captured as usize]?;
+        bytes.extend_from_slice(&data)?;
+    }
+    bytes.extend_from_slice(row.behind)?;
+    Ok(bytes)
+}
+
+/// How many records are tallied and how many bytes are left, or why not, of a source whose call of this number fails.
+fn read<R: Threads + Sync>(
+    rt: &R,
+    alloc: Global,
+    row: &Row,
+    limit: u64,
+    fails: u64,
+) -> Result<Result<(u64, u64), MeterFault>, Fail>
+    requires { limit ≤ 2 ^ 30 }
+{
+    let bytes = bytes_of(alloc, row)?;
+    let fails = [fails];
+    let mut source = MemSource::new(&bytes, 100_000, fails.as_slice());
+    let setting = Setting { limit, ..ONE };
+    let done = metered(rt, alloc, &mut source, setting, &OpenGate)?;
+    Ok(done.map(|outcome| (outcome.tally.captured, outcome.tail)))
+}
+
+#[test]
+fn records_that_windows_cut(rt: HostRuntime) -> Result<(), Fail> {
+    let rows: [(&[u32], &[u8], Result<(u64, u64), MeterFault>); 9] = [
+        (&[], b"", Ok((0, 0))),
+        // The second record's header stands in two windows.
+        (&[262_136, 100], b"", Ok((2, 0))),
+        // Its captured bytes do.
+        (&[262_100, 100], b"", Ok((2, 0))),
+        // The longest records, each of which fills a window.
+        (&[262_144, 262_144, 0], b"", Ok((3, 0))),
+        (&[0, 262_144, 262_143], b"", Ok((3, 0))),
+        // A tail at the end: less than a header, and a header without its bytes.
+        (&[262_144, 100], b"tail", Ok((2, 4))),
+        (&[262_144, 262_144, 100], &HUNDRED, Ok((3, 16))),
+        // Damage in the first window, and in the third.
+        (&[100], &DAMAGE, Err(MeterFault::Damaged(140))),
+        (
+            &[262_144, 262_144, 100],
+            &DAMAGE,
+            Err(MeterFault::Damaged(524_460)),
+        ),
+    ];
+    for (records, behind, want) in rows {
+        let row = Row {
+            header: &HEADER,
+            records,
+            behind,
+        };
+        assert_eq!(rt; read(&rt, rt.alloc(), &row, LIMIT, 0)?, want, "{records:?}");
+    }
+    Ok(())
+}
+
+#[test]
+fn where_reading_ends(rt: HostRuntime) -> Result<(), Fail> {
+    let long = Row {
+        header: &HEADER,
+        records: &[262_144, 262_144, 100],
+        behind: &DAMAGE,
+    };
+    let short = Row {
+        header: &HEADER,
+        records: &[262_144, 100],
+        behind: b"",
+    };
+    let none = Row {
+        header: b"no capture, but bytes of more",
+        records: &[262_144],
+        behind: b"",
+    };
+    let other = Row {
+        header: &UNKNOWN,
+        records: &[262_144],
+        behind: b"",
+    };
+    let unknown = MeterFault::LinkUnknown(105);
+    let rows: [(&Row, u64, u64, Result<(u64, u64), MeterFault>); 14] = [
+        // The limit in the middle of the second window, and at its end.
+        (&short, 262_299, 0, Err(MeterFault::TooLarge)),
+        (&short, 262_300, 0, Ok((2, 0))),
+        (&short, 100, 0, Err(MeterFault::TooLarge)),
+        (&short, LIMIT, 1, Err(MeterFault::Failed)),
+        (&short, LIMIT, 4, Err(MeterFault::Failed)),
+        // Refused content is read to its end first.
+        (&long, 524_475, 0, Err(MeterFault::TooLarge)),
+        (&long, 524_476, 0, Err(MeterFault::Damaged(524_460))),
+        (&none, 262_188, 0, Err(MeterFault::TooLarge)),
+        (&none, 262_189, 0, Err(MeterFault::NotCapture)),
+        (&none, LIMIT, 4, Err(MeterFault::Failed)),
+        (&other, 262_183, 0, Err(MeterFault::TooLarge)),
+        (&other, 262_184, 0, Err(unknown)),
+        (&other, LIMIT, 3, Err(MeterFault::Failed)),
+        (&other, LIMIT, 9, Err(unknown)),
+    ];
+    for (row, limit, fails, want) in rows {
+        assert!(rt; limit <= 1 << 30);
+        assert_eq!(rt;
+            read(&rt, rt.alloc(), row, limit, fails)?,
+            want,
+            "limit {limit}, call {fails}"
+        );
+    }
+    Ok(())
+}

@@ -1,0 +1,128 @@
+//! Gates that see when a window is metered, and that workers run at once.
+
+ghost use Rattle.std.specs.Prelude.{◌≡◌, ◌<◌, length, IfOk, Some};
+ghost use Rattle.std.specs.Io.{ReadsAtMost};
+ghost use Rattle.std.specs.Io.KnownBytes.{ReadConsumes};
+ghost use Rattle.meter_io.specs.Causes.{HasCause};
+
+use super::{ONE, SMALL, Setting, metered};
+use capture_maker::capture;
+use meter_io::{Failed, MemSource, Source};
+use meter_workers::Gate;
+use std::sync::atomic::{AtomicU64, Ordering};
+use std::test::Fail;
+
+/// How often a worker looks for the other one before it gives up.
+const TURNS: u64 = 100_000_000;
+
+/// A gate that tells when it was reached.
+#[derive(Drop)]
+struct Telling<'a> {
+    reached: &'a AtomicU64,
+}
+
+impl<'a> Gate for Telling<'a> {
+    fn reach(&self, _worker: usize, _piece: u64) {
+        self.reached.store(1, Ordering::SeqCst);
+    }
+}
+
+/// A source that sees whether more than the first window is read before the gate was reached.
+#[derive(Drop)]
+struct Watched<'a> {
+    inner: MemSource<'a>,
+    given: usize,
+    reached: &'a AtomicU64,
+    early: &'a AtomicU64,
+}
+
+impl<'a> Source for Watched<'a> {
+    ghost left = { λ s. Some s.inner.left };
+
+    ghost faults = { λ s. s.inner.faults };
+
+    fn read(&mut self, buf: &mut [u8]) -> Result<usize, Failed>
+        requires { 0 < length buf.old }
+        ensures bound { ReadsAtMost result buf.new }
+        ensures bytes { ReadConsumes (Some self.old.inner.left) (Some self.new.inner.left) result buf.new }
+        ensures cause { HasCause self.old.inner.faults self.new.inner.faults result }
+    {
+        if self.given >= SMALL && self.reached.load(Ordering::SeqCst) == 0 {
+            self.early.store(1, Ordering::SeqCst);
+        }
+        let count = self.inner.read(buf)?;
+        self.given = self.given.saturating_add(count);
+        Ok(count)
+    }
+}
+
+#[test]
+fn a_window_is_metered_before_the_next_is_read(rt: HostRuntime) -> Result<(), Fail> {
+    let alloc = rt.alloc();
+    let bytes = capture(alloc, 1, 20_000, 64)?;
+    let reached = AtomicU64::new(0);
+    let early = AtomicU64::new(0);
+    let gate = Telling { reached: &reached };
+    let mut source = Watched {
+        inner: MemSource::new(&bytes, bytes.len().max(1), &[]),
+        given: 0,
+        reached: &reached,
+        early: &early,
+    };
+    let done = metered(&rt, alloc, &mut source, Setting { seats: 2, ..ONE }, &gate)?;
+    assert_eq!(rt; done.ok().ok_or("records")?.tally.captured, 20_000);
+    assert_eq!(rt; reached.load(Ordering::SeqCst), 1);
+    assert_eq!(rt; early.load(Ordering::SeqCst), 0);
+    Ok(())
+}
+
+/// A gate that holds the worker at the first piece until another worker is at a piece.
+#[derive(Drop)]
+struct Meeting {
+    first: AtomicU64,
+    met: AtomicU64,
+    failed: AtomicU64,
+}
+
+impl Gate for Meeting {
+    fn reach(&self, worker: usize, piece: u64) {
+        let me = (worker as u64).wrapping_add(1);
+        if piece != 0 {
+            if self.first.load(Ordering::SeqCst) != me {
+                self.met.store(1, Ordering::SeqCst);
+            }
+            return;
+        }
+        if self.first.swap(me, Ordering::SeqCst) != 0 {
+            return;
+        }
+        for _turn in 0..TURNS {
+            if self.met.load(Ordering::SeqCst) == 1 {
+                return;
+            }
+        }
+        self.failed.store(1, Ordering::SeqCst);
+    }
+}
+
+#[test]
+fn two_workers_are_at_a_piece_at_once(rt: HostRuntime) -> Result<(), Fail> {
+    let alloc = rt.alloc();
+    let bytes = capture(alloc, 1, 2000, 64)?;
+    let gate = Meeting {
+        first: AtomicU64::new(0),
+        met: AtomicU64::new(0),
+        failed: AtomicU64::new(0),
+    };
+    let mut source = MemSource::new(&bytes, bytes.len().max(1), &[]);
+    let pieces = Setting {
+        seats: 2,
+        piece: 100,
+        ..ONE
+    };
+    let done = metered(&rt, alloc, &mut source, pieces, &gate)?;
+    assert_eq!(rt; done.ok().ok_or("records")?.tally.accepted, 2000);
+    assert_eq!(rt; gate.failed.load(Ordering::SeqCst), 0);
+    assert_eq!(rt; gate.met.load(Ordering::SeqCst), 1);
+    Ok(())
+}

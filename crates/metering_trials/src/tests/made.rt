@@ -1,0 +1,74 @@
+//! A made capture of 20,000 packets in four windows, and in one.
+
+ghost use Rattle.std.specs.Prelude.{◌<◌, ◌≤◌};
+
+use super::{LIMIT, ONE, SMALL, Setting, metered};
+use capture_maker::capture;
+use meter_io::MemSource;
+use meter_workers::OpenGate;
+use pcap_reader::{Capture, FillEnd, Head, Window};
+use std::alloc::Global;
+use std::process::Abort;
+use std::test::Fail;
+
+/// How many records stand in each window of a capture.
+fn counts(rt: &impl Abort, alloc: Global, bytes: &[u8]) -> Result<Vec<u64>, Fail> {
+    let mut source = MemSource::new(bytes, bytes.len().max(1), &[]);
+    let mut window = Window::open(alloc, SMALL)?;
+    let mut end = window.fill(&mut source, LIMIT);
+    let head = Head::of(window.bytes()).ok().ok_or("a file header")?;
+    let mut from = 24;
+    let mut counts = Vec::new(alloc);
+    for _window in 0..10 {
+        assert!(rt; window.bytes().len() < 1 << 32);
+        let Some((_, bytes)) = window.bytes().split_at_checked(from) else {
+            return Err(Fail::from("a header alone"));
+        };
+        let part = Capture::part(head, bytes);
+        let index = part.index(alloc).ok().ok_or("an index")?;
+        counts.push(index.count())?;
+        if end == Ok(FillEnd::Ended) {
+            return Ok(counts);
+        }
+        let keep = (from + bytes.len())
+            .checked_sub(index.tail() as usize)
+            .ok_or("a tail")?;
+        assert!(rt; keep <= window.bytes().len());
+        window.keep(keep);
+        from = 0;
+        end = window.fill(&mut source, LIMIT);
+    }
+    Ok(counts)
+}
+
+#[test]
+fn four_windows_and_one_give_the_same_records(rt: HostRuntime) -> Result<(), Fail> {
+    let alloc = rt.alloc();
+    let bytes = capture(alloc, 1, 20_000, 64)?;
+    assert_eq!(rt; bytes.len(), 880_024);
+    assert_eq!(rt;
+        counts(&rt, alloc, &bytes)?.as_slice(),
+        [5958, 5958, 5958, 2126].as_slice()
+    );
+    for seats in [1, 2, 4] {
+        assert!(rt; 1 <= seats && seats <= 64);
+        let mut source = MemSource::new(&bytes, bytes.len().max(1), &[]);
+        let four = metered(&rt, alloc, &mut source, Setting { seats, ..ONE }, &OpenGate)?;
+        let four = four.ok().ok_or("four windows")?;
+        let mut source = MemSource::new(&bytes, bytes.len().max(1), &[]);
+        let whole = Setting {
+            seats,
+            window: 1 << 20,
+            ..ONE
+        };
+        let one = metered(&rt, alloc, &mut source, whole, &OpenGate)?;
+        let one = one.ok().ok_or("one window")?;
+        assert_eq!(rt; four.records.len(), 64);
+        assert!(rt; four.records == one.records, "{seats} workers");
+        assert_eq!(rt; four.tally, one.tally);
+        assert_eq!(rt; four.tally.captured, 20_000);
+        assert_eq!(rt; four.tally.accepted, 20_000);
+        assert_eq!(rt; (four.tail, one.tail), (0, 0));
+    }
+    Ok(())
+}
