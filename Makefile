@@ -55,7 +55,7 @@ $(THREADS): crates.txt $(SOURCES)
 	@cp crates/two_threads/out/two_threads $(THREADS)
 
 test:
-	@echo "The gate: more than an hour on four processors where nothing is proved yet, else the time of what changed."
+	@echo "The gate: an hour or two on four processors where nothing is proved yet, else the time of what changed."
 	rt ci
 	@$(MAKE) --no-print-directory take
 	@$(MAKE) --no-print-directory check
