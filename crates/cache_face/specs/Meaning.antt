@@ -17,8 +17,8 @@ pub record CacheMeans : Type 0 where
   pub seats : ℕ
   pub limits : Timeouts
 
--- A pass: what it has done, the tries that it lost, in order, the set that its last try read, and the four entries that it
--- read there.
+-- A pass: what it has done, the tries that it lost, newest first, the set that its last try read, and the four entries that
+-- it read there.
 pub record PassMeans : Type 0 where
   pub note : Note
   pub lost : List LostTry
@@ -33,9 +33,9 @@ IsFresh pass = (pass.note ≡ first_note) × (pass.lost ≡ [])
 abbrev pub TriesOf : Type 1
 TriesOf = ℕ → LostTry → Type 0
 
--- These tries were lost, each at this set: the pass's list has them at its end, and is else as it was.
+-- These tries were lost, each at this set: the pass's list has them at its front, and is else as it was.
 abbrev pub HasLost : TriesOf → ℕ → PassMeans → PassMeans → List LostTry → Type 0
-HasLost IsTryOf set old new tries = (new.lost ≡ old.lost ++ tries) × All (IsTryOf set) tries
+HasLost IsTryOf set old new tries = (new.lost ≡ tries ++ old.lost) × All (IsTryOf set) tries
 
 -- A fragment was put in by the choice over the four entries that the pass read last, in the set of its key.
 pub record IsChosen (cache : CacheMeans) (pass : PassMeans) (own : Fragment) (how : How) (out : Option Fragment) : Type 0 where

@@ -32,8 +32,8 @@ unfolding tries_at
 as_tries zero set = refl
 as_tries (suc tries) set = ap (λ l. turn_taken set ∷ l) (as_tries tries set)
 
-listed : (lost : List ℕ) (tries set : ℕ) → map turn_taken (lost ++ replicate tries set) ≡ map turn_taken lost ++ tries_at tries set
-listed lost tries set = map-append turn_taken lost (replicate tries set) ∙ ap (λ l. map turn_taken lost ++ l) (as_tries tries set)
+listed : (lost : List ℕ) (tries set : ℕ) → map turn_taken (replicate tries set ++ lost) ≡ tries_at tries set ++ map turn_taken lost
+listed lost tries set = map-append turn_taken (replicate tries set) lost ∙ ap (λ l. l ++ map turn_taken lost) (as_tries tries set)
 
 so_many : (tries set : ℕ) → length (tries_at tries set) ≡ tries
 unfolding tries_at

@@ -11,8 +11,8 @@ pub data Turn : Type 0 where
   reading : ℕ → Turn
   writing : ℕ → ℕ → List ℕ → List ℕ → Turn
 
--- The numbers that a seat stands for, of which it acts as the first; its note; the sets at which it lost a try; what it is
--- at; the set that its last try read, and the content words that it read there.
+-- The numbers that a seat stands for, of which it acts as the first; its note; the sets at which it lost a try, newest first;
+-- what it is at; the set that its last try read, and the content words that it read there.
 pub record Hand : Type 0 where
   pub numbers : List ℕ
   pub note : Note

@@ -32,7 +32,7 @@ taken set hand = record hand { turn = reading set; set = set; read = [] }
 
 -- Another has the turn: a try is lost at the set, and where it is the last, the packets are metered and handed out.
 abbrev pub lost : Move → Hand → Hand
-lost move hand = record hand { lost = hand.lost ++ move.set ∷ []; note = if move.last then metering hand.note move.packets move.out else hand.note }
+lost move hand = record hand { lost = move.set ∷ hand.lost; note = if move.last then metering hand.note move.packets move.out else hand.note }
 
 -- To try to take a turn tells whose it was: nobody's, or that of another seat.
 abbrev pub Tells : Move → Sat → ℕ → Sat → Type 0
@@ -97,11 +97,11 @@ pub record IsOwn (limits : Timeouts) (note : Note) (packets : List Packet) (own 
 
 -- The turn was taken, after so many lost tries.
 abbrev pub after_tries : ℕ → ℕ → Hand → Hand
-after_tries set tries hand = taken set (record hand { lost = hand.lost ++ replicate tries set })
+after_tries set tries hand = taken set (record hand { lost = replicate tries set ++ hand.lost })
 
 -- Three tries were lost: the fragment is handed out.
 abbrev pub passed_by : ℕ → List Packet → Fragment → Hand → Hand
-passed_by set packets own hand = record hand { lost = hand.lost ++ replicate 3 set; note = metering hand.note packets (Some own) }
+passed_by set packets own hand = record hand { lost = replicate 3 set ++ hand.lost; note = metering hand.note packets (Some own) }
 
 -- A fragment was put into the set whose turn the seat had, by the choice over the entries read.
 abbrev pub filled : List ℕ → List Packet → Option Fragment → Hand → Hand
