@@ -5,6 +5,7 @@
 //! and [`room_law`] that no number of it runs over for any capture that is read.
 #![tactic(auto)]
 
+mod calls;
 mod laws;
 mod tally;
 #[cfg(test)]

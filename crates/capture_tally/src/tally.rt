@@ -1,12 +1,7 @@
-//! A tally and its calls.
+//! A tally.
 
-ghost use Rattle.std.specs.Prelude.{◌≡◌, ◌+◌, ◌<◌, ◌^◌, ◌++◌, ◌∷◌, [], List, Result, Some, Ok, Err, length};
-ghost use Rattle.packet_accept.specs.declared.packet.Packet.{Packet};
-ghost use Rattle.packet_accept.specs.declared.ignored.Ignored.{Ignored};
-ghost use Rattle.packet_accept.specs.Clock.{later};
-ghost use Rattle.capture_tally.specs.Tallies.{IsTallyOf, HasRoom, cause_number};
-
-use packet_accept::{Ignored, Packet, clock_law, packets_law};
+ghost use Rattle.std.specs.Prelude.{◌*◌, ◌<◌, ◌^◌};
+ghost use Rattle.std.specs.Option.{ForSome};
 
 /// What some records of a capture held, in numbers.
 #[derive(Clone, Copy, Debug, PartialEq, Eq)]
@@ -20,116 +15,7 @@ pub struct Tally {
     pub ignored: [u64; 5],
     /// The octets of the packets together.
     pub octets: u64,
-    /// The time of the latest packet in milliseconds, and none without a packet.
+    /// The time of the latest packet in milliseconds, and none without a packet. In whole seconds it has 32 bits.
     pub clock: Option<u64>,
-}
-
-/// The place of a cause among the counts by cause.
-fn place_of(cause: Ignored) -> usize
-    ensures value { result + 1 ≡ cause_number cause }
-    ensures within { result < 5 }
-{
-    match cause {
-        Ignored::NotIp => 0,
-        Ignored::Short => 1,
-        Ignored::BadHeader => 2,
-        Ignored::ShortTransport => 3,
-        Ignored::BadTime => 4,
-    }
-}
-
-/// The later of two clocks.
-fn later_of(one: Option<u64>, other: Option<u64>) -> Option<u64>
-    ensures { result ≡ later one other }
-{
-    match one {
-        None => other,
-        Some(time) => match other {
-            None => Some(time),
-            Some(another) => Some(time.max(another)),
-        },
-    }
-}
-
-impl Tally {
-    /// The tally of no record.
-    pub fn new() -> Tally
-        ensures tally { IsTallyOf result [] }
-        ensures room { HasRoom result }
-    {
-        packets_law();
-        clock_law();
-        Tally {
-            captured: 0,
-            accepted: 0,
-            ignored: [0; 5],
-            octets: 0,
-            clock: None,
-        }
-    }
-
-    /// Counts a packet.
-    fn add_packet(&mut self, packet: &Packet)
-        requires { HasRoom self.old }
-        ensures { (answers : List (Result Packet Ignored)) → IsTallyOf self.old answers
-            → IsTallyOf self.new (answers ++ Ok packet.now ∷ []) }
-    {
-        packets_law();
-        clock_law();
-        self.captured += 1;
-        self.accepted += 1;
-        self.octets += packet.octets as u64;
-        self.clock = later_of(self.clock, Some(packet.time));
-    }
-
-    /// Counts an ignored record.
-    fn add_ignored(&mut self, cause: Ignored)
-        requires { HasRoom self.old }
-        ensures { (answers : List (Result Packet Ignored)) → IsTallyOf self.old answers
-            → IsTallyOf self.new (answers ++ Err cause ∷ []) }
-    {
-        packets_law();
-        self.captured += 1;
-        let place = place_of(cause);
-        self.ignored[place] += 1;
-    }
-
-    /// Counts one more record by its answer.
-    ///
-    /// No number of the tally is near the last value of its type ([`room_law`](crate::room_law)).
-    pub fn add(&mut self, answer: &Result<Packet, Ignored>)
-        requires { HasRoom self.old }
-        ensures { (answers : List (Result Packet Ignored)) → IsTallyOf self.old answers
-            → IsTallyOf self.new (answers ++ answer.now ∷ []) }
-    {
-        match answer {
-            Ok(packet) => self.add_packet(packet),
-            Err(cause) => self.add_ignored(*cause),
-        }
-    }
-
-    /// The tally of the records of both.
-    pub fn joined(self, other: &Tally) -> Tally
-        requires one { HasRoom self }
-        requires two { HasRoom other.now }
-        ensures { (answers others : List (Result Packet Ignored)) → IsTallyOf self answers → IsTallyOf other.now others
-            → IsTallyOf result (answers ++ others) }
-    {
-        packets_law();
-        clock_law();
-        let [first, second, third, fourth, fifth] = self.ignored;
-        Tally {
-            captured: self.captured + other.captured,
-            accepted: self.accepted + other.accepted,
-            ignored: [
-                first + other.ignored[0],
-                second + other.ignored[1],
-                third + other.ignored[2],
-                fourth + other.ignored[3],
-                fifth + other.ignored[4],
-            ],
-            octets: self.octets + other.octets,
-            clock: later_of(self.clock, other.clock),
-        }
-    }
+    pub ghost early: { ForSome clock (λ time. time < 1000 * 2 ^ 32) },
 }

@@ -1,12 +1,16 @@
 //! Tallies of a few answers.
 
+ghost use Rattle.std.specs.Prelude.{◌≡◌};
+
 use crate::Tally;
 use flow_key::FlowKey;
 use packet_accept::{Ignored, Packet};
 use std::test::Fail;
 
 /// A packet at this time, of so many octets.
-fn packet(time: u64, octets: u32) -> Packet {
+fn packet(time: u64, octets: u32) -> Packet
+    ensures { result.time ≡ time }
+{
     Packet {
         number: 0,
         key: FlowKey {

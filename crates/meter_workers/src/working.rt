@@ -37,6 +37,7 @@ fn count_answer(tally: &mut Tally, answer: &Result<Packet, Ignored>)
     requires room { HasRoom tally.old }
     requires tallied { IsTallied tally.old }
     requires small { IfOk answer.now (λ packet. packet.octets < 2 ^ 24) }
+    requires early { IfOk answer.now (λ packet. packet.time < 1000 * 2 ^ 32) }
     ensures counts { (earlier : List (Result Packet Ignored)) → IsTallyOf tally.old earlier → IsTallyOf tally.new (earlier ++ answer.now ∷ []) }
     ensures tallied { IsTallied tally.new }
     ensures captured { tally.new.captured ≡ tally.old.captured + 1 }
