@@ -10,8 +10,7 @@ use Rattle.record_ledger.specs.declared.record.FlowRecord.{FlowRecord}
 use Rattle.ipfix_model.specs.declared.fields.FieldSpec.{FieldSpec}
 use Rattle.ipfix_model.specs.declared.values.DataRecord.{DataRecord}
 use Rattle.ipfix_model.specs.Fields.{least_length}
-use Rattle.ipfix_model.specs.Elements.{octet_delta_count, packet_delta_count, protocol_identifier, tcp_control_bits, source_transport_port, source_ipv4_address, destination_transport_port, destination_ipv4_address, source_ipv6_address, destination_ipv6_address, flow_end_reason, flow_start_milliseconds, flow_end_milliseconds}
-use Rattle.ipfix_model.specs.Templates.{iana_field, reverse_field, v4_template, v4_fields, v6_template, v6_fields, template_of, fields_of as template_fields_of, v4_bi_template, v4_bi_fields, v6_bi_template, v6_bi_fields, bi_template_of, bi_fields_of}
+use Rattle.ipfix_model.specs.Templates.{iana_field, reverse_field, reverse_fields, v4_template, v4_fields, v6_template, v6_fields, template_of, fields_of as template_fields_of, v4_bi_template, v4_bi_fields, v6_bi_template, v6_bi_fields, bi_template_of, bi_fields_of}
 use Rattle.ipfix_model.specs.Values.{field_value, bi_field_value}
 use Rattle.ipfix_writer.specs.Encoding.{template_record, field_specifier, data_record}
 use Rattle.ipfix_reader.specs.Part.{Part}
@@ -19,14 +18,14 @@ use Rattle.ipfix_reader.specs.Known.{Templates, fields_in as known_fields, with_
 use Rattle.ipfix_reader.specs.Specifiers.{template_fields}
 use Rattle.ipfix_reader.specs.Records.{template_records}
 use Rattle.ipfix_reader.specs.Messages.{decode}
-use Rattle.ipfix_reader.specs.FlowFields.{FlowFields, flow_fields, fields_in}
+use Rattle.ipfix_reader.specs.FlowFields.{FlowFields, flow_fields}
 use Rattle.ipfix_reader.specs.FlowWith.{flow_with}
 use Rattle.ipfix_reader.specs.Flows.{flow}
 use Rattle.ipfix_reader.proofs.FlowFields.{flow_with-flow}
 use Rattle.ipfix_reader.proofs.RecordSteps.{template_records-next, template_records-end}
 use Rattle.stream_law.proofs.Values.{AreFixed, values_with, number_in-with}
 use Rattle.stream_law.proofs.DataSets.{IsReadAs}
-use Rattle.stream_law.proofs.Records.{data_of, flow-data_of}
+use Rattle.stream_law.proofs.Records.{IsReadBack, read_behind-flow, fields_in-v4, fields_in-v6, data_of, flow-data_of}
 use Rattle.stream_law.proofs.Streams.{stream-decoded}
 use Rattle.biflow_pair.specs.declared.biflow.Biflow.{Biflow}
 use Rattle.biflow_pair.specs.BiLayout.{bi_record, encode_both, encode_biflow, bi_template_records, bi_template_message, IsBiLayout}
@@ -130,109 +129,18 @@ is_read_both forward (Some reverse) =
       gives = refl;
     }
 
--- the numbers of the forward flow in the values of both
-bi_fields_in-v4 : (f r : FlowRecord) → f.part.key.version ≡ 4
-    → fields_in 4 source_ipv4_address destination_ipv4_address (values_with (bi_field_value f r) v4_bi_fields) ≡ flow_fields f
-bi_fields_in-v4 f r v4 =
-    let value = bi_field_value f r in
-    let narrow = f.part.key.narrow v4 in
-    let key = f.part.key.sized in
-    let part = f.part.sized in
-    let source = number_in-with value (iana_field source_ipv4_address 4) narrow.0 in
-    let destination = number_in-with value (iana_field destination_ipv4_address 4) narrow.1 in
-    let source_port = number_in-with value (iana_field source_transport_port 2) key.3 in
-    let destination_port = number_in-with value (iana_field destination_transport_port 2) key.4 in
-    let protocol = number_in-with value (iana_field protocol_identifier 1) key.2 in
-    let flags = number_in-with value (iana_field tcp_control_bits 2) part.3 in
-    let packets = number_in-with value (iana_field packet_delta_count 8) part.0 in
-    let octets = number_in-with value (iana_field octet_delta_count 8) part.1 in
-    let first = number_in-with value (iana_field flow_start_milliseconds 8) (omega (arith, f.part.spanned, part.2)) in
-    let last = number_in-with value (iana_field flow_end_milliseconds 8) part.2 in
-    let reason = number_in-with value (iana_field flow_end_reason 1) f.sized in
-    λ i. record {
-      part = record {
-        key = record {
-          version = sym v4 i;
-          source = source i;
-          destination = destination i;
-          protocol = protocol i;
-          source_port = source_port i;
-          destination_port = destination_port i;
-        };
-        packets = packets i;
-        octets = octets i;
-        first = first i;
-        last = last i;
-        flags = flags i;
-      };
-      reason = reason i;
-    }
+-- the numbers of both flows are read back out of the values of both
+back-forward : (f r : FlowRecord) → IsReadBack (bi_field_value f r) iana_field f
+back-forward f r element long = number_in-with (bi_field_value f r) (iana_field element long)
 
-bi_fields_in-v6 : (f r : FlowRecord) → f.part.key.version ≡ 6
-    → fields_in 6 source_ipv6_address destination_ipv6_address (values_with (bi_field_value f r) v6_bi_fields) ≡ flow_fields f
-bi_fields_in-v6 f r v6 =
-    let value = bi_field_value f r in
-    let key = f.part.key.sized in
-    let part = f.part.sized in
-    let source = number_in-with value (iana_field source_ipv6_address 16) key.0 in
-    let destination = number_in-with value (iana_field destination_ipv6_address 16) key.1 in
-    let source_port = number_in-with value (iana_field source_transport_port 2) key.3 in
-    let destination_port = number_in-with value (iana_field destination_transport_port 2) key.4 in
-    let protocol = number_in-with value (iana_field protocol_identifier 1) key.2 in
-    let flags = number_in-with value (iana_field tcp_control_bits 2) part.3 in
-    let packets = number_in-with value (iana_field packet_delta_count 8) part.0 in
-    let octets = number_in-with value (iana_field octet_delta_count 8) part.1 in
-    let first = number_in-with value (iana_field flow_start_milliseconds 8) (omega (arith, f.part.spanned, part.2)) in
-    let last = number_in-with value (iana_field flow_end_milliseconds 8) part.2 in
-    let reason = number_in-with value (iana_field flow_end_reason 1) f.sized in
-    λ i. record {
-      part = record {
-        key = record {
-          version = sym v6 i;
-          source = source i;
-          destination = destination i;
-          protocol = protocol i;
-          source_port = source_port i;
-          destination_port = destination_port i;
-        };
-        packets = packets i;
-        octets = octets i;
-        first = first i;
-        last = last i;
-        flags = flags i;
-      };
-      reason = reason i;
-    }
+back-reverse : (f r : FlowRecord) → IsReadBack (bi_field_value f r) reverse_field r
+back-reverse f r element long = number_in-with (bi_field_value f r) (reverse_field element long)
 
--- and those of the reverse flow
+-- those of the reverse flow stand behind the fields of the forward one
 reverse_in : (f r : FlowRecord) (key : KeyFields) (v4 : Bool) → fields_of r.part.key ≡ reverse_of key
     → reverse_fields_in key (values_with (bi_field_value f r) (if v4 then v4_bi_fields else v6_bi_fields)) ≡ flow_fields r
-reverse_in f r key true is =
-    let value = bi_field_value f r in
-    let part = r.part.sized in
-    let flags = number_in-with value (reverse_field tcp_control_bits 2) part.3 in
-    let packets = number_in-with value (reverse_field packet_delta_count 8) part.0 in
-    let octets = number_in-with value (reverse_field octet_delta_count 8) part.1 in
-    let first = number_in-with value (reverse_field flow_start_milliseconds 8) (omega (arith, r.part.spanned, part.2)) in
-    let last = number_in-with value (reverse_field flow_end_milliseconds 8) part.2 in
-    let reason = number_in-with value (reverse_field flow_end_reason 1) r.sized in
-    λ i. record {
-      part = record { key = sym is i; packets = packets i; octets = octets i; first = first i; last = last i; flags = flags i };
-      reason = reason i;
-    }
-reverse_in f r key false is =
-    let value = bi_field_value f r in
-    let part = r.part.sized in
-    let flags = number_in-with value (reverse_field tcp_control_bits 2) part.3 in
-    let packets = number_in-with value (reverse_field packet_delta_count 8) part.0 in
-    let octets = number_in-with value (reverse_field octet_delta_count 8) part.1 in
-    let first = number_in-with value (reverse_field flow_start_milliseconds 8) (omega (arith, r.part.spanned, part.2)) in
-    let last = number_in-with value (reverse_field flow_end_milliseconds 8) part.2 in
-    let reason = number_in-with value (reverse_field flow_end_reason 1) r.sized in
-    λ i. record {
-      part = record { key = sym is i; packets = packets i; octets = octets i; first = first i; last = last i; flags = flags i };
-      reason = reason i;
-    }
+reverse_in f r key true is = read_behind-flow (bi_field_value f r) reverse_field r (reverse_of key) (back-reverse f r) (sym is)
+reverse_in f r key false is = read_behind-flow (bi_field_value f r) reverse_field r (reverse_of key) (back-reverse f r) (sym is)
 
 -- so the record is read as the biflow
 biflow-both : (f r : FlowRecord) (key : FlowFields) (v4 : Bool) → key ≡ flow_fields f → fields_of r.part.key ≡ reverse_of (fields_of f.part.key)
@@ -248,12 +156,12 @@ biflow-both f r key v4 forward_is reverse_is =
 biflow-v4 : (f r : FlowRecord) (template : ℕ) → f.part.key.version ≡ 4 → fields_of r.part.key ≡ reverse_of (fields_of f.part.key)
     → biflow (record { domain = 1; template = template; fields = values_with (bi_field_value f r) v4_bi_fields }) ≡ Some (record { forward = f; reverse = Some r })
 unfolding biflow
-biflow-v4 f r template v4 is = biflow-both f r _ true (bi_fields_in-v4 f r v4) is
+biflow-v4 f r template v4 is = biflow-both f r _ true (fields_in-v4 (bi_field_value f r) f reverse_fields (back-forward f r) v4) is
 
 biflow-v6 : (f r : FlowRecord) (template : ℕ) → f.part.key.version ≡ 6 → fields_of r.part.key ≡ reverse_of (fields_of f.part.key)
     → biflow (record { domain = 1; template = template; fields = values_with (bi_field_value f r) v6_bi_fields }) ≡ Some (record { forward = f; reverse = Some r })
 unfolding biflow
-biflow-v6 f r template v6 is = biflow-both f r _ false (bi_fields_in-v6 f r v6) is
+biflow-v6 f r template v6 is = biflow-both f r _ false (fields_in-v6 (bi_field_value f r) f reverse_fields (back-forward f r) v6) is
 
 biflow-by : (f r : FlowRecord) (template : ℕ) (v4 : Bool) → is_v4 f ≡ v4 → fields_of r.part.key ≡ reverse_of (fields_of f.part.key)
     → biflow (record { domain = 1; template = template; fields = values_with (bi_field_value f r) (if v4 then v4_bi_fields else v6_bi_fields) })
