@@ -30,75 +30,45 @@ fn fragment(source_port: u16, first: u64, length: u32) -> Fragment
     }
 }
 
+/// The first eight words of a fragment of one packet of UDP: its key, and what is counted; behind them the last time and the
+/// flags.
+macro_rules! words_with {
+    ($head:expr, $packets:expr, $first:expr, $flags:expr) => {
+        [
+            $head,
+            0,
+            0xC000_0201,
+            0,
+            0xC000_0202,
+            $packets,
+            28,
+            $first,
+            1_000_000,
+            $flags,
+        ]
+    };
+}
+
+/// The words of [`packet`] at 1000 s as a fragment.
+static WORDS: [u64; 10] = words_with!(0x411_0FA0_0035, 1, 1_000_000, 16);
+
+/// Words of no fragment: without a version, without a packet, first seen after the last time, with too many flags, and of
+/// version 5.
+static WRONG_WORDS: [[u64; 10]; 5] = [
+    [0; 10],
+    words_with!(0x411_0FA0_0035, 0, 1_000_000, 16),
+    words_with!(0x411_0FA0_0035, 1, 1_000_001, 16),
+    words_with!(0x411_0FA0_0035, 1, 1_000_000, 65536),
+    words_with!(0x511_0FA0_0035, 1, 1_000_000, 16),
+];
+
 #[test]
 fn words_of_fragments(rt: HostRuntime) {
     let one = Fragment::of(&packet(4000, 1_000_000));
-    let words = [
-        0x411_0FA0_0035,
-        0,
-        0xC000_0201,
-        0,
-        0xC000_0202,
-        1,
-        28,
-        1_000_000,
-        1_000_000,
-        16,
-    ];
-    assert!(rt; one.to_words() == words);
-    assert!(rt; Fragment::of_words(&words) == Some(one));
-    for wrong in [
-        [0; 10],
-        [
-            0x411_0FA0_0035,
-            0,
-            0xC000_0201,
-            0,
-            0xC000_0202,
-            0,
-            28,
-            1_000_000,
-            1_000_000,
-            16,
-        ],
-        [
-            0x411_0FA0_0035,
-            0,
-            0xC000_0201,
-            0,
-            0xC000_0202,
-            1,
-            28,
-            1_000_001,
-            1_000_000,
-            16,
-        ],
-        [
-            0x411_0FA0_0035,
-            0,
-            0xC000_0201,
-            0,
-            0xC000_0202,
-            1,
-            28,
-            1_000_000,
-            1_000_000,
-            65536,
-        ],
-        [
-            0x511_0FA0_0035,
-            0,
-            0xC000_0201,
-            0,
-            0xC000_0202,
-            1,
-            28,
-            1_000_000,
-            1_000_000,
-            16,
-        ],
-    ] {
-        assert!(rt; Fragment::of_words(&wrong).is_none());
+    assert!(rt; one.to_words() == WORDS);
+    assert!(rt; Fragment::of_words(&WORDS) == Some(one));
+    for wrong in WRONG_WORDS.iter() {
+        assert!(rt; Fragment::of_words(wrong).is_none());
     }
 }
 

@@ -238,6 +238,61 @@ fn meter_input<S: Source, C: FlowCache, G: Gate, R: Threads + Sync>(
     }
 }
 
+/// An input of which nothing was read, and what stays from one window to the next before there is one.
+fn begun<C: FlowCache>(
+    alloc: Global,
+    cache: &C,
+    passes: Vec<C::Pass>,
+    window: usize,
+    limit: u64,
+) -> Result<(Input, Metering<C>), NoMemory>
+    requires window { (262184 ≤ window) × (window ≤ 2 ^ 27) }
+    requires passes { All (λ p. C.is_of cache.now p × IsFresh (C.shown p)) passes.items }
+    ensures input { IfOk result (λ r. (r.0.window.bytes ≡ []) × (r.0.window.size ≡ window) × (r.0.taken ≡ 0) × (r.0.limit ≡ limit)) }
+    ensures many { IfOk result (λ r. length r.1.helds.items ≡ length passes.items) }
+    ensures held { IfOk result (λ r. All (λ h. C.is_of cache.now h.pass × IsHeld 0 (C.shown h.pass) h.out.items) r.1.helds.items) }
+    ensures none { IfOk result (λ r. (flat_map (λ h. (C.shown h.pass).note.packets) r.1.helds.items ≡ []) × IsTallyOf r.1.tally []) }
+{
+    let helds = held_of(alloc, cache, passes)?;
+    let index = RecordIndex::with_room(alloc, window)?;
+    let window = Window::open(alloc, window)?;
+    let input = Input {
+        window,
+        taken: 0,
+        limit,
+        ended: false,
+    };
+    let metering = Metering {
+        helds,
+        index,
+        tally: Tally::new(),
+    };
+    Ok((input, metering))
+}
+
+/// What all workers have in the end.
+fn gathered<C: FlowCache>(cache: &C, metering: Metering<C>) -> Result<WindowGathered<C>, NoMemory>
+    requires held { All (λ h. C.is_of cache.now h.pass × IsHeld metering.tally.captured (C.shown h.pass) h.out.items) metering.helds.items }
+    requires some { 0 < length metering.helds.items }
+    ensures own { IfOk result (λ r. C.is_of cache.now r.pass × ((C.shown r.pass).note.seats ≡ length metering.helds.items)) }
+    ensures packets { IfOk result (λ r. IsPermutation (flat_map (λ h. (C.shown h.pass).note.packets) metering.helds.items) (C.shown r.pass).note.packets) }
+    ensures parts { IfOk result (λ r. r.parts.items ≡ (C.shown r.pass).note.handed) }
+    ensures counts { IfOk result (λ r. (r.tally ≡ metering.tally) × (r.tail ≡ metering.index.tail)) }
+{
+    let Metering {
+        helds,
+        index,
+        tally,
+    } = metering;
+    let (pass, parts) = united(cache, tally.captured, helds)?;
+    Ok(WindowGathered {
+        pass,
+        parts,
+        tally,
+        tail: index.tail(),
+    })
+}
+
 /// Meters a capture that is read in windows of `window` bytes (262,184 to 2^27), through a cache, by one worker for each of
 /// its passes (1 to 64). Each window is metered, by all workers at once, before the next is read; what is left behind the
 /// last record of a window begins the next one. The memory of the window and of its index is taken once.
@@ -271,25 +326,8 @@ pub fn meter_windows<S: Source, C: FlowCache, G: Gate, R: Threads + Sync>(
     ensures faults { HasFaults (side S.left S.faults source.old source.new) result }
 {
     parts_law();
-    let Ok(helds) = held_of(alloc, cache, passes) else {
+    let Ok((mut input, metering)) = begun(alloc, cache, passes, window, limit) else {
         return Err(MeterFault::NoMemory);
-    };
-    let Ok(index) = RecordIndex::with_room(alloc, window) else {
-        return Err(MeterFault::NoMemory);
-    };
-    let Ok(window) = Window::open(alloc, window) else {
-        return Err(MeterFault::NoMemory);
-    };
-    let mut input = Input {
-        window,
-        taken: 0,
-        limit,
-        ended: false,
-    };
-    let metering = Metering {
-        helds,
-        index,
-        tally: Tally::new(),
     };
     fill_input(source, &mut input)?;
     let head = match Head::of(input.window.bytes()) {
@@ -297,18 +335,8 @@ pub fn meter_windows<S: Source, C: FlowCache, G: Gate, R: Threads + Sync>(
         Err(error) => return Err(read_on(source, input, fault_of(error))),
     };
     let metering = meter_input(rt, alloc, source, input, head, metering, cache, piece, gate)?;
-    let Metering {
-        helds,
-        index,
-        tally,
-    } = metering;
-    let Ok((pass, parts)) = united(cache, tally.captured, helds) else {
+    let Ok(all) = gathered(cache, metering) else {
         return Err(MeterFault::NoMemory);
     };
-    Ok(WindowGathered {
-        pass,
-        parts,
-        tally,
-        tail: index.tail(),
-    })
+    Ok(all)
 }
