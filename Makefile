@@ -5,6 +5,7 @@ PROGRAM := bin/romtyalig
 PCAPNG := bin/romtyalig-pcapng
 PAIR := bin/romtyalig-pair
 THREADS := bin/two_threads
+METERING := bin/metering_alone
 CAPTURE := examples/web-exchange.pcap
 # All that a proof or a build reads: code, definitions, and proofs in folders of any depth.
 SOURCES := $(shell find crates -name out -prune -o \( -name '*.rt' -o -name '*.antt' \) -print)
@@ -54,6 +55,13 @@ $(THREADS): crates.txt $(SOURCES)
 	@mkdir -p bin
 	@cp crates/two_threads/out/two_threads $(THREADS)
 
+# And for the program of bench/reading.sh.
+$(METERING): crates.txt $(SOURCES)
+	@cd crates/metering_alone && rt run -- 2 262184 4 < stdin > build.log 2>&1 || { tail -n 20 build.log; exit 1; }
+	@rm -f crates/metering_alone/build.log
+	@mkdir -p bin
+	@cp crates/metering_alone/out/metering_alone $(METERING)
+
 test:
 	@echo "The gate: an hour or two on four processors where nothing is proved yet, else the time of what changed."
 	rt ci
@@ -63,7 +71,8 @@ test:
 # The gate leaves each program in its crate's folder out/; so nothing is proved a second time for the checks.
 take:
 	@mkdir -p bin
-	@for pair in romtyalig:$(PROGRAM) romtyalig_pcapng:$(PCAPNG) romtyalig_pair:$(PAIR) two_threads:$(THREADS); do \
+	@for pair in romtyalig:$(PROGRAM) romtyalig_pcapng:$(PCAPNG) romtyalig_pair:$(PAIR) two_threads:$(THREADS) \
+	    metering_alone:$(METERING); do \
 	    made=crates/$${pair%%:*}/out/$${pair%%:*}; \
 	    if [ -x "$$made" ]; then cp "$$made" "$${pair#*:}"; fi; \
 	done

@@ -5,7 +5,8 @@
  *
  * A classic capture, least byte first, microseconds, Ethernet. Packet k has the time 1,000 s and k tenths of a millisecond,
  * and the key number (k * 2654435761) mod KEYS, so that the keys come equally often and in scattered order. Of eight keys
- * four are UDP over IPv4, three TCP over IPv4 and one UDP over IPv6. Checksums are left at 0.
+ * four are UDP over IPv4, three TCP over IPv4 and one UDP over IPv6. Checksums are left at 0. With KEYS 0 no packet is IP:
+ * each is an ARP request of 60 octets.
  */
 #include <stdint.h>
 #include <stdio.h>
@@ -37,6 +38,17 @@ static int transport(uint8_t *at, int tcp, uint32_t key)
     }
     big(at + 4, 2, 8);
     return 8;
+}
+
+/* An ARP request, and its length. */
+static int request(uint8_t *at)
+{
+    memset(at, 0, 128);
+    memset(at, 0xff, 6);
+    big(at + 6, 6, 0x020000000001);
+    big(at + 12, 4, 0x08060001);
+    big(at + 16, 6, 0x080006040001);
+    return 60;
 }
 
 /* The Ethernet frame of a key, and its length. */
@@ -79,8 +91,8 @@ int main(int count, char **words)
     }
     uint64_t packets = strtoull(words[1], NULL, 10);
     uint64_t keys = strtoull(words[2], NULL, 10);
-    if (keys == 0 || keys > 1 << 24) {
-        fprintf(stderr, "KEYS is from 1 to 16777216\n");
+    if (keys > 1 << 24) {
+        fprintf(stderr, "KEYS is from 0 to 16777216\n");
         return 2;
     }
     uint8_t header[24] = {0xd4, 0xc3, 0xb2, 0xa1, 2, 0, 4, 0};
@@ -89,7 +101,7 @@ int main(int count, char **words)
     fwrite(header, 1, sizeof header, stdout);
     for (uint64_t k = 0; k < packets; k++) {
         uint8_t record[16 + 128];
-        int length = frame(record + 16, k * 2654435761u % keys);
+        int length = keys == 0 ? request(record + 16) : frame(record + 16, k * 2654435761u % keys);
         little(record, 1000 + k / 10000);
         little(record + 4, k % 10000 * 100);
         little(record + 8, length);
