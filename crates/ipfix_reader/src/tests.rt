@@ -115,99 +115,99 @@ fn each_fault_stands_where_it_is(rt: HostRuntime) -> Result<(), Fail> {
     )
 }
 
+/// Streams by what stands in them, and what the standard makes of each.
+static STREAMS: &[Row] = streams! {
+    // Streams and messages without records.
+    "" => Records("");
+    "000a0010 M" => Records("");
+    "000a0010 M 000a0010 M 000a0010 M" => Records("");
+    "000a0014 M 00020004" => Records("");
+    // A template, and data of it.
+    "000a0022 M 0002000c 01000001 00070002 01000006 0fa0" => Records("1/256 7=0fa0;");
+    "000a0024 M 0002000c 01000001 00070002 01000008 0fa0 0035" => Records("1/256 7=0fa0;1/256 7=0035;");
+    "000a001c M 0002000c 01000001 00070002 000a0016 M 01000006 0fa0" => Records("1/256 7=0fa0;");
+    "000a0022 M 0002000c ffff0001 00070002 ffff0006 0fa0" => Records("1/65535 7=0fa0;");
+    "000a0020 M 0002000c 01000001 00070002 01000004" => Records("");
+    // Data whose template isn't known, or isn't known yet.
+    "000a0022 M 01000006 0fa0 0002000c 01000001 00070002" => Fault(NoTemplate { at: 16, id: 256 });
+    "000a0026 M 0002000c 01000001 00070002 01000006 0fa0 01010004" => Fault(NoTemplate { at: 34, id: 257 });
+    // Templates are known in the domain of their message alone.
+    "000a001c M 0002000c 01000001 00070002 000a0016 00000000 00000000 00000002 01000006 0fa0" => Fault(NoTemplate { at: 44, id: 256 });
+    "000a001c M 0002000c 01000001 00070002 000a001c 00000000 00000000 00000002 0002000c 01000001 00040001 000a0016 M 01000006 0fa0 000a0015 00000000 00000000 00000002 01000005 11" => Records("1/256 7=0fa0;2/256 4=11;");
+    // A later template takes the place of an earlier one.
+    "000a0033 M 0002000c 01000001 00070002 01000006 0fa0 0002000c 01000001 00040001 01000005 11" => Records("1/256 7=0fa0;1/256 4=11;");
+    "000a0029 M 00020014 01000001 00070002 01000001 00040001 01000005 11" => Records("1/256 4=11;");
+    // Options templates: a scope of one to all fields; their data counts.
+    "000a0032 M 00030012 0102 0002 0001 00950004 00290008 01020010 00000001 0000000000000005" => Records("1/258 149=00000001 41=0000000000000005;");
+    "000a0022 M 00030012 0102 0002 0002 00950004 00290008" => Records("");
+    "000a0022 M 00030012 0102 0002 0000 00950004 00290008" => Fault(BadTemplate { at: 20 });
+    "000a0022 M 00030012 0102 0002 0003 00950004 00290008" => Fault(BadTemplate { at: 20 });
+    "000a001e M 0003000e 00ff 0001 0001 00950004" => Fault(BadTemplate { at: 20 });
+    "000a0018 M 00030008 0102 0000" => Fault(Withdrawal { at: 20 });
+    "000a0018 M 00030008 0102 0001" => Fault(BadTemplate { at: 20 });
+    "000a0032 M 00030012 0102 0002 0001 00950004 00290008 01020010 00000001 0000000000000005 000a0010 00000000 00000001 00000001" => Records("1/258 149=00000001 41=0000000000000005;");
+    "000a0032 M 00030012 0102 0002 0001 00950004 00290008 01020010 00000001 0000000000000005 000a0010 M" => Fault(BadSequence { at: 50 });
+    // Enterprise fields.
+    "000a0028 M 00020010 01000001 80010004 00007279 01000008 deadbeef" => Records("1/256 29305.1=deadbeef;");
+    "000a0026 M 00020010 01000001 80000002 00000001 01000006 0fa0" => Records("1/256 1.0=0fa0;");
+    "000a0029 M 00020014 01000002 ffff0001 ffffffff 00070002 01000005 01" => Fault(BadPadding { at: 40 });
+    "000a002b M 00020014 01000002 ffff0001 ffffffff 00070002 01000007 010fa0" => Records("1/256 4294967295.32767=01 7=0fa0;");
+    "000a001e M 0002000e 01000001 80010004 0000" => Fault(BadTemplate { at: 20 });
+    // Template records that go beyond their set, and a second one at fault.
+    "000a001a M 0002000a 01000001 0007" => Fault(BadTemplate { at: 20 });
+    "000a001c M 0002000c 01000002 00070002" => Fault(BadTemplate { at: 20 });
+    "000a001c M 0002000c ffffffff 00070002" => Fault(BadTemplate { at: 20 });
+    "000a0024 M 00020014 01000001 00070002 00ff0001 00070002" => Fault(BadTemplate { at: 28 });
+    "000a0018 M 00020008 00ff0000" => Fault(Withdrawal { at: 20 });
+    // Records that take no byte, and a field that takes none.
+    "000a001c M 0002000c 01000001 00070000" => Fault(BadTemplate { at: 20 });
+    "000a0025 M 00020010 01000002 00070000 00040001 01000005 11" => Records("1/256 7= 4=11;");
+    // Variable lengths, by one byte and by three.
+    "000a0024 M 0002000c 01000001 0052ffff 01000008 03616263" => Records("1/256 82=616263;");
+    "000a0021 M 0002000c 01000001 0052ffff 01000005 00" => Records("1/256 82=;");
+    "000a0025 M 0002000c 01000001 0052ffff 01000009 ff00026162" => Records("1/256 82=6162;");
+    "000a0023 M 0002000c 01000001 0052ffff 01000007 ff0000" => Records("1/256 82=;");
+    "000a0024 M 0002000c 01000001 0052ffff 01000008 00016100" => Records("1/256 82=;1/256 82=61;1/256 82=;");
+    "000a0024 M 0002000c 01000001 0052ffff 01000008 04616263" => Fault(BadLength { at: 32 });
+    "000a0022 M 0002000c 01000001 0052ffff 01000006 ff00" => Fault(BadLength { at: 32 });
+    "000a0023 M 0002000c 01000001 0052ffff 01000007 ffffff" => Fault(BadLength { at: 32 });
+    "000a0027 M 00020010 01000002 0052ffff 00040001 01000007 016111" => Records("1/256 82=61 4=11;");
+    "000a0027 M 00020010 01000002 0052ffff 00040001 01000007 026111" => Fault(BadLength { at: 36 });
+    // Sets 0, 1 and 4 to 255 are skipped unread.
+    "000a0024 M 00000005 ff 00010005 ff 00040005 ff 00ff0005 ff" => Records("");
+    // Lengths of sets.
+    "000a0012 M 0002" => Fault(BadLength { at: 16 });
+    "000a0014 M 00040000" => Fault(BadLength { at: 16 });
+    "000a0014 M 00040003" => Fault(BadLength { at: 16 });
+    "000a0014 M 00040005" => Fault(BadLength { at: 16 });
+    "000a0019 M 00040005 ff 00040005" => Fault(BadLength { at: 21 });
+    // Padding, and what is a record.
+    "000a001d M 0002000d 01000001 00070002 00" => Records("");
+    "000a001f M 0002000f 01000001 00070002 000000" => Records("");
+    "000a001f M 0002000f 01000001 00070002 000001" => Fault(BadPadding { at: 28 });
+    "000a0020 M 00020010 01000001 00070002 00000000" => Fault(Withdrawal { at: 28 });
+    "000a0027 M 0002000c 01000001 00010004 0100000b 0000001c 000000" => Records("1/256 1=0000001c;");
+    "000a0027 M 0002000c 01000001 00010004 0100000b 0000001c 010000" => Fault(BadPadding { at: 36 });
+    "000a0028 M 0002000c 01000001 00010004 0100000c 0000001c 00000000" => Records("1/256 1=0000001c;1/256 1=00000000;");
+    "000a0023 M 0002000c 01000001 00010004 01000007 000000" => Records("");
+    // Lengths of messages, and the stream's end.
+    "000a000f M" => Fault(BadLength { at: 0 });
+    "00090008 M" => Fault(BadVersion { at: 0 });
+    "000a000f 00000000 00000000 000000" => Fault(Cut { at: 0 });
+    "000a0010 M 000a" => Fault(Cut { at: 16 });
+    "000a0010 M 000a0014 00000000 00000001 00000001" => Fault(Cut { at: 16 });
+    // Sequence numbers, across 2^32 and by domain; template records don't count.
+    "000a0022 00000000 ffffffff 00000001 0002000c 01000001 00070002 01000006 0fa0 000a0010 M" => Records("1/256 7=0fa0;");
+    "000a0010 00000000 ffffffff 00000001 000a0010 00000000 ffffffff 00000001 000a0010 M" => Fault(BadSequence { at: 32 });
+    "000a0010 00000000 00000005 00000001 000a0010 00000000 00000009 00000002 000a0010 00000000 00000005 00000001 000a0010 00000000 00000009 00000002" => Records("");
+    "000a0010 00000000 00000005 00000001 000a0010 00000000 00000009 00000002 000a0010 00000000 00000005 00000002" => Fault(BadSequence { at: 32 });
+    "000a001c M 0002000c 01000001 00070002 000a0010 00000000 00000001 00000001" => Fault(BadSequence { at: 28 });
+    "000a0010 M 000a0012 00000000 00000001 00000001 0002" => Fault(BadSequence { at: 16 });
+};
+
 #[test]
 fn streams_are_read_as_the_standard_says(rt: HostRuntime) -> Result<(), Fail> {
-    check_rows(
-        &rt,
-        streams! {
-            // Streams and messages without records.
-            "" => Records("");
-            "000a0010 M" => Records("");
-            "000a0010 M 000a0010 M 000a0010 M" => Records("");
-            "000a0014 M 00020004" => Records("");
-            // A template, and data of it.
-            "000a0022 M 0002000c 01000001 00070002 01000006 0fa0" => Records("1/256 7=0fa0;");
-            "000a0024 M 0002000c 01000001 00070002 01000008 0fa0 0035" => Records("1/256 7=0fa0;1/256 7=0035;");
-            "000a001c M 0002000c 01000001 00070002 000a0016 M 01000006 0fa0" => Records("1/256 7=0fa0;");
-            "000a0022 M 0002000c ffff0001 00070002 ffff0006 0fa0" => Records("1/65535 7=0fa0;");
-            "000a0020 M 0002000c 01000001 00070002 01000004" => Records("");
-            // Data whose template isn't known, or isn't known yet.
-            "000a0022 M 01000006 0fa0 0002000c 01000001 00070002" => Fault(NoTemplate { at: 16, id: 256 });
-            "000a0026 M 0002000c 01000001 00070002 01000006 0fa0 01010004" => Fault(NoTemplate { at: 34, id: 257 });
-            // Templates are known in the domain of their message alone.
-            "000a001c M 0002000c 01000001 00070002 000a0016 00000000 00000000 00000002 01000006 0fa0" => Fault(NoTemplate { at: 44, id: 256 });
-            "000a001c M 0002000c 01000001 00070002 000a001c 00000000 00000000 00000002 0002000c 01000001 00040001 000a0016 M 01000006 0fa0 000a0015 00000000 00000000 00000002 01000005 11" => Records("1/256 7=0fa0;2/256 4=11;");
-            // A later template takes the place of an earlier one.
-            "000a0033 M 0002000c 01000001 00070002 01000006 0fa0 0002000c 01000001 00040001 01000005 11" => Records("1/256 7=0fa0;1/256 4=11;");
-            "000a0029 M 00020014 01000001 00070002 01000001 00040001 01000005 11" => Records("1/256 4=11;");
-            // Options templates: a scope of one to all fields; their data counts.
-            "000a0032 M 00030012 0102 0002 0001 00950004 00290008 01020010 00000001 0000000000000005" => Records("1/258 149=00000001 41=0000000000000005;");
-            "000a0022 M 00030012 0102 0002 0002 00950004 00290008" => Records("");
-            "000a0022 M 00030012 0102 0002 0000 00950004 00290008" => Fault(BadTemplate { at: 20 });
-            "000a0022 M 00030012 0102 0002 0003 00950004 00290008" => Fault(BadTemplate { at: 20 });
-            "000a001e M 0003000e 00ff 0001 0001 00950004" => Fault(BadTemplate { at: 20 });
-            "000a0018 M 00030008 0102 0000" => Fault(Withdrawal { at: 20 });
-            "000a0018 M 00030008 0102 0001" => Fault(BadTemplate { at: 20 });
-            "000a0032 M 00030012 0102 0002 0001 00950004 00290008 01020010 00000001 0000000000000005 000a0010 00000000 00000001 00000001" => Records("1/258 149=00000001 41=0000000000000005;");
-            "000a0032 M 00030012 0102 0002 0001 00950004 00290008 01020010 00000001 0000000000000005 000a0010 M" => Fault(BadSequence { at: 50 });
-            // Enterprise fields.
-            "000a0028 M 00020010 01000001 80010004 00007279 01000008 deadbeef" => Records("1/256 29305.1=deadbeef;");
-            "000a0026 M 00020010 01000001 80000002 00000001 01000006 0fa0" => Records("1/256 1.0=0fa0;");
-            "000a0029 M 00020014 01000002 ffff0001 ffffffff 00070002 01000005 01" => Fault(BadPadding { at: 40 });
-            "000a002b M 00020014 01000002 ffff0001 ffffffff 00070002 01000007 010fa0" => Records("1/256 4294967295.32767=01 7=0fa0;");
-            "000a001e M 0002000e 01000001 80010004 0000" => Fault(BadTemplate { at: 20 });
-            // Template records that go beyond their set, and a second one at fault.
-            "000a001a M 0002000a 01000001 0007" => Fault(BadTemplate { at: 20 });
-            "000a001c M 0002000c 01000002 00070002" => Fault(BadTemplate { at: 20 });
-            "000a001c M 0002000c ffffffff 00070002" => Fault(BadTemplate { at: 20 });
-            "000a0024 M 00020014 01000001 00070002 00ff0001 00070002" => Fault(BadTemplate { at: 28 });
-            "000a0018 M 00020008 00ff0000" => Fault(Withdrawal { at: 20 });
-            // Records that take no byte, and a field that takes none.
-            "000a001c M 0002000c 01000001 00070000" => Fault(BadTemplate { at: 20 });
-            "000a0025 M 00020010 01000002 00070000 00040001 01000005 11" => Records("1/256 7= 4=11;");
-            // Variable lengths, by one byte and by three.
-            "000a0024 M 0002000c 01000001 0052ffff 01000008 03616263" => Records("1/256 82=616263;");
-            "000a0021 M 0002000c 01000001 0052ffff 01000005 00" => Records("1/256 82=;");
-            "000a0025 M 0002000c 01000001 0052ffff 01000009 ff00026162" => Records("1/256 82=6162;");
-            "000a0023 M 0002000c 01000001 0052ffff 01000007 ff0000" => Records("1/256 82=;");
-            "000a0024 M 0002000c 01000001 0052ffff 01000008 00016100" => Records("1/256 82=;1/256 82=61;1/256 82=;");
-            "000a0024 M 0002000c 01000001 0052ffff 01000008 04616263" => Fault(BadLength { at: 32 });
-            "000a0022 M 0002000c 01000001 0052ffff 01000006 ff00" => Fault(BadLength { at: 32 });
-            "000a0023 M 0002000c 01000001 0052ffff 01000007 ffffff" => Fault(BadLength { at: 32 });
-            "000a0027 M 00020010 01000002 0052ffff 00040001 01000007 016111" => Records("1/256 82=61 4=11;");
-            "000a0027 M 00020010 01000002 0052ffff 00040001 01000007 026111" => Fault(BadLength { at: 36 });
-            // Sets 0, 1 and 4 to 255 are skipped unread.
-            "000a0024 M 00000005 ff 00010005 ff 00040005 ff 00ff0005 ff" => Records("");
-            // Lengths of sets.
-            "000a0012 M 0002" => Fault(BadLength { at: 16 });
-            "000a0014 M 00040000" => Fault(BadLength { at: 16 });
-            "000a0014 M 00040003" => Fault(BadLength { at: 16 });
-            "000a0014 M 00040005" => Fault(BadLength { at: 16 });
-            "000a0019 M 00040005 ff 00040005" => Fault(BadLength { at: 21 });
-            // Padding, and what is a record.
-            "000a001d M 0002000d 01000001 00070002 00" => Records("");
-            "000a001f M 0002000f 01000001 00070002 000000" => Records("");
-            "000a001f M 0002000f 01000001 00070002 000001" => Fault(BadPadding { at: 28 });
-            "000a0020 M 00020010 01000001 00070002 00000000" => Fault(Withdrawal { at: 28 });
-            "000a0027 M 0002000c 01000001 00010004 0100000b 0000001c 000000" => Records("1/256 1=0000001c;");
-            "000a0027 M 0002000c 01000001 00010004 0100000b 0000001c 010000" => Fault(BadPadding { at: 36 });
-            "000a0028 M 0002000c 01000001 00010004 0100000c 0000001c 00000000" => Records("1/256 1=0000001c;1/256 1=00000000;");
-            "000a0023 M 0002000c 01000001 00010004 01000007 000000" => Records("");
-            // Lengths of messages, and the stream's end.
-            "000a000f M" => Fault(BadLength { at: 0 });
-            "00090008 M" => Fault(BadVersion { at: 0 });
-            "000a000f 00000000 00000000 000000" => Fault(Cut { at: 0 });
-            "000a0010 M 000a" => Fault(Cut { at: 16 });
-            "000a0010 M 000a0014 00000000 00000001 00000001" => Fault(Cut { at: 16 });
-            // Sequence numbers, across 2^32 and by domain; template records don't count.
-            "000a0022 00000000 ffffffff 00000001 0002000c 01000001 00070002 01000006 0fa0 000a0010 M" => Records("1/256 7=0fa0;");
-            "000a0010 00000000 ffffffff 00000001 000a0010 00000000 ffffffff 00000001 000a0010 M" => Fault(BadSequence { at: 32 });
-            "000a0010 00000000 00000005 00000001 000a0010 00000000 00000009 00000002 000a0010 00000000 00000005 00000001 000a0010 00000000 00000009 00000002" => Records("");
-            "000a0010 00000000 00000005 00000001 000a0010 00000000 00000009 00000002 000a0010 00000000 00000005 00000002" => Fault(BadSequence { at: 32 });
-            "000a001c M 0002000c 01000001 00070002 000a0010 00000000 00000001 00000001" => Fault(BadSequence { at: 28 });
-            "000a0010 M 000a0012 00000000 00000001 00000001 0002" => Fault(BadSequence { at: 16 });
-        },
-    )
+    check_rows(&rt, STREAMS)
 }
 
 /// The message with the templates for flows over IPv4 and over IPv6.
@@ -304,65 +304,59 @@ fn records_over_ipv6_are_flows(rt: HostRuntime) -> Result<(), Fail> {
     Ok(())
 }
 
+/// The counts, times and end reason of a record over IPv4, and whether it is a flow.
+static COUNTS: [(&str, bool); 4] = [
+    (
+        "0000000000000001 0000000000000000 0000000000000001 0000000000000001 00",
+        true,
+    ),
+    (
+        "ffffffffffffffff ffffffffffffffff ffffffffffffffff ffffffffffffffff ff",
+        true,
+    ),
+    (
+        "0000000000000000 0000000000000038 00000000000f4240 00000000000f4628 04",
+        false,
+    ),
+    (
+        "0000000000000001 0000000000000038 00000000000f4629 00000000000f4628 04",
+        false,
+    ),
+];
+
 #[test]
-fn other_records_are_no_flows(rt: HostRuntime) -> Result<(), Fail> {
+fn other_numbers_are_no_flows(rt: HostRuntime) -> Result<(), Fail> {
     let head = "000a0044 M 0100 0034 c0000201 c0000202 0fa0 0035 11 0000";
-    for (rest, is_flow) in [
-        (
-            "0000000000000001 0000000000000000 0000000000000001 0000000000000001 00",
-            true,
-        ),
-        (
-            "ffffffffffffffff ffffffffffffffff ffffffffffffffff ffffffffffffffff ff",
-            true,
-        ),
-        (
-            "0000000000000000 0000000000000038 00000000000f4240 00000000000f4628 04",
-            false,
-        ),
-        (
-            "0000000000000001 0000000000000038 00000000000f4629 00000000000f4628 04",
-            false,
-        ),
-    ] {
+    for (rest, is_flow) in COUNTS {
         assert_eq!(rt;
             flow_in(rt.alloc(), &[TEMPLATES, head, rest])?.is_some(),
             is_flow
         );
     }
+    Ok(())
+}
+
+/// The fields of addresses and ports in a template, and whether its records are flows.
+static ADDRESSES: [(&str, bool); 5] = [
+    ("00080004 000c0004 00070002 000b0002", true),
+    ("000c0004 00080004 00070002 000b0002", false),
+    ("00080004 000c0004 000b0002 00070002", false),
+    ("001b0004 001c0004 00070002 000b0002", false),
+    ("00080004 000c0003 00070003 000b0002", false),
+];
+
+#[test]
+fn other_fields_are_no_flows(rt: HostRuntime) -> Result<(), Fail> {
+    let head = "000a0044 M 0002 0034 0200000b";
     let behind = "00040001 00060002 00020008 00010008 00980008 00990008";
     let data = "000a0044 M 0200 0034";
-    let enterprise = "000a0048 M 0002 0038 0200000b 00080004 000c0004 00070002 000b0002";
-    for (template, is_flow) in [
-        ("00080004 000c0004 00070002 000b0002", true),
-        ("000c0004 00080004 00070002 000b0002", false),
-        ("00080004 000c0004 000b0002 00070002", false),
-        ("001b0004 001c0004 00070002 000b0002", false),
-        ("00080004 000c0003 00070003 000b0002", false),
-    ] {
-        assert_eq!(rt;
-            flow_in(
-                rt.alloc(),
-                &[
-                    "000a0044 M 0002 0034 0200000b",
-                    template,
-                    behind,
-                    "00880001",
-                    data,
-                    UDP
-                ]
-            )?
-            .is_some(),
-            is_flow
-        );
+    for (addresses, is_flow) in ADDRESSES {
+        let pieces = [head, addresses, behind, "00880001", data, UDP];
+        assert_eq!(rt; flow_in(rt.alloc(), pieces.as_slice())?.is_some(), is_flow);
     }
-    assert_eq!(rt;
-        flow_in(
-            rt.alloc(),
-            &[enterprise, behind, "80880001 00007279", data, UDP]
-        )?,
-        None
-    );
+    let enterprise = "000a0048 M 0002 0038 0200000b 00080004 000c0004 00070002 000b0002";
+    let pieces = [enterprise, behind, "80880001 00007279", data, UDP];
+    assert_eq!(rt; flow_in(rt.alloc(), pieces.as_slice())?, None);
     Ok(())
 }
 
