@@ -1,6 +1,6 @@
 -- Records one after the other, and pieces.
 use Rattle.std.proofs.Common.{◌≡◌, ℕ, ◌+◌, ◌-◌, ◌*◌, ◌<◌, ◌≤◌, ◌^◌, List, [], ◌∷◌, ◌++◌, length, get_or, take, drop, Some, sym, refl, ap, ◌∙◌, subst, arith, append_assoc, append-nil, length-drop, mul-le-mul_right, min}
-use Rattle.std.specs.Prelude.{slice_range, slice_get}
+use Rattle.std.specs.Prelude.{slice_range, slice_get, Result, Ok, Err, OnErr}
 use Rattle.std.proofs.lemmas.List.{take_more, get_or-drop}
 use Rattle.std.proofs.lemmas.Option.{slice_get_within, get_or_from_slice_get}
 use Rattle.std.proofs.lemmas.Grind.{common_steps}
@@ -56,6 +56,11 @@ range-next xs a i x low found =
     let inside : i < length xs = slice_get_within xs i x found in
     ap (λ k. take k (drop a xs)) up ∙ take_more (drop a xs) n x (rw length-drop (omega arith))
     ∙ ap (λ y. take n (drop a xs) ++ y ∷ []) (get_or-drop a xs n x ∙ ap (λ k. get_or xs k x) is ∙ get_or_from_slice_get xs i x x found)
+
+-- what holds, holds where something failed
+pub on-err : {T E P : Type 0} (result : Result T E) → P → OnErr result P
+on-err (Ok x) holds = tt
+on-err (Err e) holds = holds
 
 -- a tally of fewer than 2^38 records has room
 pub room-of : (tally : Tally)

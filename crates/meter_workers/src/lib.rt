@@ -7,7 +7,7 @@
 //! pieces are drawn from; each worker keeps a tally and a list of its own.
 //!
 //! A capture that is too long for the memory is metered in windows ([`meter_windows`]): the passes live across them, and each
-//! window has pieces of its own.
+//! window has pieces of its own. [`meter_list`] meters a part of a capture by one pass.
 //!
 //! Everything is generic over the cache ([`FlowCache`](cache_face::FlowCache)), so only its `meter` adds packets to a
 //! pass. A [`Gate`] is told before each piece: tests hold workers there.
@@ -16,6 +16,7 @@
 mod all;
 mod fault;
 mod gate;
+mod list;
 mod part;
 mod windows;
 mod worker;
@@ -24,6 +25,7 @@ mod working;
 pub use all::{Gathered, meter_all};
 pub use fault::MeterFault;
 pub use gate::{Gate, OpenGate};
+pub use list::meter_list;
 pub use no_memory::NoMemory;
 pub use windows::{WindowGathered, meter_windows};
 pub use worker::{WorkState, Worker};

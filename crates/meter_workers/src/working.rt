@@ -1,9 +1,10 @@
 //! What one worker does.
 
-ghost use Rattle.std.specs.Prelude.{◌≡◌, ◌≢◌, ◌+◌, ◌-◌, ◌*◌, ◌^◌, ◌<◌, ◌≤◌, List, ℕ, Result, [], ◌∷◌, ◌++◌, length, min, IfOk, OnOk, slice_range, option_to_list};
+ghost use Rattle.std.specs.Prelude.{◌≡◌, ◌≢◌, ◌+◌, ◌-◌, ◌*◌, ◌^◌, ◌<◌, ◌≤◌, List, ℕ, Result, [], ◌∷◌, ◌++◌, length, min, IfOk, OnOk, OnErr, slice_range, option_to_list};
 ghost use Rattle.pcap_reader.specs.Views.{file_of, record_read};
 ghost use Rattle.pcap_reader.specs.Index.{IsIndexOf};
 ghost use Rattle.packet_accept.specs.Acceptance.{accepted};
+ghost use Rattle.packet_accept.specs.Packets.{packets_in};
 ghost use Rattle.packet_accept.specs.declared.packet.Packet.{Packet};
 ghost use Rattle.packet_accept.specs.declared.ignored.Ignored.{Ignored};
 ghost use Rattle.capture_tally.specs.Tallies.{HasRoom, IsTallyOf};
@@ -65,6 +66,8 @@ fn meter_record<C: FlowCache>(
     ensures own { C.is_of cache.now pass.new }
     ensures did { let file = file_of capture.now in OnOk result (Did (C.shown pass.old) out.old.items tally.old
         (accepted file.link file.nanos (record_read rec.now) number ∷ []) (C.shown pass.new) out.new.items tally.new) }
+    ensures metered { let file = file_of capture.now in (C.shown pass.new).note.packets ≡ (C.shown pass.old).note.packets
+        ++ packets_in (accepted file.link file.nanos (record_read rec.now) number ∷ []) }
     ensures below { AreBelow (number + 1) (C.shown pass.new).note.packets }
     ensures tallied { IsTallied tally.new }
     ensures captured { tally.new.captured ≡ tally.old.captured + 1 }
@@ -82,7 +85,7 @@ fn meter_record<C: FlowCache>(
 }
 
 /// Meters the records of a piece.
-fn meter_piece<C: FlowCache>(
+pub(crate) fn meter_piece<C: FlowCache>(
     capture: &Capture<'_>,
     index: &RecordIndex,
     base: u64,
@@ -105,6 +108,8 @@ fn meter_piece<C: FlowCache>(
     ensures below { OnOk result (AreBelow (base + piece.end) (C.shown pass.new).note.packets) }
     ensures tallied { OnOk result (IsTallied tally.new) }
     ensures captured { OnOk result (tally.new.captured + piece.start ≡ tally.old.captured + piece.end) }
+    ensures failed { OnErr result ((stop : ℕ) × (stop ≤ piece.end) × ((C.shown pass.new).note.packets ≡ (C.shown pass.old).note.packets
+        ++ packets_in (slice_range (answers_from base (file_of capture.now)) piece.start stop))) }
 {
     packets_law();
     room_law();

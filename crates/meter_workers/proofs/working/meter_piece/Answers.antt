@@ -1,10 +1,11 @@
-use Rattle.std.proofs.Common.{◌≡◌, ◌+◌, ◌∷◌, [], refl, sym, ◌∙◌, subst, arith}
+use Rattle.std.proofs.Common.{◌≡◌, ◌+◌, ◌∷◌, ◌++◌, [], refl, sym, ap, ◌∙◌, subst, arith, append_assoc}
 use Rattle.std.specs.Prelude.{slice_range}
 use Rattle.pcap_reader.specs.Views.{file_of, record_read}
 use Rattle.packet_accept.specs.Acceptance.{accepted}
+use Rattle.packet_accept.specs.Packets.{packets_in}
 use Rattle.meter_workers.specs.Answers.{answers_from}
 use Rattle.meter_workers.specs.Work.{Did, AreBelow}
-use Rattle.meter_workers.proofs.Pieces.{did-both, did-none, answer-found, range-none, range-next, room-of}
+use Rattle.meter_workers.proofs.Pieces.{did-both, did-none, answer-found, on-err, range-none, range-next, room-of}
 use Rattle.meter_workers.proofs.working.meter_piece.Goals as goal
 
 pub meter_record-requires-clause-room : goal.meter_record-requires-clause-room
@@ -49,3 +50,23 @@ loop-n-preserved g c =
       captured = omega (arith, c.meter_record.ensures.captured, c.loop-n.invariant.captured);
       low = omega (arith, c.loop-n.invariant.low);
     }
+
+pub returns-in_err-meter_record-clause-failed : goal.returns-in_err-meter_record-clause-failed
+returns-in_err-meter_record-clause-failed g c =
+    let file = file_of c.args.capture.now in
+    let n = c.loop-n.n in
+    let answers = answers_from c.args.base file in
+    let answer = accepted file.link file.nanos (record_read c.record-record.result) (c.args.base + n) in
+    let place = answer-found c.args.base n file (record_read c.record-record.result) c.record-record.ensures.value in
+    let old = (g.C.FlowCache.shown c.args.pass.now).note.packets in
+    let next : packets_in (slice_range answers c.args.piece.start (n + 1)) ≡ packets_in (slice_range answers c.args.piece.start n) ++ packets_in (answer ∷ []) =
+    ap packets_in (range-next answers c.args.piece.start n answer c.loop-n.invariant.low place)
+    ∙ c.packets_law.ensures.together (slice_range answers c.args.piece.start n) (answer ∷ []) in
+    on-err c.from_residual.result (
+      n + 1,
+      omega (arith, c.loop-n-test.true),
+      c.meter_record.ensures.metered
+          ∙ ap (λ l. l ++ packets_in (answer ∷ [])) c.loop-n.invariant.did.metered
+          ∙ append_assoc old (packets_in (slice_range answers c.args.piece.start n)) (packets_in (answer ∷ []))
+          ∙ ap (λ l. old ++ l) (sym next),
+    )
