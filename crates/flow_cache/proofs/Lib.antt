@@ -1,0 +1,5 @@
+pub mod Answering
+pub mod Endings
+pub mod Histories
+pub mod Sets
+pub mod Tries

@@ -1,0 +1,17 @@
+use Rattle.std.proofs.Common.{◌≡◌, ◌<◌, ◌≤◌, ℕ, Some}
+use Rattle.std.specs.Prelude.{slice_index}
+use Rattle.cache_face.specs.Notes.{first_note}
+use Rattle.seat_slots.specs.Sets.{least}
+use Rattle.pebr_words.specs.Pasts.{written_at}
+use Rattle.pebr_roots.specs.Passes.{known_by, note_by, past_by, IsSame}
+use Rattle.flow_cache.proofs.cache.PebrCache.fill.Given as goal
+
+abbrev pub invariant-loop-word : goal.invariant-loop-word
+invariant-loop-word l = record {
+  low : l.word ≤ 10;
+  same : IsSame l.self.roots l.initial.pass l.pass;
+  note : note_by first_note l.pass ≡ note_by first_note l.initial.pass;
+  known : known_by l.pass ≡ known_by l.initial.pass;
+  past : past_by l.pass ≡ record (past_by l.initial.pass) { last = (past_by l.pass).last; steps = (past_by l.pass).steps; written = (past_by l.pass).written };
+  written : (k : ℕ) → k < l.word → written_at (past_by l.pass).written (least (known_by l.initial.pass).fresh) k ≡ Some (slice_index l.words k);
+}

@@ -1,0 +1,45 @@
+use Rattle.std.proofs.Common.{◌≡◌, ◌<◌, ◌+◌, ◌∷◌, [], ◌∙◌, ℕ, Bool, true, false, Option, Some, List, refl, sym, ap, subst, arith}
+use Rattle.std.specs.Prelude.{IsNone, ◌==◌, if◌then◌else◌}
+use Rattle.std.proofs.lemmas.Grind.{common_steps}
+use Rattle.std.proofs.lemmas.List.Elements.{All-cons}
+use Rattle.cache_face.specs.declared.metered.Metered.{Metered}
+use Rattle.cache_face.specs.Notes.{Note, first_note, metering}
+use Rattle.pebr_words.specs.Pasts.{Lost}
+use Rattle.pebr_roots.specs.Passes.{note_by}
+use Rattle.flow_cache.specs.Shown.{try_of, IsTryOf}
+use Rattle.flow_cache.proofs.Tries.{go_on}
+use Rattle.flow_cache.proofs.cache.PebrCache.put_in.Goals as goal
+
+is_last : (n : ℕ) → n + 1 ≡ 3 → ((n + 1) == 3) ≡ true
+is_last n e = grind (arith, common_steps)
+
+not_last : (n : ℕ) → n + 1 < 3 → ((n + 1) == 3) ≡ false
+not_last n e = grind (arith, common_steps)
+
+pub loop-lost-preserved : goal.loop-lost-preserved
+loop-lost-preserved g c =
+    let before = c.loop-lost.invariant in
+    let start = c.args.pass.now in
+    let old = c.loop-lost.pass in
+    let new = c.attempt.new.pass in
+    let n : ℕ = c.loop-lost.lost in
+    let low = c.loop-lost-test.true in
+    let h = c.attempt.ensures.none (subst (λ (o : Option Metered). IsNone o) (sym c.in_default.is) refl) in
+    let passed : Note → Note = λ note. metering note (c.args.packet.now ∷ []) (Some c.args.own) in
+    let ended : Bool → Type 0 = λ b. note_by first_note new ≡ (if b then passed (note_by first_note old) else note_by first_note old) in
+    record {
+      low = omega (arith, low);
+      same = go_on c.args.self.now.roots start old new before.same c.attempt.ensures.same;
+      out = c.attempt.ensures.out;
+      down = c.attempt.ensures.down;
+      fresh = h.1 ∙ before.fresh;
+      ejections = c.attempt.ensures.ejections ∙ before.ejections;
+      note = λ lt. subst ended (not_last n lt) h.0 ∙ before.note low;
+      passed = λ is. (subst ended (is_last n is) h.0 ∙ ap passed (before.note low), h.2);
+      tries = record {
+        tries = h.3.0 ∷ before.tries.tries;
+        listed = h.3.1 ∙ ap (λ (l : List Lost). h.3.0 ∷ l) before.tries.listed;
+        many = (let m = before.tries.many in omega (arith, m));
+        each = All-cons (λ try. IsTryOf c.args.set (try_of try)) h.3.0 before.tries.tries h.3.2 before.tries.each;
+      };
+    }

@@ -1,0 +1,20 @@
+use Rattle.std.proofs.Common.{◌≡◌, ap, ◌∙◌, subst}
+use Rattle.pebr_core.specs.declared.kinds.Step.TheVariants as step
+use Rattle.pebr_core.specs.declared.kinds.Answer.TheVariants as answer
+use Rattle.pebr_shields.specs.Found.{answer_to}
+use Rattle.pebr_words.specs.Pasts.{History, past_after}
+use Rattle.pebr_roots.specs.Passes.{known_by, number_by, past_by}
+use Rattle.flow_cache.proofs.Tries.{checked_set}
+use Rattle.flow_cache.proofs.cache.PebrCache.reach.Goals as goal
+
+pub returns-clause-valid : goal.returns-clause-valid
+returns-clause-valid g c valid =
+    let mid = c.load_set.new.pass in
+    let end = c.check.new.pass in
+    let past : past_by end ≡ past_after (step.Check (number_by mid)) answer.Valid (known_by mid) (past_by mid) = subst (λ r. past_by end ≡ past_after (step.Check (number_by mid)) (answer_to r) (known_by mid) (past_by mid)) valid c.check.ensures.step.past in (
+      checked_set c.args.set (known_by mid) (known_by end) (past_by mid) (past_by end) c.load_set.ensures.loaded c.load_set.ensures.last (c.check.ensures.valid valid) (ap (λ (p : History). p.loads) past) (ap (λ (p : History). p.shown) past),
+      (
+        ap (λ (p : History). p.lost) past ∙ ap (λ (p : History). p.lost) c.load_set.ensures.past ∙ ap (λ (p : History). p.lost) c.enter.ensures.past,
+        ap (λ (p : History). p.has_lost) past ∙ ap (λ (p : History). p.has_lost) c.load_set.ensures.past ∙ ap (λ (p : History). p.has_lost) c.enter.ensures.past,
+      ),
+    )

@@ -1,0 +1,23 @@
+use Rattle.std.proofs.Common.{◌≡◌, ◌<◌, ◌≤◌, ℕ, List, Some, length}
+use Rattle.std.specs.Prelude.{slice_index}
+use Rattle.cache_face.specs.Keeping.{IsWhole}
+use Rattle.cache_face.specs.Notes.{first_note}
+use Rattle.pebr_words.specs.Pasts.{written_at}
+use Rattle.pebr_words.specs.Ruled.{HasReadWhole}
+use Rattle.pebr_roots.specs.Under.{slot_at}
+use Rattle.pebr_roots.specs.Passes.{shape_at, known_by, note_by, past_by, IsSame}
+use Rattle.flow_cache.specs.Trying.{HasMore}
+use Rattle.flow_cache.proofs.cache.PebrCache.read_words.Given as goal
+
+abbrev pub invariant-loop-word : goal.invariant-loop-word
+invariant-loop-word l = record {
+  low : l.word ≤ 10;
+  long : length l.words ≡ 10;
+  same : IsSame l.self.roots l.initial.pass l.pass;
+  note : note_by first_note l.pass ≡ note_by first_note l.initial.pass;
+  known : known_by l.pass ≡ known_by l.initial.pass;
+  past : past_by l.pass ≡ record (past_by l.initial.pass) { last = (past_by l.pass).last; steps = (past_by l.pass).steps; reads = (past_by l.pass).reads };
+  more : HasMore (past_by l.initial.pass).reads (past_by l.pass).reads;
+  read : (k : ℕ) → k < l.word → written_at (past_by l.pass).reads (slot_at (known_by l.initial.pass) l.place) k ≡ Some (slice_index l.words k);
+  whole : 0 < l.word → (content : List ℕ) → HasReadWhole (shape_at l.self.roots) (past_by l.pass) (slot_at (known_by l.initial.pass) l.place) content → IsWhole content;
+}

@@ -1,0 +1,57 @@
+-- How far a try is.
+use Rattle.std.specs.Prelude.{◌≡◌, ℕ, ◌<◌, true, false, List, [], ◌∷◌, Option, Some}
+use Rattle.packet_accept.specs.declared.packet.Packet.{Packet}
+use Rattle.flow_parts.specs.declared.fragment.Fragment.{Fragment}
+use Rattle.flow_parts.specs.declared.timeouts.Timeouts.{Timeouts}
+use Rattle.flow_parts.specs.Sharing.{SharesOut}
+use Rattle.cache_face.specs.declared.metered.How.{How}
+use Rattle.cache_face.specs.Choice.{IsChoice}
+use Rattle.cache_face.specs.Keeping.{IsSmall}
+use Rattle.cache_face.specs.Laws.{CanMeter}
+use Rattle.cache_face.specs.Notes.{Note}
+use Rattle.pebr_core.specs.declared.kinds.ShieldAt.TheVariants as shield
+use Rattle.pebr_core.specs.State.{Seat, has, shield_at}
+use Rattle.pebr_words.specs.Pasts.{Read, History, shown_at, written_at}
+use Rattle.pebr_roots.specs.Under.{slot_at}
+use Rattle.flow_cache.specs.Places.{root_of}
+use Rattle.flow_cache.specs.Reading.{entries_read, set_read}
+
+-- The packet's own fragment, which a pass of this note can meter.
+pub record IsOwn (limits : Timeouts) (note : Note) (packet : Packet) (own : Fragment) : Type 0 where
+  pub can : CanMeter note (packet ∷ [])
+  pub shares : SharesOut limits (packet ∷ []) (own ∷ [])
+  pub small : IsSmall own
+
+-- The slot under a shield is the one that the set's root of this place had when it was loaded, and since.
+abbrev pub HasRoot : ℕ → ℕ → Seat → History → Type 0
+HasRoot set place known past =
+    (shown_at past.loads (root_of set place) ≡ Some (slot_at known place)) × (shown_at past.shown (root_of set place) ≡ Some (slot_at known place))
+
+-- The first roots of a set were loaded, so many: a shield is set on the slot of each.
+abbrev pub AreLoaded : ℕ → ℕ → Seat → History → Type 0
+AreLoaded set count known past =
+    (place : ℕ) → place < count → (shield_at known place ≡ shield.Set (slot_at known place)) × (has known.seen (slot_at known place) ≡ true) × HasRoot set place known past
+
+-- The four roots of a set were loaded, and the shields on their slots are valid.
+pub record AreProtected (set : ℕ) (known : Seat) (past : History) : Type 0 where
+  pub each : (place : ℕ) → place < 4 → (shield_at known place ≡ shield.Valid (slot_at known place)) × HasRoot set place known past
+  pub last : set_read past.loads ≡ set
+
+-- No try was lost since the pass entered.
+abbrev pub IsUnlost : History → History → Type 0
+IsUnlost old new = (new.lost ≡ old.lost) × (new.has_lost ≡ false)
+
+-- What was read before is read still.
+abbrev pub HasMore : List Read → List Read → Type 0
+HasMore old new = (slot word value : ℕ) → written_at old slot word ≡ Some value → written_at new slot word ≡ Some value
+
+-- The ten words of a slot were read.
+abbrev pub HasTen : List Read → ℕ → Type 0
+HasTen reads slot = (word : ℕ) → word < 10 → (value : ℕ) × (written_at reads slot word ≡ Some value)
+
+-- The fragment was put in by the choice over the entries read of the set.
+pub record HasChosen (limits : Timeouts) (set : ℕ) (past : History) (own : Fragment) (how : How) (out : Option Fragment) : Type 0 where
+  pub last : set_read past.loads ≡ set
+  pub place : ℕ
+  pub kept : Fragment
+  pub chosen : IsChoice limits (entries_read past set) own how place out kept

@@ -1,0 +1,33 @@
+//! The cache and its passes.
+
+ghost use Rattle.std.specs.Prelude.{◌≡◌, ◌≤◌, ◌^◌, ◌-◌, length, min, IsTrue};
+ghost use Rattle.std.specs.List.{list_all};
+ghost use Rattle.pebr_core.specs.State.{is_out, is_down};
+ghost use Rattle.pebr_roots.specs.Passes.{shape_at, fixed_at, known_by, lost_by};
+ghost use Rattle.flow_cache.specs.Places.{cache_shape};
+
+use crate::protocol::CacheRule;
+use flow_parts::Timeouts;
+use pebr_roots::{RootPass, Roots};
+
+/// A cache whose sets have four roots each.
+#[derive(Drop)]
+pub struct PebrCache {
+    pub(crate) roots: Roots<CacheRule>,
+    pub(crate) sets: u64,
+    pub(crate) timeouts: Timeouts,
+    ghost shaped: { shape_at roots ≡ cache_shape sets (shape_at roots).seats },
+    ghost fixed: { fixed_at roots ≡ timeouts },
+    ghost sized: { (1 ≤ sets) × (sets ≤ 65536) × (1 ≤ (shape_at roots).seats) × ((shape_at roots).seats ≤ 64) },
+}
+
+/// A pass of the cache. Between calls its seat is out and no shield is up.
+#[derive(Drop)]
+pub struct PebrPass {
+    pub(crate) inner: RootPass<CacheRule>,
+    /// The number of tries that it lost, as far as 64 bits count.
+    pub(crate) lost: u64,
+    ghost out: { IsTrue (is_out (known_by inner).status) },
+    ghost down: { IsTrue (list_all is_down (known_by inner).shields) },
+    ghost counted: { lost ≡ min (length (lost_by inner)) (2 ^ 64 - 1) },
+}

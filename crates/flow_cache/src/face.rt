@@ -1,0 +1,108 @@
+//! The cache as a shared cache, and who opens and closes such caches.
+
+ghost use Rattle.std.specs.Prelude.{◌≡◌, ◌+◌, ◌*◌, ◌<◌, ◌≤◌, ◌^◌, ◌∷◌, [], ◌++◌, All, IfOk, unwrap_or, option_map};
+ghost use Rattle.cache_face.specs.Meaning.{IsMetered};
+ghost use Rattle.cache_face.specs.Notes.{metering};
+ghost use Rattle.pebr_core.specs.Frames.{retired_count};
+ghost use Rattle.pebr_roots.specs.Passes.{known_by};
+ghost use Rattle.flow_cache.specs.Shown.{means_of, shown_of, IsOf, IsTryOf};
+
+use crate::cache::{PebrCache, PebrPass};
+use crate::stop::Never;
+use cache_face::{Caches, FlowCache, Metered, NoMemory};
+use flow_parts::{Fragment, Timeouts};
+use packet_accept::Packet;
+use std::alloc::Global;
+
+impl FlowCache for PebrCache {
+    type Pass = PebrPass;
+
+    ghost means = { means_of };
+
+    ghost shown = { shown_of };
+
+    ghost is_of = { IsOf };
+
+    ghost is_try_of = { IsTryOf };
+
+    fn meter(&self, pass: &mut PebrPass, packet: &Packet) -> Metered
+        requires own { IsOf self.now pass.old }
+        requires single { (shown_of pass.old).note.seats ≡ 1 }
+        requires number { packet.now.number < 2 ^ 32 }
+        requires rises { All (λ p. p.number < packet.now.number) (shown_of pass.old).note.packets }
+        requires octets { packet.now.octets < 2 ^ 24 }
+        ensures own { IsOf self.now pass.new }
+        ensures note { (shown_of pass.new).note ≡ metering (shown_of pass.old).note (packet.now ∷ []) result.out }
+        ensures answer { IsMetered (means_of self.now) IsTryOf (shown_of pass.old) (shown_of pass.new) packet.now result.how result.out }
+        ensures retired { retired_count (known_by pass.new.inner) ≤ 32 + 4 * (means_of self.now).seats }
+    {
+        self.meter_stopping(pass, packet, &mut Never)
+    }
+
+    fn unite(&self, first: PebrPass, second: PebrPass) -> PebrPass {
+        self.join(first, second)
+    }
+
+    fn close(self, alloc: Global, pass: PebrPass) -> Result<Vec<Fragment>, NoMemory> {
+        self.entries(alloc, pass)
+    }
+}
+
+/// Opens and closes caches without turns.
+#[derive(Drop)]
+pub struct PebrCaches {
+    metered: Option<Vec<Fragment>>,
+}
+
+impl PebrCaches {
+    /// No cache was closed yet.
+    pub fn new() -> PebrCaches
+        ensures { ⟦<PebrCaches as Caches>⟧.metered result ≡ [] }
+    {
+        PebrCaches { metered: None }
+    }
+}
+
+/// Two lists put together.
+fn together(mut parts: Vec<Fragment>, others: Vec<Fragment>) -> Result<Vec<Fragment>, NoMemory>
+    ensures { IfOk result (λ all. all.items ≡ parts.items ++ others.items) }
+{
+    parts.extend_from_slice(others.as_slice())?;
+    Ok(parts)
+}
+
+impl Caches for PebrCaches {
+    type Cache = PebrCache;
+
+    ghost metered = { λ s. unwrap_or (option_map (λ v. v.items) s.metered) [] };
+
+    fn open(
+        &mut self,
+        alloc: Global,
+        sets: u64,
+        seats: usize,
+        timeouts: Timeouts,
+    ) -> Result<(PebrCache, Vec<PebrPass>), NoMemory> {
+        PebrCache::open(alloc, sets, seats, timeouts)
+    }
+
+    fn close(
+        &mut self,
+        alloc: Global,
+        cache: PebrCache,
+        pass: PebrPass,
+        handed: Vec<Fragment>,
+    ) -> Result<(), NoMemory> {
+        let entries = cache.entries(alloc, pass)?;
+        let all = together(handed, entries)?;
+        self.metered = Some(all);
+        Ok(())
+    }
+
+    fn metered(&self) -> &[Fragment] {
+        match &self.metered {
+            Some(parts) => parts.as_slice(),
+            None => &[],
+        }
+    }
+}

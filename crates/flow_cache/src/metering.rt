@@ -1,0 +1,157 @@
+//! A packet is metered.
+
+ghost use Rattle.std.specs.Prelude.{◌≡◌, ◌≢◌, ◌+◌, ◌*◌, ◌<◌, ◌≤◌, ◌^◌, ◌∷◌, [], All, IsTrue};
+ghost use Rattle.std.specs.List.{list_all};
+ghost use Rattle.cache_face.specs.Meaning.{IsMetered};
+ghost use Rattle.cache_face.specs.Notes.{first_note, metering};
+ghost use Rattle.pebr_core.specs.State.{is_out, is_down};
+ghost use Rattle.pebr_core.specs.Frames.{fresh_count, retired_count};
+ghost use Rattle.pebr_roots.specs.Passes.{shape_at, known_by, note_by, past_by, IsOf, IsSame};
+ghost use Rattle.flow_cache.specs.Outcome.{HaveLost, IsOutcome};
+ghost use Rattle.flow_cache.specs.Shown as shown;
+ghost use Rattle.flow_cache.specs.Shown.{means_of, shown_of, IsTryOf};
+ghost use Rattle.flow_cache.specs.Trying.{IsOwn};
+
+use crate::cache::{PebrCache, PebrPass};
+use crate::protocol::CacheRule;
+use crate::stop::Stop;
+use cache_face::{How, Metered};
+use flow_parts::Fragment;
+use packet_accept::Packet;
+use pebr_roots::RootPass;
+
+/// From so many retired slots on a pass collects.
+const BATCH: usize = 32;
+
+/// After so many lost tries a packet is passed by.
+const TRIES: u64 = 3;
+
+/// What became of a packet, and how many tries were lost.
+#[derive(Drop)]
+struct Tried {
+    metered: Metered,
+    lost: u64,
+}
+
+impl PebrCache {
+    /// Collects without force from 32 retired slots on.
+    fn collect_batch(&self, pass: &mut RootPass<CacheRule>)
+        requires of { IsOf self.now.roots pass.old }
+        requires out { IsTrue (is_out (known_by pass.old).status) }
+        requires down { IsTrue (list_all is_down (known_by pass.old).shields) }
+        ensures same { IsSame self.now.roots pass.old pass.new }
+        ensures out { IsTrue (is_out (known_by pass.new).status) }
+        ensures down { IsTrue (list_all is_down (known_by pass.new).shields) }
+        ensures note { note_by first_note pass.new ≡ note_by first_note pass.old }
+        ensures lost { (past_by pass.new).lost ≡ (past_by pass.old).lost }
+        ensures ejections { (past_by pass.new).ejections ≡ (past_by pass.old).ejections }
+        ensures fresh { fresh_count (known_by pass.old) ≤ fresh_count (known_by pass.new) }
+    {
+        if pass.retired() >= BATCH {
+            self.roots.collect(pass, false);
+        }
+    }
+
+    /// Collects with force where no fresh slot is left.
+    fn collect_if_none(&self, pass: &mut RootPass<CacheRule>)
+        requires of { IsOf self.now.roots pass.old }
+        requires out { IsTrue (is_out (known_by pass.old).status) }
+        requires down { IsTrue (list_all is_down (known_by pass.old).shields) }
+        ensures same { IsSame self.now.roots pass.old pass.new }
+        ensures out { IsTrue (is_out (known_by pass.new).status) }
+        ensures down { IsTrue (list_all is_down (known_by pass.new).shields) }
+        ensures note { note_by first_note pass.new ≡ note_by first_note pass.old }
+        ensures lost { (past_by pass.new).lost ≡ (past_by pass.old).lost }
+        ensures ejections { 0 < fresh_count (known_by pass.old) → (past_by pass.new).ejections ≡ (past_by pass.old).ejections }
+        ensures fresh { 0 < fresh_count (known_by pass.new) }
+    {
+        if pass.fresh() == 0 {
+            self.roots.collect(pass, true);
+        }
+    }
+
+    /// Sees that a fresh slot is there.
+    fn make_room(&self, pass: &mut RootPass<CacheRule>)
+        requires of { IsOf self.now.roots pass.old }
+        requires out { IsTrue (is_out (known_by pass.old).status) }
+        requires down { IsTrue (list_all is_down (known_by pass.old).shields) }
+        ensures same { IsSame self.now.roots pass.old pass.new }
+        ensures out { IsTrue (is_out (known_by pass.new).status) }
+        ensures down { IsTrue (list_all is_down (known_by pass.new).shields) }
+        ensures note { note_by first_note pass.new ≡ note_by first_note pass.old }
+        ensures lost { (past_by pass.new).lost ≡ (past_by pass.old).lost }
+        ensures ejections { retired_count (known_by pass.old) ≢ 32 + 4 * (shape_at self.now.roots).seats → (past_by pass.new).ejections ≡ (past_by pass.old).ejections }
+        ensures fresh { 0 < fresh_count (known_by pass.new) }
+    {
+        self.collect_batch(pass);
+        self.collect_if_none(pass);
+    }
+
+    /// Tries to put the packet's fragment into its set, and passes the packet by after the third lost try.
+    fn put_in<T: Stop>(
+        &self,
+        pass: &mut RootPass<CacheRule>,
+        set: u64,
+        packet: &Packet,
+        own: Fragment,
+        stop: &mut T,
+    ) -> Tried
+        requires of { IsOf self.now.roots pass.old }
+        requires set { set < self.now.sets }
+        requires out { IsTrue (is_out (known_by pass.old).status) }
+        requires down { IsTrue (list_all is_down (known_by pass.old).shields) }
+        requires fresh { 0 < fresh_count (known_by pass.old) }
+        requires own { IsOwn self.now.timeouts (note_by first_note pass.old) packet.now own }
+        ensures same { IsSame self.now.roots pass.old pass.new }
+        ensures out { IsTrue (is_out (known_by pass.new).status) }
+        ensures down { IsTrue (list_all is_down (known_by pass.new).shields) }
+        ensures ejections { (past_by pass.new).ejections ≡ (past_by pass.old).ejections }
+        ensures note { note_by first_note pass.new ≡ metering (note_by first_note pass.old) (packet.now ∷ []) result.metered.out }
+        ensures lost { HaveLost set result.lost (past_by pass.old) (past_by pass.new) }
+        ensures outcome { IsOutcome self.now.timeouts (shape_at self.now.roots).seats set (past_by pass.new) own result.lost result.metered.how result.metered.out }
+    {
+        for lost in 0..TRIES {
+            let last = lost + 1 == TRIES;
+            if let Some(metered) = self.attempt(pass, set, packet, own, last, stop) {
+                return Tried { metered, lost };
+            }
+        }
+        let metered = Metered {
+            how: How::PassedBy,
+            out: Some(own),
+        };
+        Tried {
+            metered,
+            lost: TRIES,
+        }
+    }
+
+    /// Meters a packet whose number is above those that the pass metered, and calls `stop` at each point of each try. It waits
+    /// for nobody and takes no memory.
+    ///
+    /// Another seat is ejected only where the pass had all its slots retired when the call began.
+    pub fn meter_stopping<T: Stop>(
+        &self,
+        pass: &mut PebrPass,
+        packet: &Packet,
+        stop: &mut T,
+    ) -> Metered
+        requires own { shown.IsOf self.now pass.old }
+        requires single { (shown_of pass.old).note.seats ≡ 1 }
+        requires number { packet.now.number < 2 ^ 32 }
+        requires rises { All (λ p. p.number < packet.now.number) (shown_of pass.old).note.packets }
+        requires octets { packet.now.octets < 2 ^ 24 }
+        ensures own { shown.IsOf self.now pass.new }
+        ensures note { (shown_of pass.new).note ≡ metering (shown_of pass.old).note (packet.now ∷ []) result.out }
+        ensures answer { IsMetered (means_of self.now) IsTryOf (shown_of pass.old) (shown_of pass.new) packet.now result.how result.out }
+        ensures retired { retired_count (known_by pass.new.inner) ≤ 32 + 4 * (means_of self.now).seats }
+        ensures ejections { retired_count (known_by pass.old.inner) ≢ 32 + 4 * (means_of self.now).seats → (past_by pass.new.inner).ejections ≡ (past_by pass.old.inner).ejections }
+    {
+        let own = Fragment::of(packet);
+        let set = own.key.set_of(self.sets);
+        self.make_room(&mut pass.inner);
+        let tried = self.put_in(&mut pass.inner, set, packet, own, stop);
+        pass.lost = pass.lost.saturating_add(tried.lost);
+        tried.metered
+    }
+}

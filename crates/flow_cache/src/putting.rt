@@ -1,0 +1,188 @@
+//! A fragment is put into an entry, or passed by.
+
+ghost use Rattle.std.specs.Prelude.{◌≡◌, ◌≢◌, ℕ, ◌<◌, ◌∷◌, [], IsTrue, IsNone, IfSome, Some, None, true, false, if◌then◌else◌, slice_index};
+ghost use Rattle.std.specs.List.{list_all};
+ghost use Rattle.cache_face.specs.Notes.{first_note, metering};
+ghost use Rattle.cache_face.specs.Keeping.{IsWhole};
+ghost use Rattle.pebr_core.specs.State.{is_out, is_down};
+ghost use Rattle.pebr_core.specs.Frames.{fresh_count};
+ghost use Rattle.seat_slots.specs.Sets.{least};
+ghost use Rattle.pebr_words.specs.Pasts.{Lost, written_at};
+ghost use Rattle.pebr_words.specs.Ruled.{IsSure};
+ghost use Rattle.pebr_roots.specs.Passes.{shape_at, known_by, note_by, past_by, IsOf, IsSame};
+ghost use Rattle.flow_cache.specs.Shown.{try_of, IsTryOf};
+ghost use Rattle.flow_cache.specs.Trying.{IsOwn, AreProtected, IsUnlost, HasChosen};
+
+use crate::cache::PebrCache;
+use crate::protocol::CacheRule;
+use crate::stop::{Point, Stop};
+use cache_face::{Metered, choose};
+use flow_parts::Fragment;
+use packet_accept::Packet;
+use pebr_roots::{Checked, ReplaceEnd, RootPass};
+
+/// Whether the last try was lost.
+#[inline]
+fn is_passed_by(last: bool, metered: &Option<Metered>) -> bool
+    ensures some { IfSome metered.now (λ _. result ≡ false) }
+    ensures none { IsNone metered.now → result ≡ last }
+{
+    last && metered.is_none()
+}
+
+/// What is done to the note of a pass that leaves: where its packet is passed by, it is metered, and its own fragment handed
+/// out.
+#[inline]
+fn passing(packet: &Packet, own: Fragment, passes_by: bool) -> Option<(Packet, Option<Fragment>)>
+    ensures { result ≡ (if passes_by then Some (packet.now, Some own) else None) }
+{
+    if passes_by {
+        Some((*packet, Some(own)))
+    } else {
+        None
+    }
+}
+
+impl PebrCache {
+    /// Writes ten words into the fresh slot.
+    fn fill(&self, pass: &mut RootPass<CacheRule>, words: [u64; 10])
+        requires of { IsOf self.now.roots pass.old }
+        requires fresh { 0 < fresh_count (known_by pass.old) }
+        ensures same { IsSame self.now.roots pass.old pass.new }
+        ensures note { note_by first_note pass.new ≡ note_by first_note pass.old }
+        ensures known { known_by pass.new ≡ known_by pass.old }
+        ensures past { past_by pass.new ≡ record (past_by pass.old) { last = (past_by pass.new).last; steps = (past_by pass.new).steps; written = (past_by pass.new).written } }
+        ensures written { (word : ℕ) → word < 10 → written_at (past_by pass.new).written (least (known_by pass.old).fresh) word ≡ Some (slice_index words word) }
+    {
+        for word in 0..10 {
+            self.roots.write_fresh(pass, word, words[word]);
+        }
+    }
+
+    /// Puts the packet's fragment into the set whose roots are protected: reads the entries, writes the new one, and replaces
+    /// one root. `None` where that root had another slot.
+    fn put<T: Stop>(
+        &self,
+        pass: &mut RootPass<CacheRule>,
+        set: u64,
+        packet: &Packet,
+        own: Fragment,
+        stop: &mut T,
+    ) -> Option<Metered>
+        requires of { IsOf self.now.roots pass.old }
+        requires set { set < self.now.sets }
+        requires entered { is_out (known_by pass.old).status ≡ false }
+        requires fresh { 0 < fresh_count (known_by pass.old) }
+        requires protected { AreProtected set (known_by pass.old) (past_by pass.old) }
+        requires unlost { (past_by pass.old).has_lost ≡ false }
+        requires own { IsOwn self.now.timeouts (note_by first_note pass.old) packet.now own }
+        ensures same { IsSame self.now.roots pass.old pass.new }
+        ensures entered { is_out (known_by pass.new).status ≡ false }
+        ensures ejections { (past_by pass.new).ejections ≡ (past_by pass.old).ejections }
+        ensures some { IfSome result (λ m. (note_by first_note pass.new ≡ metering (note_by first_note pass.old) (packet.now ∷ []) m.out)
+            × ((past_by pass.new).lost ≡ (past_by pass.old).lost) × HasChosen self.now.timeouts set (past_by pass.new) own m.how m.out) }
+        ensures none { IsNone result → (note_by first_note pass.new ≡ note_by first_note pass.old) × ((known_by pass.new).fresh ≡ (known_by pass.old).fresh)
+            × ((try : Lost) × ((past_by pass.new).lost ≡ try ∷ (past_by pass.old).lost) × IsTryOf set (try_of try)) }
+    {
+        stop.at(Point::Read);
+        let entries = self.read_set(pass);
+        let choice = choose(self.timeouts, &entries, own);
+        stop.at(Point::Write);
+        self.fill(pass, choice.kept.to_words());
+        stop.at(Point::Replace);
+        let root = 4 * set as usize + choice.place;
+        let act = Some((*packet, choice.out));
+        match self.roots.replace(pass, root, choice.place, act) {
+            ReplaceEnd::Replaced => Some(Metered {
+                how: choice.how,
+                out: choice.out,
+            }),
+            ReplaceEnd::Other => None,
+        }
+    }
+
+    /// Reaches the set and puts the fragment in. `None` where the try is lost.
+    fn reach_and_put<T: Stop>(
+        &self,
+        pass: &mut RootPass<CacheRule>,
+        set: u64,
+        packet: &Packet,
+        own: Fragment,
+        stop: &mut T,
+    ) -> Option<Metered>
+        requires of { IsOf self.now.roots pass.old }
+        requires set { set < self.now.sets }
+        requires out { IsTrue (is_out (known_by pass.old).status) }
+        requires fresh { 0 < fresh_count (known_by pass.old) }
+        requires own { IsOwn self.now.timeouts (note_by first_note pass.old) packet.now own }
+        ensures same { IsSame self.now.roots pass.old pass.new }
+        ensures entered { is_out (known_by pass.new).status ≡ false }
+        ensures ejections { (past_by pass.new).ejections ≡ (past_by pass.old).ejections }
+        ensures some { IfSome result (λ m. (note_by first_note pass.new ≡ metering (note_by first_note pass.old) (packet.now ∷ []) m.out)
+            × ((past_by pass.new).lost ≡ (past_by pass.old).lost) × HasChosen self.now.timeouts set (past_by pass.new) own m.how m.out) }
+        ensures none { IsNone result → (note_by first_note pass.new ≡ note_by first_note pass.old) × ((known_by pass.new).fresh ≡ (known_by pass.old).fresh)
+            × ((try : Lost) × ((past_by pass.new).lost ≡ try ∷ (past_by pass.old).lost) × IsTryOf set (try_of try)) }
+    {
+        match self.reach(pass, set, stop) {
+            Checked::Valid => self.put(pass, set, packet, own, stop),
+            Checked::Ejected => None,
+        }
+    }
+
+    /// Takes the shields down and leaves. A packet that is passed by is metered here, and its own fragment handed out.
+    fn end<T: Stop>(
+        &self,
+        pass: &mut RootPass<CacheRule>,
+        packet: &Packet,
+        own: Fragment,
+        passes_by: bool,
+        stop: &mut T,
+    )
+        requires of { IsOf self.now.roots pass.old }
+        requires entered { is_out (known_by pass.old).status ≡ false }
+        requires own { IsTrue passes_by → IsOwn self.now.timeouts (note_by first_note pass.old) packet.now own }
+        ensures same { IsSame self.now.roots pass.old pass.new }
+        ensures out { IsTrue (is_out (known_by pass.new).status) }
+        ensures down { IsTrue (list_all is_down (known_by pass.new).shields) }
+        ensures fresh { (known_by pass.new).fresh ≡ (known_by pass.old).fresh }
+        ensures note { note_by first_note pass.new ≡ (if passes_by then metering (note_by first_note pass.old) (packet.now ∷ []) (Some own) else note_by first_note pass.old) }
+        ensures past { past_by pass.new ≡ record (past_by pass.old) { last = (past_by pass.new).last; steps = (past_by pass.new).steps } }
+        ensures sure { IsSure IsWhole (shape_at self.now.roots) (known_by pass.new) (past_by pass.new) }
+    {
+        stop.at(Point::Clear);
+        self.roots.clear(pass);
+        stop.at(Point::Leave);
+        self.roots.leave(pass, passing(packet, own, passes_by));
+    }
+
+    /// One try. `None` where it is lost; where it is the last one the packet is passed by then.
+    pub(crate) fn attempt<T: Stop>(
+        &self,
+        pass: &mut RootPass<CacheRule>,
+        set: u64,
+        packet: &Packet,
+        own: Fragment,
+        last: bool,
+        stop: &mut T,
+    ) -> Option<Metered>
+        requires of { IsOf self.now.roots pass.old }
+        requires set { set < self.now.sets }
+        requires out { IsTrue (is_out (known_by pass.old).status) }
+        requires fresh { 0 < fresh_count (known_by pass.old) }
+        requires own { IsOwn self.now.timeouts (note_by first_note pass.old) packet.now own }
+        ensures same { IsSame self.now.roots pass.old pass.new }
+        ensures out { IsTrue (is_out (known_by pass.new).status) }
+        ensures down { IsTrue (list_all is_down (known_by pass.new).shields) }
+        ensures ejections { (past_by pass.new).ejections ≡ (past_by pass.old).ejections }
+        ensures some { IfSome result (λ m. (note_by first_note pass.new ≡ metering (note_by first_note pass.old) (packet.now ∷ []) m.out)
+            × ((past_by pass.new).lost ≡ (past_by pass.old).lost) × HasChosen self.now.timeouts set (past_by pass.new) own m.how m.out) }
+        ensures none { IsNone result → (note_by first_note pass.new ≡ (if last then metering (note_by first_note pass.old) (packet.now ∷ []) (Some own) else note_by first_note pass.old))
+            × ((known_by pass.new).fresh ≡ (known_by pass.old).fresh) × ((shape_at self.now.roots).seats ≢ 1)
+            × ((try : Lost) × ((past_by pass.new).lost ≡ try ∷ (past_by pass.old).lost) × IsTryOf set (try_of try)) }
+    {
+        let metered = self.reach_and_put(pass, set, packet, own, stop);
+        let passes_by = is_passed_by(last, &metered);
+        self.end(pass, packet, own, passes_by, stop);
+        metered
+    }
+}

@@ -1,0 +1,130 @@
+//! The entries of a set are read.
+
+ghost use Rattle.std.specs.Prelude.{◌≡◌, ℕ, ◌<◌, ◌∷◌, IsTrue, All, Some, true, false, slice_index};
+ghost use Rattle.cache_face.specs.Choice.{IsSmallEntry};
+ghost use Rattle.cache_face.specs.Keeping.{entry_of, IsWhole};
+ghost use Rattle.cache_face.specs.Notes.{first_note};
+ghost use Rattle.pebr_core.specs.State.{is_out};
+ghost use Rattle.pebr_shields.specs.declared.checked.Checked.TheVariants as checked;
+ghost use Rattle.pebr_words.specs.Pasts.{was_ejected, written_at};
+ghost use Rattle.pebr_roots.specs.Under.{slot_at, is_valid_at};
+ghost use Rattle.pebr_roots.specs.Passes.{known_by, note_by, past_by, IsOf, IsSame};
+ghost use Rattle.flow_cache.specs.Reading.{words_read, entries_read, set_read};
+ghost use Rattle.flow_cache.specs.Trying.{AreLoaded, AreProtected, IsUnlost, HasMore, HasTen};
+
+use crate::cache::PebrCache;
+use crate::protocol::CacheRule;
+use crate::stop::{Point, Stop};
+use flow_parts::Fragment;
+use flow_parts::laws::fragments_have_fields;
+use pebr_roots::{Checked, RootPass};
+
+/// The entry that ten words show.
+#[inline]
+pub(crate) fn entry(words: [u64; 10]) -> Option<Fragment>
+    ensures { result ≡ entry_of words }
+{
+    fragments_have_fields();
+    Fragment::of_words(&words)
+}
+
+impl PebrCache {
+    /// Loads and shields the four roots of a set.
+    fn load_set(&self, pass: &mut RootPass<CacheRule>, set: u64)
+        requires of { IsOf self.now.roots pass.old }
+        requires set { set < self.now.sets }
+        requires entered { is_out (known_by pass.old).status ≡ false }
+        ensures same { IsSame self.now.roots pass.old pass.new }
+        ensures note { note_by first_note pass.new ≡ note_by first_note pass.old }
+        ensures known { known_by pass.new ≡ record (known_by pass.old) { seen = (known_by pass.new).seen; shields = (known_by pass.new).shields } }
+        ensures past { past_by pass.new ≡ record (past_by pass.old) { last = (past_by pass.new).last; steps = (past_by pass.new).steps; loads = (past_by pass.new).loads; reads = (past_by pass.new).reads; shown = (past_by pass.new).shown } }
+        ensures loaded { AreLoaded set 4 (known_by pass.new) (past_by pass.new) }
+        ensures last { set_read (past_by pass.new).loads ≡ set }
+    {
+        for place in 0..4 {
+            self.roots.load(pass, 4 * set as usize + place, place);
+        }
+    }
+
+    /// Enters, loads and shields the four roots of a set, and checks.
+    pub(crate) fn reach<T: Stop>(
+        &self,
+        pass: &mut RootPass<CacheRule>,
+        set: u64,
+        stop: &mut T,
+    ) -> Checked
+        requires of { IsOf self.now.roots pass.old }
+        requires set { set < self.now.sets }
+        requires out { IsTrue (is_out (known_by pass.old).status) }
+        ensures same { IsSame self.now.roots pass.old pass.new }
+        ensures note { note_by first_note pass.new ≡ note_by first_note pass.old }
+        ensures fresh { (known_by pass.new).fresh ≡ (known_by pass.old).fresh }
+        ensures entered { is_out (known_by pass.new).status ≡ false }
+        ensures ejections { (past_by pass.new).ejections ≡ (past_by pass.old).ejections }
+        ensures valid { result ≡ checked.Valid → AreProtected set (known_by pass.new) (past_by pass.new) × IsUnlost (past_by pass.old) (past_by pass.new) }
+        ensures ejected { result ≡ checked.Ejected → (past_by pass.new).lost ≡ was_ejected ∷ (past_by pass.old).lost }
+    {
+        stop.at(Point::Enter);
+        self.roots.enter(pass);
+        stop.at(Point::Load);
+        self.load_set(pass, set);
+        stop.at(Point::Check);
+        self.roots.check(pass)
+    }
+
+    /// Reads the entry under a shield.
+    fn read_entry(&self, pass: &mut RootPass<CacheRule>, place: usize) -> Option<Fragment>
+        requires of { IsOf self.now.roots pass.old }
+        requires place { place < 4 }
+        requires valid { IsTrue (is_valid_at (known_by pass.old) place) }
+        ensures same { IsSame self.now.roots pass.old pass.new }
+        ensures note { note_by first_note pass.new ≡ note_by first_note pass.old }
+        ensures known { known_by pass.new ≡ known_by pass.old }
+        ensures past { past_by pass.new ≡ record (past_by pass.old) { last = (past_by pass.new).last; steps = (past_by pass.new).steps; reads = (past_by pass.new).reads } }
+        ensures more { HasMore (past_by pass.old).reads (past_by pass.new).reads }
+        ensures ten { HasTen (past_by pass.new).reads (slot_at (known_by pass.old) place) }
+        ensures entry { result ≡ entry_of (words_read (past_by pass.new).reads (slot_at (known_by pass.old) place)) }
+        ensures small { IsSmallEntry result }
+    {
+        entry(self.read_words(pass, place))
+    }
+
+    /// Reads the ten words of the slot under a shield.
+    fn read_words(&self, pass: &mut RootPass<CacheRule>, place: usize) -> [u64; 10]
+        requires of { IsOf self.now.roots pass.old }
+        requires place { place < 4 }
+        requires valid { IsTrue (is_valid_at (known_by pass.old) place) }
+        ensures same { IsSame self.now.roots pass.old pass.new }
+        ensures note { note_by first_note pass.new ≡ note_by first_note pass.old }
+        ensures known { known_by pass.new ≡ known_by pass.old }
+        ensures past { past_by pass.new ≡ record (past_by pass.old) { last = (past_by pass.new).last; steps = (past_by pass.new).steps; reads = (past_by pass.new).reads } }
+        ensures more { HasMore (past_by pass.old).reads (past_by pass.new).reads }
+        ensures read { (word : ℕ) → word < 10 → written_at (past_by pass.new).reads (slot_at (known_by pass.old) place) word ≡ Some (slice_index result word) }
+        ensures whole { IsWhole result }
+    {
+        let mut words = [0; 10];
+        for word in 0..10 {
+            words[word] = self.roots.read(pass, place, word);
+        }
+        words
+    }
+
+    /// Reads the four entries of the set whose roots are protected.
+    pub(crate) fn read_set(&self, pass: &mut RootPass<CacheRule>) -> [Option<Fragment>; 4]
+        requires of { IsOf self.now.roots pass.old }
+        requires valid { (place : ℕ) → place < 4 → IsTrue (is_valid_at (known_by pass.old) place) }
+        ensures same { IsSame self.now.roots pass.old pass.new }
+        ensures note { note_by first_note pass.new ≡ note_by first_note pass.old }
+        ensures known { known_by pass.new ≡ known_by pass.old }
+        ensures past { past_by pass.new ≡ record (past_by pass.old) { last = (past_by pass.new).last; steps = (past_by pass.new).steps; reads = (past_by pass.new).reads } }
+        ensures ten { (place : ℕ) → place < 4 → HasTen (past_by pass.new).reads (slot_at (known_by pass.old) place) }
+        ensures entries { (set : ℕ) → AreProtected set (known_by pass.old) (past_by pass.old) → result ≡ entries_read (past_by pass.new) set }
+        ensures small { All IsSmallEntry result }
+    {
+        let first = self.read_entry(pass, 0);
+        let second = self.read_entry(pass, 1);
+        let third = self.read_entry(pass, 2);
+        let fourth = self.read_entry(pass, 3);
+        [first, second, third, fourth]
+    }
+}

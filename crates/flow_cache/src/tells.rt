@@ -1,0 +1,24 @@
+//! What a pass tells.
+
+ghost use Rattle.std.specs.Prelude.{◌≡◌, ◌^◌, ◌-◌, length, min};
+ghost use Rattle.pebr_core.specs.Frames.{retired_count};
+ghost use Rattle.pebr_roots.specs.Passes.{known_by};
+ghost use Rattle.flow_cache.specs.Shown.{shown_of};
+
+use crate::cache::PebrPass;
+
+impl PebrPass {
+    /// How many slots it has retired.
+    pub fn retired(&self) -> usize
+        ensures { result ≡ retired_count (known_by self.now.inner) }
+    {
+        self.inner.retired()
+    }
+
+    /// How many tries it has lost, at most 2^64 - 1.
+    pub fn lost(&self) -> u64
+        ensures { result ≡ min (length (shown_of self.now).lost) (2 ^ 64 - 1) }
+    {
+        self.lost
+    }
+}
