@@ -1,0 +1,18 @@
+-- Batches in the order of a capture.
+use Rattle.std.specs.Prelude.{ℕ, ◌+◌, ◌<◌, ◌≤◌, List, [], ◌∷◌, length, All}
+use Rattle.pcap_reader.specs.Views.{part_of}
+use Rattle.pcap_reader.specs.Records.{records_of}
+use Rattle.batch_queue.specs.declared.batch.Batch.{Batch}
+
+-- How many records a batch has.
+abbrev pub count_of : Batch → ℕ
+count_of batch = length (records_of (part_of batch.head batch.bytes.items))
+
+-- The first batch stands before the other: its number is smaller, and its records end before those of the other begin.
+abbrev pub IsBefore : Batch → Batch → Type 0
+IsBefore first other = (first.number < other.number) × (first.base + count_of first ≤ other.base)
+
+-- Each batch stands before all behind it.
+abbrev pub AreRising : List Batch → Type 0
+AreRising [] = Unit {0}
+AreRising (batch ∷ batches) = All (IsBefore batch) batches × AreRising batches

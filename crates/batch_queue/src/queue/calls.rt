@@ -1,0 +1,98 @@
+//! How batches are put and taken, and passes made and united.
+
+ghost use Rattle.std.specs.Prelude.{◌≡◌, ◌+◌, ◌<◌, ◌≤◌, None, [], ◌∷◌, ◌++◌, List, length, All, IfOk, IfErr, IfSome, OnOk, IsPermutation, IsTrue};
+ghost use Rattle.batch_queue.specs.Batches.{IsBefore};
+ghost use Rattle.batch_queue.specs.Passes.{room_of, IsPassOf, IsReaders, IsFresh, StandsForAll, put_of, took_of, seats_of, others_of, IsSame, IsMore, AreOpened, IsFull};
+ghost use Rattle.batch_queue.specs.declared.batch.Batch.{Batch};
+
+use crate::batch::Batch;
+use crate::queue::{BatchQueue, QueuePass};
+use crate::rule::{Puts, Seats, Takes};
+use crossbeam_queue::RuledArrayQueue;
+use no_memory::NoMemory;
+use std::alloc::Global;
+use std::sync::Wait;
+
+impl BatchQueue {
+    /// An empty queue that has room for `room` batches (1 to 64), and a pass for each of `seats` seats (2 to 64). The first
+    /// pass is the reader's.
+    pub fn open(
+        alloc: Global,
+        room: usize,
+        seats: usize,
+    ) -> Result<(BatchQueue, Vec<QueuePass>), NoMemory>
+        requires room { (1 ≤ room) × (room ≤ 64) }
+        requires seats { (2 ≤ seats) × (seats ≤ 64) }
+        ensures room { IfOk result (λ r. room_of r.0 ≡ room) }
+        ensures many { IfOk result (λ r. length r.1.items ≡ seats) }
+        ensures passes { IfOk result (λ r. All (λ p. IsPassOf r.0 p × IsFresh p) r.1.items) }
+        ensures reader { IfOk result (λ r. AreOpened seats r.1.items) }
+    {
+        let (line, first) = RuledArrayQueue::ruled(alloc, room)?;
+        let queue = BatchQueue { line };
+        let mut reader = QueuePass { pass: first };
+        let mut passes = Vec::new(alloc);
+        for _turn in 1..seats {
+            let other = queue.another(&mut reader);
+            passes.push(other)?;
+        }
+        passes.insert(0, reader)?;
+        Ok((queue, passes))
+    }
+
+    /// A pass of one more seat, which puts nothing.
+    fn another(&self, reader: &mut QueuePass) -> QueuePass
+        requires own { IsPassOf self.now reader.old }
+        requires reader { IsReaders reader.old }
+        ensures own { IsPassOf self.now reader.new × IsPassOf self.now result }
+        ensures other { IsFresh result × (¬ IsReaders result) × (others_of result ≡ 0) }
+        ensures reader { IsReaders reader.new × (others_of reader.new ≡ others_of reader.old + 1) }
+        ensures same { (seats_of reader.new ≡ seats_of reader.old) × (put_of reader.new ≡ put_of reader.old) × (took_of reader.new ≡ took_of reader.old) }
+    {
+        let pass = self.line.another::<Seats>(&mut reader.pass);
+        QueuePass { pass }
+    }
+
+    /// Puts a batch behind all others. The pass is the reader's, and the batch stands behind each that it put.
+    ///
+    /// The batch comes back only where the queue held as many batches as it has room for at a step of this call.
+    pub fn offer<R: Wait>(&self, rt: &R, pass: &mut QueuePass, batch: Batch) -> Result<(), Batch>
+        requires own { IsPassOf self.now pass.old }
+        requires reader { IsReaders pass.old }
+        requires behind { All (λ b. IsBefore b batch) (put_of pass.old) }
+        ensures own { IsPassOf self.now pass.new }
+        ensures put { OnOk result (IsMore (batch ∷ []) [] pass.old pass.new) }
+        ensures full { IfErr result (λ back. (back ≡ batch) × IsSame pass.old pass.new × IsFull self.now pass.old) }
+    {
+        self.line.push_as::<Puts, R>(rt, &mut pass.pass, batch)
+    }
+
+    /// Takes the batch at the front, which stands behind each that the pass took.
+    ///
+    /// None only where the queue was empty at a step of this call. Then a pass of all seats took all batches that were put,
+    /// each once.
+    pub fn take<R: Wait>(&self, rt: &R, pass: &mut QueuePass) -> Option<Batch>
+        requires own { IsPassOf self.now pass.old }
+        ensures own { IsPassOf self.now pass.new }
+        ensures took { IfSome result (λ b. IsMore [] (b ∷ []) pass.old pass.new × All (λ a. IsBefore a b) (took_of pass.old)) }
+        ensures none { result ≡ None → IsSame pass.old pass.new × (StandsForAll pass.new → IsPermutation (put_of pass.new) (took_of pass.new)) }
+    {
+        self.line.pop_as::<Takes, R>(rt, &mut pass.pass)
+    }
+
+    /// One pass for the seats of both. If it stands for all seats, the batches that it took and those that were in the queue
+    /// at a step of this call are the batches that were put, each once.
+    pub fn unite(&self, first: QueuePass, second: QueuePass) -> QueuePass
+        requires own { IsPassOf self.now first × IsPassOf self.now second }
+        ensures own { IsPassOf self.now result }
+        ensures reader { (IsReaders first → IsReaders result) × (IsReaders second → IsReaders result) }
+        ensures seats { (seats_of result ≡ seats_of first + seats_of second) × (others_of result ≡ others_of first + others_of second) }
+        ensures batches { (put_of result ≡ put_of first ++ put_of second) × (took_of result ≡ took_of first ++ took_of second) }
+        ensures all { StandsForAll result → (left : List Batch) × IsPermutation (put_of result) (took_of result ++ left) }
+    {
+        let mut pass = first.pass;
+        self.line.absorb::<Seats>(&mut pass, second.pass);
+        self.line.learn_as::<Takes>(&mut pass);
+        QueuePass { pass }
+    }
+}
