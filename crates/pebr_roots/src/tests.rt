@@ -1,13 +1,13 @@
 //! Two passes on one thread.
 
-ghost use Rattle.std.specs.Prelude.{◌≡◌, ◌<◌, ◌≤◌, ℕ, IsTrue, IfOk, true, false};
+ghost use Rattle.std.specs.Prelude.{◌≡◌, ◌<◌, ◌≤◌, ◌+◌, ℕ, IsTrue, IfOk, true, false};
 ghost use Rattle.std.specs.List.{list_all};
 ghost use Rattle.pebr_core.specs.State.{has, is_out, is_down, shield_at};
 ghost use Rattle.pebr_core.specs.declared.kinds.ShieldAt.TheVariants as shield;
 ghost use Rattle.pebr_core.specs.Frames.{fresh_count};
 ghost use Rattle.pebr_shields.specs.declared.checked.Checked.TheVariants as checked;
 ghost use Rattle.pebr_roots.specs.Under.{is_valid_at};
-ghost use Rattle.pebr_roots.specs.Passes.{shape_at, known_by, number_by, count_by_pass, IsOf, IsSame, IsUnitedPass, IsOpenedPass};
+ghost use Rattle.pebr_roots.specs.Passes.{shape_at, known_by, past_by, number_by, count_by_pass, IsOf, IsSame, IsUnitedPass, IsOpenedPass};
 
 use crate::ends::{Collected, ReplaceEnd};
 use crate::pass::{RootPass, Roots};
@@ -256,6 +256,20 @@ fn stop_behind_check(roots: &Roots<Free>, pass: &mut RootPass<Free>, calls: usiz
     }
 }
 
+/// A collection by force, of two seats with one shield each. The steps that it takes are no value of the program, so its
+/// contract counts them, whatever the other pass was stopped at: `2 * (seats - 1) + (seats - 1) * shields + 4` are 7.
+fn collect_by_force(roots: &Roots<Free>, pass: &mut RootPass<Free>) -> Collected
+    requires of { IsOf roots.now pass.old }
+    requires out { IsTrue (is_out (known_by pass.old).status) }
+    requires down { IsTrue (list_all is_down (known_by pass.old).shields) }
+    requires two { ((shape_at roots.now).seats ≡ 2) × ((shape_at roots.now).shields ≡ 1) }
+    ensures same { IsSame roots.now pass.old pass.new }
+    ensures steps { (past_by pass.new).steps ≤ (past_by pass.old).steps + 7 }
+    ensures left { result.left ≤ 1 }
+{
+    roots.collect(pass, true)
+}
+
 /// How many slots a collection by force leaves of three, while the other pass is stopped.
 fn left_behind(
     roots: &Roots<Free>,
@@ -266,13 +280,14 @@ fn left_behind(
     requires first { IsOpenedPass roots.now tt 0 first.old }
     requires second { IsOpenedPass roots.now tt 1 second.old }
     requires one { ((shape_at roots.now).roots ≡ 1) × ((shape_at roots.now).shields ≡ 1) × ((shape_at roots.now).width ≡ 1) }
+    requires two { (shape_at roots.now).seats ≡ 2 }
 {
     attempt(roots, first, 1);
     stop_behind(roots, second, calls);
     attempt(roots, first, 2);
     attempt(roots, first, 3);
     let retired = first.retired();
-    let forced = roots.collect(first, true);
+    let forced = collect_by_force(roots, first);
     (retired, forced.left)
 }
 
