@@ -15,19 +15,9 @@ ghost use Rattle.turn_cache.specs.Shown.{means_of, shown_of, IsOf, IsTryOf};
 use crate::cache::{TurnCache, TurnPass};
 use crate::rule::{IsTaken, Known};
 use atomic_table::Seat;
-use cache_face::{How, Metered, choose};
+use cache_face::{How, Metered};
 use flow_parts::Fragment;
-use flow_parts::laws::fragments_have_fields;
-
-/// The entry that ten words show.
-fn entry(words: [u64; 10]) -> Option<Fragment>
-    requires { IsWhole words }
-    ensures entry { result ≡ entry_of words }
-    ensures small { choice.IsSmallEntry result }
-{
-    fragments_have_fields();
-    Fragment::of_words(&words)
-}
+use set_choice::choose_by_words;
 
 impl TurnCache {
     /// Reads the ten words of the set's next entry.
@@ -126,13 +116,14 @@ impl TurnCache {
         ensures filled { (words : List ℕ) × (seat.new.me ≡ (moves.filled words K.packets result.out seat.old.me.0, seat.old.me.1))
             × ((place : ℕ) × (kept : Fragment) × choice.IsChoice self.now.timeouts (entries_of words) own result.how place result.out kept) }
     {
-        let first = self.read_entry(seat, set, 0);
-        let second = self.read_entry(seat, set, 1);
-        let third = self.read_entry(seat, set, 2);
-        let fourth = self.read_entry(seat, set, 3);
-        let entries = [entry(first), entry(second), entry(third), entry(fourth)];
-        let choice = choose(self.timeouts, &entries, own);
-        let old = [first, second, third, fourth][choice.place];
+        let contents = [
+            self.read_entry(seat, set, 0),
+            self.read_entry(seat, set, 1),
+            self.read_entry(seat, set, 2),
+            self.read_entry(seat, set, 3),
+        ];
+        let choice = choose_by_words(self.timeouts, &contents, own);
+        let old = contents[choice.place];
         self.write::<K>(seat, set, choice.place, old, own, choice.kept, choice.out);
         Metered {
             how: choice.how,

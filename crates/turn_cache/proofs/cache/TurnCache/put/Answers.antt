@@ -1,6 +1,9 @@
 use Rattle.std.proofs.Common.{rules, ◌≡◌, ◌∙◌, ◌++◌, [], ◌∷◌, List, ℕ, Option, sym, ap, subst}
+use Rattle.std.specs.Prelude.{map}
 use Rattle.flow_parts.specs.declared.fragment.Fragment.{Fragment}
 use Rattle.cache_face.specs.Choice.{IsChoice}
+use Rattle.cache_face.specs.Keeping.{entry_of, IsWhole}
+use Rattle.cache_face.proofs.Four.{all_four}
 use Rattle.turn_cache.specs.Hands.{Hand, entries_of}
 use Rattle.turn_cache.specs.Moves.{Sat, more_read, filled}
 use Rattle.turn_cache.proofs.Writing.{read_four, piece, four_entries}
@@ -12,27 +15,31 @@ read_on_seat me one two three four a b c d p q r s none =
     s ∙ (ap (λ (m : Sat). (more_read d m.0, m.1)) r ∙ (ap (λ (m : Sat). (more_read d (more_read c m.0), m.1)) q ∙ (ap (λ (m : Sat). (more_read d (more_read c (more_read b m.0)), m.1)) p
     ∙ ap (λ (h : Hand). (h, me.1)) (read_four me.0 a b c d none))))
 
+pub choose_by_words-choice-requires-clause-whole : goal.choose_by_words-choice-requires-clause-whole
+choose_by_words-choice-requires-clause-whole g c =
+    all_four IsWhole c.read_entry.result c.read_entry-2.result c.read_entry-3.result c.read_entry-4.result
+    c.read_entry.ensures.whole c.read_entry-2.ensures.whole c.read_entry-3.ensures.whole c.read_entry-4.ensures.whole
+
 pub write-requires-clause-read : goal.write-requires-clause-read
 write-requires-clause-read g c =
-    let a : List ℕ = c.read_entry-first.result in let b : List ℕ = c.read_entry-second.result in let e : List ℕ = c.read_entry-third.result in let d : List ℕ = c.read_entry-fourth.result in
-    let all = read_on_seat c.args.seat.now.me c.read_entry-first.new.seat.me c.read_entry-second.new.seat.me c.read_entry-third.new.seat.me c.read_entry-fourth.new.seat.me a b e d
-    c.read_entry-first.ensures.reads c.read_entry-second.ensures.reads c.read_entry-third.ensures.reads c.read_entry-fourth.ensures.reads c.requires.reading.1 in
-    let p = piece a b e d c.choose-choice.result.place c.choose-choice.ensures.place (search rules) (search rules) (search rules) in
+    let a : List ℕ = c.read_entry.result in let b : List ℕ = c.read_entry-2.result in let e : List ℕ = c.read_entry-3.result in let d : List ℕ = c.read_entry-4.result in
+    let all = read_on_seat c.args.seat.now.me c.read_entry.new.seat.me c.read_entry-2.new.seat.me c.read_entry-3.new.seat.me c.read_entry-4.new.seat.me a b e d
+    c.read_entry.ensures.reads c.read_entry-2.ensures.reads c.read_entry-3.ensures.reads c.read_entry-4.ensures.reads c.requires.reading.1 in
+    let p = piece a b e d c.choose_by_words-choice.result.place c.choose_by_words-choice.ensures.place (search rules) (search rules) (search rules) in
     (p.0, p.1, ap (λ (m : Sat). m.0.read) all ∙ p.2, p.3)
 
 pub returns-clause-filled : goal.returns-clause-filled
 returns-clause-filled g c =
-    let a : List ℕ = c.read_entry-first.result in let b : List ℕ = c.read_entry-second.result in let e : List ℕ = c.read_entry-third.result in let d : List ℕ = c.read_entry-fourth.result in
-    let all = read_on_seat c.args.seat.now.me c.read_entry-first.new.seat.me c.read_entry-second.new.seat.me c.read_entry-third.new.seat.me c.read_entry-fourth.new.seat.me a b e d
-    c.read_entry-first.ensures.reads c.read_entry-second.ensures.reads c.read_entry-third.ensures.reads c.read_entry-fourth.ensures.reads c.requires.reading.1 in
+    let a : List ℕ = c.read_entry.result in let b : List ℕ = c.read_entry-2.result in let e : List ℕ = c.read_entry-3.result in let d : List ℕ = c.read_entry-4.result in
+    let all = read_on_seat c.args.seat.now.me c.read_entry.new.seat.me c.read_entry-2.new.seat.me c.read_entry-3.new.seat.me c.read_entry-4.new.seat.me a b e d
+    c.read_entry.ensures.reads c.read_entry-2.ensures.reads c.read_entry-3.ensures.reads c.read_entry-4.ensures.reads c.requires.reading.1 in
     let words : List ℕ = a ++ (b ++ (e ++ d)) in
-    let entries : c.entry.result ∷ c.entry-2.result ∷ c.entry-3.result ∷ c.entry-4.result ∷ [] ≡ entries_of words
-    = (λ i. c.entry.ensures.entry i ∷ c.entry-2.ensures.entry i ∷ c.entry-3.ensures.entry i ∷ c.entry-4.ensures.entry i ∷ []) ∙ sym (four_entries a b e d (search rules) (search rules) (search rules) (search rules)) in (
+    let entries : map entry_of (a ∷ b ∷ e ∷ d ∷ []) ≡ entries_of words = sym (four_entries a b e d (search rules) (search rules) (search rules) (search rules)) in (
       words,
-      c.write.ensures.filled ∙ ap (λ (m : Sat). (filled m.0.read g.K.IsTaken.packets c.choose-choice.result.out m.0, m.1)) all,
+      c.write.ensures.filled ∙ ap (λ (m : Sat). (filled m.0.read g.K.IsTaken.packets c.choose_by_words-choice.result.out m.0, m.1)) all,
       (
-        c.choose-choice.result.place,
-        c.choose-choice.result.kept,
-        subst (λ (es : List (Option Fragment)). IsChoice c.args.self.now.timeouts es c.args.own c.choose-choice.result.how c.choose-choice.result.place c.choose-choice.result.out c.choose-choice.result.kept) entries c.choose-choice.ensures.chosen,
+        c.choose_by_words-choice.result.place,
+        c.choose_by_words-choice.result.kept,
+        subst (λ (es : List (Option Fragment)). IsChoice c.args.self.now.timeouts es c.args.own c.choose_by_words-choice.result.how c.choose_by_words-choice.result.place c.choose_by_words-choice.result.out c.choose_by_words-choice.result.kept) entries c.choose_by_words-choice.ensures.chosen,
       ),
     )
