@@ -31,7 +31,7 @@ in_page() {
     awk -v command="$1" '/^\.Cm / { found = ($2 == command) } /^\.Sh DESCRIPTION/ { exit } found && /Fl -/' man/romtyalig.1 |
         grep -o 'Fl -[a-z]*' | sed 's/Fl /-/' | sort
 }
-in_readme() { awk -F'|' -v command=" \`$1\` " '$3 == command && $2 ~ /--/ { gsub(/[` ]/, "", $2); print $2 }' README.md | sort; }
+in_readme() { awk -F'|' -v command="\`$1\`" 'index($3, command) && $2 ~ /--/ { gsub(/[` ]/, "", $2); print $2 }' README.md | sort; }
 in_bash() { grep "^    $1) options=" completions/romtyalig.bash | grep -o -e '--[a-z]*' | sort; }
 in_zsh() {
     awk -v command="$1" '$1 == command ")" { found = 1 } found && /;;/ { exit } found' completions/_romtyalig |
@@ -44,13 +44,13 @@ status_of() {
     echo $?
 }
 
-for command in meter show make schedule; do
+for command in meter show make schedule selftest; do
     wanted=$(in_page "$command")
     for place in readme bash zsh; do
         [ "$wanted" = "$("in_$place" "$command")" ] || differs "options of $command in $place"
     done
     given=()
-    [ "$command" = make ] && given=(--seed=1 --packets=1)
+    [ "$command" = make ] || [ "$command" = selftest ] && given=(--seed=1 --packets=1)
     [ "$(status_of "$command" ${given[@]+"${given[@]}"})" -ne 2 ] || differs "$command is refused"
     for option in $wanted; do
         others=()

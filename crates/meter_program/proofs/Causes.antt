@@ -10,38 +10,41 @@ use Rattle.meter_program.specs.declared.status.Status.{Status}
 use Rattle.meter_program.specs.declared.status.Status.TheVariants.{Done, ReadFault, WriteFault, NotCapture, LinkUnknown, Damaged, TooLarge, NoMemory, Usage, NotStream, BadSchedule}
 use Rattle.meter_program.specs.Statuses.{is_refusal}
 use Rattle.meter_program.specs.Seen.{Seen, seen_of}
-use Rattle.meter_program.specs.Words.{Asked, meter, show, make, schedule}
+use Rattle.flow_parts.specs.declared.fragment.Fragment.{Fragment}
+use Rattle.meter_program.specs.Words.{Asked, meter, show, make, schedule, selftest}
 use Rattle.meter_program.specs.Outcome.{Ends, IsValid, IsQuiet}
 
 pub never-usage : (asked : Asked) (seen : Seen) (told : Type 0) → Ends asked seen told Usage → ⊥
-never-usage (meter idle active size) seen told h = h.cause
+never-usage (meter idle active workers sets piece size) seen told h = h.cause
 never-usage show seen told h = h.cause
 never-usage (make seed packets keys) seen told h = h.cause
 never-usage schedule seen told h = h.cause
+never-usage (selftest seed packets keys) seen told h = h.cause
 
 pub read-failed : (asked : Asked) (seen : Seen) (told : Type 0) → Ends asked seen told ReadFault → HasFailed seen.input
-read-failed (meter idle active size) seen told h = h.cause.cause
+read-failed (meter idle active workers sets piece size) seen told h = h.cause.cause
 read-failed show seen told h = h.cause.cause
 read-failed (make seed packets keys) seen told h = absurd h.cause
 read-failed schedule seen told h = h.cause.cause
+read-failed (selftest seed packets keys) seen told h = absurd h.cause
 
 pub write-failed : (asked : Asked) (seen : Seen) (told : Type 0) → Ends asked seen told WriteFault → HasFailed seen.output ⊎ HasFailed seen.notes
 write-failed asked seen told h = h.cause
 
 -- at a refusal only what the notes are told is said of them
-pub told-by : (asked : Asked) (input output before after : Side) (told : Type 0) (other : Type 0) (status : Status) → is_refusal status ≡ true
-    → Ends asked (seen_of input output before) told status → other → Ends asked (seen_of input output after) other status
-told-by asked input output before after told other Done refusal h new = absurd (true≢false (sym refusal))
-told-by asked input output before after told other WriteFault refusal h new = absurd (true≢false (sym refusal))
-told-by asked input output before after told other ReadFault refusal h new = record { cause = h.cause; output = h.output; notes = new }
-told-by asked input output before after told other Usage refusal h new = record { cause = h.cause; output = h.output; notes = new }
-told-by asked input output before after told other NotCapture refusal h new = record { cause = h.cause; output = h.output; notes = new }
-told-by asked input output before after told other (LinkUnknown link) refusal h new = record { cause = h.cause; output = h.output; notes = new }
-told-by asked input output before after told other (Damaged at) refusal h new = record { cause = h.cause; output = h.output; notes = new }
-told-by asked input output before after told other TooLarge refusal h new = record { cause = h.cause; output = h.output; notes = new }
-told-by asked input output before after told other NoMemory refusal h new = record { cause = h.cause; output = h.output; notes = new }
-told-by asked input output before after told other (NotStream fault) refusal h new = record { cause = h.cause; output = h.output; notes = new }
-told-by asked input output before after told other (BadSchedule line) refusal h new = record { cause = h.cause; output = h.output; notes = new }
+pub told-by : (asked : Asked) (input output before after : Side) (metered : List Fragment) (told : Type 0) (other : Type 0) (status : Status) → is_refusal status ≡ true
+    → Ends asked (seen_of input output before metered) told status → other → Ends asked (seen_of input output after metered) other status
+told-by asked input output before after metered told other Done refusal h new = absurd (true≢false (sym refusal))
+told-by asked input output before after metered told other WriteFault refusal h new = absurd (true≢false (sym refusal))
+told-by asked input output before after metered told other ReadFault refusal h new = record { cause = h.cause; output = h.output; notes = new }
+told-by asked input output before after metered told other Usage refusal h new = record { cause = h.cause; output = h.output; notes = new }
+told-by asked input output before after metered told other NotCapture refusal h new = record { cause = h.cause; output = h.output; notes = new }
+told-by asked input output before after metered told other (LinkUnknown link) refusal h new = record { cause = h.cause; output = h.output; notes = new }
+told-by asked input output before after metered told other (Damaged at) refusal h new = record { cause = h.cause; output = h.output; notes = new }
+told-by asked input output before after metered told other TooLarge refusal h new = record { cause = h.cause; output = h.output; notes = new }
+told-by asked input output before after metered told other NoMemory refusal h new = record { cause = h.cause; output = h.output; notes = new }
+told-by asked input output before after metered told other (NotStream fault) refusal h new = record { cause = h.cause; output = h.output; notes = new }
+told-by asked input output before after metered told other (BadSchedule line) refusal h new = record { cause = h.cause; output = h.output; notes = new }
 
 -- ---- a run that nothing hinders is done
 
@@ -55,7 +58,7 @@ too-large (Some xs) (Some ys) all taken n is few many consumed =
     absurd (omega (arith, few, many, sizes))
 
 -- what was read to the end is all that there was
-all-read : (before after : Option (List ℕ)) (all bytes : List ℕ) → before ≡ Some all → Consumes before after bytes → IsAtEnd after → bytes ≡ all
+pub all-read : (before after : Option (List ℕ)) (all bytes : List ℕ) → before ≡ Some all → Consumes before after bytes → IsAtEnd after → bytes ≡ all
 all-read None after all bytes is consumed ended = absurd (cc)
 all-read (Some xs) None all bytes is consumed ended = absurd consumed
 all-read (Some xs) (Some ys) all bytes is consumed ended =
@@ -75,19 +78,19 @@ wrong-fails input n all Fault is never wrong =
 
 pub complete-by : (asked : Asked) (seen : Seen) (told : Type 0) (status : Status) → Ends asked seen told status → IsValid asked seen.input → IsQuiet seen
     → (status ≡ Done) ⊎ (status ≡ NoMemory)
-complete-by (meter idle active size) seen told Done h valid quiet = inl refl
-complete-by (meter idle active size) seen told NoMemory h valid quiet = inr refl
-complete-by (meter idle active size) seen told WriteFault h valid quiet = absurd (⊎_elim quiet.output quiet.notes h.cause)
-complete-by (meter idle active size) seen told ReadFault h valid quiet = absurd (quiet.input h.cause.cause)
-complete-by (meter idle active size) seen told Usage h valid quiet = absurd h.cause
-complete-by (meter idle active size) seen told TooLarge h valid quiet = absurd (large-fails seen.input (2 ^ 30) valid.0 valid.1 valid.2 h.cause)
-complete-by (meter idle active size) seen told NotCapture h valid quiet = absurd (wrong-fails seen.input (2 ^ 30) valid.0 _ valid.1 (λ none. subst (λ o. IsSomeAnd o (λ file. IsKnownLink file.link × (damage_of file ≡ None))) none valid.3) h.cause)
-complete-by (meter idle active size) seen told (LinkUnknown link) h valid quiet = absurd (wrong-fails seen.input (2 ^ 30) valid.0 _ valid.1
+complete-by (meter idle active workers sets piece size) seen told Done h valid quiet = inl refl
+complete-by (meter idle active workers sets piece size) seen told NoMemory h valid quiet = inr refl
+complete-by (meter idle active workers sets piece size) seen told WriteFault h valid quiet = absurd (⊎_elim quiet.output quiet.notes h.cause)
+complete-by (meter idle active workers sets piece size) seen told ReadFault h valid quiet = absurd (quiet.input h.cause.cause)
+complete-by (meter idle active workers sets piece size) seen told Usage h valid quiet = absurd h.cause
+complete-by (meter idle active workers sets piece size) seen told TooLarge h valid quiet = absurd (large-fails seen.input (2 ^ 30) valid.0 valid.1 valid.2 h.cause)
+complete-by (meter idle active workers sets piece size) seen told NotCapture h valid quiet = absurd (wrong-fails seen.input (2 ^ 30) valid.0 _ valid.1 (λ none. subst (λ o. IsSomeAnd o (λ file. IsKnownLink file.link × (damage_of file ≡ None))) none valid.3) h.cause)
+complete-by (meter idle active workers sets piece size) seen told (LinkUnknown link) h valid quiet = absurd (wrong-fails seen.input (2 ^ 30) valid.0 _ valid.1
     (λ other. both-kinds (capture_file valid.0) _ _ valid.3 other (λ file known unknown. unknown.1 (subst IsKnownLink unknown.0 known.0))) h.cause)
-complete-by (meter idle active size) seen told (Damaged at) h valid quiet = absurd (wrong-fails seen.input (2 ^ 30) valid.0 _ valid.1
+complete-by (meter idle active workers sets piece size) seen told (Damaged at) h valid quiet = absurd (wrong-fails seen.input (2 ^ 30) valid.0 _ valid.1
     (λ damaged. both-kinds (capture_file valid.0) _ _ valid.3 damaged (λ file whole torn. let bad : None ≡ Some at = sym whole.1 ∙ torn.1 in absurd (cc))) h.cause)
-complete-by (meter idle active size) seen told (NotStream fault) h valid quiet = absurd h.cause
-complete-by (meter idle active size) seen told (BadSchedule line) h valid quiet = absurd h.cause
+complete-by (meter idle active workers sets piece size) seen told (NotStream fault) h valid quiet = absurd h.cause
+complete-by (meter idle active workers sets piece size) seen told (BadSchedule line) h valid quiet = absurd h.cause
 complete-by show seen told Done h valid quiet = inl refl
 complete-by show seen told NoMemory h valid quiet = inr refl
 complete-by show seen told WriteFault h valid quiet = absurd (⊎_elim quiet.output quiet.notes h.cause)
@@ -121,19 +124,31 @@ complete-by schedule seen told (LinkUnknown link) h valid quiet = absurd h.cause
 complete-by schedule seen told (Damaged at) h valid quiet = absurd h.cause
 complete-by schedule seen told (NotStream fault) h valid quiet = absurd h.cause
 complete-by schedule seen told (BadSchedule line) h valid quiet = absurd (wrong-fails seen.input (2 ^ 20) valid.0 _ valid.1 (λ bad. let never : None ≡ Some line = sym valid.3 ∙ bad in absurd (cc)) h.cause)
+complete-by (selftest seed packets keys) seen told Done h valid quiet = inl refl
+complete-by (selftest seed packets keys) seen told NoMemory h valid quiet = inr refl
+complete-by (selftest seed packets keys) seen told WriteFault h valid quiet = absurd (⊎_elim quiet.output quiet.notes h.cause)
+complete-by (selftest seed packets keys) seen told ReadFault h valid quiet = absurd h.cause
+complete-by (selftest seed packets keys) seen told Usage h valid quiet = absurd h.cause
+complete-by (selftest seed packets keys) seen told TooLarge h valid quiet = absurd h.cause
+complete-by (selftest seed packets keys) seen told NotCapture h valid quiet = absurd h.cause
+complete-by (selftest seed packets keys) seen told (LinkUnknown link) h valid quiet = absurd h.cause
+complete-by (selftest seed packets keys) seen told (Damaged at) h valid quiet = absurd h.cause
+complete-by (selftest seed packets keys) seen told (NotStream fault) h valid quiet = absurd h.cause
+complete-by (selftest seed packets keys) seen told (BadSchedule line) h valid quiet = absurd h.cause
 
 -- the same of what is seen behind the line of the status
-pub complete-at : {X Y Z : Type 0} (input : X → Side) (output : Y → Side) (notes : Z → Side) (asked other : Asked) (x x' : X) (y y' : Y) (z z' : Z) (final : Side) (s s' : Status)
-    → x ≡ x' → y ≡ y' → z ≡ z' → s ≡ s' → Ends asked (seen_of (input x') (output y') (notes z')) (IsUntouched (notes z')) s' → is_refusal s ≡ true
-    → asked ≡ other → IsValid other (input x) → IsQuiet (seen_of (input x) (output y) final) → (s ≡ Done) ⊎ (s ≡ NoMemory)
-complete-at input output notes asked other x x' y y' z z' final s s' same_x same_y same_z same_s ends refusal same valid quiet =
-    let at_s : Ends asked (seen_of (input x') (output y') (notes z')) (IsUntouched (notes z')) s =
-    subst (Ends asked (seen_of (input x') (output y') (notes z')) (IsUntouched (notes z'))) (sym same_s) ends in
-    let at_z : Ends asked (seen_of (input x') (output y') (notes z)) (IsUntouched (notes z)) s =
-    subst (λ v. Ends asked (seen_of (input x') (output y') (notes v)) (IsUntouched (notes v)) s) (sym same_z) at_s in
-    let at_y : Ends asked (seen_of (input x') (output y) (notes z)) (IsUntouched (notes z)) s =
-    subst (λ v. Ends asked (seen_of (input x') (output v) (notes z)) (IsUntouched (notes z)) s) (sym same_y) at_z in
-    let at_x : Ends asked (seen_of (input x) (output y) (notes z)) (IsUntouched (notes z)) s =
-    subst (λ v. Ends asked (seen_of (input v) (output y) (notes z)) (IsUntouched (notes z)) s) (sym same_x) at_y in
-    let told = told-by asked (input x) (output y) (notes z) final (IsUntouched (notes z)) (Unit {0}) s refusal at_x tt in
-    complete-by asked (seen_of (input x) (output y) final) (Unit {0}) s told (subst (λ a. IsValid a (input x)) (sym same) valid) quiet
+pub complete-at : {X Y Z : Type 0} (input : X → Side) (output : Y → Side) (notes : Z → Side) (asked other : Asked) (x x' : X) (y y' : Y) (z z' : Z) (final : Side) (metered metered' : List Fragment) (s s' : Status)
+    → x ≡ x' → y ≡ y' → z ≡ z' → s ≡ s' → Ends asked (seen_of (input x') (output y') (notes z') metered) (IsUntouched (notes z')) s' → is_refusal s ≡ true
+    → asked ≡ other → IsValid other (input x) → IsQuiet (seen_of (input x) (output y) final metered') → (s ≡ Done) ⊎ (s ≡ NoMemory)
+complete-at input output notes asked other x x' y y' z z' final metered metered' s s' same_x same_y same_z same_s ends refusal same valid quiet =
+    let at_s : Ends asked (seen_of (input x') (output y') (notes z') metered) (IsUntouched (notes z')) s =
+    subst (Ends asked (seen_of (input x') (output y') (notes z') metered) (IsUntouched (notes z'))) (sym same_s) ends in
+    let at_z : Ends asked (seen_of (input x') (output y') (notes z) metered) (IsUntouched (notes z)) s =
+    subst (λ v. Ends asked (seen_of (input x') (output y') (notes v) metered) (IsUntouched (notes v)) s) (sym same_z) at_s in
+    let at_y : Ends asked (seen_of (input x') (output y) (notes z) metered) (IsUntouched (notes z)) s =
+    subst (λ v. Ends asked (seen_of (input x') (output v) (notes z) metered) (IsUntouched (notes z)) s) (sym same_y) at_z in
+    let at_x : Ends asked (seen_of (input x) (output y) (notes z) metered) (IsUntouched (notes z)) s =
+    subst (λ v. Ends asked (seen_of (input v) (output y) (notes z) metered) (IsUntouched (notes z)) s) (sym same_x) at_y in
+    let told = told-by asked (input x) (output y) (notes z) final metered (IsUntouched (notes z)) (Unit {0}) s refusal at_x tt in
+    complete-by asked (seen_of (input x) (output y) final metered) (Unit {0}) s told (subst (λ a. IsValid a (input x)) (sym same) valid)
+    (record { input = quiet.input; output = quiet.output; notes = quiet.notes })

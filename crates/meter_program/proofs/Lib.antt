@@ -1,5 +1,5 @@
 pub mod Endings
-pub mod Packets
 pub mod Streams
 pub mod Places
 pub mod Causes
+pub mod Metered

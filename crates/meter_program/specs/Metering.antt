@@ -1,26 +1,63 @@
 -- The code's own: what the parts of the command `meter` say of one another.
-use Rattle.std.specs.Prelude.{◌≡◌, ◌*◌, ◌⊎◌, ℕ, List, length, Some, None, All, ⊤}
+use Rattle.std.specs.Prelude.{◌≡◌, ◌*◌, ◌^◌, ◌⊎◌, ℕ, List, length, Option, Some, None, All}
 use Rattle.pcap_reader.specs.File.{CaptureFile, capture_file, IsKnownLink}
 use Rattle.pcap_reader.specs.Records.{damage_of, tail_of}
 use Rattle.packet_accept.specs.declared.packet.Packet.{Packet}
+use Rattle.packet_accept.specs.Clock.{IsClock}
 use Rattle.packet_accept.specs.Packets.{answers_of, packets_of}
 use Rattle.capture_tally.specs.declared.tally.Tally.{Tally}
 use Rattle.capture_tally.specs.Tallies.{IsTallyOf}
+use Rattle.flow_parts.specs.declared.fragment.Fragment.{Fragment}
 use Rattle.flow_parts.specs.declared.timeouts.Timeouts.{Timeouts}
+use Rattle.flow_parts.specs.Sharing.{SharesOut}
 use Rattle.record_ledger.specs.declared.record.FlowRecord.{FlowRecord}
 use Rattle.record_ledger.specs.Lawful.{IsLawful}
+use Rattle.record_ledger.specs.Regrouping.{Regroups}
 use Rattle.record_ledger.specs.Sessions.{IsSessions, IsUncut, AreRecordsOf}
 use Rattle.ipfix_writer.specs.Layout.{IsLayoutOf}
 use Rattle.ipfix_reader.specs.Flows.{flows_of}
+use Rattle.meter_workers.specs.declared.fault.MeterFault.{MeterFault}
+use Rattle.meter_workers.specs.declared.fault.MeterFault.TheVariants.{Failed as SourceFailed, TooLarge as MoreBytes, NotCapture as NoHeader, LinkUnknown as OtherLink, Damaged as DamagedAt, NoMemory as NoRoom}
 use Rattle.meter_program.specs.declared.status.Status.{Status}
 use Rattle.meter_program.specs.declared.status.Status.TheVariants.{Done, ReadFault, WriteFault, NotCapture, LinkUnknown, Damaged, TooLarge, NoMemory, Usage, NotStream, BadSchedule}
 use Rattle.meter_program.specs.Gathering.{export_time}
 use Rattle.meter_program.specs.Summary.{summary}
-use Rattle.meter_io.specs.Sides.{Side, HasTaken, HasBegun, HasTakenOrFailed, HasFailed, IsUntouched}
-use Rattle.meter_program.specs.Outcome.{IsCaptureOf}
+use Rattle.meter_io.specs.Sides.{Side, IsRead, HasTaken, HasBegun, HasTakenOrFailed, HasFailed, IsUntouched}
 
--- The records, the tally and the tail of an undamaged capture.
-pub record IsGathered (idle_seconds active_seconds : ℕ) (capture : List ℕ) (records : List FlowRecord) (tally : Tally) (tail : ℕ) : Type 0 where
+-- The status of a run whose input couldn't be metered.
+abbrev pub status_for : MeterFault → Status
+status_for SourceFailed = ReadFault
+status_for MoreBytes = TooLarge
+status_for NoHeader = NotCapture
+status_for (OtherLink link) = LinkUnknown link
+status_for (DamagedAt at) = Damaged at
+status_for NoRoom = NoMemory
+
+-- The bytes are an undamaged capture, whose packets these fragments share out by these time-outs; its tally and its tail.
+pub record IsKept (limits : Timeouts) (capture : List ℕ) (metered : List Fragment) (tally : Tally) (tail : ℕ) : Type 0 where
+  pub file : CaptureFile
+  pub is_file : capture_file capture ≡ Some file
+  pub known : IsKnownLink file.link
+  pub undamaged : damage_of file ≡ None
+  pub shared : SharesOut limits (packets_of file) metered
+  pub tally_is : IsTallyOf tally (answers_of file)
+  pub tail_is : tail ≡ tail_of file
+
+-- The input was read to its end, and it is such a capture.
+pub record IsReadAndKept (input : Side) (limits : Timeouts) (metered : List Fragment) (tally : Tally) (tail : ℕ) : Type 0 where
+  pub bytes : List ℕ
+  pub read : IsRead input (2 ^ 30) bytes
+  pub kept : IsKept limits bytes metered tally tail
+
+-- The fragments were gathered into these records: they regroup them, and are lawful for whatever packets they share out.
+pub record AreGathered (limits : Timeouts) (metered : List Fragment) (clock : Option ℕ) (records : List FlowRecord) : Type 0 where
+  pub regroups : Regroups metered records
+  pub lawful : (packets : List Packet) → SharesOut limits packets metered → IsClock packets clock → IsLawful limits packets records
+  pub sessions : (packets : List Packet) → SharesOut limits packets metered → IsClock packets clock → (sessions : List (List Packet))
+      → IsSessions limits.idle packets sessions → All (IsUncut limits) sessions → AreRecordsOf limits packets sessions records
+
+-- The records, the tally and the tail of an undamaged capture, whose packets were kept as these fragments.
+pub record IsGathered (idle_seconds active_seconds : ℕ) (capture : List ℕ) (metered : List Fragment) (records : List FlowRecord) (tally : Tally) (tail : ℕ) : Type 0 where
   pub file : CaptureFile
   pub is_file : capture_file capture ≡ Some file
   pub known : IsKnownLink file.link
@@ -29,24 +66,17 @@ pub record IsGathered (idle_seconds active_seconds : ℕ) (capture : List ℕ) (
   pub idle : limits.idle ≡ 1000 * idle_seconds
   pub active : limits.active ≡ 1000 * active_seconds
   pub lawful : IsLawful limits (packets_of file) records
+  pub regroups : Regroups metered records
   pub sessions : (sessions : List (List Packet)) → IsSessions limits.idle (packets_of file) sessions → All (IsUncut limits) sessions
       → AreRecordsOf limits (packets_of file) sessions records
   pub tally_is : IsTallyOf tally (answers_of file)
   pub tail_is : tail ≡ tail_of file
 
--- Why these bytes are refused.
-abbrev pub CaptureRefuses : List ℕ → Status → Type 0
-CaptureRefuses bytes NotCapture = capture_file bytes ≡ None
-CaptureRefuses bytes (LinkUnknown link) = IsCaptureOf (λ file. (file.link ≡ link) × ¬ IsKnownLink link) bytes
-CaptureRefuses bytes (Damaged at) = IsCaptureOf (λ file. IsKnownLink file.link × (damage_of file ≡ Some at)) bytes
-CaptureRefuses bytes NoMemory = ⊤
-CaptureRefuses bytes Done = ⊥
-CaptureRefuses bytes ReadFault = ⊥
-CaptureRefuses bytes WriteFault = ⊥
-CaptureRefuses bytes Usage = ⊥
-CaptureRefuses bytes TooLarge = ⊥
-CaptureRefuses bytes (NotStream fault) = ⊥
-CaptureRefuses bytes (BadSchedule line) = ⊥
+-- The input was read to its end, and such records were gathered.
+pub record IsReadAndGathered (input : Side) (idle_seconds active_seconds : ℕ) (metered : List Fragment) (records : List FlowRecord) (tally : Tally) (tail : ℕ) : Type 0 where
+  pub bytes : List ℕ
+  pub read : IsRead input (2 ^ 30) bytes
+  pub gathered : IsGathered idle_seconds active_seconds bytes metered records tally tail
 
 -- The bytes are the layout of the records in so many messages, and decode to them.
 pub record IsWritten (size : ℕ) (records : List FlowRecord) (tally : Tally) (bytes : List ℕ) (messages : ℕ) : Type 0 where

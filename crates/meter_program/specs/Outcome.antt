@@ -1,6 +1,6 @@
 -- What a run means, by its words and its status.
-use Rattle.std.specs.Prelude.{◌≡◌, ◌⊎◌, ◌≤◌, ◌*◌, ◌^◌, ℕ, List, length, [], Option, Some, None, Ok, Err, IsSomeAnd, All, codes, ⊤}
-use Rattle.pcap_reader.specs.File.{CaptureFile, capture_file, IsKnownLink}
+use Rattle.std.specs.Prelude.{◌≡◌, ◌⊎◌, ◌≤◌, ◌*◌, ◌^◌, ℕ, List, length, [], Option, Some, None, Ok, Err, All, codes, ⊤}
+use Rattle.pcap_reader.specs.File.{CaptureFile, IsCaptureOf, capture_file, IsKnownLink}
 use Rattle.pcap_reader.specs.Records.{damage_of, tail_of}
 use Rattle.packet_accept.specs.declared.packet.Packet.{Packet}
 use Rattle.packet_accept.specs.Packets.{answers_of, packets_of}
@@ -9,6 +9,8 @@ use Rattle.capture_tally.specs.Tallies.{IsTallyOf}
 use Rattle.flow_parts.specs.declared.timeouts.Timeouts.{Timeouts}
 use Rattle.record_ledger.specs.declared.record.FlowRecord.{FlowRecord}
 use Rattle.record_ledger.specs.Lawful.{IsLawful}
+use Rattle.record_ledger.specs.Regrouping.{Regroups}
+use Rattle.flow_parts.specs.declared.fragment.Fragment.{Fragment}
 use Rattle.record_ledger.specs.Sessions.{IsSessions, IsUncut, AreRecordsOf}
 use Rattle.ipfix_writer.specs.Layout.{IsLayoutOf}
 use Rattle.ipfix_model.specs.declared.values.DataRecord.{DataRecord}
@@ -22,7 +24,7 @@ use Rattle.meter_program.specs.Summary.{count_line, summary}
 use Rattle.meter_program.specs.Statuses.{fault_line}
 use Rattle.meter_io.specs.Sides.{Side, IsRead, IsTooLarge, IsBroken, IsWrong, IsUntouched, HasTaken, HasBegun, HasTakenOrFailed, HasFailed}
 use Rattle.meter_program.specs.Seen.{Seen}
-use Rattle.meter_program.specs.Words.{Asked, meter, show, make, schedule}
+use Rattle.meter_program.specs.Words.{Asked, meter, show, make, schedule, selftest}
 use Rattle.meter_program.specs.Replays.{bad_line, replay_text}
 use Rattle.capture_maker.specs.Made.{capture_of}
 use Rattle.pebr_core.specs.declared.kinds.Shape.{Shape}
@@ -31,20 +33,22 @@ use Rattle.schedule_text.specs.Grammar.{schedule_of}
 
 -- ---- what a command reads
 
--- The input was read to its end, at most 2^30 bytes of a capture, 2^26 of a stream, 2^20 of a schedule. `make` reads
--- nothing.
+-- The input was read to its end, at most 2^30 bytes of a capture, 2^26 of a stream, 2^20 of a schedule. `make` and `selftest`
+-- read nothing.
 abbrev pub HasRead : Asked → Side → List ℕ → Type 0
-HasRead (meter idle active size) input bytes = IsRead input (2 ^ 30) bytes
+HasRead (meter idle active workers sets piece size) input bytes = IsRead input (2 ^ 30) bytes
 HasRead show input bytes = IsRead input (2 ^ 26) bytes
 HasRead (make seed packets keys) input bytes = IsUntouched input × (bytes ≡ [])
 HasRead schedule input bytes = IsRead input (2 ^ 20) bytes
+HasRead (selftest seed packets keys) input bytes = IsUntouched input × (bytes ≡ [])
 
 -- ---- what a command writes, where it is done
 
 -- The bytes are an undamaged capture, of which these records are lawful: they partition its accepted packets, by these
--- time-outs. Where nothing cuts the sessions of the packets, they are the records of the sessions. What is written is their layout, in messages of at most so many octets, and it decodes to them; the export
--- time is the time of the latest packet in whole seconds. What is noted is the summary.
-pub record IsMetered (idle_seconds active_seconds size : ℕ) (capture written noted : List ℕ) : Type 0 where
+-- time-outs. They regroup the fragments that the cache kept and handed out, and where nothing cuts the sessions of the
+-- packets, they are the records of the sessions. What is written is their layout, in messages of at most so many octets, and it
+-- decodes to them; the export time is the time of the latest packet in whole seconds. What is noted is the summary.
+pub record IsMetered (idle_seconds active_seconds size : ℕ) (metered : List Fragment) (capture written noted : List ℕ) : Type 0 where
   pub file : CaptureFile
   pub is_file : capture_file capture ≡ Some file
   pub known : IsKnownLink file.link
@@ -54,6 +58,7 @@ pub record IsMetered (idle_seconds active_seconds size : ℕ) (capture written n
   pub active : limits.active ≡ 1000 * active_seconds
   pub records : List FlowRecord
   pub lawful : IsLawful limits (packets_of file) records
+  pub regroups : Regroups metered records
   pub sessions : (sessions : List (List Packet)) → IsSessions limits.idle (packets_of file) sessions → All (IsUncut limits) sessions
       → AreRecordsOf limits (packets_of file) sessions records
   pub tally : Tally
@@ -84,12 +89,21 @@ pub record IsReplayed (text written noted : List ℕ) : Type 0 where
   pub lines : written ≡ replay_text shape steps
   pub count : noted ≡ count_line (codes "steps") (length steps)
 
--- What the command writes to the output and to the notes for this input.
-abbrev pub IsAnswer : Asked → List ℕ → List ℕ → List ℕ → Type 0
-IsAnswer (meter idle active size) input written noted = IsMetered idle active size input written noted
-IsAnswer show input written noted = IsShown input written noted
-IsAnswer (make seed packets keys) input written noted = IsMade seed packets keys written noted
-IsAnswer schedule input written noted = IsReplayed input written noted
+-- What is written is the summary of metering the capture of the seed with idle and active time-outs of 300 and 1800 seconds
+-- and messages of at most 1400 octets, whose stream stays in memory. Nothing is noted.
+pub record IsTested (seed packets keys : ℕ) (metered : List Fragment) (written noted : List ℕ) : Type 0 where
+  pub stream : List ℕ
+  pub is_metered : IsMetered 300 1800 1400 metered (capture_of seed packets keys) stream written
+  pub nothing : noted ≡ []
+
+-- What the command writes to the output and to the notes for this input. The fragments are those of the last cache that was
+-- closed.
+abbrev pub IsAnswer : Asked → List Fragment → List ℕ → List ℕ → List ℕ → Type 0
+IsAnswer (meter idle active workers sets piece size) metered input written noted = IsMetered idle active size metered input written noted
+IsAnswer show metered input written noted = IsShown input written noted
+IsAnswer (make seed packets keys) metered input written noted = IsMade seed packets keys written noted
+IsAnswer schedule metered input written noted = IsReplayed input written noted
+IsAnswer (selftest seed packets keys) metered input written noted = IsTested seed packets keys metered written noted
 
 -- All was done: the input was read, and the output and the notes took the answer to it.
 pub record IsDone (asked : Asked) (seen : Seen) : Type 0 where
@@ -97,7 +111,7 @@ pub record IsDone (asked : Asked) (seen : Seen) : Type 0 where
   pub read : HasRead asked seen.input bytes
   pub written : List ℕ
   pub noted : List ℕ
-  pub answer : IsAnswer asked bytes written noted
+  pub answer : IsAnswer asked seen.metered bytes written noted
   pub output : HasTaken seen.output written
   pub notes : HasTaken seen.notes noted
 
@@ -108,16 +122,12 @@ pub record IsCutOff (asked : Asked) (seen : Seen) : Type 0 where
   pub read : HasRead asked seen.input bytes
   pub written : List ℕ
   pub noted : List ℕ
-  pub answer : IsAnswer asked bytes written noted
+  pub answer : IsAnswer asked seen.metered bytes written noted
   pub output : HasTakenOrFailed seen.output written
   pub notes : HasBegun seen.notes noted
   pub cause : HasFailed seen.output ⊎ HasFailed seen.notes
 
 -- ---- why a command refuses
-
--- The bytes are a capture of this kind.
-abbrev pub IsCaptureOf : (CaptureFile → Type 0) → List ℕ → Type 0
-IsCaptureOf kind bytes = IsSomeAnd (capture_file bytes) kind
 
 -- Why `meter` refuses with a status; never with the others.
 abbrev pub MeterRefuses : Side → Status → Type 0
@@ -147,7 +157,7 @@ ShowRefuses input (LinkUnknown link) = ⊥
 ShowRefuses input (Damaged at) = ⊥
 ShowRefuses input (BadSchedule line) = ⊥
 
--- Why `make` refuses with a status: only for want of memory. It reads nothing then either.
+-- Why `make` and `selftest` refuse with a status: only for want of memory. They read nothing then either.
 abbrev pub MakeRefuses : Side → Status → Type 0
 MakeRefuses input NoMemory = IsUntouched input
 MakeRefuses input Done = ⊥
@@ -176,10 +186,11 @@ ScheduleRefuses input (Damaged at) = ⊥
 ScheduleRefuses input (NotStream fault) = ⊥
 
 abbrev pub Refuses : Asked → Side → Status → Type 0
-Refuses (meter idle active size) input status = MeterRefuses input status
+Refuses (meter idle active workers sets piece size) input status = MeterRefuses input status
 Refuses show input status = ShowRefuses input status
 Refuses (make seed packets keys) input status = MakeRefuses input status
 Refuses schedule input status = ScheduleRefuses input status
+Refuses (selftest seed packets keys) input status = MakeRefuses input status
 
 -- The command refused: it has a cause, nothing was written, and the notes tell it so.
 pub record IsRefused (asked : Asked) (seen : Seen) (told : Type 0) (status : Status) : Type 0 where
@@ -218,14 +229,15 @@ RunMeans (Some asked) seen status = Ends asked seen (HasTakenOrFailed seen.notes
 
 -- ---- when a run is done
 
--- The input is one that the command takes; `make` takes any.
+-- The input is one that the command takes; `make` and `selftest` take any.
 abbrev pub IsValid : Asked → Side → Type 0
-IsValid (meter idle active size) input =
+IsValid (meter idle active workers sets piece size) input =
     (bytes : List ℕ) × (input.before ≡ Some bytes) × (length bytes ≤ 2 ^ 30) × IsCaptureOf (λ file. IsKnownLink file.link × (damage_of file ≡ None)) bytes
 IsValid show input =
     (bytes : List ℕ) × (input.before ≡ Some bytes) × (length bytes ≤ 2 ^ 26) × (records : List DataRecord) × (decode bytes ≡ Ok records)
 IsValid (make seed packets keys) input = ⊤
 IsValid schedule input = (bytes : List ℕ) × (input.before ≡ Some bytes) × (length bytes ≤ 2 ^ 20) × (bad_line bytes ≡ None)
+IsValid (selftest seed packets keys) input = ⊤
 
 -- No call of an object failed.
 pub record IsQuiet (seen : Seen) : Type 0 where

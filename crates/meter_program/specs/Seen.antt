@@ -1,11 +1,14 @@
 -- What is seen of the objects that are handed to a run, before it and after it.
+use Rattle.std.specs.Prelude.{List}
 use Rattle.meter_io.specs.Sides.{Side}
+use Rattle.flow_parts.specs.declared.fragment.Fragment.{Fragment}
 
--- All three: the input, the output and the notes.
+-- The input, the output and the notes, and behind the run the fragments of the last cache that was closed.
 pub record Seen : Type 0 where
   pub input : Side
   pub output : Side
   pub notes : Side
+  pub metered : List Fragment
 
-abbrev pub seen_of : Side → Side → Side → Seen
-seen_of input output notes = record { input = input; output = output; notes = notes }
+abbrev pub seen_of : Side → Side → Side → List Fragment → Seen
+seen_of input output notes metered = record { input = input; output = output; notes = notes; metered = metered }

@@ -3,7 +3,7 @@ use Rattle.std.specs.Prelude.{ℕ, if◌then◌else◌, List, [], ◌∷◌, Opt
 use Rattle.std.specs.Str.{bytes_eq}
 use Rattle.command_words.specs.Options.{Rule, values_of}
 use Rattle.meter_program.specs.declared.words.Command.{Command}
-use Rattle.meter_program.specs.declared.words.Command.TheVariants.{Meter, Show, Make, Schedule}
+use Rattle.meter_program.specs.declared.words.Command.TheVariants.{Meter, Show, Make, Schedule, Selftest}
 
 -- An option by its name, its least and its greatest value, and its default; without one it must be given.
 abbrev pub option : List ℕ → ℕ → ℕ → Option ℕ → Rule
@@ -26,24 +26,36 @@ make_options =
     ∷ (option (codes "keys") 1 4096 (Some 64)
     ∷ []))
 
--- What a command line asks for: to meter with an idle time-out and an active time-out in seconds and a message size in
--- octets; to show a stream; to make a capture of so many packets of so many keys by a seed; to replay a schedule.
+-- What a command line asks for: to meter with an idle time-out and an active time-out in seconds, by so many workers, with
+-- so many sets of the cache and so many records a piece, and a message size in octets; to show a stream; to make a capture of
+-- so many packets of so many keys by a seed; to replay a schedule; to meter such a capture without reading it.
 pub data Asked : Type 0 where
-  meter : (idle active size : ℕ) → Asked
+  meter : (idle active workers sets piece size : ℕ) → Asked
   show : Asked
   make : (seed packets keys : ℕ) → Asked
   schedule : Asked
+  selftest : (seed packets keys : ℕ) → Asked
 
--- To meter with these values of the options. How many workers, sets and records of a piece there are changes nothing yet.
 abbrev pub meter_with : List ℕ → Asked
-meter_with values = meter (slice_index values 0) (slice_index values 1) (slice_index values 5)
+meter_with values =
+    meter (slice_index values 0) (slice_index values 1) (slice_index values 2) (slice_index values 3) (slice_index values 4) (slice_index values 5)
 
 abbrev pub make_with : List ℕ → Asked
 make_with values = make (slice_index values 0) (slice_index values 1) (slice_index values 2)
 
+abbrev pub selftest_with : List ℕ → Asked
+selftest_with values = selftest (slice_index values 0) (slice_index values 1) (slice_index values 2)
+
 -- What the command line of one command asks for, by the command's options.
 abbrev pub asked_with : List Rule → (List ℕ → Asked) → List (List ℕ) → Option Asked
 asked_with table ask options = option_map ask (values_of table options)
+
+-- What a command line asks for whose command makes a capture.
+abbrev pub asked_to_make : List ℕ → List (List ℕ) → Option Asked
+asked_to_make name options =
+    if bytes_eq name (codes "make") then asked_with make_options make_with options
+    else (if bytes_eq name (codes "selftest") then asked_with make_options selftest_with options
+    else None)
 
 -- What these words ask for: the first is the name of a command, and the others are its options.
 abbrev pub asked_by : List (List ℕ) → Option Asked
@@ -51,13 +63,13 @@ asked_by [] = None
 asked_by (name ∷ options) =
     if bytes_eq name (codes "meter") then asked_with meter_options meter_with options
     else (if bytes_eq name (codes "show") then asked_with [] (λ values. show) options
-    else (if bytes_eq name (codes "make") then asked_with make_options make_with options
     else (if bytes_eq name (codes "schedule") then asked_with [] (λ values. schedule) options
-    else None)))
+    else asked_to_make name options))
 
 -- What a command asks for.
 abbrev pub asked : Command → Asked
-asked (Meter settings) = meter settings.idle settings.active settings.size
+asked (Meter settings) = meter settings.idle settings.active settings.workers settings.sets settings.piece settings.size
 asked Show = show
 asked (Make settings) = make settings.seed settings.packets settings.keys
 asked Schedule = schedule
+asked (Selftest settings) = selftest settings.seed settings.packets settings.keys

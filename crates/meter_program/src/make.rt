@@ -1,6 +1,7 @@
 //! The command `make`.
 
-ghost use Rattle.std.specs.Prelude.{◌≡◌, codes};
+ghost use Rattle.std.specs.Prelude.{◌≡◌, List, codes};
+ghost use Rattle.flow_parts.specs.declared.fragment.Fragment.{Fragment};
 ghost use Rattle.meter_io.specs.Sides.{Side, IsUntouched, side};
 ghost use Rattle.meter_program.specs.Outcome.{Ends};
 ghost use Rattle.meter_program.specs.Seen.{seen_of};
@@ -20,8 +21,8 @@ pub fn make<K: Sink, N: Sink>(
     output: &mut K,
     notes: &mut N,
 ) -> Status
-    ensures { (input : Side) → IsUntouched input → let seen = seen_of input (side K.held K.faults output.old output.new)
-        (side N.held N.faults notes.old notes.new)
+    ensures { (input : Side) (metered : List Fragment) → IsUntouched input → let seen = seen_of input (side K.held K.faults output.old output.new)
+        (side N.held N.faults notes.old notes.new) metered
         in Ends (make settings.now.seed settings.now.packets settings.now.keys) seen (IsUntouched seen.notes) result }
 {
     let Ok(bytes) = capture(alloc, settings.seed, settings.packets, settings.keys) else {

@@ -1,36 +1,38 @@
 //! The command `meter`.
 
-ghost use Rattle.std.specs.Prelude.{◌≡◌, ◌≤◌, ◌<◌, ◌*◌, ◌^◌, length, IfOk, IfErr, Any};
+ghost use Rattle.std.specs.Prelude.{◌≡◌, ◌≤◌, ◌<◌, ◌*◌, ◌^◌, IfOk};
 ghost use Rattle.std.specs.Option.{ForSome};
 ghost use Rattle.meter_program.specs.Gathering.{export_time};
-ghost use Rattle.meter_program.specs.Metering.{IsGathered, CaptureRefuses, WriteMeans};
+ghost use Rattle.meter_program.specs.Metering.{IsWritten, WriteMeans};
 ghost use Rattle.meter_program.specs.Outcome.{Ends};
 ghost use Rattle.meter_io.specs.Sides.{IsUntouched, side};
 ghost use Rattle.meter_program.specs.Seen.{seen_of};
 ghost use Rattle.meter_program.specs.Words.{meter};
 
-use crate::metering::metered_of;
+use crate::metering::{Gathered, gathered_from};
 use crate::notes::summary;
 use crate::settings::Settings;
 use crate::status::Status;
-use capture_tally::Tally;
-use flow_parts::Timeouts;
+use cache_face::Caches;
 use ipfix_writer::{Emitter, emit_all};
-use meter_io::{Failed, ReadError, Sink, Source, read_all};
-use pcap_reader::{Capture, CaptureError, IndexError};
-use record_ledger::{FlowRecord, gather};
+use meter_io::{Failed, MemSink, Sink, Source, write_all};
+use meter_workers::Gate;
+use no_memory::NoMemory;
 use std::alloc::Global;
+use std::thread::Threads;
 use stream_law::layout_law;
 
-/// The most bytes of a capture.
-const CAPTURE_LIMIT: u64 = 1 << 30;
+/// The length of the message with the templates, in octets.
+const TEMPLATE_MESSAGE: usize = 116;
 
-/// The records of a capture, its tally, and how many bytes are left behind its last record.
+/// The most octets that a record adds to a stream: its own and those of the headers of a message and of a set.
+const MOST_OF_RECORD: usize = 92;
+
+/// The stream of some records, and how many messages it has.
 #[derive(Drop)]
-struct Gathered {
-    records: Vec<FlowRecord>,
-    tally: Tally,
-    tail: u64,
+pub struct Stream<'a> {
+    pub octets: MemSink<'a>,
+    pub messages: u64,
 }
 
 /// The export time in seconds: the clock, in milliseconds, in whole seconds, and 0 without a packet.
@@ -44,82 +46,79 @@ fn export_time_of(clock: Option<u64>) -> u32
     }
 }
 
-/// The records of the capture that these bytes are, or why they are none.
-fn records_of(alloc: Global, bytes: &[u8], settings: &Settings) -> Result<Gathered, Status>
-    requires { length bytes.now ≤ 2 ^ 30 }
-    ensures records { IfOk result (λ g. IsGathered settings.now.idle settings.now.active bytes.now g.records.items g.tally g.tail) }
-    ensures early { IfOk result (λ g. ForSome g.tally.clock (λ time. time < 1000 * 2 ^ 32)) }
-    ensures refused { IfErr result (λ status. CaptureRefuses bytes.now status) }
+/// The stream of these records, in messages of at most `size` octets, laid out in memory.
+pub fn stream_of<'a>(alloc: Global, gathered: &Gathered, size: u32) -> Result<Stream<'a>, NoMemory>
+    requires { (116 ≤ size) × (size ≤ 65535) }
+    ensures { IfOk result (λ stream. IsWritten size gathered.now.records.items gathered.now.tally stream.octets.held stream.messages) }
 {
-    let capture = match Capture::open(bytes) {
-        Ok(capture) => capture,
-        Err(CaptureError::NotCapture) => return Err(Status::NotCapture),
-        Err(CaptureError::LinkUnknown(link)) => return Err(Status::LinkUnknown(link)),
-    };
-    let index = match capture.index(alloc) {
-        Ok(index) => index,
-        Err(IndexError::Damaged(at)) => return Err(Status::Damaged(at)),
-        Err(IndexError::NoMemory) => return Err(Status::NoMemory),
-    };
-    let limits = Timeouts::new(settings.idle, settings.active);
-    let metered = metered_of(alloc, &capture, &index)?;
-    let records = gather(alloc, metered.parts.as_slice(), limits, metered.tally.clock)?;
-    Ok(Gathered {
-        records,
-        tally: metered.tally,
-        tail: index.tail(),
-    })
+    layout_law();
+    let records = gathered.records.as_slice();
+    let room = records
+        .len()
+        .saturating_mul(MOST_OF_RECORD)
+        .saturating_add(TEMPLATE_MESSAGE);
+    let mut octets = MemSink::open(alloc, room, room, &[])?;
+    let emitter = Emitter::open(alloc, size as usize, export_time_of(gathered.tally.clock))?;
+    match emit_all(emitter, records, &mut octets) {
+        Ok(messages) => Ok(Stream { octets, messages }),
+        // Room for more can't be had.
+        Err(Failed) => Err(NoMemory),
+    }
 }
 
 /// Writes the stream of these records, in messages of at most `size` octets, and then notes the summary.
-fn written<K: Sink, N: Sink>(
+///
+/// The stream is laid out first, so that no memory is taken behind the first write, and goes out in one piece.
+pub fn written<K: Sink, N: Sink>(
     alloc: Global,
-    gathered: Gathered,
+    gathered: &Gathered,
     size: u32,
     output: &mut K,
     notes: &mut N,
 ) -> Status
-    requires size { (116 ≤ size) × (size ≤ 65535) }
-    requires early { ForSome gathered.tally.clock (λ time. time < 1000 * 2 ^ 32) }
-    ensures { WriteMeans size gathered.records.items gathered.tally gathered.tail (side K.held K.faults output.old output.new)
+    requires { (116 ≤ size) × (size ≤ 65535) }
+    ensures { WriteMeans size gathered.now.records.items gathered.now.tally gathered.now.tail (side K.held K.faults output.old output.new)
         (side N.held N.faults notes.old notes.new) result }
 {
-    layout_law();
-    let export_time = export_time_of(gathered.tally.clock);
-    let Ok(emitter) = Emitter::open(alloc, size as usize, export_time) else {
+    let Ok(stream) = stream_of(alloc, gathered, size) else {
         return Status::NoMemory;
     };
-    let messages = match emit_all(emitter, gathered.records.as_slice(), output) {
-        Ok(messages) => messages,
+    match write_all(output, stream.octets.held()) {
+        Ok(()) => {}
         Err(Failed) => return Status::WriteFault,
-    };
+    }
     let flows = gathered.records.len() as u64;
-    match summary(notes, &gathered.tally, flows, messages, gathered.tail) {
+    match summary(
+        notes,
+        &gathered.tally,
+        flows,
+        stream.messages,
+        gathered.tail,
+    ) {
         Ok(()) => Status::Done,
         Err(Failed) => Status::WriteFault,
     }
 }
 
-/// Reads a capture from the input to its end, writes the records of its flows to the output and notes the summary.
-pub fn meter<S: Source, K: Sink, N: Sink>(
+/// Reads a capture from the input to its end, meters it through a cache of `caches`, writes the records of its flows to the
+/// output and notes the summary.
+pub fn meter<R: Threads + Sync, S: Source, K: Sink, N: Sink, M: Caches, G: Gate>(
+    rt: &R,
     alloc: Global,
     settings: &Settings,
     input: &mut S,
     output: &mut K,
     notes: &mut N,
+    caches: &mut M,
+    gate: &G,
 ) -> Status
     ensures { let seen = seen_of (side S.left S.faults input.old input.new) (side K.held K.faults output.old output.new)
-        (side N.held N.faults notes.old notes.new)
-        in Ends (meter settings.now.idle settings.now.active settings.now.size) seen (IsUntouched seen.notes) result }
+        (side N.held N.faults notes.old notes.new) (M.metered caches.new)
+        in Ends (meter settings.now.idle settings.now.active settings.now.workers settings.now.sets settings.now.piece settings.now.size)
+        seen (IsUntouched seen.notes) result }
 {
-    let bytes = match read_all(alloc, input, CAPTURE_LIMIT) {
-        Ok(bytes) => bytes,
-        Err(ReadError::Failed) => return Status::ReadFault,
-        Err(ReadError::TooLarge) => return Status::TooLarge,
-        Err(ReadError::NoMemory) => return Status::NoMemory,
-    };
-    match records_of(alloc, bytes.as_slice(), settings) {
-        Ok(gathered) => written(alloc, gathered, settings.size, output, notes),
+    match gathered_from(rt, alloc, settings, input, caches, gate) {
+        Ok(gathered) => written(alloc, &gathered, settings.size, output, notes),
         Err(status) => status,
     }
 }

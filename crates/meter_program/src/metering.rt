@@ -1,88 +1,158 @@
-//! The answers to the records of a capture, as fragments of one packet each and their tally.
+//! Metering a capture through one cache, and gathering what the cache gave.
 
-ghost use Rattle.std.specs.Prelude.{◌≡◌, ◌≤◌, ◌<◌, ◌^◌, [], ◌∷◌, ◌++◌, List, Result, IfOk, OnOk, length};
-ghost use Rattle.std.specs.Option.{ForSome};
-ghost use Rattle.pcap_reader.specs.Views.{file_of, record_read};
-ghost use Rattle.pcap_reader.specs.Index.{IsIndexOf};
-ghost use Rattle.packet_accept.specs.declared.packet.Packet.{Packet};
-ghost use Rattle.packet_accept.specs.declared.ignored.Ignored.{Ignored};
-ghost use Rattle.packet_accept.specs.Packets.{answers_of};
-ghost use Rattle.packet_accept.specs.Acceptance.{accepted};
-ghost use Rattle.capture_tally.specs.Tallies.{HasRoom};
-ghost use Rattle.meter_program.specs.Gathering.{AreMetered, AreParts, IsOrdinary};
+ghost use Rattle.std.specs.Prelude.{◌≡◌, ◌*◌, List, ℕ, IfOk, IfErr, sum_by};
+ghost use Rattle.flow_parts.specs.declared.timeouts.Timeouts.{Timeouts};
+ghost use Rattle.meter_io.specs.Sides.{Side, side};
+ghost use Rattle.flow_parts.specs.declared.fragment.Fragment.{Fragment};
+ghost use Rattle.meter_program.specs.Metering.{AreGathered, IsKept, IsReadAndKept, IsGathered, IsReadAndGathered, status_for};
+ghost use Rattle.meter_program.specs.Outcome.{MeterRefuses};
 
-use capture_tally::{Tally, room_law};
-use flow_parts::Fragment;
-use flow_parts::laws::sharing_out_stands;
+use crate::settings::Settings;
+use crate::status::Status;
+use cache_face::Caches;
+use capture_tally::Tally;
+use flow_parts::Timeouts;
+use flow_parts::laws::{sharing_out_counts, sharing_out_stands};
+use meter_io::Source;
+use meter_workers::{Gate, MeterFault, meter_windows};
 use no_memory::NoMemory;
-use packet_accept::{Ignored, Packet, accept, packets_law};
-use pcap_reader::{Capture, Record, RecordIndex};
+use record_ledger::{FlowRecord, gather};
 use std::alloc::Global;
+use std::thread::Threads;
 
-/// The fragments of the packets that were metered, and the tally of all records.
+/// The most bytes of a capture.
+const CAPTURE_LIMIT: u64 = 1 << 30;
+
+/// The bytes of a capture that are held at a time.
+const WINDOW: usize = 1 << 22;
+
+/// What is known of a capture whose packets a cache has metered: its tally, and how many bytes are left behind its last
+/// record.
+#[derive(Clone, Copy)]
+struct Counted {
+    tally: Tally,
+    tail: u64,
+}
+
+/// The records of a capture, its tally, and how many bytes are left behind its last record.
 #[derive(Drop)]
-pub struct Metered {
-    pub parts: Vec<Fragment>,
+pub struct Gathered {
+    pub records: Vec<FlowRecord>,
     pub tally: Tally,
+    pub tail: u64,
 }
 
-/// Adds the fragment of an answer, where it is a packet.
-fn add_part(parts: &mut Vec<Fragment>, answer: &Result<Packet, Ignored>) -> Result<(), NoMemory>
-    ensures { OnOk result ((answers : List (Result Packet Ignored)) → IfOk answer.now IsOrdinary → AreParts answers parts.old.items
-        → AreParts (answers ++ answer.now ∷ []) parts.new.items) }
+/// The status of a run whose input couldn't be metered.
+fn status_of(fault: MeterFault) -> Status
+    ensures { result ≡ status_for fault }
 {
-    packets_law();
-    sharing_out_stands();
-    match answer {
-        Ok(packet) => {
-            let part = Fragment::of(packet);
-            parts.push(part)?;
-            Ok(())
-        }
-        Err(_) => Ok(()),
+    match fault {
+        MeterFault::Failed => Status::ReadFault,
+        MeterFault::TooLarge => Status::TooLarge,
+        MeterFault::NotCapture => Status::NotCapture,
+        MeterFault::LinkUnknown(link) => Status::LinkUnknown(link),
+        MeterFault::Damaged(at) => Status::Damaged(at),
+        MeterFault::NoMemory => Status::NoMemory,
     }
 }
 
-/// Meters one more record.
-fn take_record(
-    metered: &mut Metered,
-    capture: &Capture<'_>,
-    rec: &Record<'_>,
-    n: u64,
-) -> Result<(), NoMemory>
-    requires { HasRoom metered.old.tally }
-    ensures { let file = file_of capture.now in
-        OnOk result ((answers : List (Result Packet Ignored)) → AreMetered answers metered.old.parts.items metered.old.tally
-        → AreMetered (answers ++ accepted file.link file.nanos (record_read rec.now) n ∷ []) metered.new.parts.items metered.new.tally) }
-{
-    packets_law();
-    let answer = accept(capture, rec, n);
-    metered.tally.add(&answer);
-    add_part(&mut metered.parts, &answer)
-}
-
-/// The packets of a capture as fragments of one packet each, and the tally of its records.
-///
-/// Fewer than 2^32 records; memory for a fragment of each packet.
-pub fn metered_of(
+/// Meters the capture that the input gives through a cache, by all workers at once, and closes the cache.
+fn metered<R: Threads + Sync, S: Source, M: Caches, G: Gate>(
+    rt: &R,
     alloc: Global,
-    capture: &Capture<'_>,
-    index: &RecordIndex,
-) -> Result<Metered, NoMemory>
-    requires index { IsIndexOf index.now (file_of capture.now) }
-    requires few { length index.now.offsets < 2 ^ 32 }
-    ensures metered { IfOk result (λ metered. AreMetered (answers_of (file_of capture.now)) metered.parts.items metered.tally) }
-    ensures each { length (answers_of (file_of capture.now)) ≡ length index.now.offsets }
+    settings: &Settings,
+    limits: Timeouts,
+    input: &mut S,
+    caches: &mut M,
+    gate: &G,
+) -> Result<Counted, Status>
+    ensures kept { IfOk result (λ r. IsReadAndKept (side S.left S.faults input.old input.new) limits (M.metered caches.new) r.tally r.tail) }
+    ensures refused { IfErr result (λ status. MeterRefuses (side S.left S.faults input.old input.new) status) }
 {
-    packets_law();
-    room_law();
-    let mut metered = Metered {
-        parts: Vec::new(alloc),
-        tally: Tally::new(),
+    sharing_out_stands();
+    let (cache, passes) = caches.open(alloc, settings.sets, settings.workers, limits)?;
+    let done = match meter_windows(
+        rt,
+        alloc,
+        input,
+        &cache,
+        passes,
+        WINDOW,
+        settings.piece,
+        CAPTURE_LIMIT,
+        gate,
+    ) {
+        Ok(done) => done,
+        Err(fault) => return Err(status_of(fault)),
     };
-    for n in 0..index.count() {
-        let record = capture.record(index, n);
-        take_record(&mut metered, capture, &record, n)?;
-    }
-    Ok(metered)
+    caches.close(alloc, cache, done.pass, done.parts)?;
+    Ok(Counted {
+        tally: done.tally,
+        tail: done.tail,
+    })
+}
+
+/// Gathers the fragments that caches kept, which have so many packets and octets, into records.
+fn records_of<M: Caches>(
+    alloc: Global,
+    caches: &M,
+    limits: Timeouts,
+    clock: Option<u64>,
+    packets: u64,
+    octets: u64,
+) -> Result<Vec<FlowRecord>, NoMemory>
+    requires packets { sum_by (λ (f : Fragment). f.packets) (M.metered caches.now) ≡ packets }
+    requires octets { sum_by (λ (f : Fragment). f.octets) (M.metered caches.now) ≡ octets }
+    ensures { IfOk result (λ records. AreGathered limits (M.metered caches.now) clock records.items) }
+{
+    let records = gather(alloc, caches.metered(), limits, clock)?;
+    Ok(records)
+}
+
+/// The same of a capture that was metered.
+fn gathered_of<M: Caches>(
+    alloc: Global,
+    caches: &M,
+    limits: Timeouts,
+    counted: Counted,
+) -> Result<Gathered, NoMemory>
+    requires { (capture : List ℕ) × IsKept limits capture (M.metered caches.now) counted.tally counted.tail }
+    ensures { IfOk result (λ g. (idle active : ℕ) (capture : List ℕ) → limits.idle ≡ 1000 * idle → limits.active ≡ 1000 * active
+        → IsKept limits capture (M.metered caches.now) counted.tally counted.tail
+        → IsGathered idle active capture (M.metered caches.now) g.records.items g.tally g.tail) }
+{
+    sharing_out_counts();
+    let Counted { tally, tail } = counted;
+    let records = records_of(
+        alloc,
+        caches,
+        limits,
+        tally.clock,
+        tally.accepted,
+        tally.octets,
+    )?;
+    Ok(Gathered {
+        records,
+        tally,
+        tail,
+    })
+}
+
+/// The records of the capture that the input gives, metered through a cache of `caches`, or why there are none.
+pub fn gathered_from<R: Threads + Sync, S: Source, M: Caches, G: Gate>(
+    rt: &R,
+    alloc: Global,
+    settings: &Settings,
+    input: &mut S,
+    caches: &mut M,
+    gate: &G,
+) -> Result<Gathered, Status>
+    ensures records { IfOk result (λ g. IsReadAndGathered (side S.left S.faults input.old input.new) settings.now.idle settings.now.active
+        (M.metered caches.new) g.records.items g.tally g.tail) }
+    ensures refused { IfErr result (λ status. MeterRefuses (side S.left S.faults input.old input.new) status) }
+{
+    let limits = Timeouts::new(settings.idle, settings.active);
+    let counted = metered(rt, alloc, settings, limits, input, caches, gate)?;
+    let gathered = gathered_of(alloc, caches, limits, counted)?;
+    Ok(gathered)
 }

@@ -12,31 +12,38 @@ use crate::make::make;
 use crate::meter::meter;
 use crate::notes::fault_line;
 use crate::schedule::schedule;
+use crate::selftest::selftest;
 use crate::show::show;
 use crate::status::Status;
 use crate::words::{Command, command_of};
+use cache_face::Caches;
 use command_words::OptionsError;
 use meter_io::{Sink, Source};
+use meter_workers::Gate;
 use std::alloc::Global;
 use std::thread::Threads;
 
 /// Does what a command says.
-fn command<S: Source, K: Sink, N: Sink>(
+fn command<R: Threads + Sync, S: Source, K: Sink, N: Sink, M: Caches, G: Gate>(
+    rt: &R,
     alloc: Global,
     command: &Command,
     input: &mut S,
     output: &mut K,
     notes: &mut N,
+    caches: &mut M,
+    gate: &G,
 ) -> Status
     ensures { let seen = seen_of (side S.left S.faults input.old input.new) (side K.held K.faults output.old output.new)
-        (side N.held N.faults notes.old notes.new)
+        (side N.held N.faults notes.old notes.new) (M.metered caches.new)
         in Ends (asked command.now) seen (IsUntouched seen.notes) result }
 {
     match command {
-        Command::Meter(settings) => meter(alloc, settings, input, output, notes),
+        Command::Meter(settings) => meter(rt, alloc, settings, input, output, notes, caches, gate),
         Command::Show => show(alloc, input, output, notes),
         Command::Make(settings) => make(alloc, settings, output, notes),
         Command::Schedule => schedule(alloc, input, output, notes),
+        Command::Selftest(settings) => selftest(rt, alloc, settings, output, caches, gate),
     }
 }
 
@@ -48,6 +55,10 @@ fn command<S: Source, K: Sink, N: Sink>(
 /// | `show` | a stream, at most 2^26 bytes | a line for each data record | how many records |
 /// | `make` | nothing | the capture of a seed | how many packets |
 /// | `schedule` | a schedule, at most 2^20 bytes | its replay | how many steps |
+/// | `selftest` | nothing | the summary of metering the capture of a seed by four workers | nothing |
+///
+/// `meter` opens one cache of `caches` with a pass for each worker, meters through it, and closes it; the records that it
+/// writes regroup the fragments that `caches` then tells. The gate is told of each piece of records before a worker meters it.
 ///
 /// The input is read to its end before anything is written. At a refusal, any status but `Done` and `WriteFault`,
 /// nothing is written to `output`, and one line that names the refusal goes to `notes`; where that write fails, the
@@ -65,20 +76,22 @@ fn command<S: Source, K: Sink, N: Sink>(
 ///   a step isn't enabled, with the line of the first.
 /// - `TooLarge`: exactly where more bytes came than the command's limit.
 /// - `NoMemory`: out of memory, at any point before the first write.
-pub fn run<R: Threads, S: Source, K: Sink, N: Sink>(
-    _rt: &R,
+pub fn run<R: Threads + Sync, S: Source, K: Sink, N: Sink, M: Caches, G: Gate>(
+    rt: &R,
     alloc: Global,
     words: &[String],
     input: &mut S,
     output: &mut K,
     notes: &mut N,
+    caches: &mut M,
+    gate: &G,
 ) -> Status
     ensures usage { result ≡ Status.Usage → asked_by (map string_bytes words.now) ≡ None }
     ensures nothing { asked_by (map string_bytes words.now) ≡ None → (result ≡ Status.Usage) ⊎ (result ≡ Status.NoMemory) }
     ensures means { RunMeans (asked_by (map string_bytes words.now)) (seen_of (side S.left S.faults input.old input.new)
-        (side K.held K.faults output.old output.new) (side N.held N.faults notes.old notes.new)) result }
+        (side K.held K.faults output.old output.new) (side N.held N.faults notes.old notes.new) (M.metered caches.new)) result }
     ensures complete { IsComplete (asked_by (map string_bytes words.now)) (seen_of (side S.left S.faults input.old input.new)
-        (side K.held K.faults output.old output.new) (side N.held N.faults notes.old notes.new)) result }
+        (side K.held K.faults output.old output.new) (side N.held N.faults notes.old notes.new) (M.metered caches.new)) result }
     ensures read_fault { result ≡ Status.ReadFault → Rose (S.faults input.old) (S.faults input.new) }
     ensures write_fault { result ≡ Status.WriteFault
         → Rose (K.faults output.old) (K.faults output.new) ⊎ Rose (N.faults notes.old) (N.faults notes.new) }
@@ -86,7 +99,7 @@ pub fn run<R: Threads, S: Source, K: Sink, N: Sink>(
     let status = match command_of(alloc, words) {
         Err(OptionsError::NotOptions) => Status::Usage,
         Err(OptionsError::NoMemory) => Status::NoMemory,
-        Ok(asked) => command(alloc, &asked, input, output, notes),
+        Ok(asked) => command(rt, alloc, &asked, input, output, notes, caches, gate),
     };
     if status.is_refusal() {
         // A refusal stays what it is where its line can't be written.

@@ -1,6 +1,7 @@
 //! The command `schedule`.
 
-ghost use Rattle.std.specs.Prelude.{◌≡◌, ◌≤◌, ◌^◌, length, codes, IfOk, IfErr};
+ghost use Rattle.std.specs.Prelude.{◌≡◌, ◌≤◌, ◌^◌, length, codes, IfOk, IfErr, List};
+ghost use Rattle.flow_parts.specs.declared.fragment.Fragment.{Fragment};
 ghost use Rattle.meter_io.specs.Sides.{IsUntouched, side};
 ghost use Rattle.meter_program.specs.Outcome.{Ends, IsReplayed};
 ghost use Rattle.meter_program.specs.Replaying.{TextRefuses};
@@ -56,8 +57,8 @@ pub fn schedule<S: Source, K: Sink, N: Sink>(
     output: &mut K,
     notes: &mut N,
 ) -> Status
-    ensures { let seen = seen_of (side S.left S.faults input.old input.new) (side K.held K.faults output.old output.new)
-        (side N.held N.faults notes.old notes.new)
+    ensures { (metered : List Fragment) → let seen = seen_of (side S.left S.faults input.old input.new) (side K.held K.faults output.old output.new)
+        (side N.held N.faults notes.old notes.new) metered
         in Ends schedule seen (IsUntouched seen.notes) result }
 {
     let bytes = match read_all(alloc, input, SCHEDULE_LIMIT) {

@@ -9,14 +9,23 @@ pub struct Settings {
     pub idle: u32,
     /// The active time-out in seconds, from 1 to 86,400.
     pub active: u32,
+    /// How many workers there are, from 1 to 64.
+    pub workers: usize,
+    /// How many sets the cache has, from 1 to 65,536.
+    pub sets: u64,
+    /// How many records a piece has, from 1 to 65,536.
+    pub piece: u64,
     /// The most octets of a message, from 116 to 65,535.
     pub size: u32,
     pub ghost idle_bounds: { (1 ≤ idle) × (idle ≤ 86400) },
     pub ghost active_bounds: { (1 ≤ active) × (active ≤ 86400) },
+    pub ghost workers_bounds: { (1 ≤ workers) × (workers ≤ 64) },
+    pub ghost sets_bounds: { (1 ≤ sets) × (sets ≤ 65536) },
+    pub ghost piece_bounds: { (1 ≤ piece) × (piece ≤ 65536) },
     pub ghost size_bounds: { (116 ≤ size) × (size ≤ 65535) },
 }
 
-/// The settings of the command `make`.
+/// The settings of the commands `make` and `selftest`.
 #[derive(Clone, Copy, Debug, PartialEq, Eq)]
 pub struct Making {
     /// The seed of the capture.

@@ -1,6 +1,7 @@
 //! The command `show`.
 
-ghost use Rattle.std.specs.Prelude.{◌≡◌, codes};
+ghost use Rattle.std.specs.Prelude.{◌≡◌, List, codes};
+ghost use Rattle.flow_parts.specs.declared.fragment.Fragment.{Fragment};
 ghost use Rattle.meter_program.specs.Outcome.{Ends};
 ghost use Rattle.meter_io.specs.Sides.{IsUntouched, side};
 ghost use Rattle.meter_program.specs.Seen.{seen_of};
@@ -24,8 +25,8 @@ pub fn show<S: Source, K: Sink, N: Sink>(
     output: &mut K,
     notes: &mut N,
 ) -> Status
-    ensures { let seen = seen_of (side S.left S.faults input.old input.new) (side K.held K.faults output.old output.new)
-        (side N.held N.faults notes.old notes.new)
+    ensures { (metered : List Fragment) → let seen = seen_of (side S.left S.faults input.old input.new) (side K.held K.faults output.old output.new)
+        (side N.held N.faults notes.old notes.new) metered
         in Ends show seen (IsUntouched seen.notes) result }
 {
     let stream = match read_all(alloc, input, STREAM_LIMIT) {

@@ -3,7 +3,7 @@
 ghost use Rattle.std.specs.Prelude.{◌≡◌, [], None, Some, map, IfOk, IfErr};
 ghost use Rattle.std.specs.String.{string_bytes};
 ghost use Rattle.command_words.specs.Options.{values_of};
-ghost use Rattle.meter_program.specs.Words.{meter_options, make_options, meter_with, make_with, asked_with, asked_by, asked, meter, make};
+ghost use Rattle.meter_program.specs.Words.{meter_options, make_options, meter_with, make_with, selftest_with, asked_with, asked_to_make, asked_by, asked, meter, make, selftest};
 
 use crate::settings::{Making, Settings};
 use command_words::{OptionRule, OptionsError, values_of};
@@ -23,6 +23,8 @@ pub enum Command {
     Make(Making),
     /// Reads a schedule and writes its replay.
     Schedule,
+    /// Meters a made capture and writes the summary.
+    Selftest(Making),
 }
 
 /// The options of `meter`.
@@ -65,7 +67,7 @@ static METER: [OptionRule<'static>; 6] = [
     },
 ];
 
-/// The options of `make`.
+/// The options of `make` and of `selftest`.
 static MAKE: [OptionRule<'static>; 3] = [
     OptionRule {
         name: "seed",
@@ -90,27 +92,31 @@ static MAKE: [OptionRule<'static>; 3] = [
 /// The options of `show` and of `schedule`.
 static NONE: [OptionRule<'static>; 0] = [];
 
-/// The settings that the options of `meter` give. How many workers, sets and records of a piece there are is read, and
-/// changes nothing yet.
+/// The settings that the options of `meter` give.
 fn settings(alloc: Global, options: &[String]) -> Result<Settings, OptionsError>
-    ensures settings { IfOk result (λ s. asked_with meter_options meter_with (map string_bytes options.now) ≡ Some (meter s.idle s.active s.size)) }
+    ensures settings { IfOk result (λ s. asked_with meter_options meter_with (map string_bytes options.now) ≡ Some (meter s.idle s.active s.workers s.sets s.piece s.size)) }
     ensures refused { IfErr result (λ error. error ≡ OptionsError.NotOptions → asked_with meter_options meter_with (map string_bytes options.now) ≡ None) }
 {
     let values = values_of(alloc, METER.as_slice(), options)?;
-    let [idle, active, _workers, _sets, _piece, size] = values.as_slice() else {
+    let [idle, active, workers, sets, piece, size] = values.as_slice() else {
         unreachable!()
     };
     Ok(Settings {
         idle: *idle as u32,
         active: *active as u32,
+        workers: *workers as usize,
+        sets: *sets,
+        piece: *piece,
         size: *size as u32,
     })
 }
 
-/// The settings that the options of `make` give.
+/// The settings that the options of `make` and of `selftest` give.
 fn making(alloc: Global, options: &[String]) -> Result<Making, OptionsError>
     ensures settings { IfOk result (λ s. asked_with make_options make_with (map string_bytes options.now) ≡ Some (make s.seed s.packets s.keys)) }
+    ensures tested { IfOk result (λ s. asked_with make_options selftest_with (map string_bytes options.now) ≡ Some (selftest s.seed s.packets s.keys)) }
     ensures refused { IfErr result (λ error. error ≡ OptionsError.NotOptions → asked_with make_options make_with (map string_bytes options.now) ≡ None) }
+    ensures refused_test { IfErr result (λ error. error ≡ OptionsError.NotOptions → asked_with make_options selftest_with (map string_bytes options.now) ≡ None) }
 {
     let values = values_of(alloc, MAKE.as_slice(), options)?;
     let [seed, packets, keys] = values.as_slice() else {
@@ -132,12 +138,26 @@ fn nothing(alloc: Global, options: &[String]) -> Result<(), OptionsError>
     Ok(())
 }
 
+/// The command of this name that makes a capture.
+fn making_command(alloc: Global, name: &str, options: &[String]) -> Result<Command, OptionsError>
+    ensures command { IfOk result (λ command. asked_to_make name.now (map string_bytes options.now) ≡ Some (asked command)) }
+    ensures refused { IfErr result (λ error. error ≡ OptionsError.NotOptions → asked_to_make name.now (map string_bytes options.now) ≡ None) }
+{
+    if name == "make" {
+        Ok(Command::Make(making(alloc, options)?))
+    } else if name == "selftest" {
+        Ok(Command::Selftest(making(alloc, options)?))
+    } else {
+        Err(OptionsError::NotOptions)
+    }
+}
+
 /// The command that the words behind the program's name ask for.
 ///
 /// | First word | Options: name, least and greatest value, default |
 /// |---|---|
 /// | `meter` | `idle` 1 to 86,400 seconds, 300; `active` 1 to 86,400 seconds, 1800; `workers` 1 to 64, 1; `sets` 1 to 65,536, 4096; `piece` 1 to 65,536 records, 256; `size` 116 to 65,535 octets, 1400 |
-/// | `make` | `seed` 0 to 2^64 - 1, must be given; `packets` 1 to 1,000,000, must be given; `keys` 1 to 4096, 64 |
+/// | `make`, `selftest` | `seed` 0 to 2^64 - 1, must be given; `packets` 1 to 1,000,000, must be given; `keys` 1 to 4096, 64 |
 /// | `show`, `schedule` | none |
 ///
 /// - `NotOptions`: exactly where the words are no such command line.
@@ -154,12 +174,10 @@ pub fn command_of(alloc: Global, words: &[String]) -> Result<Command, OptionsErr
     } else if name.as_str() == "show" {
         nothing(alloc, options)?;
         Ok(Command::Show)
-    } else if name.as_str() == "make" {
-        Ok(Command::Make(making(alloc, options)?))
     } else if name.as_str() == "schedule" {
         nothing(alloc, options)?;
         Ok(Command::Schedule)
     } else {
-        Err(OptionsError::NotOptions)
+        making_command(alloc, name.as_str(), options)
     }
 }

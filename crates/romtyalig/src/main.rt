@@ -3,10 +3,12 @@
 
 use meter_io::{StdSink, StdSource};
 use meter_program::{Status, fault_line, run};
+use meter_workers::OpenGate;
 use std::alloc::Global;
 use std::env;
 use std::io::ErrorKind;
 use std::process::ExitCode;
+use turn_cache::TurnCaches;
 
 /// The words behind the program's name. A word that isn't UTF-8 is a faulty command line.
 fn words_of(rt: &HostRuntime) -> Result<Vec<String>, Status> {
@@ -39,6 +41,8 @@ fn main(rt: HostRuntime) -> ExitCode {
         &mut input,
         &mut output,
         &mut notes,
+        &mut TurnCaches::new(),
+        &OpenGate,
     );
     ExitCode::from(status.code())
 }

@@ -2,11 +2,13 @@
 
 use meter_io::{MemSink, MemSource};
 use meter_program::{Status, run};
+use meter_workers::OpenGate;
 use pcapng_reader::{PngStatus, run_png};
 use std::alloc::Global;
 use std::process::Abort;
 use std::test::Fail;
 use std::thread::Threads;
+use turn_cache::TurnCaches;
 
 /// A section, an Ethernet interface, and one enhanced packet at 1000 s: UDP over IPv4 from 192.0.2.1 port 4000 to
 /// 192.0.2.2 port 53.
@@ -29,7 +31,7 @@ fn words(alloc: Global, word: &str) -> Result<Vec<String>, Fail> {
 }
 
 /// What a command of the meter writes of these bytes, where it is done.
-fn metered<'a, R: Threads + Abort>(
+fn metered<'a, R: Threads + Sync + Abort>(
     rt: &R,
     alloc: Global,
     word: &str,
@@ -46,6 +48,8 @@ fn metered<'a, R: Threads + Abort>(
         &mut input,
         &mut output,
         &mut notes,
+        &mut TurnCaches::new(),
+        &OpenGate,
     );
     assert!(rt; status == Status::Done);
     Ok(output)

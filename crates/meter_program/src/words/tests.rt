@@ -5,25 +5,35 @@ use command_words::OptionsError;
 use std::alloc::Global;
 use std::test::Fail;
 
-/// What a line of words with single spaces between them asks for: 1 for `meter` with its two time-outs and its message size,
-/// 2 for `show`, 3 for `make` with its seed, packets and keys, 4 for `schedule`; nothing where it is no command line.
-fn numbers(alloc: Global, line: &str) -> Result<Option<[u64; 4]>, Fail> {
+/// What a line of words with single spaces between them asks for: 1 for `meter` with its settings in the order of their
+/// options, 2 for `show`, 3 for `make` with its seed, packets and keys, 4 for `schedule`, 5 for `selftest` with those of `make`;
+/// nothing where it is no command line.
+fn numbers(alloc: Global, line: &str) -> Result<Option<[u64; 7]>, Fail> {
     let mut words = Vec::new(alloc);
     for word in line.split(' ') {
         words.push(String::from_str(alloc, word)?)?;
     }
     match command_of(alloc, words.as_slice()) {
-        Ok(Command::Meter(s)) => Ok(Some([1, s.idle as u64, s.active as u64, s.size as u64])),
-        Ok(Command::Show) => Ok(Some([2, 0, 0, 0])),
-        Ok(Command::Make(s)) => Ok(Some([3, s.seed, s.packets as u64, s.keys as u64])),
-        Ok(Command::Schedule) => Ok(Some([4, 0, 0, 0])),
+        Ok(Command::Meter(s)) => Ok(Some([
+            1,
+            s.idle as u64,
+            s.active as u64,
+            s.workers as u64,
+            s.sets,
+            s.piece,
+            s.size as u64,
+        ])),
+        Ok(Command::Show) => Ok(Some([2, 0, 0, 0, 0, 0, 0])),
+        Ok(Command::Make(s)) => Ok(Some([3, s.seed, s.packets as u64, s.keys as u64, 0, 0, 0])),
+        Ok(Command::Schedule) => Ok(Some([4, 0, 0, 0, 0, 0, 0])),
+        Ok(Command::Selftest(s)) => Ok(Some([5, s.seed, s.packets as u64, s.keys as u64, 0, 0, 0])),
         Err(OptionsError::NotOptions) => Ok(None),
         Err(OptionsError::NoMemory) => Err(Fail::from("no memory")),
     }
 }
 
 /// Lines that are none.
-static OTHERS: [&str; 69] = [
+static OTHERS: [&str; 72] = [
     "",
     "meters",
     "Meter",
@@ -33,6 +43,9 @@ static OTHERS: [&str; 69] = [
     "meter --version",
     "meter -h",
     "selftest",
+    "selftest --seed 1",
+    "selftest --seed 1 --packets 1 --workers 4",
+    "selftest --seed 1 --packets 0",
     "meter --idle 0",
     "meter --idle 86401",
     "meter --active 0",
@@ -104,37 +117,51 @@ fn other_words_are_no_command(rt: HostRuntime) -> Result<(), Fail> {
 }
 
 /// Lines, and what they ask for.
-static COMMANDS: [(&str, [u64; 4]); 22] = [
-    ("meter", [1, 300, 1800, 1400]),
-    ("show", [2, 0, 0, 0]),
-    ("schedule", [4, 0, 0, 0]),
-    ("meter --idle 1", [1, 1, 1800, 1400]),
-    ("meter --idle=86400", [1, 86400, 1800, 1400]),
-    ("meter --active 1", [1, 300, 1, 1400]),
-    ("meter --active=86400", [1, 300, 86400, 1400]),
-    ("meter --workers 1", [1, 300, 1800, 1400]),
-    ("meter --workers=64", [1, 300, 1800, 1400]),
-    ("meter --sets 1", [1, 300, 1800, 1400]),
-    ("meter --sets=65536", [1, 300, 1800, 1400]),
-    ("meter --piece 1", [1, 300, 1800, 1400]),
-    ("meter --piece=65536", [1, 300, 1800, 1400]),
-    ("meter --size 116", [1, 300, 1800, 116]),
-    ("meter --size=65535", [1, 300, 1800, 65535]),
-    ("meter --active 10 --idle=007", [1, 7, 10, 1400]),
-    ("meter --idle 00000000000000086400", [1, 86400, 1800, 1400]),
+static COMMANDS: [(&str, [u64; 7]); 24] = [
+    ("meter", [1, 300, 1800, 1, 4096, 256, 1400]),
+    ("show", [2, 0, 0, 0, 0, 0, 0]),
+    ("schedule", [4, 0, 0, 0, 0, 0, 0]),
+    ("meter --idle 1", [1, 1, 1800, 1, 4096, 256, 1400]),
+    ("meter --idle=86400", [1, 86400, 1800, 1, 4096, 256, 1400]),
+    ("meter --active 1", [1, 300, 1, 1, 4096, 256, 1400]),
+    ("meter --active=86400", [1, 300, 86400, 1, 4096, 256, 1400]),
+    ("meter --workers 1", [1, 300, 1800, 1, 4096, 256, 1400]),
+    ("meter --workers=64", [1, 300, 1800, 64, 4096, 256, 1400]),
+    ("meter --sets 1", [1, 300, 1800, 1, 1, 256, 1400]),
+    ("meter --sets=65536", [1, 300, 1800, 1, 65536, 256, 1400]),
+    ("meter --piece 1", [1, 300, 1800, 1, 4096, 1, 1400]),
+    ("meter --piece=65536", [1, 300, 1800, 1, 4096, 65536, 1400]),
+    ("meter --size 116", [1, 300, 1800, 1, 4096, 256, 116]),
+    ("meter --size=65535", [1, 300, 1800, 1, 4096, 256, 65535]),
+    (
+        "meter --active 10 --idle=007",
+        [1, 7, 10, 1, 4096, 256, 1400],
+    ),
+    (
+        "meter --idle 00000000000000086400",
+        [1, 86400, 1800, 1, 4096, 256, 1400],
+    ),
     (
         "meter --size 200 --piece=1 --sets 2 --workers=3 --active 4 --idle=5",
-        [1, 5, 4, 200],
+        [1, 5, 4, 3, 2, 1, 200],
     ),
-    ("make --seed 0 --packets 1", [3, 0, 1, 64]),
+    ("make --seed 0 --packets 1", [3, 0, 1, 64, 0, 0, 0]),
     (
         "make --seed=18446744073709551615 --packets=1000000",
-        [3, 18446744073709551615, 1000000, 64],
+        [3, 18446744073709551615, 1000000, 64, 0, 0, 0],
     ),
-    ("make --keys 1 --packets 2 --seed 3", [3, 3, 2, 1]),
+    ("make --keys 1 --packets 2 --seed 3", [3, 3, 2, 1, 0, 0, 0]),
     (
         "make --packets 2 --seed 00000000000000000003 --keys=4096",
-        [3, 3, 2, 4096],
+        [3, 3, 2, 4096, 0, 0, 0],
+    ),
+    (
+        "selftest --seed 7 --packets=200000",
+        [5, 7, 200000, 64, 0, 0, 0],
+    ),
+    (
+        "selftest --keys 4096 --packets 1 --seed 0",
+        [5, 0, 1, 4096, 0, 0, 0],
     ),
 ];
 

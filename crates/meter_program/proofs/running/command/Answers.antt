@@ -2,6 +2,18 @@ use Rattle.std.proofs.Common.{refl}
 use Rattle.meter_io.specs.Sides.{side}
 use Rattle.meter_program.proofs.running.command.Goals as goal
 
+pub returns-in-Show : goal.returns-in-Show
+returns-in-Show g c = rw c.in-Show.is (c.show.ensures (g.M.Caches.metered c.args.caches.now))
+
 pub returns-in-Make : goal.returns-in-Make
 returns-in-Make g c =
-    rw c.in-Make.is (c.make.ensures (side g.S.Source.left g.S.Source.faults c.args.input.now c.args.input.now) (record { bytes = refl; faults = refl }))
+    rw c.in-Make.is (c.make.ensures (side g.S.Source.left g.S.Source.faults c.args.input.now c.args.input.now) (g.M.Caches.metered c.args.caches.now)
+    (record { bytes = refl; faults = refl }))
+
+pub returns-in-Schedule : goal.returns-in-Schedule
+returns-in-Schedule g c = rw c.in-Schedule.is (c.schedule.ensures (g.M.Caches.metered c.args.caches.now))
+
+pub returns-in-Selftest : goal.returns-in-Selftest
+returns-in-Selftest g c =
+    rw c.in-Selftest.is (c.selftest.ensures (side g.S.Source.left g.S.Source.faults c.args.input.now c.args.input.now)
+    (side g.N.Sink.held g.N.Sink.faults c.args.notes.now c.args.notes.now) (record { bytes = refl; faults = refl }) (record { bytes = refl; faults = refl }))

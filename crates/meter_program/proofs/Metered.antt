@@ -1,0 +1,73 @@
+-- What comes of a capture that was metered through a cache.
+use Rattle.std.proofs.Common.{◌≡◌, ◌^◌, ◌*◌, ℕ, List, sum_by, sym, subst, ◌∙◌}
+use Rattle.std.proofs.lemmas.List.Sorted.{IsPermutation-sym, IsPermutation-refl}
+use Rattle.packet_accept.specs.declared.packet.Packet.{Packet}
+use Rattle.packet_accept.specs.Packets.{packets_of}
+use Rattle.capture_tally.specs.declared.tally.Tally.{Tally}
+use Rattle.flow_parts.specs.declared.fragment.Fragment.{Fragment}
+use Rattle.flow_parts.specs.declared.timeouts.Timeouts.{Timeouts}
+use Rattle.flow_parts.specs.Laws.{StandsPermuted, CountsAll}
+use Rattle.flow_parts.specs.Sharing.{SharesOut}
+use Rattle.record_ledger.specs.declared.record.FlowRecord.{FlowRecord}
+use Rattle.meter_io.specs.Sides.{Side}
+use Rattle.meter_workers.specs.Windows.{IsMeteredWhole, IsRefused}
+use Rattle.meter_workers.specs.declared.fault.MeterFault.{MeterFault}
+use Rattle.meter_workers.specs.declared.fault.MeterFault.TheVariants.{Failed as SourceFailed, TooLarge as MoreBytes, NotCapture as NoHeader, LinkUnknown as OtherLink, Damaged as DamagedAt, NoMemory as NoRoom}
+use Rattle.meter_program.specs.declared.status.Status.{Status}
+use Rattle.meter_program.specs.Metering.{AreGathered, IsKept, IsReadAndKept, IsGathered, status_for}
+use Rattle.meter_program.specs.Outcome.{MeterRefuses}
+
+-- the fragments that a cache kept share out the packets of the file, in whatever order these were metered
+pub read-and-kept : (input : Side) (means limits : Timeouts) (packets : List Packet) (metered : List Fragment) (tally : Tally) (tail : ℕ) → StandsPermuted
+    → means ≡ limits → IsMeteredWhole input (2 ^ 30) packets tally tail → SharesOut means packets metered
+    → IsReadAndKept input limits metered tally tail
+read-and-kept input means limits packets metered tally tail permuted same whole shared = record {
+  bytes = whole.bytes;
+  read = whole.read;
+  kept = record {
+    file = whole.file;
+    is_file = whole.is_file;
+    known = whole.known;
+    undamaged = whole.undamaged;
+    shared = permuted limits packets (packets_of whole.file) metered metered (IsPermutation-sym (packets_of whole.file) packets whole.packets)
+        (IsPermutation-refl metered) (subst (λ (t : Timeouts). SharesOut t packets metered) same shared);
+    tally_is = whole.tallied;
+    tail_is = whole.tail_is;
+  };
+}
+
+-- each fault of metering is its status
+pub refused-for : (input : Side) (fault : MeterFault) (status : Status) → status ≡ status_for fault → IsRefused input (2 ^ 30) fault → MeterRefuses input status
+refused-for input SourceFailed status is h = subst (MeterRefuses input) (sym is) h
+refused-for input MoreBytes status is h = subst (MeterRefuses input) (sym is) h
+refused-for input NoHeader status is h = subst (MeterRefuses input) (sym is) h
+refused-for input (OtherLink link) status is h = subst (MeterRefuses input) (sym is) h
+refused-for input (DamagedAt at) status is h = subst (MeterRefuses input) (sym is) h
+refused-for input NoRoom status is h = subst (MeterRefuses input) (sym is) tt
+
+-- the fragments have as many packets and octets as the tally
+pub counts-are : (limits : Timeouts) (capture : List ℕ) (metered : List Fragment) (tally : Tally) (tail : ℕ) → CountsAll
+    → IsKept limits capture metered tally tail
+    → (sum_by (λ (f : Fragment). f.packets) metered ≡ tally.accepted) × (sum_by (λ (f : Fragment). f.octets) metered ≡ tally.octets)
+counts-are limits capture metered tally tail counts kept =
+    let all = counts limits (packets_of kept.file) metered kept.shared in
+    (all.0 ∙ sym kept.tally_is.accepted, all.1 ∙ sym kept.tally_is.octets)
+
+-- the records that were gathered of them
+pub gathered : (idle active : ℕ) (limits : Timeouts) (capture : List ℕ) (metered : List Fragment) (records : List FlowRecord) (tally : Tally) (tail : ℕ)
+    → limits.idle ≡ 1000 * idle → limits.active ≡ 1000 * active → IsKept limits capture metered tally tail
+    → AreGathered limits metered tally.clock records → IsGathered idle active capture metered records tally tail
+gathered idle active limits capture metered records tally tail idle_is active_is kept are = record {
+  file = kept.file;
+  is_file = kept.is_file;
+  known = kept.known;
+  undamaged = kept.undamaged;
+  limits = limits;
+  idle = idle_is;
+  active = active_is;
+  lawful = are.lawful (packets_of kept.file) kept.shared kept.tally_is.clock;
+  regroups = are.regroups;
+  sessions = are.sessions (packets_of kept.file) kept.shared kept.tally_is.clock;
+  tally_is = kept.tally_is;
+  tail_is = kept.tail_is;
+}

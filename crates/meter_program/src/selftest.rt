@@ -1,0 +1,77 @@
+//! The command `selftest`.
+
+ghost use Rattle.std.specs.Prelude.{◌≡◌};
+ghost use Rattle.meter_io.specs.Sides.{Side, IsUntouched, side};
+ghost use Rattle.meter_program.specs.Outcome.{Ends};
+ghost use Rattle.meter_program.specs.Seen.{seen_of};
+ghost use Rattle.meter_program.specs.Words.{selftest};
+
+use crate::meter::stream_of;
+use crate::metering::gathered_from;
+use crate::notes::summary;
+use crate::settings::{Making, Settings};
+use crate::status::Status;
+use cache_face::Caches;
+use capture_maker::capture;
+use meter_io::{Failed, MemSource, Sink};
+use meter_workers::Gate;
+use std::alloc::Global;
+use std::thread::Threads;
+
+/// The most bytes that a made capture gives at a time.
+const PIECE: usize = 65_536;
+
+/// How a made capture is metered: by four workers, and else by the defaults of `meter`.
+fn four_workers() -> Settings
+    ensures idle { result.idle ≡ 300 }
+    ensures active { result.active ≡ 1800 }
+    ensures size { result.size ≡ 1400 }
+{
+    Settings {
+        idle: 300,
+        active: 1800,
+        workers: 4,
+        sets: 4096,
+        piece: 256,
+        size: 1400,
+    }
+}
+
+/// Meters the capture of a seed in memory, through a cache of `caches`, and writes the summary to the output. It reads
+/// nothing and notes nothing.
+pub fn selftest<R: Threads + Sync, K: Sink, M: Caches, G: Gate>(
+    rt: &R,
+    alloc: Global,
+    settings: &Making,
+    output: &mut K,
+    caches: &mut M,
+    gate: &G,
+) -> Status
+    ensures { (input notes : Side) → IsUntouched input → IsUntouched notes → let seen = seen_of input (side K.held K.faults output.old output.new)
+        notes (M.metered caches.new)
+        in Ends (selftest settings.now.seed settings.now.packets settings.now.keys) seen (IsUntouched notes) result }
+{
+    let Ok(bytes) = capture(alloc, settings.seed, settings.packets, settings.keys) else {
+        return Status::NoMemory;
+    };
+    let settings = four_workers();
+    let mut source = MemSource::new(bytes.as_slice(), PIECE, &[]);
+    // A made capture in memory is refused for want of memory alone.
+    let Ok(gathered) = gathered_from(rt, alloc, &settings, &mut source, caches, gate) else {
+        return Status::NoMemory;
+    };
+    let Ok(stream) = stream_of(alloc, &gathered, settings.size) else {
+        return Status::NoMemory;
+    };
+    let flows = gathered.records.len() as u64;
+    match summary(
+        output,
+        &gathered.tally,
+        flows,
+        stream.messages,
+        gathered.tail,
+    ) {
+        Ok(()) => Status::Done,
+        Err(Failed) => Status::WriteFault,
+    }
+}
