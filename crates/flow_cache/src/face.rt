@@ -3,9 +3,7 @@
 ghost use Rattle.std.specs.Prelude.{◌≡◌, ◌+◌, ◌*◌, ◌<◌, ◌≤◌, ◌^◌, ◌∷◌, [], ◌++◌, All, IfOk, unwrap_or, option_map};
 ghost use Rattle.cache_face.specs.Meaning.{IsMetered};
 ghost use Rattle.cache_face.specs.Notes.{metering};
-ghost use Rattle.pebr_core.specs.Frames.{retired_count};
-ghost use Rattle.pebr_roots.specs.Passes.{known_by};
-ghost use Rattle.flow_cache.specs.Shown.{means_of, shown_of, IsOf, IsTryOf};
+ghost use Rattle.flow_cache.specs.Shown.{means_of, shown_of, retired_of, slots_of, IsOf, IsTryOf};
 
 use crate::cache::{PebrCache, PebrPass};
 use crate::stop::Never;
@@ -34,7 +32,7 @@ impl FlowCache for PebrCache {
         ensures own { IsOf self.now pass.new }
         ensures note { (shown_of pass.new).note ≡ metering (shown_of pass.old).note (packet.now ∷ []) result.out }
         ensures answer { IsMetered (means_of self.now) IsTryOf (shown_of pass.old) (shown_of pass.new) packet.now result.how result.out }
-        ensures retired { retired_count (known_by pass.new.inner) ≤ 32 + 4 * (means_of self.now).seats }
+        ensures retired { retired_of pass.new ≤ slots_of self.now }
     {
         self.meter_stopping(pass, packet, &mut Never)
     }

@@ -46,6 +46,8 @@ mod putting;
 mod reading;
 mod stop;
 mod tells;
+#[cfg(test)]
+mod tests;
 
 pub use cache::{PebrCache, PebrPass};
 pub use cache_face::NoMemory;

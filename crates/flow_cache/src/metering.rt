@@ -9,7 +9,7 @@ ghost use Rattle.pebr_core.specs.Frames.{fresh_count, retired_count};
 ghost use Rattle.pebr_roots.specs.Passes.{shape_at, known_by, note_by, past_by, IsOf, IsSame};
 ghost use Rattle.flow_cache.specs.Outcome.{HaveLost, IsOutcome};
 ghost use Rattle.flow_cache.specs.Shown as shown;
-ghost use Rattle.flow_cache.specs.Shown.{means_of, shown_of, IsTryOf};
+ghost use Rattle.flow_cache.specs.Shown.{means_of, shown_of, retired_of, ejections_of, slots_of, IsTryOf};
 ghost use Rattle.flow_cache.specs.Trying.{IsOwn};
 
 use crate::cache::{PebrCache, PebrPass};
@@ -144,8 +144,8 @@ impl PebrCache {
         ensures own { shown.IsOf self.now pass.new }
         ensures note { (shown_of pass.new).note ≡ metering (shown_of pass.old).note (packet.now ∷ []) result.out }
         ensures answer { IsMetered (means_of self.now) IsTryOf (shown_of pass.old) (shown_of pass.new) packet.now result.how result.out }
-        ensures retired { retired_count (known_by pass.new.inner) ≤ 32 + 4 * (means_of self.now).seats }
-        ensures ejections { retired_count (known_by pass.old.inner) ≢ 32 + 4 * (means_of self.now).seats → (past_by pass.new.inner).ejections ≡ (past_by pass.old.inner).ejections }
+        ensures retired { retired_of pass.new ≤ slots_of self.now }
+        ensures ejections { retired_of pass.old ≢ slots_of self.now → ejections_of pass.new ≡ ejections_of pass.old }
     {
         let own = Fragment::of(packet);
         let set = own.key.set_of(self.sets);

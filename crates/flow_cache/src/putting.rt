@@ -129,6 +129,19 @@ impl PebrCache {
         }
     }
 
+    /// Takes the shields down.
+    fn take_down<T: Stop>(&self, pass: &mut RootPass<CacheRule>, stop: &mut T)
+        requires of { IsOf self.now.roots pass.old }
+        ensures same { IsSame self.now.roots pass.old pass.new }
+        ensures note { note_by first_note pass.new ≡ note_by first_note pass.old }
+        ensures known { known_by pass.new ≡ record (known_by pass.old) { shields = (known_by pass.new).shields } }
+        ensures down { IsTrue (list_all is_down (known_by pass.new).shields) }
+        ensures past { past_by pass.new ≡ record (past_by pass.old) { last = (past_by pass.new).last; steps = (past_by pass.new).steps } }
+    {
+        stop.at(Point::Clear);
+        self.roots.clear(pass);
+    }
+
     /// Takes the shields down and leaves. A packet that is passed by is metered here, and its own fragment handed out.
     fn end<T: Stop>(
         &self,
@@ -149,8 +162,7 @@ impl PebrCache {
         ensures past { past_by pass.new ≡ record (past_by pass.old) { last = (past_by pass.new).last; steps = (past_by pass.new).steps } }
         ensures sure { IsSure IsWhole (shape_at self.now.roots) (known_by pass.new) (past_by pass.new) }
     {
-        stop.at(Point::Clear);
-        self.roots.clear(pass);
+        self.take_down(pass, stop);
         stop.at(Point::Leave);
         self.roots.leave(pass, passing(packet, own, passes_by));
     }

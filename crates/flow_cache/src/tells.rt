@@ -1,16 +1,14 @@
 //! What a pass tells.
 
 ghost use Rattle.std.specs.Prelude.{◌≡◌, ◌^◌, ◌-◌, length, min};
-ghost use Rattle.pebr_core.specs.Frames.{retired_count};
-ghost use Rattle.pebr_roots.specs.Passes.{known_by};
-ghost use Rattle.flow_cache.specs.Shown.{shown_of};
+ghost use Rattle.flow_cache.specs.Shown.{shown_of, retired_of};
 
 use crate::cache::PebrPass;
 
 impl PebrPass {
     /// How many slots it has retired.
     pub fn retired(&self) -> usize
-        ensures { result ≡ retired_count (known_by self.now.inner) }
+        ensures { result ≡ retired_of self.now }
     {
         self.inner.retired()
     }
