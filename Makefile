@@ -85,6 +85,8 @@ check: build $(THREADS)
 	checks/pcapng.sh
 	checks/biflows.sh
 	checks/two_threads.sh
+	checks/refused_memory.sh
+	python3 checks/workers.py
 	python3 checks/second_meter.py 20000
 	python3 checks/second_reader.py 20000
 	python3 checks/second_pairer.py 2000

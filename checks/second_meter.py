@@ -4,8 +4,10 @@
     python3 checks/second_meter.py [CAPTURES [SEED]]
 
 Each of the captures (300 unless given) has some tens of packets, most of them whole, some cut, with bytes changed, of odd
-links and times. `meter` of the program, at ROMTYALIG or bin/romtyalig, must write the very bytes that this one writes. The
-first difference ends the run with status 1 and leaves the capture in the current folder.
+links and times. `meter` of the program, at ROMTYALIG or bin/romtyalig, must write the very bytes that this one writes: by one
+worker always, and by several where nothing cuts a session. Where something does, what several workers write must be a stream of
+records that are in order, apart, and have the packets, octets, flags and reasons that this one's have together. The first
+difference ends the run with status 1 and leaves the capture in the current folder.
 """
 
 import os
@@ -141,24 +143,76 @@ def ends(key: tuple, flags: int) -> bool:
     return key[3] == 6 and flags & 0x005 != 0
 
 
-def takes(flow: list, packet: Packet, idle: int, active: int) -> bool:
-    """Whether the flow, none of whose packets is later, goes on with the packet."""
-    if packet.time - flow[4] > idle or packet.time - flow[3] > active:
-        return False
-    return packet.time == flow[4] or not ends(flow[0], flow[5])
+@dataclass
+class Limits:
+    """Both time-outs in milliseconds."""
+    idle: int
+    active: int
 
 
-def flows_of(packets: list[Packet], idle: int, active: int) -> list[list]:
-    """Per flow: key, packets, octets, first, last, flags, reason; from each key's first packet on, as long as may be."""
-    clock = max((packet.time for packet in packets), default=0)
+def alone(packet: Packet) -> list:
+    """A flow of one packet: key, packets, octets, first, last, flags, reason."""
+    return [packet.key, 1, packet.octets, packet.time, packet.time, packet.flags, 0]
+
+
+def joinable(one: list, other: list, limits: Limits) -> bool:
+    """Whether two flows can be one."""
+    first, last = min(one[3], other[3]), max(one[4], other[4])
+    near = max(one[3], other[3]) - min(one[4], other[4]) <= limits.idle
+    late = all(flow[4] == last for flow in (one, other) if ends(flow[0], flow[5]))
+    return one[0] == other[0] and near and last - first <= limits.active and late
+
+
+def joined(one: list, other: list) -> list:
+    first, last = min(one[3], other[3]), max(one[4], other[4])
+    return [one[0], one[1] + other[1], one[2] + other[2], first, last, one[5] | other[5], 0]
+
+
+def set_of(key: tuple, sets: int) -> int:
+    """The set of the cache for a key."""
+    version, source, destination, protocol, *ports = key
+    words = [version << 40 | protocol << 32 | ports[0] << 16 | ports[1]]
+    for address in (number(source), number(destination)):
+        words += [address >> 64, address & (1 << 64) - 1]
+    hashed = 0
+    for word in words:
+        hashed = (hashed ^ word) * 0x9E3779B97F4A7C15 & (1 << 64) - 1
+    return (hashed >> 32) % sets
+
+
+def cached(packets: list[Packet], limits: Limits, sets: int) -> list[list]:
+    """What a cache of so many sets of four entries hands out and keeps, where one worker meters all packets."""
+    cache: dict[int, list] = {}
+    out = []
+    for packet in packets:
+        own = alone(packet)
+        entries = cache.setdefault(set_of(packet.key, sets), [None] * 4)
+        places = [place for place, entry in enumerate(entries) if entry and entry[0] == packet.key]
+        fit = [place for place in places if joinable(entries[place], own, limits)]
+        empty = [place for place, entry in enumerate(entries) if not entry]
+        if fit:
+            entries[fit[0]] = joined(entries[fit[0]], own)
+            continue
+        place = (places or empty or [min(range(4), key=lambda place: entries[place][4])])[0]
+        if entries[place]:
+            out.append(entries[place])
+        entries[place] = own
+    return out + [entry for entries in cache.values() for entry in entries if entry]
+
+
+def gathered(parts: list[list], clock: int, limits: Limits) -> list[list]:
+    """Parts of flows gathered: those of one key that follow each other by their last times are joined as long as may be."""
     by_key: dict[tuple, list[list]] = {}
-    for packet in sorted(packets, key=lambda packet: packet.time):
-        flows = by_key.setdefault(packet.key, [])
-        if flows and takes(flows[-1], packet, idle, active):
-            flow = flows[-1]
-            flow[1:6] = flow[1] + 1, flow[2] + packet.octets, flow[3], packet.time, flow[5] | packet.flags
-        else:
-            flows.append([packet.key, 1, packet.octets, packet.time, packet.time, packet.flags, 0])
+    for part in sorted(parts, key=lambda part: part[4]):
+        flows, whole = by_key.setdefault(part[0], []), part
+        while flows and joinable(flows[-1], whole, limits):
+            whole = joined(flows.pop(), whole)
+        flows.append(whole)
+    return reasoned(by_key, clock, limits.idle)
+
+
+def reasoned(by_key: dict[tuple, list[list]], clock: int, idle: int) -> list[list]:
+    """The flows with their reasons, in the order in which they are written."""
     for flows in by_key.values():
         for flow, later in zip(flows, flows[1:]):
             flow[6] = 1 if later[3] - flow[4] > idle else 2
@@ -167,6 +221,48 @@ def flows_of(packets: list[Packet], idle: int, active: int) -> list[list]:
             if ends(flow[0], flow[5]):
                 flow[6] = 3
     return sorted((flow for flows in by_key.values() for flow in flows), key=lambda flow: (flow[4], flow[0]))
+
+
+def clock_of(packets: list[Packet]) -> int:
+    return max((packet.time for packet in packets), default=0)
+
+
+def is_uncut(packets: list[Packet], limits: Limits) -> bool:
+    """Whether no session outlasts the active time-out, and each packet that ends its flow has its session's last time."""
+    by_key: dict[tuple, list[list[Packet]]] = {}
+    for packet in sorted(packets, key=lambda packet: packet.time):
+        sessions = by_key.setdefault(packet.key, [])
+        if not sessions or packet.time - sessions[-1][-1].time > limits.idle:
+            sessions.append([])
+        sessions[-1].append(packet)
+    return all(
+        session[-1].time - session[0].time <= limits.active
+        and all(packet.time == session[-1].time for packet in session if ends(packet.key, packet.flags))
+        for sessions in by_key.values() for session in sessions
+    )
+
+
+def totals(flows: list[list]) -> dict[tuple, tuple]:
+    """Packets, octets, flags, the first and the last time of each key."""
+    by_key: dict[tuple, tuple] = {}
+    for key, packets, octets, first, last, flags, _ in flows:
+        some = by_key.get(key, (0, 0, 0, first, last))
+        by_key[key] = (some[0] + packets, some[1] + octets, some[2] | flags, min(some[3], first), max(some[4], last))
+    return by_key
+
+
+def is_lawful(flows: list[list], packets: list[Packet], limits: Limits) -> bool:
+    """Whether flows have what the packets have together, are in order and apart, and have the reasons."""
+    by_key: dict[tuple, list[list]] = {}
+    for flow in flows:
+        by_key.setdefault(flow[0], []).append(list(flow))
+    times = {(packet.key, packet.time) for packet in packets}
+    return (
+        totals(flows) == totals([alone(packet) for packet in packets])
+        and reasoned(by_key, clock_of(packets), limits.idle) == flows
+        and all((flow[0], time) in times for flow in flows for time in flow[3:5])
+        and not any(joinable(*pair, limits) for some in by_key.values() for pair in zip(some, some[1:]))
+    )
 
 
 def message(export_time: int, sequence: int, sets: bytes) -> bytes:
@@ -200,10 +296,36 @@ def stream_of(flows: list[list], export_time: int, size: int) -> bytes:
     return out + (message(export_time, written, joined()) if sets else b"")
 
 
-def meter(capture: bytes, idle: int, active: int, size: int) -> bytes:
-    packets = packets_of(capture)
-    export_time = max((packet.time for packet in packets), default=0) // 1000
-    return stream_of(flows_of(packets, 1000 * idle, 1000 * active), export_time, size)
+def flows_in(stream: bytes) -> list[list]:
+    """The flows of a stream of templates 256 and 257."""
+    flows, at = [], 0
+    while at < len(stream):
+        end = at + number(stream[at + 2:at + 4])
+        at += 16
+        while at < end:
+            template, behind = number(stream[at:at + 2]), at + number(stream[at + 2:at + 4])
+            at += 4
+            width, length = {256: (4, 48), 257: (16, 72)}.get(template, (0, behind - at))
+            for place in range(at, behind if width else at, length):
+                rest = stream[place + 2 * width:place + length]
+                *ports, protocol, flags, packets, octets, first, last, reason = struct.unpack(">HHBHQQQQB", rest)
+                addresses = stream[place:place + width], stream[place + width:place + 2 * width]
+                key = (4 if width == 4 else 6, *addresses, protocol, *ports)
+                flows.append([key, packets, octets, first, last, flags, reason])
+            at = behind
+    return flows
+
+
+def differs(stream: bytes, packets: list[Packet], limits: Limits, size: int, sets: int, workers: int) -> bool:
+    """Whether this is no stream that so many workers may write."""
+    export_time = clock_of(packets) // 1000
+    if workers == 1 or is_uncut(packets, limits):
+        flows = gathered(cached(packets, limits, sets), clock_of(packets), limits)
+    else:
+        flows = flows_in(stream)
+        if not is_lawful(flows, packets, limits):
+            return True
+    return stream != stream_of(flows, export_time, size)
 
 
 def random_chain(chance: random.Random, kind: int, payload: bytes) -> tuple[int, bytes]:
@@ -287,14 +409,16 @@ def main() -> None:
         idle, active = chance.choice(((300, 1800), (1, 1), (2, 5), (10, 3), (86400, 86400)))
         size = chance.choice((116, 140, 163, 164, 400, 1400, 65535))
         capture = random_capture(chance, idle, active)
-        words = [program, "meter", "--idle", str(idle), "--active", str(active), "--size", str(size)]
+        workers, sets, piece = chance.choice((1, 1, 2, 8)), chance.choice((1, 2, 4096)), chance.choice((1, 7, 256))
+        options = {"idle": idle, "active": active, "size": size, "workers": workers, "sets": sets, "piece": piece}
+        words = [program, "meter"] + [f"--{name}={value}" for name, value in options.items()]
         ran = subprocess.run(words, input=capture, capture_output=True)
-        if ran.returncode != 0 or ran.stdout != meter(capture, idle, active, size):
+        limits, found = Limits(1000 * idle, 1000 * active), packets_of(capture)
+        if ran.returncode != 0 or differs(ran.stdout, found, limits, size, sets, workers):
             Path("different.pcap").write_bytes(capture)
             sys.exit(f"different: capture {place} of seed {seed}, left in different.pcap: {' '.join(words[1:])}")
-        found = packets_of(capture)
         packets += len(found)
-        flows += len(flows_of(found, 1000 * idle, 1000 * active))
+        flows += len(flows_in(ran.stdout))
     print(f"same: {wanted} captures of seed {seed}, packets {packets}, flows {flows}")
 
 

@@ -1,6 +1,7 @@
 //! The program: the command line's words, the standard streams, and the exit status.
 #![tactic(auto)]
 
+use flow_cache::PebrCaches;
 use meter_io::{StdSink, StdSource};
 use meter_program::{Status, fault_line, run};
 use meter_workers::OpenGate;
@@ -8,7 +9,6 @@ use std::alloc::Global;
 use std::env;
 use std::io::ErrorKind;
 use std::process::ExitCode;
-use turn_cache::TurnCaches;
 
 /// The words behind the program's name. A word that isn't UTF-8 is a faulty command line.
 fn words_of(rt: &HostRuntime) -> Result<Vec<String>, Status> {
@@ -41,7 +41,7 @@ fn main(rt: HostRuntime) -> ExitCode {
         &mut input,
         &mut output,
         &mut notes,
-        &mut TurnCaches::new(),
+        &mut PebrCaches::new(),
         &OpenGate,
     );
     ExitCode::from(status.code())

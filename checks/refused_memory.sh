@@ -1,0 +1,72 @@
+#!/bin/bash
+# Each allocation of a run is refused in turn.
+#
+#     checks/refused_memory.sh
+#
+# `meter` on a capture of two packets, by one worker and by three, `schedule` on a short schedule and `show` on a short stream are
+# run with one allocation refused, the first, the second and so on to the last that the run makes. Each run must end with status
+# 0 and the output of a run with all its memory, or with status 8, no output and the line `no memory`. `refuse.c` stands in
+# front of the C library for that; without gcc all is skipped with one line. ROMTYALIG is the program's path (bin/romtyalig
+# unless set).
+set -u
+
+here=$(cd "$(dirname "$0")" && pwd)
+top=$(dirname "$here")
+program=${ROMTYALIG:-$top/bin/romtyalig}
+export LC_ALL=C
+
+if [ ! -x "$program" ]; then
+    echo "no program at $program" >&2
+    exit 2
+fi
+if ! command -v gcc >/dev/null; then
+    echo "skipped: no gcc"
+    exit 0
+fi
+work=$(mktemp -d)
+trap 'rm -rf "$work"' EXIT
+gcc -O1 -shared -fPIC -o "$work/refuse.so" "$here/refuse.c" -ldl || exit 2
+
+# The run of some words on an input, with the allocation of this number refused.
+run() {
+    local number=$1 input=$2
+    shift 2
+    REFUSED=$number COUNTED=$work/count LD_PRELOAD=$work/refuse.so "$program" "$@" <"$input" >"$work/out" 2>"$work/notes"
+}
+
+differ=0
+refused=0
+
+# Whether what such a run left is right.
+is_right() {
+    case $1 in
+    0) cmp -s "$work/out" "$work/wanted" ;;
+    8) [ ! -s "$work/out" ] && [ "$(cat "$work/notes")" = "no memory" ] ;;
+    *) false ;;
+    esac
+}
+
+try_all() {
+    local input=$1 number count status
+    shift
+    run 0 "$input" "$@" || { echo "DIFFERS: $* ended with $?"; exit 1; }
+    cp "$work/out" "$work/wanted"
+    count=$(cat "$work/count")
+    [ "$count" -ge 3 ] || { echo "DIFFERS: $* made $count allocations"; exit 1; }
+    for ((number = 1; number <= count; number++)); do
+        run "$number" "$input" "$@"
+        status=$?
+        is_right "$status" || { echo "DIFFERS: $*: allocation $number of $count refused: status $status"; differ=$((differ + 1)); }
+        [ "$status" -eq 8 ] && refused=$((refused + 1))
+    done
+}
+
+"$program" make --seed=1 --packets=2 >"$work/two.pcap" 2>/dev/null
+"$program" meter <"$work/two.pcap" >"$work/two.ipfix" 2>/dev/null
+printf 'core 1 2 1 1 1\nnote 0\npin 0\nload 0 0\nshield 0 0 0\ncheck 0\nwrite 0 1 0 7\nreplace 0 0 0 1\nunshield 0 0\nleave 0\n' >"$work/steps"
+try_all "$work/two.pcap" meter
+try_all "$work/two.pcap" meter --workers=3 --piece=1
+try_all "$work/steps" schedule
+try_all "$work/two.ipfix" show
+[ "$differ" -eq 0 ] && echo "right: $refused runs were out of memory"
+[ "$differ" -eq 0 ]
