@@ -44,6 +44,7 @@ mod open;
 mod protocol;
 mod putting;
 mod reading;
+mod seats;
 mod stop;
 mod tells;
 #[cfg(test)]

@@ -1,6 +1,6 @@
 //! The entries of a set are read.
 
-ghost use Rattle.std.specs.Prelude.{◌≡◌, ℕ, ◌<◌, ◌∷◌, IsTrue, All, Some, true, false, slice_index};
+ghost use Rattle.std.specs.Prelude.{◌≡◌, ℕ, ◌+◌, ◌<◌, ◌∷◌, IsTrue, All, Some, true, false, slice_index};
 ghost use Rattle.cache_face.specs.Choice.{IsSmallEntry};
 ghost use Rattle.cache_face.specs.Keeping.{entry_of, IsWhole};
 ghost use Rattle.cache_face.specs.Notes.{first_note};
@@ -60,6 +60,7 @@ impl PebrCache {
         ensures note { note_by first_note pass.new ≡ note_by first_note pass.old }
         ensures fresh { (known_by pass.new).fresh ≡ (known_by pass.old).fresh }
         ensures entered { is_out (known_by pass.new).status ≡ false }
+        ensures pins { (past_by pass.new).pins ≡ (past_by pass.old).pins + 1 }
         ensures ejections { (past_by pass.new).ejections ≡ (past_by pass.old).ejections }
         ensures valid { result ≡ checked.Valid → AreProtected set (known_by pass.new) (past_by pass.new) × IsUnlost (past_by pass.old) (past_by pass.new) }
         ensures ejected { result ≡ checked.Ejected → (past_by pass.new).lost ≡ was_ejected ∷ (past_by pass.old).lost }
@@ -72,8 +73,9 @@ impl PebrCache {
         self.roots.check(pass)
     }
 
-    /// Reads the entry under a shield.
-    fn read_entry(&self, pass: &mut RootPass<CacheRule>, place: usize) -> Option<Fragment>
+    /// Reads the entry under a valid shield: the ten words of its slot. It is the same at each read until the shield is taken
+    /// down or the pass enters anew.
+    pub fn read_entry(&self, pass: &mut RootPass<CacheRule>, place: usize) -> Option<Fragment>
         requires of { IsOf self.now.roots pass.old }
         requires place { place < 4 }
         requires valid { IsTrue (is_valid_at (known_by pass.old) place) }
@@ -110,7 +112,7 @@ impl PebrCache {
     }
 
     /// Reads the four entries of the set whose roots are protected.
-    pub(crate) fn read_set(&self, pass: &mut RootPass<CacheRule>) -> [Option<Fragment>; 4]
+    pub fn read_set(&self, pass: &mut RootPass<CacheRule>) -> [Option<Fragment>; 4]
         requires of { IsOf self.now.roots pass.old }
         requires valid { (place : ℕ) → place < 4 → IsTrue (is_valid_at (known_by pass.old) place) }
         ensures same { IsSame self.now.roots pass.old pass.new }

@@ -1,11 +1,28 @@
-use Rattle.std.proofs.Common.{◌≡◌, ap, ◌∙◌, subst}
+use Rattle.std.proofs.Common.{◌≡◌, ◌∷◌, ℕ, Bool, true, false, refl, ap, ◌∙◌, subst}
+use Rattle.std.specs.Prelude.{if◌then◌else◌}
+use Rattle.pebr_core.specs.State.{Seat}
+use Rattle.pebr_core.specs.declared.kinds.Answer.{Answer}
 use Rattle.pebr_core.specs.declared.kinds.Step.TheVariants as step
 use Rattle.pebr_core.specs.declared.kinds.Answer.TheVariants as answer
 use Rattle.pebr_shields.specs.Found.{answer_to}
-use Rattle.pebr_words.specs.Pasts.{History, past_after}
+use Rattle.pebr_words.specs.Pasts.{History, past_after, is_ejected, with_lost, was_ejected}
 use Rattle.pebr_roots.specs.Passes.{known_by, number_by, past_by}
 use Rattle.flow_cache.proofs.Tries.{checked_set}
 use Rattle.flow_cache.proofs.cache.PebrCache.reach.Goals as goal
+
+-- a check makes no pin
+either : (b : Bool) (one two : History) → one.pins ≡ two.pins → (if b then one else two).pins ≡ two.pins
+either true one two same = same
+either false one two same = refl
+
+unpinned : (i : ℕ) (a : Answer) (seat : Seat) (past : History) → (past_after (step.Check i) a seat past).pins ≡ past.pins
+unpinned i a seat past = either (is_ejected a) (with_lost was_ejected past) past (either past.has_lost past (record past { lost = was_ejected ∷ past.lost; has_lost = true }) refl)
+
+pub returns-clause-pins : goal.returns-clause-pins
+returns-clause-pins g c =
+    let mid = c.load_set.new.pass in
+    ap (λ (p : History). p.pins) c.check.ensures.step.past ∙ unpinned (number_by mid) (answer_to c.check.result) (known_by mid) (past_by mid)
+    ∙ ap (λ (p : History). p.pins) c.load_set.ensures.past ∙ ap (λ (p : History). p.pins) c.enter.ensures.past
 
 pub returns-clause-valid : goal.returns-clause-valid
 returns-clause-valid g c valid =

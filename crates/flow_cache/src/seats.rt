@@ -1,0 +1,74 @@
+//! The cache as one sees it who keeps an entry of it: its roots, and the seat of a pass.
+
+ghost use Rattle.std.specs.Prelude.{◌≡◌, ◌+◌, ◌≤◌, ◌<◌, ◌∷◌, ◌^◌, ◌-◌, length, min, IsTrue, false};
+ghost use Rattle.std.specs.List.{list_all};
+ghost use Rattle.cache_face.specs.Notes.{first_note};
+ghost use Rattle.pebr_core.specs.State.{is_out, is_down};
+ghost use Rattle.pebr_shields.specs.declared.checked.Checked.TheVariants as checked;
+ghost use Rattle.pebr_words.specs.Pasts.{was_ejected};
+ghost use Rattle.pebr_words.specs.Ruled.{IsSure};
+ghost use Rattle.cache_face.specs.Keeping.{IsWhole};
+ghost use Rattle.pebr_roots.specs.Passes.{shape_at, known_by, note_by, past_by, lost_by, IsOf, IsSame};
+ghost use Rattle.flow_cache.specs.Shown.{means_of};
+ghost use Rattle.flow_cache.specs.Trying.{AreProtected, IsUnlost};
+
+use crate::cache::{PebrCache, PebrPass};
+use crate::protocol::CacheRule;
+use crate::stop::Never;
+use pebr_roots::{Checked, RootPass, Roots};
+
+impl PebrCache {
+    /// The roots of its entries. Those of the set `s` have the numbers from `4 * s` on.
+    pub fn roots(&self) -> &Roots<CacheRule>
+        ensures { result.now ≡ self.now.roots }
+    {
+        &self.roots
+    }
+
+    /// The number of its sets, from 1 to 65,536.
+    pub fn sets(&self) -> u64
+        ensures number { result ≡ (means_of self.now).sets }
+        ensures some { 1 ≤ result }
+    {
+        self.sets
+    }
+
+    /// Enters, loads and shields the four roots of a set, and checks. At `Valid` the slots under the four shields stay as they
+    /// are until these are taken down, also once the pass has left.
+    pub fn protect(&self, pass: &mut RootPass<CacheRule>, set: u64) -> Checked
+        requires of { IsOf self.now.roots pass.old }
+        requires set { set < (means_of self.now).sets }
+        requires out { IsTrue (is_out (known_by pass.old).status) }
+        ensures same { IsSame self.now.roots pass.old pass.new }
+        ensures note { note_by first_note pass.new ≡ note_by first_note pass.old }
+        ensures entered { is_out (known_by pass.new).status ≡ false }
+        ensures pins { (past_by pass.new).pins ≡ (past_by pass.old).pins + 1 }
+        ensures ejections { (past_by pass.new).ejections ≡ (past_by pass.old).ejections }
+        ensures valid { result ≡ checked.Valid → AreProtected set (known_by pass.new) (past_by pass.new) × IsUnlost (past_by pass.old) (past_by pass.new) }
+        ensures ejected { result ≡ checked.Ejected → (past_by pass.new).lost ≡ was_ejected ∷ (past_by pass.old).lost }
+    {
+        self.reach(pass, set, &mut Never)
+    }
+}
+
+impl PebrPass {
+    /// The seat of the pass.
+    pub fn into_seat(self) -> RootPass<CacheRule>
+        ensures seat { result ≡ self.inner }
+        ensures out { IsTrue (is_out (known_by result).status) }
+        ensures down { IsTrue (list_all is_down (known_by result).shields) }
+    {
+        let PebrPass { inner, lost: _ } = self;
+        inner
+    }
+
+    /// The pass of a seat that is out and has no shield up. `lost` is how many tries it has lost, at most 2^64 - 1.
+    pub fn from_seat(seat: RootPass<CacheRule>, lost: u64) -> PebrPass
+        requires out { IsTrue (is_out (known_by seat).status) }
+        requires down { IsTrue (list_all is_down (known_by seat).shields) }
+        requires counted { lost ≡ min (length (lost_by seat)) (2 ^ 64 - 1) }
+        ensures seat { result.inner ≡ seat }
+    {
+        PebrPass { inner: seat, lost }
+    }
+}
