@@ -6,6 +6,7 @@ PCAPNG := bin/romtyalig-pcapng
 PAIR := bin/romtyalig-pair
 THREADS := bin/two_threads
 METERING := bin/metering_alone
+PACE := bin/cache_pace
 CAPTURE := examples/web-exchange.pcap
 # All that a proof or a build reads: code, definitions, and proofs in folders of any depth.
 SOURCES := $(shell find crates -name out -prune -o \( -name '*.rt' -o -name '*.antt' \) -print)
@@ -62,6 +63,13 @@ $(METERING): crates.txt $(SOURCES)
 	@mkdir -p bin
 	@cp crates/metering_alone/out/metering_alone $(METERING)
 
+# And for that of bench/caches.sh.
+$(PACE): crates.txt $(SOURCES)
+	@cd crates/cache_pace && rt run -- turn 2 4 < stdin > build.log 2>&1 || { tail -n 20 build.log; exit 1; }
+	@rm -f crates/cache_pace/build.log
+	@mkdir -p bin
+	@cp crates/cache_pace/out/cache_pace $(PACE)
+
 test:
 	@echo "The gate: an hour or two on four processors where nothing is proved yet, else the time of what changed."
 	rt ci
@@ -72,7 +80,7 @@ test:
 take:
 	@mkdir -p bin
 	@for pair in romtyalig:$(PROGRAM) romtyalig_pcapng:$(PCAPNG) romtyalig_pair:$(PAIR) two_threads:$(THREADS) \
-	    metering_alone:$(METERING); do \
+	    metering_alone:$(METERING) cache_pace:$(PACE); do \
 	    made=crates/$${pair%%:*}/out/$${pair%%:*}; \
 	    if [ -x "$$made" ]; then cp "$$made" "$${pair#*:}"; fi; \
 	done

@@ -1,0 +1,130 @@
+//! Threads that meter packets in memory.
+
+ghost use Rattle.std.specs.Prelude.{◌≡◌, ◌<◌, ◌≤◌, ◌^◌, length, All, IfOk};
+ghost use Rattle.cache_face.specs.Meaning.{IsFresh};
+ghost use Rattle.cache_pace.specs.Going.{IsGoing};
+
+use cache_face::FlowCache;
+use flow_parts::Fragment;
+use no_memory::NoMemory;
+use packet_accept::Packet;
+use std::alloc::Global;
+use std::thread;
+use std::thread::Threads;
+
+/// How many packets a thread takes at a time.
+const PIECE: usize = 256;
+
+/// What a thread meters through, which of the threads it is, the number of its next packet, and the fragments that it was
+/// handed.
+#[derive(Drop)]
+pub(crate) struct Runner<C: FlowCache> {
+    pub(crate) pass: C::Pass,
+    pub(crate) place: usize,
+    pub(crate) next: u64,
+    pub(crate) out: Vec<Fragment>,
+}
+
+/// A runner for each pass.
+pub(crate) fn runners_of<C: FlowCache>(
+    alloc: Global,
+    cache: &C,
+    passes: Vec<C::Pass>,
+) -> Result<Vec<Runner<C>>, NoMemory>
+    requires passes { All (λ p. C.is_of cache.now p × IsFresh (C.shown p)) passes.items }
+    ensures many { IfOk result (λ runners. length runners.items ≡ length passes.items) }
+    ensures going { IfOk result (λ runners. All (λ r. C.is_of cache.now r.pass × IsGoing r.next (C.shown r.pass)) runners.items) }
+{
+    let _ = cache;
+    let mut runners = Vec::new(alloc);
+    let mut passes = passes;
+    while let Some(pass) = passes.pop() {
+        let out = Vec::new(alloc);
+        let place = runners.len();
+        runners.push(Runner {
+            pass,
+            place,
+            next: 0,
+            out,
+        })?;
+    }
+    Ok(runners)
+}
+
+/// Meters a packet, under the next number.
+fn run_packet<C: FlowCache>(
+    packet: &Packet,
+    cache: &C,
+    runner: &mut Runner<C>,
+) -> Result<(), NoMemory>
+    requires own { C.is_of cache.now runner.old.pass }
+    requires going { IsGoing runner.old.next (C.shown runner.old.pass) }
+    ensures own { C.is_of cache.now runner.new.pass }
+    ensures going { IsGoing runner.new.next (C.shown runner.new.pass) }
+{
+    let number = runner.next;
+    if number > 0xffff_ffff || packet.octets >= 1 << 24 {
+        return Ok(());
+    }
+    let packet = Packet { number, ..*packet };
+    let metered = cache.meter(&mut runner.pass, &packet);
+    runner.next = number + 1;
+    if let Some(fragment) = metered.out {
+        runner.out.push(fragment)?;
+    }
+    Ok(())
+}
+
+/// Meters the packets of a piece.
+fn run_piece<C: FlowCache>(
+    packets: &[Packet],
+    cache: &C,
+    runner: &mut Runner<C>,
+) -> Result<(), NoMemory>
+    requires own { C.is_of cache.now runner.old.pass }
+    requires going { IsGoing runner.old.next (C.shown runner.old.pass) }
+    ensures own { C.is_of cache.now runner.new.pass }
+    ensures going { IsGoing runner.new.next (C.shown runner.new.pass) }
+{
+    for packet in packets {
+        run_packet(packet, cache, runner)?;
+    }
+    Ok(())
+}
+
+/// Meters a runner's pieces, each so manieth.
+fn run_share<C: FlowCache>(packets: &[Packet], count: usize, cache: &C, runner: &mut Runner<C>)
+    requires some { 0 < count }
+    requires own { C.is_of cache.now runner.old.pass }
+    requires going { IsGoing runner.old.next (C.shown runner.old.pass) }
+{
+    let mut turn = 0;
+    for piece in packets.chunks(PIECE) {
+        if turn == runner.place && run_piece(piece, cache, runner).is_err() {
+            return;
+        }
+        turn = if turn < count - 1 { turn + 1 } else { 0 };
+    }
+}
+
+/// All runners meter at once.
+pub(crate) fn run_all<C: FlowCache, R: Threads + Sync>(
+    rt: &R,
+    packets: &[Packet],
+    cache: &C,
+    runners: &mut [Runner<C>],
+)
+    requires some { 0 < length runners.old }
+    requires going { All (λ r. C.is_of cache.now r.pass × IsGoing r.next (C.shown r.pass)) runners.old }
+{
+    let count = runners.len();
+    thread::for_each_mut(
+        rt,
+        runners,
+        count,
+        &|_, r: &mut Runner<C>|
+            requires some { 0 < count }
+            requires going { C.is_of cache.now r.old.pass × IsGoing r.old.next (C.shown r.old.pass) }
+        { run_share(packets, count, cache, r) },
+    );
+}
