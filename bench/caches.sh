@@ -8,7 +8,7 @@
 # seed 1. Both programs run in turn on it, ROUNDS times (7 unless set), with 4,096 sets and with 65,536. Written are medians of
 # nanoseconds and of the ratios within a round, and how much faster the threads are together than one, by the medians.
 #
-# PACE is the program's path (bin/cache_pace unless set). Debian packages: gcc, python3.
+# PACE is the program's path (bin/cache_pace unless set). Debian packages: gcc, python3, time.
 set -eu
 
 here=$(cd "$(dirname "$0")" && pwd)

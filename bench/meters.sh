@@ -13,7 +13,7 @@
 # argus sleeps to the end of a second before it ends, so its processor's seconds tell more. Flows aren't the same in all: only
 # `meter` and nfpcapd keep each direction apart and cut flows by the same rules.
 #
-# ROMTYALIG is the program's path (bin/romtyalig unless set), PORT a free one (9997 unless set). Debian packages: gcc, python3;
+# ROMTYALIG is the program's path (bin/romtyalig unless set), PORT a free one (9997 unless set). Debian packages: gcc, python3, time;
 # softflowd, nfdump, argus-server. softflowd and argus are looked for in sbin too.
 set -eu
 
