@@ -65,14 +65,14 @@ all-read (Some xs) (Some ys) all bytes is consumed ended =
     let same : xs ≡ all = cc in
     sym (append-nil bytes) ∙ ap (λ zs. bytes ++ zs) (sym ended) ∙ sym consumed ∙ same
 
-both-kinds : {X : Type 0} (o : Option X) (P Q : X → Type 0) → IsSomeAnd o P → IsSomeAnd o Q → ((x : X) → P x → Q x → ⊥) → ⊥
+pub both-kinds : {X : Type 0} (o : Option X) (P Q : X → Type 0) → IsSomeAnd o P → IsSomeAnd o Q → ((x : X) → P x → Q x → ⊥) → ⊥
 both-kinds None P Q p q never = p
 both-kinds (Some x) P Q p q never = never x p q
 
-large-fails : (input : Side) (n : ℕ) (all : List ℕ) → input.before ≡ Some all → length all ≤ n → IsTooLarge input n → ⊥
+pub large-fails : (input : Side) (n : ℕ) (all : List ℕ) → input.before ≡ Some all → length all ≤ n → IsTooLarge input n → ⊥
 large-fails input n all is few large = too-large input.before input.after all large.0 n is few large.1 large.2
 
-wrong-fails : (input : Side) (n : ℕ) (all : List ℕ) (Fault : List ℕ → Type 0) → input.before ≡ Some all → (Fault all → ⊥) → IsWrong input n Fault → ⊥
+pub wrong-fails : (input : Side) (n : ℕ) (all : List ℕ) (Fault : List ℕ → Type 0) → input.before ≡ Some all → (Fault all → ⊥) → IsWrong input n Fault → ⊥
 wrong-fails input n all Fault is never wrong =
     never (subst Fault (all-read input.before input.after all wrong.bytes is wrong.read.given wrong.read.ended) wrong.fault)
 

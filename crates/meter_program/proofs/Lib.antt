@@ -3,3 +3,4 @@ pub mod Streams
 pub mod Places
 pub mod Causes
 pub mod Metered
+pub mod Made

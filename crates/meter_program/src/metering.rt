@@ -29,9 +29,9 @@ const WINDOW: usize = 1 << 22;
 /// What is known of a capture whose packets a cache has metered: its tally, and how many bytes are left behind its last
 /// record.
 #[derive(Clone, Copy)]
-struct Counted {
-    tally: Tally,
-    tail: u64,
+pub struct Counted {
+    pub tally: Tally,
+    pub tail: u64,
 }
 
 /// The records of a capture, its tally, and how many bytes are left behind its last record.
@@ -109,8 +109,10 @@ fn records_of<M: Caches>(
     Ok(records)
 }
 
-/// The same of a capture that was metered.
-fn gathered_of<M: Caches>(
+/// Gathers the fragments that caches kept of a capture that was metered into the capture's records.
+///
+/// `NoMemory` where there is no room for them.
+pub fn gathered_of<M: Caches>(
     alloc: Global,
     caches: &M,
     limits: Timeouts,

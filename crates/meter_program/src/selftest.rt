@@ -1,6 +1,6 @@
 //! The command `selftest`.
 
-ghost use Rattle.std.specs.Prelude.{◌≡◌};
+ghost use Rattle.std.specs.Prelude.{◌≡◌, Some};
 ghost use Rattle.meter_io.specs.Sides.{Side, IsUntouched, side};
 ghost use Rattle.meter_program.specs.Outcome.{Ends};
 ghost use Rattle.meter_program.specs.Seen.{seen_of};
@@ -13,13 +13,30 @@ use crate::settings::{Making, Settings};
 use crate::status::Status;
 use cache_face::Caches;
 use capture_maker::capture;
-use meter_io::{Failed, MemSource, Sink};
+use meter_io::{Failed, Sink, Source};
 use meter_workers::Gate;
 use std::alloc::Global;
 use std::thread::Threads;
 
-/// The most bytes that a made capture gives at a time.
-const PIECE: usize = 65_536;
+/// A made capture in memory as a source, of which no read fails.
+#[derive(Drop)]
+struct Made<'a> {
+    left: &'a [u8],
+}
+
+impl<'a> Source for Made<'a> {
+    ghost left = { λ s. Some s.left.now };
+
+    ghost faults = { λ _. 0 };
+
+    fn read(&mut self, buf: &mut [u8]) -> Result<usize, Failed> {
+        let count = buf.len().min(self.left.len());
+        let (first, rest) = self.left.split_at(count);
+        buf[..count].copy_from_slice(first);
+        self.left = rest;
+        Ok(count)
+    }
+}
 
 /// How a made capture is metered: by four workers, and else by the defaults of `meter`.
 fn four_workers() -> Settings
@@ -55,10 +72,13 @@ pub fn selftest<R: Threads + Sync, K: Sink, M: Caches, G: Gate>(
         return Status::NoMemory;
     };
     let settings = four_workers();
-    let mut source = MemSource::new(bytes.as_slice(), PIECE, &[]);
-    // A made capture in memory is refused for want of memory alone.
-    let Ok(gathered) = gathered_from(rt, alloc, &settings, &mut source, caches, gate) else {
-        return Status::NoMemory;
+    let mut source = Made {
+        left: bytes.as_slice(),
+    };
+    let gathered = match gathered_from(rt, alloc, &settings, &mut source, caches, gate) {
+        Ok(gathered) => gathered,
+        // Want of memory: a made capture is refused for nothing else.
+        Err(status) => return status,
     };
     let Ok(stream) = stream_of(alloc, &gathered, settings.size) else {
         return Status::NoMemory;

@@ -1,0 +1,128 @@
+//! The command `schedule`, and the command `make`.
+
+use super::run_over;
+use meter_program::Status;
+use samples::octets_of;
+use std::alloc::Global;
+use std::test::Fail;
+
+/// Lines, each with its end, of a text that has `; ` between them.
+fn lines_of(alloc: Global, text: &str) -> Result<String, Fail> {
+    let mut lines = String::new(alloc);
+    for line in text.split("; ") {
+        lines.push_str(line)?;
+        lines.push_str("\n")?;
+    }
+    Ok(lines)
+}
+
+/// Schedules: a name, the lines, what is written, and the note.
+static REPLAYS: [(&str, &str, &str, &str); 4] = [
+    (
+        "an ejection",
+        "core 1 2 1 1 1; note 1; pin 1; load 1 0; shield 1 0 0; note 0; pin 0; load 0 0; shield 0 0 0; \
+        check 0; write 0 1 0 7; replace 0 0 0 1; unshield 0 0; leave 0; note 0; advance 0; look 0 1; \
+        eject 0 1; check 1; unshield 1 0; scan 0 1 0; give 0",
+        "epoch 0; in 0; slot 0; set; epoch 0; in 0; slot 0; set; valid; written; replaced; cleared; out; \
+        epoch 0; epoch 1; in 0; ejected; ejected; cleared; empty; given 1 left 0; epoch 1; root 0 slot 1; \
+        seat 0 out noted 1 fresh 0 2 3 retired shields -; \
+        seat 1 ejected 0 noted 0 fresh 4 5 6 retired shields -",
+        "steps 21\n",
+    ),
+    (
+        "a shield that holds",
+        "core 1 2 1 1 1; note 1; pin 1; load 1 0; shield 1 0 0; check 1; note 0; pin 0; load 0 0; \
+        shield 0 0 0; check 0; write 0 1 0 7; replace 0 0 0 1; unshield 0 0; leave 0; note 0; advance 0; \
+        look 0 1; eject 0 1; scan 0 1 0; give 0; read 1 0 0; unshield 1 0; note 0; look 0 1; scan 0 1 0; \
+        give 0",
+        "epoch 0; in 0; slot 0; set; valid; epoch 0; in 0; slot 0; set; valid; written; replaced; cleared; \
+        out; epoch 0; epoch 1; in 0; ejected; holds 0; given 0 left 1; word 0; cleared; epoch 1; passed; \
+        empty; given 1 left 0; epoch 1; root 0 slot 1; seat 0 out noted 1 fresh 0 2 3 retired shields -; \
+        seat 1 ejected 0 noted 0 fresh 4 5 6 retired shields -",
+        "steps 26\n",
+    ),
+    (
+        "a forced collection",
+        "core 1 2 1 1 1; note 1; pin 1; load 1 0; shield 1 0 0; check 1; note 0; pin 0; load 0 0; \
+        shield 0 0 0; check 0; replace 0 0 0 1; unshield 0 0; leave 0; note 0; pin 0; load 0 0; \
+        shield 0 0 1; check 0; replace 0 0 1 2; unshield 0 0; leave 0; note 0; pin 0; load 0 0; \
+        shield 0 0 2; check 0; replace 0 0 2 3; unshield 0 0; leave 0; note 0; advance 0; look 0 1; \
+        eject 0 1; scan 0 1 0; give 0",
+        "epoch 0; in 0; slot 0; set; valid; epoch 0; in 0; slot 0; set; valid; replaced; cleared; out; \
+        epoch 0; in 0; slot 1; set; valid; replaced; cleared; out; epoch 0; in 0; slot 2; set; valid; \
+        replaced; cleared; out; epoch 0; epoch 1; in 0; ejected; holds 0; given 2 left 1; epoch 1; \
+        root 0 slot 3; seat 0 out noted 1 fresh 1 2 retired 0@0 shields -; \
+        seat 1 ejected 0 noted 0 fresh 4 5 6 retired shields v0",
+        "steps 35\n",
+    ),
+    (
+        "two advances",
+        "core 1 2 1 1 1; note 1; pin 1; note 0; advance 0; look 0 1; note 0; advance 0",
+        "epoch 0; in 0; epoch 0; epoch 1; passed; epoch 1; epoch 2; epoch 2; root 0 slot 0; \
+        seat 0 out noted 1 fresh 1 2 3 retired shields -; seat 1 in 0 noted 0 fresh 4 5 6 retired shields -",
+        "steps 7\n",
+    ),
+];
+
+#[test]
+fn schedules_are_replayed(rt: HostRuntime) -> Result<(), Fail> {
+    let alloc = rt.alloc();
+    for (name, steps, written, note) in REPLAYS {
+        let text = lines_of(alloc, steps)?;
+        let ran = run_over(&rt, alloc, "schedule", text.as_str().as_bytes())?;
+        let wanted = lines_of(alloc, written)?;
+        assert_eq!(rt; ran.status, Status::Done, "{name}");
+        assert_eq!(rt; ran.output.as_slice(), wanted.as_str().as_bytes(), "{name}");
+        assert_eq!(rt; ran.notes.as_slice(), note.as_bytes(), "{name}");
+    }
+    Ok(())
+}
+
+/// Texts that are no schedule, or have a step that isn't enabled: the first bad line, and the note.
+static BAD: [(&str, u64, &str); 7] = [
+    ("", 1, "bad schedule line 1\n"),
+    ("core 1 1 1 1 1", 1, "bad schedule line 1\n"),
+    ("core 65 1 1 1 1\n", 1, "bad schedule line 1\n"),
+    ("core 1 1 1 1 1\nload 0 0\n", 2, "bad schedule line 2\n"),
+    (
+        "core 1 1 1 1 1\nnote 0\nload 0 0\n",
+        3,
+        "bad schedule line 3\n",
+    ),
+    (
+        "core 1 1 1 1 1\nload 0 0\nnote  0\n",
+        3,
+        "bad schedule line 3\n",
+    ),
+    ("core 1 1 1 1 1\nnote 0\nnote 0", 3, "bad schedule line 3\n"),
+];
+
+#[test]
+fn bad_schedules_are_refused(rt: HostRuntime) -> Result<(), Fail> {
+    let alloc = rt.alloc();
+    for (text, line, note) in BAD {
+        let ran = run_over(&rt, alloc, "schedule", text.as_bytes())?;
+        assert_eq!(rt; ran.status, Status::BadSchedule(line), "{text}");
+        assert_eq!(rt; ran.output.len(), 0, "{text}");
+        assert_eq!(rt; ran.notes.as_slice(), note.as_bytes(), "{text}");
+    }
+    Ok(())
+}
+
+#[test]
+fn captures_are_made(rt: HostRuntime) -> Result<(), Fail> {
+    let alloc = rt.alloc();
+    let wanted = octets_of(
+        alloc,
+        &[
+            "d4c3b2a1 02000400 00000000 00000000 ffff0000 65000000",
+            "e8030000 00000000 1c000000 22030000 45000322 00000000 40110000 0a000000 c0000201",
+            "0400 0035 030e 0000",
+        ],
+    )?;
+    let ran = run_over(&rt, alloc, "make --seed 1 --packets 1 --keys 1", &[])?;
+    assert_eq!(rt; ran.status, Status::Done);
+    assert_eq!(rt; ran.output.as_slice(), wanted.as_slice());
+    assert_eq!(rt; ran.notes.as_slice(), b"packets 1\n".as_slice());
+    Ok(())
+}
