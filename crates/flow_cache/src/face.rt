@@ -1,6 +1,6 @@
 //! The cache as a shared cache, and who opens and closes such caches.
 
-ghost use Rattle.std.specs.Prelude.{◌≡◌, ◌+◌, ◌*◌, ◌<◌, ◌≤◌, ◌^◌, ◌∷◌, [], ◌++◌, All, IfOk, unwrap_or, option_map};
+ghost use Rattle.std.specs.Prelude.{◌≡◌, ◌+◌, ◌*◌, ◌<◌, ◌≤◌, ◌^◌, ◌∷◌, [], All};
 ghost use Rattle.cache_face.specs.Meaning.{IsMetered};
 ghost use Rattle.cache_face.specs.Notes.{metering};
 ghost use Rattle.flow_cache.specs.Shown.{means_of, shown_of, retired_of, slots_of, IsOf, IsTryOf};
@@ -9,6 +9,7 @@ use crate::cache::{PebrCache, PebrPass};
 use crate::stop::Never;
 use cache_face::{Caches, FlowCache, Metered, NoMemory};
 use flow_parts::{Fragment, Timeouts};
+use metered_list::MeteredList;
 use packet_accept::Packet;
 use std::alloc::Global;
 
@@ -49,7 +50,7 @@ impl FlowCache for PebrCache {
 /// Opens and closes caches without turns.
 #[derive(Drop)]
 pub struct PebrCaches {
-    metered: Option<Vec<Fragment>>,
+    metered: MeteredList,
 }
 
 impl PebrCaches {
@@ -57,22 +58,16 @@ impl PebrCaches {
     pub fn new() -> PebrCaches
         ensures { ⟦<PebrCaches as Caches>⟧.metered result ≡ [] }
     {
-        PebrCaches { metered: None }
+        PebrCaches {
+            metered: MeteredList::new(),
+        }
     }
-}
-
-/// Two lists put together.
-fn together(mut parts: Vec<Fragment>, others: Vec<Fragment>) -> Result<Vec<Fragment>, NoMemory>
-    ensures { IfOk result (λ all. all.items ≡ parts.items ++ others.items) }
-{
-    parts.extend_from_slice(others.as_slice())?;
-    Ok(parts)
 }
 
 impl Caches for PebrCaches {
     type Cache = PebrCache;
 
-    ghost metered = { λ s. unwrap_or (option_map (λ v. v.items) s.metered) [] };
+    ghost metered = { λ s. s.metered };
 
     fn open(
         &mut self,
@@ -92,15 +87,10 @@ impl Caches for PebrCaches {
         handed: Vec<Fragment>,
     ) -> Result<(), NoMemory> {
         let entries = cache.entries(alloc, pass)?;
-        let all = together(handed, entries)?;
-        self.metered = Some(all);
-        Ok(())
+        self.metered.keep(handed, entries)
     }
 
     fn metered(&self) -> &[Fragment] {
-        match &self.metered {
-            Some(parts) => parts.as_slice(),
-            None => &[],
-        }
+        self.metered.parts()
     }
 }

@@ -16,10 +16,11 @@ ghost use Rattle.flow_cache.specs.Trying.{IsOwn, AreProtected, IsUnlost, HasChos
 use crate::cache::PebrCache;
 use crate::protocol::CacheRule;
 use crate::stop::{Point, Stop};
-use cache_face::{Metered, choose};
+use cache_face::Metered;
 use flow_parts::Fragment;
 use packet_accept::Packet;
 use pebr_roots::{Checked, ReplaceEnd, RootPass};
+use set_choice::choose_by_words;
 
 /// Whether the last try was lost.
 #[inline]
@@ -85,8 +86,8 @@ impl PebrCache {
             × ((try : Lost) × ((past_by pass.new).lost ≡ try ∷ (past_by pass.old).lost) × IsTryOf set (try_of try)) }
     {
         stop.at(Point::Read);
-        let entries = self.read_set(pass);
-        let choice = choose(self.timeouts, &entries, own);
+        let contents = self.read_contents(pass);
+        let choice = choose_by_words(self.timeouts, &contents, own);
         stop.at(Point::Write);
         self.fill(pass, choice.kept.to_words());
         stop.at(Point::Replace);

@@ -1,6 +1,6 @@
 //! The entries of a set are read.
 
-ghost use Rattle.std.specs.Prelude.{◌≡◌, ℕ, ◌+◌, ◌<◌, ◌∷◌, IsTrue, All, Some, true, false, slice_index};
+ghost use Rattle.std.specs.Prelude.{◌≡◌, ℕ, ◌+◌, ◌<◌, ◌∷◌, IsTrue, All, Some, true, false, map, slice_index};
 ghost use Rattle.cache_face.specs.Choice.{IsSmallEntry};
 ghost use Rattle.cache_face.specs.Keeping.{entry_of, IsWhole};
 ghost use Rattle.cache_face.specs.Notes.{first_note};
@@ -111,6 +111,25 @@ impl PebrCache {
         words
     }
 
+    /// Reads the ten words of each entry of the set whose roots are protected.
+    pub(crate) fn read_contents(&self, pass: &mut RootPass<CacheRule>) -> [[u64; 10]; 4]
+        requires of { IsOf self.now.roots pass.old }
+        requires valid { (place : ℕ) → place < 4 → IsTrue (is_valid_at (known_by pass.old) place) }
+        ensures same { IsSame self.now.roots pass.old pass.new }
+        ensures note { note_by first_note pass.new ≡ note_by first_note pass.old }
+        ensures known { known_by pass.new ≡ known_by pass.old }
+        ensures past { past_by pass.new ≡ record (past_by pass.old) { last = (past_by pass.new).last; steps = (past_by pass.new).steps; reads = (past_by pass.new).reads } }
+        ensures ten { (place : ℕ) → place < 4 → HasTen (past_by pass.new).reads (slot_at (known_by pass.old) place) }
+        ensures entries { (set : ℕ) → AreProtected set (known_by pass.old) (past_by pass.old) → map entry_of result ≡ entries_read (past_by pass.new) set }
+        ensures whole { All IsWhole result }
+    {
+        let first = self.read_words(pass, 0);
+        let second = self.read_words(pass, 1);
+        let third = self.read_words(pass, 2);
+        let fourth = self.read_words(pass, 3);
+        [first, second, third, fourth]
+    }
+
     /// Reads the four entries of the set whose roots are protected.
     pub fn read_set(&self, pass: &mut RootPass<CacheRule>) -> [Option<Fragment>; 4]
         requires of { IsOf self.now.roots pass.old }
@@ -123,10 +142,12 @@ impl PebrCache {
         ensures entries { (set : ℕ) → AreProtected set (known_by pass.old) (past_by pass.old) → result ≡ entries_read (past_by pass.new) set }
         ensures small { All IsSmallEntry result }
     {
-        let first = self.read_entry(pass, 0);
-        let second = self.read_entry(pass, 1);
-        let third = self.read_entry(pass, 2);
-        let fourth = self.read_entry(pass, 3);
-        [first, second, third, fourth]
+        let contents = self.read_contents(pass);
+        [
+            entry(contents[0]),
+            entry(contents[1]),
+            entry(contents[2]),
+            entry(contents[3]),
+        ]
     }
 }

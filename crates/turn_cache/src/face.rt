@@ -1,11 +1,12 @@
 //! The cache as a shared cache, and who opens and closes such caches.
 
-ghost use Rattle.std.specs.Prelude.{◌≡◌, [], ◌++◌, IfOk, unwrap_or, option_map};
+ghost use Rattle.std.specs.Prelude.{◌≡◌, []};
 ghost use Rattle.turn_cache.specs.Shown.{means_of, shown_of, IsOf, IsTryOf};
 
 use crate::cache::{TurnCache, TurnPass};
 use cache_face::{Caches, FlowCache, Metered, NoMemory};
 use flow_parts::{Fragment, Timeouts};
+use metered_list::MeteredList;
 use packet_accept::Packet;
 use std::alloc::Global;
 
@@ -36,7 +37,7 @@ impl FlowCache for TurnCache {
 /// Opens and closes caches with one turn for each set.
 #[derive(Drop)]
 pub struct TurnCaches {
-    metered: Option<Vec<Fragment>>,
+    metered: MeteredList,
 }
 
 impl TurnCaches {
@@ -44,22 +45,16 @@ impl TurnCaches {
     pub fn new() -> TurnCaches
         ensures { ⟦<TurnCaches as Caches>⟧.metered result ≡ [] }
     {
-        TurnCaches { metered: None }
+        TurnCaches {
+            metered: MeteredList::new(),
+        }
     }
-}
-
-/// Two lists put together.
-fn together(mut parts: Vec<Fragment>, others: Vec<Fragment>) -> Result<Vec<Fragment>, NoMemory>
-    ensures { IfOk result (λ all. all.items ≡ parts.items ++ others.items) }
-{
-    parts.extend_from_slice(others.as_slice())?;
-    Ok(parts)
 }
 
 impl Caches for TurnCaches {
     type Cache = TurnCache;
 
-    ghost metered = { λ s. unwrap_or (option_map (λ v. v.items) s.metered) [] };
+    ghost metered = { λ s. s.metered };
 
     fn open(
         &mut self,
@@ -79,15 +74,10 @@ impl Caches for TurnCaches {
         handed: Vec<Fragment>,
     ) -> Result<(), NoMemory> {
         let entries = cache.entries(alloc, pass)?;
-        let all = together(handed, entries)?;
-        self.metered = Some(all);
-        Ok(())
+        self.metered.keep(handed, entries)
     }
 
     fn metered(&self) -> &[Fragment] {
-        match &self.metered {
-            Some(parts) => parts.as_slice(),
-            None => &[],
-        }
+        self.metered.parts()
     }
 }

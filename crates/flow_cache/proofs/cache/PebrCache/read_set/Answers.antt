@@ -1,62 +1,24 @@
-use Rattle.std.proofs.Common.{◌≡◌, ◌<◌, ◌∙◌, ◌∷◌, [], ℕ, zero, suc, List, Option, Some, sym, ap, subst, arith}
+use Rattle.std.proofs.Common.{rules, ◌≡◌, ◌<◌, ◌∷◌, [], ◌∙◌, ℕ, List, Option, Some, None, get_or, sym, arith}
 use Rattle.flow_parts.specs.declared.fragment.Fragment.{Fragment}
-use Rattle.cache_face.specs.Keeping.{entry_of}
-use Rattle.pebr_core.specs.State.{Seat}
-use Rattle.pebr_words.specs.Pasts.{Load, Read, History, shown_at}
-use Rattle.pebr_roots.specs.Under.{slot_at}
-use Rattle.pebr_roots.specs.Passes.{known_by, past_by}
-use Rattle.flow_cache.specs.Places.{root_of}
-use Rattle.flow_cache.specs.Reading.{words_read, entry_read}
-use Rattle.flow_cache.specs.Trying.{HasMore, HasTen}
-use Rattle.flow_cache.proofs.Histories.{more_more}
-use Rattle.flow_cache.proofs.Sets.{ten_stay, words_stay, entry_is}
+use Rattle.cache_face.specs.Choice.{IsSmallEntry}
+use Rattle.cache_face.specs.Keeping.{IsWhole, entry_of}
+use Rattle.cache_face.proofs.Contents.{whole_is_small}
+use Rattle.cache_face.proofs.Four.{all_four}
+use Rattle.set_choice.proofs.ByWords.{four_here}
 use Rattle.flow_cache.proofs.cache.PebrCache.read_set.Goals as goal
 
-each_of_four : (P : ℕ → Type 0) → P 0 → P 1 → P 2 → P 3 → (place : ℕ) → place < 4 → P place
-each_of_four P a b c d zero low = a
-each_of_four P a b c d (suc zero) low = b
-each_of_four P a b c d (suc (suc zero)) low = c
-each_of_four P a b c d (suc (suc (suc zero))) low = d
-each_of_four P a b c d (suc (suc (suc (suc n)))) low = absurd (omega (arith, low))
-
-same_four : (a b c d a' b' c' d' : Option Fragment) → a ≡ a' → b ≡ b' → c ≡ c' → d ≡ d' → a ∷ b ∷ c ∷ d ∷ [] ≡ a' ∷ b' ∷ c' ∷ d' ∷ []
-same_four a b c d a' b' c' d' p q r s = λ i. p i ∷ q i ∷ r i ∷ s i ∷ []
-
--- an entry as it was read first is read so at the end
-read_so : (result : Option Fragment) (then : List Read) (past : History) (root slot : ℕ) → result ≡ entry_of (words_read then slot) → HasMore then past.reads → HasTen then slot
-    → shown_at past.loads root ≡ Some slot → result ≡ entry_read past root
-read_so result then past root slot is more ten loaded = is ∙ ap entry_of (words_stay then past.reads slot more ten) ∙ sym (entry_is past root slot loaded)
-
-pub returns-clause-ten : goal.returns-clause-ten
-returns-clause-ten c =
-    let a = c.read_entry-first in let b = c.read_entry-second in let d = c.read_entry-third in let e = c.read_entry-fourth in
-    let known = known_by c.args.pass.now in
-    let r : List Read = (past_by e.new.pass).reads in
-    let at_b : slot_at (known_by a.new.pass) 1 ≡ slot_at known 1 = ap (λ (s : Seat). slot_at s 1) a.ensures.known in
-    let at_d : slot_at (known_by b.new.pass) 2 ≡ slot_at known 2 = ap (λ (s : Seat). slot_at s 2) (b.ensures.known ∙ a.ensures.known) in
-    let at_e : slot_at (known_by d.new.pass) 3 ≡ slot_at known 3 = ap (λ (s : Seat). slot_at s 3) (d.ensures.known ∙ b.ensures.known ∙ a.ensures.known) in
-    let from_b = more_more (past_by b.new.pass).reads (past_by d.new.pass).reads r d.ensures.more e.ensures.more in
-    let from_a = more_more (past_by a.new.pass).reads (past_by b.new.pass).reads r b.ensures.more from_b in
-    each_of_four (λ place. HasTen r (slot_at known place))
-    (ten_stay (past_by a.new.pass).reads r (slot_at known 0) from_a a.ensures.ten)
-    (subst (HasTen r) at_b (ten_stay (past_by b.new.pass).reads r (slot_at (known_by a.new.pass) 1) from_b b.ensures.ten))
-    (subst (HasTen r) at_d (ten_stay (past_by d.new.pass).reads r (slot_at (known_by b.new.pass) 2) e.ensures.more d.ensures.ten))
-    (subst (HasTen r) at_e e.ensures.ten)
+small_entry : (content : List ℕ) (entry : Option Fragment) → IsWhole content → entry ≡ entry_of content → IsSmallEntry entry
+small_entry content None whole is = tt
+small_entry content (Some old) whole is = whole_is_small content old whole (sym is)
 
 pub returns-clause-entries : goal.returns-clause-entries
 returns-clause-entries c set protected =
-    let a = c.read_entry-first in let b = c.read_entry-second in let d = c.read_entry-third in let e = c.read_entry-fourth in
-    let known = known_by c.args.pass.now in
-    let past : History = past_by e.new.pass in
-    let loads : past.loads ≡ (past_by c.args.pass.now).loads = ap (λ (p : History). p.loads) e.ensures.past ∙ ap (λ (p : History). p.loads) d.ensures.past ∙ ap (λ (p : History). p.loads) b.ensures.past ∙ ap (λ (p : History). p.loads) a.ensures.past in
-    let at_b : slot_at (known_by a.new.pass) 1 ≡ slot_at known 1 = ap (λ (s : Seat). slot_at s 1) a.ensures.known in
-    let at_d : slot_at (known_by b.new.pass) 2 ≡ slot_at known 2 = ap (λ (s : Seat). slot_at s 2) (b.ensures.known ∙ a.ensures.known) in
-    let at_e : slot_at (known_by d.new.pass) 3 ≡ slot_at known 3 = ap (λ (s : Seat). slot_at s 3) (d.ensures.known ∙ b.ensures.known ∙ a.ensures.known) in
-    let from_b = more_more (past_by b.new.pass).reads (past_by d.new.pass).reads past.reads d.ensures.more e.ensures.more in
-    let from_a = more_more (past_by a.new.pass).reads (past_by b.new.pass).reads past.reads b.ensures.more from_b in
-    let at : (place : ℕ) → place < 4 → shown_at past.loads (root_of set place) ≡ Some (slot_at known place) = λ place low. ap (λ (ls : List Load). shown_at ls (root_of set place)) loads ∙ (protected.each place low).1.0 in
-    same_four a.result b.result d.result e.result (entry_read past (root_of set 0)) (entry_read past (root_of set 1)) (entry_read past (root_of set 2)) (entry_read past (root_of set 3))
-    (read_so a.result (past_by a.new.pass).reads past (root_of set 0) (slot_at known 0) a.ensures.entry from_a a.ensures.ten (at 0 (omega arith)))
-    (read_so b.result (past_by b.new.pass).reads past (root_of set 1) (slot_at (known_by a.new.pass) 1) b.ensures.entry from_b b.ensures.ten (at 1 (omega arith) ∙ ap (λ n. Some n) (sym at_b)))
-    (read_so d.result (past_by d.new.pass).reads past (root_of set 2) (slot_at (known_by b.new.pass) 2) d.ensures.entry e.ensures.more d.ensures.ten (at 2 (omega arith) ∙ ap (λ n. Some n) (sym at_d)))
-    (read_so e.result past.reads past (root_of set 3) (slot_at (known_by d.new.pass) 3) e.ensures.entry (λ slot word value is. is) e.ensures.ten (at 3 (omega arith) ∙ ap (λ n. Some n) (sym at_e)))
+    (λ i. c.entry.ensures i ∷ c.entry-2.ensures i ∷ c.entry-3.ensures i ∷ c.entry-4.ensures i ∷ []) ∙ sym (four_here c.read_contents-contents.result (search rules)) ∙ c.read_contents-contents.ensures.entries set protected
+
+pub returns-clause-small : goal.returns-clause-small
+returns-clause-small c =
+    let ws : List (List ℕ) = c.read_contents-contents.result in
+    let whole : (place : ℕ) → place < 4 → IsWhole (get_or ws place []) = λ place low. c.read_contents-contents.ensures.whole place [] (search rules) in
+    all_four IsSmallEntry c.entry.result c.entry-2.result c.entry-3.result c.entry-4.result
+    (small_entry (get_or ws 0 []) c.entry.result (whole 0 (omega arith)) c.entry.ensures) (small_entry (get_or ws 1 []) c.entry-2.result (whole 1 (omega arith)) c.entry-2.ensures)
+    (small_entry (get_or ws 2 []) c.entry-3.result (whole 2 (omega arith)) c.entry-3.ensures) (small_entry (get_or ws 3 []) c.entry-4.result (whole 3 (omega arith)) c.entry-4.ensures)

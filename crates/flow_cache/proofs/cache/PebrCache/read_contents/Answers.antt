@@ -1,0 +1,67 @@
+use Rattle.std.proofs.Common.{rules, ◌≡◌, ◌<◌, ◌∙◌, ◌∷◌, [], ℕ, zero, suc, List, Option, Some, sym, ap, subst, arith}
+use Rattle.std.specs.Prelude.{slice_index}
+use Rattle.flow_parts.specs.declared.fragment.Fragment.{Fragment}
+use Rattle.cache_face.specs.Keeping.{entry_of, IsWhole}
+use Rattle.cache_face.proofs.Four.{all_four}
+use Rattle.pebr_core.specs.State.{Seat}
+use Rattle.pebr_words.specs.Pasts.{Load, Read, History, shown_at}
+use Rattle.pebr_roots.specs.Under.{slot_at}
+use Rattle.pebr_roots.specs.Passes.{known_by, past_by}
+use Rattle.flow_cache.specs.Places.{root_of}
+use Rattle.flow_cache.specs.Reading.{words_read, entry_read}
+use Rattle.flow_cache.specs.Trying.{HasMore, HasTen}
+use Rattle.flow_cache.proofs.Histories.{more_more}
+use Rattle.flow_cache.proofs.Sets.{ten_stay, words_stay, words_are, entry_is}
+use Rattle.flow_cache.proofs.cache.PebrCache.read_contents.Goals as goal
+
+each_of_four : (P : ℕ → Type 0) → P 0 → P 1 → P 2 → P 3 → (place : ℕ) → place < 4 → P place
+each_of_four P a b c d zero low = a
+each_of_four P a b c d (suc zero) low = b
+each_of_four P a b c d (suc (suc zero)) low = c
+each_of_four P a b c d (suc (suc (suc zero))) low = d
+each_of_four P a b c d (suc (suc (suc (suc n)))) low = absurd (omega (arith, low))
+
+same_four : (a b c d a' b' c' d' : Option Fragment) → a ≡ a' → b ≡ b' → c ≡ c' → d ≡ d' → a ∷ b ∷ c ∷ d ∷ [] ≡ a' ∷ b' ∷ c' ∷ d' ∷ []
+same_four a b c d a' b' c' d' p q r s = λ i. p i ∷ q i ∷ r i ∷ s i ∷ []
+
+-- an entry as it was read first is read so at the end
+read_so : (result : Option Fragment) (then : List Read) (past : History) (root slot : ℕ) → result ≡ entry_of (words_read then slot) → HasMore then past.reads → HasTen then slot
+    → shown_at past.loads root ≡ Some slot → result ≡ entry_read past root
+read_so result then past root slot is more ten loaded = is ∙ ap entry_of (words_stay then past.reads slot more ten) ∙ sym (entry_is past root slot loaded)
+
+pub returns-clause-ten : goal.returns-clause-ten
+returns-clause-ten c =
+    let a = c.read_words-first in let b = c.read_words-second in let d = c.read_words-third in let e = c.read_words-fourth in
+    let known = known_by c.args.pass.now in
+    let r : List Read = (past_by e.new.pass).reads in
+    let at_b : slot_at (known_by a.new.pass) 1 ≡ slot_at known 1 = ap (λ (s : Seat). slot_at s 1) a.ensures.known in
+    let at_d : slot_at (known_by b.new.pass) 2 ≡ slot_at known 2 = ap (λ (s : Seat). slot_at s 2) (b.ensures.known ∙ a.ensures.known) in
+    let at_e : slot_at (known_by d.new.pass) 3 ≡ slot_at known 3 = ap (λ (s : Seat). slot_at s 3) (d.ensures.known ∙ b.ensures.known ∙ a.ensures.known) in
+    let from_b = more_more (past_by b.new.pass).reads (past_by d.new.pass).reads r d.ensures.more e.ensures.more in
+    let from_a = more_more (past_by a.new.pass).reads (past_by b.new.pass).reads r b.ensures.more from_b in
+    each_of_four (λ place. HasTen r (slot_at known place))
+    (ten_stay (past_by a.new.pass).reads r (slot_at known 0) from_a (λ word low. (slice_index a.result word, a.ensures.read word low)))
+    (subst (HasTen r) at_b (ten_stay (past_by b.new.pass).reads r (slot_at (known_by a.new.pass) 1) from_b (λ word low. (slice_index b.result word, b.ensures.read word low))))
+    (subst (HasTen r) at_d (ten_stay (past_by d.new.pass).reads r (slot_at (known_by b.new.pass) 2) e.ensures.more (λ word low. (slice_index d.result word, d.ensures.read word low))))
+    (subst (HasTen r) at_e (λ word low. (slice_index e.result word, e.ensures.read word low)))
+
+pub returns-clause-entries : goal.returns-clause-entries
+returns-clause-entries c set protected =
+    let a = c.read_words-first in let b = c.read_words-second in let d = c.read_words-third in let e = c.read_words-fourth in
+    let known = known_by c.args.pass.now in
+    let past : History = past_by e.new.pass in
+    let loads : past.loads ≡ (past_by c.args.pass.now).loads = ap (λ (p : History). p.loads) e.ensures.past ∙ ap (λ (p : History). p.loads) d.ensures.past ∙ ap (λ (p : History). p.loads) b.ensures.past ∙ ap (λ (p : History). p.loads) a.ensures.past in
+    let at_b : slot_at (known_by a.new.pass) 1 ≡ slot_at known 1 = ap (λ (s : Seat). slot_at s 1) a.ensures.known in
+    let at_d : slot_at (known_by b.new.pass) 2 ≡ slot_at known 2 = ap (λ (s : Seat). slot_at s 2) (b.ensures.known ∙ a.ensures.known) in
+    let at_e : slot_at (known_by d.new.pass) 3 ≡ slot_at known 3 = ap (λ (s : Seat). slot_at s 3) (d.ensures.known ∙ b.ensures.known ∙ a.ensures.known) in
+    let from_b = more_more (past_by b.new.pass).reads (past_by d.new.pass).reads past.reads d.ensures.more e.ensures.more in
+    let from_a = more_more (past_by a.new.pass).reads (past_by b.new.pass).reads past.reads b.ensures.more from_b in
+    let at : (place : ℕ) → place < 4 → shown_at past.loads (root_of set place) ≡ Some (slot_at known place) = λ place low. ap (λ (ls : List Load). shown_at ls (root_of set place)) loads ∙ (protected.each place low).1.0 in
+    same_four (entry_of a.result) (entry_of b.result) (entry_of d.result) (entry_of e.result) (entry_read past (root_of set 0)) (entry_read past (root_of set 1)) (entry_read past (root_of set 2)) (entry_read past (root_of set 3))
+    (read_so (entry_of a.result) (past_by a.new.pass).reads past (root_of set 0) (slot_at known 0) (ap entry_of (words_are (past_by a.new.pass).reads (slot_at known 0) a.result (search rules) a.ensures.read)) from_a (λ word low. (slice_index a.result word, a.ensures.read word low)) (at 0 (omega arith)))
+    (read_so (entry_of b.result) (past_by b.new.pass).reads past (root_of set 1) (slot_at (known_by a.new.pass) 1) (ap entry_of (words_are (past_by b.new.pass).reads (slot_at (known_by a.new.pass) 1) b.result (search rules) b.ensures.read)) from_b (λ word low. (slice_index b.result word, b.ensures.read word low)) (at 1 (omega arith) ∙ ap (λ n. Some n) (sym at_b)))
+    (read_so (entry_of d.result) (past_by d.new.pass).reads past (root_of set 2) (slot_at (known_by b.new.pass) 2) (ap entry_of (words_are (past_by d.new.pass).reads (slot_at (known_by b.new.pass) 2) d.result (search rules) d.ensures.read)) e.ensures.more (λ word low. (slice_index d.result word, d.ensures.read word low)) (at 2 (omega arith) ∙ ap (λ n. Some n) (sym at_d)))
+    (read_so (entry_of e.result) past.reads past (root_of set 3) (slot_at (known_by d.new.pass) 3) (ap entry_of (words_are past.reads (slot_at (known_by d.new.pass) 3) e.result (search rules) e.ensures.read)) (λ slot word value is. is) (λ word low. (slice_index e.result word, e.ensures.read word low)) (at 3 (omega arith) ∙ ap (λ n. Some n) (sym at_e)))
+
+pub returns-clause-whole : goal.returns-clause-whole
+returns-clause-whole c = all_four IsWhole c.read_words-first.result c.read_words-second.result c.read_words-third.result c.read_words-fourth.result c.read_words-first.ensures.whole c.read_words-second.ensures.whole c.read_words-third.ensures.whole c.read_words-fourth.ensures.whole
