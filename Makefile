@@ -95,6 +95,7 @@ check: build $(THREADS)
 	checks/two_threads.sh
 	checks/refused_memory.sh
 	python3 checks/workers.py
+	checks/one_set.sh
 	python3 checks/second_meter.py 20000
 	python3 checks/second_reader.py 20000
 	python3 checks/second_pairer.py 2000
