@@ -1,6 +1,6 @@
 //! What one worker does.
 
-ghost use Rattle.std.specs.Prelude.{◌≡◌, List, [], OnOk, IsPermutation};
+ghost use Rattle.std.specs.Prelude.{◌≡◌, ◌≤◌, ◌^◌, List, [], OnOk, IsPermutation};
 ghost use Rattle.meter_workers.specs.Work.{Did, IsTallied};
 ghost use Rattle.batch_queue.specs.Passes.{IsPassOf, IsMore, StandsForAll, put_of, took_of};
 ghost use Rattle.batch_queue.specs.declared.batch.Batch.{Batch};
@@ -67,6 +67,7 @@ pub fn work_batches<C: FlowCache, G: Gate, R: Wait>(
         × Did (C.shown pass.old) out.old.items tally.old (answers_in more) (C.shown pass.new) out.new.items tally.new) }
     ensures ready { OnOk result (IsReadyFor (took_of seat.new) (C.shown pass.new).note.packets tally.new.captured) }
     ensures tallied { OnOk result (IsTallied tally.new) }
+    ensures few { OnOk result (tally.old.captured ≤ 2 ^ 32 → tally.new.captured ≤ 2 ^ 32) }
     ensures all { OnOk result (StandsForAll seat.new → IsPermutation (put_of seat.new) (took_of seat.new)) }
 {
     packets_law();

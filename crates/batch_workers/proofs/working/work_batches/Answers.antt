@@ -1,4 +1,4 @@
-use Rattle.std.proofs.Common.{◌∷◌, [], ◌++◌, sym, subst, ◌∙◌}
+use Rattle.std.proofs.Common.{◌∷◌, [], ◌++◌, sym, subst, ◌∙◌, arith}
 use Rattle.meter_workers.specs.Work.{Did}
 use Rattle.meter_workers.proofs.Pieces.{did-none, did-both}
 use Rattle.batch_queue.specs.Passes.{took_of}
@@ -13,6 +13,7 @@ loop-init g c = record {
   single = c.requires.single;
   ready = c.requires.ready;
   tallied = c.requires.tallied;
+  few = λ few. few;
   did = ([], more-none c.args.seat.now, did-none (g.C.FlowCache.shown c.args.pass.now) c.args.out.now.items c.args.tally.now);
 }
 
@@ -32,6 +33,7 @@ loop-preserved-in-Some-take g c =
       ready = ready-more (took_of c.loop.seat) (took_of c.take.new.pass) batch after.note.packets c.meter_batch.new.tally.captured
           (took-more c.loop.seat c.take.new.pass (batch ∷ []) took.0) told.below told.few;
       tallied = told.tallied;
+      few = λ _. omega (arith, told.few, batch.few);
       did = (
         known.did.0 ++ batch ∷ [],
         more-both c.args.seat.now c.loop.seat c.take.new.pass known.did.0 (batch ∷ []) known.did.1 took.0,
@@ -70,5 +72,6 @@ loop-preserved g c =
       ready = ready-same (took_of c.loop.seat) (took_of c.take.new.pass) (g.C.FlowCache.shown c.loop.pass).note.packets c.loop.tally.captured
           (took-same c.loop.seat c.take.new.pass same) known.ready;
       tallied = known.tallied;
+      few = known.few;
       did = (known.did.0, same ∙ known.did.1, known.did.2);
     }
