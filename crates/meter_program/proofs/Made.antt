@@ -7,7 +7,7 @@ use Rattle.std.proofs.lemmas.Bool.Decides.{nat_tests}
 use Rattle.octets.specs.declared.endianness.Endianness.TheVariants.{Little}
 use Rattle.octets.specs.Numbers.{number, ordered_octets}
 use Rattle.pcap_reader.specs.File.{CaptureFile, capture_file, IsKnownLink}
-use Rattle.pcap_reader.specs.Records.{claimed_len, begins_with_record, begins_with_damage, rest_of, damage_of, IsRecord, IsCutInto}
+use Rattle.pcap_reader.specs.Records.{claimed_len, begins_with_record, begins_with_damage, parts_of, rest_of, damage_of, IsRecord, IsCutInto, IsOnlyCut}
 use Rattle.pcap_reader.proofs.Cutting.{file_is_cut_once}
 use Rattle.capture_maker.specs.Draws.{state_behind, number_of}
 use Rattle.capture_maker.specs.Made.{file_header, packet_record, packets_from, capture_of}
@@ -31,7 +31,7 @@ is-record place payload key =
     record { header = omega (arith, longs); small = omega (arith, claims); whole = omega (arith, claims, longs) }
 
 -- the records of packets from a number on
-made-parts : ℕ → ℕ → ℕ → ℕ → List (List ℕ)
+unfoldable pub made-parts : ℕ → ℕ → ℕ → ℕ → List (List ℕ)
 made-parts keys state place zero = []
 made-parts keys state place (suc count) =
     packet_record place (number_of (state_behind state) % 1000) (number_of (state_behind (state_behind state)) % keys)
@@ -52,7 +52,7 @@ parts-are-records keys state place (suc count) = (
   parts-are-records keys (state_behind (state_behind state)) (suc place) count,
 )
 
-abbrev made_file : ℕ → ℕ → ℕ → CaptureFile
+abbrev pub made_file : ℕ → ℕ → ℕ → CaptureFile
 made_file seed packets keys = record { bytes = capture_of seed packets keys; start = 24; order = Little; nanos = false; link = 101 }
 
 header-length : length file_header ≡ 24
@@ -62,7 +62,7 @@ header-length = refl
 header-long : (rest : List ℕ) → nat_lt (length (file_header ++ rest)) 24 ≡ false
 header-long rest = let longs = length-append file_header rest in let header = header-length in grind (arith, nat_tests)
 
-made-is_file : (seed packets keys : ℕ) → capture_file (capture_of seed packets keys) ≡ Some (made_file seed packets keys)
+pub made-is_file : (seed packets keys : ℕ) → capture_file (capture_of seed packets keys) ≡ Some (made_file seed packets keys)
 unfolding capture_file number ordered_octets
 made-is_file seed packets keys = rw (header-long (packets_from keys seed 0 packets)) refl
 
@@ -86,10 +86,16 @@ made-cut seed packets keys = record {
   ended = nothing-begins;
 }
 
+made-cut_once : (seed packets keys : ℕ) → IsOnlyCut (made_file seed packets keys) (parts_of (made_file seed packets keys)) (rest_of (made_file seed packets keys))
+made-cut_once seed packets keys =
+    file_is_cut_once (made_file seed packets keys) (omega (arith, header-length, length-append file_header (packets_from keys seed 0 packets)))
+
+-- its records are those of its packets, and nothing is left behind them
+pub made-parts_are : (seed packets keys : ℕ) → parts_of (made_file seed packets keys) ≡ made-parts keys seed 0 packets
+made-parts_are seed packets keys = sym ((made-cut_once seed packets keys).only (made-parts keys seed 0 packets) [] (made-cut seed packets keys)).0
+
 made-rest : (seed packets keys : ℕ) → rest_of (made_file seed packets keys) ≡ []
-made-rest seed packets keys =
-    let enough : 24 ≤ length (capture_of seed packets keys) = omega (arith, header-length, length-append file_header (packets_from keys seed 0 packets)) in
-    sym ((file_is_cut_once (made_file seed packets keys) enough).only (made-parts keys seed 0 packets) [] (made-cut seed packets keys)).1
+made-rest seed packets keys = sym ((made-cut_once seed packets keys).only (made-parts keys seed 0 packets) [] (made-cut seed packets keys)).1
 
 made-undamaged : (seed packets keys : ℕ) → damage_of (made_file seed packets keys) ≡ None
 made-undamaged seed packets keys = rw (made-rest seed packets keys, nothing-damaged) refl
