@@ -1,6 +1,6 @@
 //! The entries of a set are read.
 
-ghost use Rattle.std.specs.Prelude.{◌≡◌, ℕ, ◌+◌, ◌<◌, ◌∷◌, IsTrue, All, Some, true, false, map, slice_index};
+ghost use Rattle.std.specs.Prelude.{◌≡◌, ℕ, ◌+◌, ◌<◌, ◌∷◌, IsTrue, All, Some, true, false, length, map, slice_index};
 ghost use Rattle.cache_face.specs.Choice.{IsSmallEntry};
 ghost use Rattle.cache_face.specs.Keeping.{entry_of, IsWhole};
 ghost use Rattle.cache_face.specs.Notes.{first_note};
@@ -83,6 +83,7 @@ impl PebrCache {
         ensures note { note_by first_note pass.new ≡ note_by first_note pass.old }
         ensures known { known_by pass.new ≡ known_by pass.old }
         ensures past { past_by pass.new ≡ record (past_by pass.old) { last = (past_by pass.new).last; steps = (past_by pass.new).steps; reads = (past_by pass.new).reads } }
+        ensures count { length (past_by pass.new).reads ≡ 10 + length (past_by pass.old).reads }
         ensures more { HasMore (past_by pass.old).reads (past_by pass.new).reads }
         ensures ten { HasTen (past_by pass.new).reads (slot_at (known_by pass.old) place) }
         ensures entry { result ≡ entry_of (words_read (past_by pass.new).reads (slot_at (known_by pass.old) place)) }
@@ -100,6 +101,7 @@ impl PebrCache {
         ensures note { note_by first_note pass.new ≡ note_by first_note pass.old }
         ensures known { known_by pass.new ≡ known_by pass.old }
         ensures past { past_by pass.new ≡ record (past_by pass.old) { last = (past_by pass.new).last; steps = (past_by pass.new).steps; reads = (past_by pass.new).reads } }
+        ensures count { length (past_by pass.new).reads ≡ 10 + length (past_by pass.old).reads }
         ensures more { HasMore (past_by pass.old).reads (past_by pass.new).reads }
         ensures read { (word : ℕ) → word < 10 → written_at (past_by pass.new).reads (slot_at (known_by pass.old) place) word ≡ Some (slice_index result word) }
         ensures whole { IsWhole result }

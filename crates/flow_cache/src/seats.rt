@@ -6,9 +6,7 @@ ghost use Rattle.cache_face.specs.Notes.{first_note};
 ghost use Rattle.pebr_core.specs.State.{is_out, is_down};
 ghost use Rattle.pebr_shields.specs.declared.checked.Checked.TheVariants as checked;
 ghost use Rattle.pebr_words.specs.Pasts.{was_ejected};
-ghost use Rattle.pebr_words.specs.Ruled.{IsSure};
-ghost use Rattle.cache_face.specs.Keeping.{IsWhole};
-ghost use Rattle.pebr_roots.specs.Passes.{shape_at, known_by, note_by, past_by, lost_by, IsOf, IsSame};
+ghost use Rattle.pebr_roots.specs.Passes.{known_by, note_by, past_by, lost_by, IsOf, IsSame};
 ghost use Rattle.flow_cache.specs.Shown.{means_of};
 ghost use Rattle.flow_cache.specs.Trying.{AreProtected, IsUnlost};
 

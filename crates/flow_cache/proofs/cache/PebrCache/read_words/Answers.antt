@@ -45,6 +45,7 @@ loop-word-preserved c =
       note = c.read.ensures.note ∙ before.note;
       known = c.read.ensures.known ∙ before.known;
       past = ap rest c.read.ensures.step.past ∙ ap rest before.past;
+      count = (let long : length (past_by new).reads ≡ length (past_by old).reads + 1 = ap length reads ∙ omega arith in let so = before.count in omega (arith, long, so));
       more = more_more (past_by c.args.pass.now).reads (past_by old).reads (past_by new).reads before.more (subst (HasMore (past_by old).reads) (sym reads) (read_more (past_by old).reads slot word value again));
       read = λ k lt. subst (λ rs. written_at rs slot k ≡ Some (slice_index (set c.loop-word.words word value) k)) (sym reads) (next_word (past_by old).reads slot word value c.loop-word.words low before.read k lt);
       whole = λ some content read. c.read.ensures.whole content (subst (λ n. HasReadWhole (shape_at roots) (past_by new) n content) (sym slot_is) read);

@@ -1,0 +1,4 @@
+-- The lemmas of this crate.
+pub mod Stays
+pub mod Entries
+pub mod Watches

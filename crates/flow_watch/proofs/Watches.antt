@@ -1,0 +1,37 @@
+-- A watcher after a call.
+use Rattle.std.proofs.Common.{◌≡◌, ◌≢◌, ◌≤◌, ◌<◌, ◌+◌, ◌∷◌, ℕ, suc, List, Option, Some, None, replicate, refl, sym, ap, ◌∙◌, subst, arith}
+use Rattle.std.specs.Prelude.{IfSome}
+use mathlib.Core.Option.{some}
+use lib.ListN.{get_elem?}
+use Rattle.flow_key.specs.declared.key.FlowKey.{FlowKey}
+use Rattle.cache_face.specs.Meaning.{CacheMeans}
+use Rattle.cache_face.specs.Notes.{Note}
+use Rattle.pebr_words.specs.Pasts.{Lost, was_ejected}
+use Rattle.pebr_roots.specs.Passes.{known_by, IsSame}
+use Rattle.flow_cache.specs.declared.cache.PebrCache.{PebrCache}
+use Rattle.flow_watch.specs.declared.watcher.Watch.{Watch}
+use Rattle.flow_watch.specs.declared.watcher.Watch.TheVariants as watch
+use Rattle.flow_watch.specs.declared.watcher.Watcher.{Watcher}
+use Rattle.flow_watch.specs.Holding.{IsHolding}
+use Rattle.flow_watch.specs.Watching.{IsOf, IsWatched, note_of, past_of}
+
+-- it is a watcher of the same cache
+pub goes_on : (cache : PebrCache) (old new : Watcher) → IsOf cache old → IsSame cache.roots old.seat new.seat → note_of new ≡ note_of old
+    → IfSome new.held (λ hold. IsHolding hold.place hold.fragment (known_by new.seat) (past_of new)) → IsOf cache new
+goes_on cache old new o same note holds = record {
+  of = same.of;
+  seats = ap (λ (n : Note). n.seats) note ∙ o.seats ∙ sym same.still.3;
+  united = λ place held at. o.united place held (subst (λ r. get_elem? r place ≡ some held) same.still.4 at);
+  holds = holds;
+}
+
+-- what came of a later try came of the call
+pub watched_since : (cache : CacheMeans) (key : FlowKey) (w : Watch) (first old new : Watcher) → (past_of first).pins ≤ (past_of old).pins → w ≢ watch.Lost
+    → IsWatched cache key w old new → IsWatched cache key w first new
+watched_since cache key watch.Held first old new low apart is = (let a = is.0 in omega (arith, low, a), is.1)
+watched_since cache key watch.Absent first old new low apart is = (let a = is.0 in omega (arith, low, a), is.1, is.2)
+watched_since cache key watch.Lost first old new low apart is = absurd (apart refl)
+
+-- one more lost try
+pub one_more : (n : ℕ) → replicate (n + 1) was_ejected ≡ was_ejected ∷ replicate n was_ejected
+one_more n = let next : n + 1 ≡ suc n = omega arith in ap (λ k. replicate k was_ejected) next

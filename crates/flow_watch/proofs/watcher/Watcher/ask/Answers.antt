@@ -1,0 +1,9 @@
+use Rattle.std.proofs.Common.{ℕ, subst, arith}
+use Rattle.pebr_roots.specs.Passes.{past_by}
+use Rattle.flow_watch.specs.Holding.{IsAbsent}
+use Rattle.flow_watch.proofs.watcher.Watcher.ask.Goals as goal
+
+pub returns-in-Absent-clause-some : goal.returns-in-Absent-clause-some
+returns-in-Absent-clause-some c =
+    let t = c.in-Absent.ensures.tried in
+    ((let a = t.0.0 in omega (arith, a), c.requires.idle, subst (λ (n : ℕ). IsAbsent n c.args.key.now (past_by c.attempt.new.seat)) c.requires.set t.2), λ e. cc)

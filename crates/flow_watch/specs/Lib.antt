@@ -1,0 +1,4 @@
+-- The definitions that contracts cite.
+pub mod Holding
+pub mod Trying
+pub mod Watching
