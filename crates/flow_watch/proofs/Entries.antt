@@ -25,7 +25,7 @@ holds set place fragment known known' past old past' entries low protected is fo
     let slot : slot_at known' place ≡ slot_at known place = slot_still known known' place shields in
     let shown : shown_by past ≡ Some (slot_at known place) = ap (λ ls. shown_by (record old { loads = ls })) loads ∙ p.1.0 in
     let entry : entry_of (words_read past.reads (slot_at known place)) ≡ Some fragment =
-        sym (entry_is past (root_of set place) (slot_at known place) shown) ∙ sym (at_place past set place low) ∙ ap (λ es. entry_at es place) (sym is) ∙ found in
+    sym (entry_is past (root_of set place) (slot_at known place) shown) ∙ sym (at_place past set place low) ∙ ap (λ es. entry_at es place) (sym is) ∙ found in
     record {
       within = low;
       valid = ap (λ shields. is_valid_at (record known { shields = shields }) place) shields ∙ ap is_valid p.0;

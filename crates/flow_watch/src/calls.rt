@@ -119,7 +119,11 @@ impl Watcher {
         ensures note { (shown_of result).note ≡ note_of self }
         ensures lost { (shown_of result).lost ≡ map try_of (lost_of self) }
     {
-        let Watcher { seat, lost, held: _ } = self;
+        let Watcher {
+            seat,
+            lost,
+            held: _,
+        } = self;
         PebrPass::from_seat(seat, lost)
     }
 }

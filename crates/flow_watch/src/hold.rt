@@ -64,12 +64,7 @@ pub(crate) enum Tried {
 }
 
 /// Reads the entries of a set whose roots are protected, holds the one of the key, and leaves.
-fn keep(
-    cache: &PebrCache,
-    seat: &mut RootPass<CacheRule>,
-    set: u64,
-    key: &FlowKey,
-) -> Option<Hold>
+fn keep(cache: &PebrCache, seat: &mut RootPass<CacheRule>, set: u64, key: &FlowKey) -> Option<Hold>
     requires of { roots.IsOf cache.now.roots seat.old }
     requires entered { is_out (known_by seat.old).status ≡ false }
     requires protected { AreProtected set (known_by seat.old) (past_by seat.old) }

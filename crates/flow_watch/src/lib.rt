@@ -18,6 +18,8 @@
 
 mod calls;
 mod hold;
+#[cfg(test)]
+mod tests;
 mod watcher;
 
 pub use watcher::{Watch, Watcher};

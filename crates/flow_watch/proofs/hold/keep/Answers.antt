@@ -36,9 +36,9 @@ returns-clause-held c =
     c.lowest_of-hold.result c.lowest_of-hold.ensures.some
     (λ hold some h. (let low : hold.place < 4 = (let b = h.0.below in let four : length entries ≡ 4 = ap length is in omega (arith, b, four)) in (
       holds set hold.place hold.fragment (known_by start) (known_by end) (past_by mid) (past_by start) (past_by end) entries low c.requires.protected is h.1
-      (ap (λ (p : History). p.loads) c.read_set-entries.ensures.past) (c.read_set-entries.ensures.ten hold.place low)
-      (c.leave.ensures.held (c.is_some.ensures ∙ ap is_some some) ∙ ap (λ (k : Seat). k.shields) c.read_set-entries.ensures.known)
-      (ap (λ (p : History). p.reads) c.leave.ensures.past),
+          (ap (λ (p : History). p.loads) c.read_set-entries.ensures.past) (c.read_set-entries.ensures.ten hold.place low)
+          (c.leave.ensures.held (c.is_some.ensures ∙ ap is_some some) ∙ ap (λ (k : Seat). k.shields) c.read_set-entries.ensures.known)
+          (ap (λ (p : History). p.reads) c.leave.ensures.past),
       record {
         place = hold.place;
         lowest = subst (λ es. IsLowest (HasKey key) es hold.place) (is ∙ sym same) h.0;
