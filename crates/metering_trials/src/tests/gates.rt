@@ -6,14 +6,12 @@ ghost use Rattle.std.specs.Io.KnownBytes.{ReadConsumes};
 ghost use Rattle.meter_io.specs.Causes.{HasCause};
 
 use super::{ONE, SMALL, Setting, metered};
+use crate::Meeting;
 use capture_maker::capture;
 use meter_io::{Failed, MemSource, Source};
 use meter_workers::Gate;
 use std::sync::atomic::{AtomicU64, Ordering};
 use std::test::Fail;
-
-/// How often a worker looks for the other one before it gives up.
-const TURNS: u64 = 100_000_000;
 
 /// A gate that tells when it was reached.
 #[derive(Drop)]
@@ -76,44 +74,11 @@ fn a_window_is_metered_before_the_next_is_read(rt: HostRuntime) -> Result<(), Fa
     Ok(())
 }
 
-/// A gate that holds the worker at the first piece until another worker is at a piece.
-#[derive(Drop)]
-struct Meeting {
-    first: AtomicU64,
-    met: AtomicU64,
-    failed: AtomicU64,
-}
-
-impl Gate for Meeting {
-    fn reach(&self, worker: usize, piece: u64) {
-        let me = (worker as u64).wrapping_add(1);
-        if piece != 0 {
-            if self.first.load(Ordering::SeqCst) != me {
-                self.met.store(1, Ordering::SeqCst);
-            }
-            return;
-        }
-        if self.first.swap(me, Ordering::SeqCst) != 0 {
-            return;
-        }
-        for _turn in 0..TURNS {
-            if self.met.load(Ordering::SeqCst) == 1 {
-                return;
-            }
-        }
-        self.failed.store(1, Ordering::SeqCst);
-    }
-}
-
 #[test]
 fn two_workers_are_at_a_piece_at_once(rt: HostRuntime) -> Result<(), Fail> {
     let alloc = rt.alloc();
     let bytes = capture(alloc, 1, 2000, 64)?;
-    let gate = Meeting {
-        first: AtomicU64::new(0),
-        met: AtomicU64::new(0),
-        failed: AtomicU64::new(0),
-    };
+    let gate = Meeting::new();
     let mut source = MemSource::new(&bytes, bytes.len().max(1), &[]);
     let pieces = Setting {
         seats: 2,
@@ -122,7 +87,6 @@ fn two_workers_are_at_a_piece_at_once(rt: HostRuntime) -> Result<(), Fail> {
     };
     let done = metered(&rt, alloc, &mut source, pieces, &gate)?;
     assert_eq!(rt; done.ok().ok_or("records")?.tally.accepted, 2000);
-    assert_eq!(rt; gate.failed.load(Ordering::SeqCst), 0);
-    assert_eq!(rt; gate.met.load(Ordering::SeqCst), 1);
+    assert!(rt; gate.has_met());
     Ok(())
 }

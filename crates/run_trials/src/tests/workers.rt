@@ -2,10 +2,9 @@
 
 use super::{HEADER, TEMPLATES, TWO_PACKETS_RECORD, run_by, run_over, two_packets};
 use meter_program::Status;
-use meter_workers::Gate;
+use metering_trials::Meeting;
 use samples::octets_of;
 use std::alloc::Global;
-use std::sync::atomic::{AtomicU64, Ordering};
 use std::test::Fail;
 
 /// A web exchange and the query before it, from 1,700,000,000 s on: each packet by its record header and its captured bytes.
@@ -91,53 +90,16 @@ fn an_exchange_is_the_same_by_all_settings(rt: HostRuntime) -> Result<(), Fail> 
     Ok(())
 }
 
-/// How often a worker looks for the other one before it gives up.
-const TURNS: u64 = 100_000_000;
-
-/// A gate that holds the worker at the first piece until another worker is at a piece.
-#[derive(Drop)]
-struct Meeting {
-    first: AtomicU64,
-    met: AtomicU64,
-    failed: AtomicU64,
-}
-
-impl Gate for Meeting {
-    fn reach(&self, worker: usize, piece: u64) {
-        let me = (worker as u64).wrapping_add(1);
-        if piece != 0 {
-            if self.first.load(Ordering::SeqCst) != me {
-                self.met.store(1, Ordering::SeqCst);
-            }
-            return;
-        }
-        if self.first.swap(me, Ordering::SeqCst) != 0 {
-            return;
-        }
-        for _turn in 0..TURNS {
-            if self.met.load(Ordering::SeqCst) == 1 {
-                return;
-            }
-        }
-        self.failed.store(1, Ordering::SeqCst);
-    }
-}
-
 #[test]
 fn two_workers_meet(rt: HostRuntime) -> Result<(), Fail> {
     let alloc = rt.alloc();
     let capture = two_packets(alloc)?;
     let wanted = octets_of(alloc, &["000a0074 000003e9", TEMPLATES, TWO_PACKETS_RECORD])?;
-    let gate = Meeting {
-        first: AtomicU64::new(0),
-        met: AtomicU64::new(0),
-        failed: AtomicU64::new(0),
-    };
+    let gate = Meeting::new();
     let line = "meter --workers 2 --piece 1";
     let ran = run_by(&rt, alloc, line, capture.as_slice(), &gate)?;
     assert_eq!(rt; ran.status, Status::Done);
     assert_eq!(rt; ran.output.as_slice(), wanted.as_slice());
-    assert_eq!(rt; gate.failed.load(Ordering::SeqCst), 0);
-    assert_eq!(rt; gate.met.load(Ordering::SeqCst), 1);
+    assert!(rt; gate.has_met());
     Ok(())
 }

@@ -1,0 +1,53 @@
+//! A gate at which two workers wait for each other.
+
+use meter_workers::Gate;
+use std::sync::atomic::{AtomicU64, Ordering};
+
+/// How often a worker looks for the other one before it gives up.
+const TURNS: u64 = 100_000_000;
+
+/// A gate that holds the worker at the first piece until another worker is at a piece.
+#[derive(Drop)]
+pub struct Meeting {
+    /// The worker at the first piece, counted from 1.
+    first: AtomicU64,
+    met: AtomicU64,
+    failed: AtomicU64,
+}
+
+impl Meeting {
+    /// A gate that no worker has reached.
+    pub fn new() -> Meeting {
+        Meeting {
+            first: AtomicU64::new(0),
+            met: AtomicU64::new(0),
+            failed: AtomicU64::new(0),
+        }
+    }
+
+    /// Whether another worker was at a piece, and the first never gave up.
+    pub fn has_met(&self) -> bool {
+        self.met.load(Ordering::SeqCst) == 1 && self.failed.load(Ordering::SeqCst) == 0
+    }
+}
+
+impl Gate for Meeting {
+    fn reach(&self, worker: usize, piece: u64) {
+        let me = (worker as u64).wrapping_add(1);
+        if piece != 0 {
+            if self.first.load(Ordering::SeqCst) != me {
+                self.met.store(1, Ordering::SeqCst);
+            }
+            return;
+        }
+        if self.first.swap(me, Ordering::SeqCst) != 0 {
+            return;
+        }
+        for _turn in 0..TURNS {
+            if self.met.load(Ordering::SeqCst) == 1 {
+                return;
+            }
+        }
+        self.failed.store(1, Ordering::SeqCst);
+    }
+}
