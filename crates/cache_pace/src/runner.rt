@@ -15,8 +15,8 @@ use std::thread::Threads;
 /// How many packets a thread takes at a time.
 const PIECE: usize = 256;
 
-/// What a thread meters through, which of the threads it is, the number of its next packet, and the fragments that it was
-/// handed.
+/// What a thread meters through, which of the threads it is, the least number of its next packet, and the fragments that it
+/// was handed.
 #[derive(Drop)]
 pub(crate) struct Runner<C: FlowCache> {
     pub(crate) pass: C::Pass,
@@ -51,7 +51,7 @@ pub(crate) fn runners_of<C: FlowCache>(
     Ok(runners)
 }
 
-/// Meters a packet, under the next number.
+/// Meters a packet whose number is not below the next one.
 fn run_packet<C: FlowCache>(
     packet: &Packet,
     cache: &C,
@@ -62,12 +62,11 @@ fn run_packet<C: FlowCache>(
     ensures own { C.is_of cache.now runner.new.pass }
     ensures going { IsGoing runner.new.next (C.shown runner.new.pass) }
 {
-    let number = runner.next;
-    if number > 0xffff_ffff || packet.octets >= 1 << 24 {
+    let number = packet.number;
+    if number < runner.next || number > 0xffff_ffff || packet.octets >= 1 << 24 {
         return Ok(());
     }
-    let packet = Packet { number, ..*packet };
-    let metered = cache.meter(&mut runner.pass, &packet);
+    let metered = cache.meter(&mut runner.pass, packet);
     runner.next = number + 1;
     if let Some(fragment) = metered.out {
         runner.out.push(fragment)?;
