@@ -6,7 +6,6 @@ use Rattle.cache_face.specs.Notes.{Note}
 use Rattle.meter_workers.proofs.Taken.{all_popped, all_pushed}
 use Rattle.cache_pace.specs.declared.runner.Runner.{Runner}
 use Rattle.cache_pace.specs.Going.{IsGoing}
-use Rattle.cache_pace.proofs.runner.runners_of.Given as given
 use Rattle.cache_pace.proofs.runner.runners_of.Goals as goal
 
 -- a fresh pass has metered nothing
