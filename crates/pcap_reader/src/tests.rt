@@ -236,3 +236,18 @@ fn two_parts_of_a_capture(rt: HostRuntime) -> Result<(), Fail> {
     }
     Ok(())
 }
+
+#[test]
+fn a_window_in_memory_that_goes_round(rt: HostRuntime) -> Result<(), Fail> {
+    let alloc = rt.alloc();
+    let first = vec![in alloc; 7u8; 262_184]?;
+    let mut window = Window::over(first, b"cut");
+    assert_eq!(rt; window.bytes(), b"cut".as_slice());
+    let mut source = MemSource::new(b"whole and cut", 4, &[]);
+    assert_eq!(rt; window.fill(&mut source, 100), Ok(FillEnd::Ended));
+    assert_eq!(rt; window.bytes(), b"cutwhole and cut".as_slice());
+    assert!(rt; window.bytes().len() >= 13);
+    let front = window.into_front(13);
+    assert_eq!(rt; front.as_slice(), b"cutwhole and ".as_slice());
+    Ok(())
+}

@@ -79,6 +79,16 @@ fn fill_behind<S: Source>(
     }
 }
 
+/// Puts bytes into the front of a buffer.
+fn put_in_front(buffer: &mut [u8], bytes: &[u8])
+    requires room { length bytes.now ≤ length buffer.old }
+    ensures same { length buffer.new ≡ length buffer.old }
+    ensures front { take (length bytes.now) buffer.new ≡ bytes.now }
+{
+    let (front, _) = buffer.split_at_mut(bytes.len());
+    front.copy_from_slice(bytes);
+}
+
 impl Window {
     /// An empty window of `size` bytes, 262,184 to 2^27, whose memory is taken here: so a full window has room for a file
     /// header and a whole record.
@@ -88,6 +98,29 @@ impl Window {
     {
         let buffer = vec![in alloc; 0u8; size]?;
         Ok(Window { buffer, end: 0 })
+    }
+
+    /// A window in memory that stands ready, of 262,184 to 2^27 bytes, with these bytes at its front. Takes no memory.
+    pub fn over(mut buffer: Vec<u8>, bytes: &[u8]) -> Window
+        requires size { (262184 ≤ length buffer.items) × (length buffer.items ≤ 2 ^ 27) }
+        requires room { length bytes.now ≤ length buffer.items }
+        ensures { result ≡ record { bytes = bytes.now; size = length buffer.items } }
+    {
+        put_in_front(buffer.as_mut_slice(), bytes);
+        Window {
+            buffer,
+            end: bytes.len(),
+        }
+    }
+
+    /// Gives its memory back with the bytes before the place `end` alone in it.
+    pub fn into_front(self, end: usize) -> Vec<u8>
+        requires { end ≤ length self.bytes }
+        ensures { result.items ≡ take end self.bytes }
+    {
+        let mut buffer = self.buffer;
+        buffer.truncate(end);
+        buffer
     }
 
     /// Appends bytes of the source, until `most` were taken (`Spent`), the window is full (`Full`), or the source is at its
