@@ -10,9 +10,10 @@ use Rattle.flow_parts.specs.Laws.{StandsPermuted, CountsAll}
 use Rattle.flow_parts.specs.Sharing.{SharesOut}
 use Rattle.record_ledger.specs.declared.record.FlowRecord.{FlowRecord}
 use Rattle.meter_io.specs.Sides.{Side}
-use Rattle.meter_workers.specs.Windows.{IsMeteredWhole, IsRefused}
-use Rattle.meter_workers.specs.declared.fault.MeterFault.{MeterFault}
-use Rattle.meter_workers.specs.declared.fault.MeterFault.TheVariants.{Failed as SourceFailed, TooLarge as MoreBytes, NotCapture as NoHeader, LinkUnknown as OtherLink, Damaged as DamagedAt, NoMemory as NoRoom}
+use Rattle.capture_input.specs.Refusals.{IsRefused}
+use Rattle.meter_workers.specs.Windows.{IsMeteredWhole}
+use Rattle.capture_input.specs.declared.fault.MeterFault.{MeterFault}
+use Rattle.capture_input.specs.declared.fault.MeterFault.TheVariants.{Failed as SourceFailed, TooLarge as MoreBytes, NotCapture as NoHeader, LinkUnknown as OtherLink, Damaged as DamagedAt, NoMemory as NoRoom}
 use Rattle.meter_program.specs.declared.status.Status.{Status}
 use Rattle.meter_program.specs.Metering.{AreGathered, IsKept, IsReadAndKept, IsGathered, status_for}
 use Rattle.meter_program.specs.Outcome.{MeterRefuses}

@@ -16,8 +16,8 @@ use Rattle.record_ledger.specs.Regrouping.{Regroups}
 use Rattle.record_ledger.specs.Sessions.{IsSessions, IsUncut, AreRecordsOf}
 use Rattle.ipfix_writer.specs.Layout.{IsLayoutOf}
 use Rattle.ipfix_reader.specs.Flows.{flows_of}
-use Rattle.meter_workers.specs.declared.fault.MeterFault.{MeterFault}
-use Rattle.meter_workers.specs.declared.fault.MeterFault.TheVariants.{Failed as SourceFailed, TooLarge as MoreBytes, NotCapture as NoHeader, LinkUnknown as OtherLink, Damaged as DamagedAt, NoMemory as NoRoom}
+use Rattle.capture_input.specs.declared.fault.MeterFault.{MeterFault}
+use Rattle.capture_input.specs.declared.fault.MeterFault.TheVariants.{Failed as SourceFailed, TooLarge as MoreBytes, NotCapture as NoHeader, LinkUnknown as OtherLink, Damaged as DamagedAt, NoMemory as NoRoom}
 use Rattle.meter_program.specs.declared.status.Status.{Status}
 use Rattle.meter_program.specs.declared.status.Status.TheVariants.{Done, ReadFault, WriteFault, NotCapture, LinkUnknown, Damaged, TooLarge, NoMemory, Usage, NotStream, BadSchedule}
 use Rattle.meter_program.specs.Gathering.{export_time}

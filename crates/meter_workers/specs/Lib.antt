@@ -3,4 +3,3 @@ pub mod Answers
 pub mod Work
 pub mod Sharing
 pub mod Windows
-pub mod Inputs

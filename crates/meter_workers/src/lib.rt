@@ -14,7 +14,6 @@
 #![tactic(auto)]
 
 mod all;
-mod fault;
 mod gate;
 mod list;
 mod part;
@@ -23,7 +22,7 @@ mod worker;
 mod working;
 
 pub use all::{Gathered, meter_all};
-pub use fault::MeterFault;
+pub use capture_input::MeterFault;
 pub use gate::{Gate, OpenGate};
 pub use list::meter_list;
 pub use no_memory::NoMemory;

@@ -14,23 +14,22 @@ ghost use Rattle.cache_face.specs.Meaning.{IsFresh};
 ghost use Rattle.meter_workers.specs.Answers.{Answer, answers_from};
 ghost use Rattle.meter_workers.specs.Work.{IsTallied};
 ghost use Rattle.meter_workers.specs.Sharing.{IsHeld};
-ghost use Rattle.meter_workers.specs.Windows.{IsMeteredWhole, IsRefused, HasFaults};
-ghost use Rattle.meter_workers.specs.Inputs.{TookMore, ReadsOn, EndsFor, began, fault_for};
+ghost use Rattle.capture_input.specs.Refusals.{IsRefused, HasFaults};
+ghost use Rattle.capture_input.specs.Inputs.{began};
+ghost use Rattle.meter_workers.specs.Windows.{IsMeteredWhole};
 
 use crate::all::{held_of, united};
-use crate::fault::MeterFault;
 use crate::gate::Gate;
 use crate::part::meter_part;
 use crate::worker::Held;
 use cache_face::FlowCache;
+use capture_input::{CaptureInput, MeterFault};
 use capture_tally::{Tally, room_law};
 use flow_parts::Fragment;
-use meter_io::{Failed, Source};
+use meter_io::Source;
 use no_memory::NoMemory;
 use packet_accept::packets_law;
-use pcap_reader::{
-    Capture, CaptureError, FillEnd, Head, IndexError, RecordIndex, Window, parts_law,
-};
+use pcap_reader::{Capture, Head, IndexError, RecordIndex, parts_law};
 use std::alloc::Global;
 use std::thread::Threads;
 
@@ -47,18 +46,6 @@ pub struct WindowGathered<C: FlowCache> {
     pub tail: u64,
 }
 
-/// An input that is read in windows.
-#[derive(Drop)]
-pub(crate) struct Input {
-    pub(crate) window: Window,
-    /// How many bytes were taken.
-    pub(crate) taken: u64,
-    /// How many may come at most.
-    pub(crate) limit: u64,
-    /// Whether the source is at its end.
-    pub(crate) ended: bool,
-}
-
 /// What stays from one window to the next: what the workers hold, the memory of the index, and the tally of all records so
 /// far.
 #[derive(Drop)]
@@ -66,58 +53,6 @@ pub(crate) struct Metering<C: FlowCache> {
     pub(crate) helds: Vec<Held<C>>,
     pub(crate) index: RecordIndex,
     pub(crate) tally: Tally,
-}
-
-/// Fills the window from the source.
-fn fill_input<S: Source>(source: &mut S, input: &mut Input) -> Result<(), MeterFault>
-    requires within { (input.old.taken ≤ input.old.limit) × (input.old.limit ≤ 2 ^ 30) }
-    ensures { TookMore (side S.left S.faults source.old source.new) input.old input.new result }
-{
-    let most = input.limit - input.taken + 1;
-    let had = input.window.bytes().len();
-    match input.window.fill(source, most) {
-        Err(Failed) => Err(MeterFault::Failed),
-        Ok(FillEnd::Spent) => Err(MeterFault::TooLarge),
-        Ok(FillEnd::Full) => {
-            input.taken += (input.window.bytes().len() - had) as u64;
-            input.ended = false;
-            Ok(())
-        }
-        Ok(FillEnd::Ended) => {
-            input.taken += (input.window.bytes().len() - had) as u64;
-            input.ended = true;
-            Ok(())
-        }
-    }
-}
-
-/// The fault of bytes that are no capture that can be read.
-fn fault_of(error: CaptureError) -> MeterFault
-    ensures { result ≡ fault_for error }
-{
-    match error {
-        CaptureError::NotCapture => MeterFault::NotCapture,
-        CaptureError::LinkUnknown(link) => MeterFault::LinkUnknown(link),
-    }
-}
-
-/// Reads the source to its end and drops what it reads. The fault stays, unless reading has one of its own.
-fn read_on<S: Source>(source: &mut S, input: Input, fault: MeterFault) -> MeterFault
-    requires within { (input.taken ≤ input.limit) × (input.limit ≤ 2 ^ 30) }
-    requires size { 0 < input.window.size }
-    requires ended { IsTrue input.ended → IsAtEnd (S.left source.old) }
-    ensures { ReadsOn (side S.left S.faults source.old source.new) input fault result }
-{
-    let mut input = input;
-    while !input.ended {
-        let had = input.window.bytes().len();
-        input.window.keep(had);
-        match fill_input(source, &mut input) {
-            Ok(()) => {}
-            Err(broken) => return broken,
-        }
-    }
-    fault
 }
 
 /// Meters the records of a part, whose first has as its number how many were tallied before.
@@ -165,30 +100,12 @@ fn meter_window<C: FlowCache, G: Gate, R: Threads + Sync>(
     }
 }
 
-/// Why the input is refused whose last part, of so many bytes, couldn't be metered. Where the part is damaged, the source is
-/// read to its end first.
-fn refused<S: Source>(source: &mut S, input: Input, count: usize, error: IndexError) -> MeterFault
-    requires within { (count ≤ input.taken) × (input.taken ≤ input.limit) × (input.limit ≤ 2 ^ 30) }
-    requires bounded { (at : ℕ) → error ≡ IndexError.Damaged at → at ≤ count }
-    requires size { 0 < input.window.size }
-    requires ended { IsTrue input.ended → IsAtEnd (S.left source.old) }
-    ensures { EndsFor (side S.left S.faults source.old source.new) input count error result }
-{
-    match error {
-        IndexError::NoMemory => MeterFault::NoMemory,
-        IndexError::Damaged(at) => {
-            let place = input.taken - count as u64 + at;
-            read_on(source, input, MeterFault::Damaged(place))
-        }
-    }
-}
-
 /// Meters an input whose first window was read, and begins with this file header.
 fn meter_input<S: Source, C: FlowCache, G: Gate, R: Threads + Sync>(
     rt: &R,
     alloc: Global,
     source: &mut S,
-    input: Input,
+    input: CaptureInput,
     head: Head,
     metering: Metering<C>,
     cache: &C,
@@ -222,7 +139,7 @@ fn meter_input<S: Source, C: FlowCache, G: Gate, R: Threads + Sync>(
         let part = Capture::part(head, bytes);
         metering = match meter_window(rt, alloc, &part, metering, cache, piece, gate) {
             Ok(metering) => metering,
-            Err(error) => return Err(refused(source, input, count, error)),
+            Err(error) => return Err(input.refused(source, count, error)),
         };
         if input.ended {
             return Ok(metering);
@@ -231,7 +148,7 @@ fn meter_input<S: Source, C: FlowCache, G: Gate, R: Threads + Sync>(
             .window
             .keep(from + count - metering.index.tail() as usize);
         from = 0;
-        match fill_input(source, &mut input) {
+        match input.fill(source) {
             Ok(()) => {}
             Err(broken) => return Err(broken),
         }
@@ -245,7 +162,7 @@ fn begun<C: FlowCache>(
     passes: Vec<C::Pass>,
     window: usize,
     limit: u64,
-) -> Result<(Input, Metering<C>), NoMemory>
+) -> Result<(CaptureInput, Metering<C>), NoMemory>
     requires window { (262184 ≤ window) × (window ≤ 2 ^ 27) }
     requires passes { All (λ p. C.is_of cache.now p × IsFresh (C.shown p)) passes.items }
     ensures input { IfOk result (λ r. (r.0.window.bytes ≡ []) × (r.0.window.size ≡ window) × (r.0.taken ≡ 0) × (r.0.limit ≡ limit)) }
@@ -255,13 +172,7 @@ fn begun<C: FlowCache>(
 {
     let helds = held_of(alloc, cache, passes)?;
     let index = RecordIndex::with_room(alloc, window)?;
-    let window = Window::open(alloc, window)?;
-    let input = Input {
-        window,
-        taken: 0,
-        limit,
-        ended: false,
-    };
+    let input = CaptureInput::open(alloc, window, limit)?;
     let metering = Metering {
         helds,
         index,
@@ -325,15 +236,10 @@ pub fn meter_windows<S: Source, C: FlowCache, G: Gate, R: Threads + Sync>(
     ensures refused { IfErr result (λ fault. IsRefused (side S.left S.faults source.old source.new) limit fault) }
     ensures faults { HasFaults (side S.left S.faults source.old source.new) result }
 {
-    parts_law();
-    let Ok((mut input, metering)) = begun(alloc, cache, passes, window, limit) else {
+    let Ok((input, metering)) = begun(alloc, cache, passes, window, limit) else {
         return Err(MeterFault::NoMemory);
     };
-    fill_input(source, &mut input)?;
-    let head = match Head::of(input.window.bytes()) {
-        Ok(head) => head,
-        Err(error) => return Err(read_on(source, input, fault_of(error))),
-    };
+    let (input, head) = input.begin(source)?;
     let metering = meter_input(rt, alloc, source, input, head, metering, cache, piece, gate)?;
     let Ok(all) = gathered(cache, metering) else {
         return Err(MeterFault::NoMemory);

@@ -1,15 +1,18 @@
--- The code's own: what reading an input in windows does.
-use Rattle.std.specs.Prelude.{◌≡◌, ◌⊎◌, ℕ, ◌+◌, ◌-◌, ◌≤◌, List, [], ◌++◌, length, true, false, Result, OnOk, IfErr}
+-- What reading an input in windows does.
+use Rattle.std.specs.Prelude.{◌≡◌, ◌⊎◌, ℕ, ◌+◌, ◌-◌, ◌≤◌, List, [], ◌++◌, length, true, false, Some, Result, OnOk, IfErr}
 use Rattle.std.specs.declared.option.Option.{Option}
 use Rattle.std.specs.Io.KnownBytes.{Consumes, IsAtEnd}
 use Rattle.meter_io.specs.Sides.{Side, HasFailed}
+use Rattle.pcap_reader.specs.File.{capture_file}
+use Rattle.pcap_reader.specs.Views.{headed_by}
+use Rattle.pcap_reader.specs.declared.head.Head.{Head}
 use Rattle.pcap_reader.specs.declared.head.CaptureError.{CaptureError}
 use Rattle.pcap_reader.specs.declared.head.CaptureError.TheVariants.{NotCapture as NoHeader, LinkUnknown as OtherLink}
 use Rattle.pcap_reader.specs.declared.index.IndexError.{IndexError}
 use Rattle.pcap_reader.specs.declared.index.IndexError.TheVariants.{Damaged as DamagedPart, NoMemory as NoIndex}
-use Rattle.meter_workers.specs.declared.windows.Input.{Input}
-use Rattle.meter_workers.specs.declared.fault.MeterFault.{MeterFault}
-use Rattle.meter_workers.specs.declared.fault.MeterFault.TheVariants.{Failed, TooLarge, NotCapture, LinkUnknown, Damaged, NoMemory}
+use Rattle.capture_input.specs.declared.input.CaptureInput.{CaptureInput}
+use Rattle.capture_input.specs.declared.fault.MeterFault.{MeterFault}
+use Rattle.capture_input.specs.declared.fault.MeterFault.TheVariants.{Failed, TooLarge, NotCapture, LinkUnknown, Damaged, NoMemory}
 
 -- A source as it was seen from an earlier call on, when it had `first` left.
 abbrev pub began : Option (List ℕ) → Side → Side
@@ -21,12 +24,13 @@ abbrev pub IsQuiet : Side → Type 0
 IsQuiet source = source.faults_after ≡ source.faults_before
 
 -- So many bytes more were taken, and the source is at its end or the window is full.
-pub record IsMore (source : Side) (taken count : ℕ) (new : Input) : Type 0 where
+pub record IsMore (source : Side) (taken count : ℕ) (new : CaptureInput) : Type 0 where
   pub taken_is : new.taken ≡ taken + count
   pub within : new.taken ≤ new.limit
   pub quiet : IsQuiet source
   pub ended : new.ended ≡ true → IsAtEnd source.after
   pub full : new.ended ≡ false → length new.window.bytes ≡ new.window.size
+  pub fits : length new.window.bytes ≤ new.window.size
 
 -- Why reading ended early, when so many bytes had come.
 abbrev pub IsCut : Side → ℕ → ℕ → MeterFault → Type 0
@@ -38,7 +42,7 @@ IsCut source count limit (Damaged at) = ⊥
 IsCut source count limit NoMemory = ⊥
 
 -- The window grew by what the source gave.
-pub record TookMore (source : Side) (old new : Input) (result : Result (Unit {0}) MeterFault) : Type 0 where
+pub record TookMore (source : Side) (old new : CaptureInput) (result : Result (Unit {0}) MeterFault) : Type 0 where
   pub got : List ℕ
   pub given : Consumes source.before source.after got
   pub bytes : new.window.bytes ≡ old.window.bytes ++ got
@@ -47,6 +51,15 @@ pub record TookMore (source : Side) (old new : Input) (result : Result (Unit {0}
   pub more : OnOk result (IsMore source old.taken (length got) new)
   pub cut : IfErr result (λ fault. IsCut source (old.taken + length got) old.limit fault)
 
+-- The first window was read, and begins with this file header.
+pub record HasBegun (source : Side) (old new : CaptureInput) (head : Head) : Type 0 where
+  pub given : Consumes source.before source.after new.window.bytes
+  pub header : capture_file new.window.bytes ≡ Some (headed_by head new.window.bytes)
+  pub long : 24 ≤ length new.window.bytes
+  pub size : new.window.size ≡ old.window.size
+  pub limit : new.limit ≡ old.limit
+  pub more : IsMore source 0 (length new.window.bytes) new
+
 -- The source was read to its end.
 pub record IsReadOut (source : Side) (count limit : ℕ) : Type 0 where
   pub quiet : IsQuiet source
@@ -54,7 +67,7 @@ pub record IsReadOut (source : Side) (count limit : ℕ) : Type 0 where
   pub within : count ≤ limit
 
 -- The source was read on: the fault stays where it came to its end, and else is why reading ended early.
-pub record ReadsOn (source : Side) (input : Input) (fault result : MeterFault) : Type 0 where
+pub record ReadsOn (source : Side) (input : CaptureInput) (fault result : MeterFault) : Type 0 where
   pub got : List ℕ
   pub given : Consumes source.before source.after got
   pub still : input.ended ≡ true → got ≡ []
@@ -62,7 +75,7 @@ pub record ReadsOn (source : Side) (input : Input) (fault result : MeterFault) :
       ⊎ IsCut source (input.taken + length got) input.limit result
 
 -- Why metering a part of so many bytes ended: memory was out, or the part is damaged, at a place within it.
-abbrev pub EndsFor : Side → Input → ℕ → IndexError → MeterFault → Type 0
+abbrev pub EndsFor : Side → CaptureInput → ℕ → IndexError → MeterFault → Type 0
 EndsFor source input count NoIndex result = (result ≡ NoMemory) × (source.after ≡ source.before) × IsQuiet source
 EndsFor source input count (DamagedPart at) result = ReadsOn source input (Damaged (input.taken - count + at)) result
 

@@ -1,0 +1,4 @@
+-- The definitions that contracts cite, a file for each subject.
+pub mod Refusals
+pub mod Inputs
+pub mod Places
