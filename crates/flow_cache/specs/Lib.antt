@@ -5,3 +5,4 @@ pub mod Shown
 pub mod Trying
 pub mod Outcome
 pub mod Ending
+pub mod Closed

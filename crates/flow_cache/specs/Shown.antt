@@ -1,7 +1,10 @@
 -- What the cache and its passes mean.
-use Rattle.std.specs.Prelude.{◌≡◌, ◌⊎◌, ℕ, ◌+◌, ◌*◌, ◌<◌, List, map}
+use Rattle.std.specs.Prelude.{◌≡◌, ◌⊎◌, ℕ, ◌+◌, ◌*◌, ◌<◌, List, Option, map}
+use Rattle.packet_accept.specs.declared.packet.Packet.{Packet}
+use Rattle.flow_parts.specs.declared.fragment.Fragment.{Fragment}
+use Rattle.flow_parts.specs.declared.timeouts.Timeouts.{Timeouts}
 use Rattle.cache_face.specs.Meaning.{CacheMeans, PassMeans}
-use Rattle.cache_face.specs.Notes.{first_note, empty_note}
+use Rattle.cache_face.specs.Notes.{Note, first_note, empty_note}
 use Rattle.cache_face.specs.Tries.{LostTry}
 use Rattle.cache_face.specs.Tries as tries
 use Rattle.pebr_core.specs.Frames.{retired_count}
@@ -9,13 +12,32 @@ use Rattle.pebr_words.specs.Pasts.{Lost, Ejection}
 use Rattle.pebr_words.specs.Pasts as pasts
 use Rattle.pebr_roots.specs.Passes as roots
 use Rattle.pebr_roots.specs.Passes.{shape_at, known_by, note_by, past_by, lost_by, count_by_pass, IsUnitedPass}
+use Rattle.pebr_roots.specs.declared.pass.RootPass.{RootPass}
+use Rattle.pebr_roots.specs.declared.pass.Roots.{Roots}
+use Rattle.flow_cache.specs.contracts.protocol.CacheRuleRootProtocol.TheImpl as rule
+use Rattle.flow_cache.specs.declared.protocol.CacheRule.{CacheRule}
 use Rattle.flow_cache.specs.declared.cache.PebrCache.{PebrCache}
 use Rattle.flow_cache.specs.declared.cache.PebrPass.{PebrPass}
 use Rattle.flow_cache.specs.Places.{root_of}
 use Rattle.flow_cache.specs.Reading.{entries_read, set_read}
 
+-- The roots of a cache of open flows, and a seat at them: their contents are entries, and their notes say what a pass has done.
+abbrev pub CacheRoots : Type 0
+CacheRoots = Roots CacheRule Note (Packet × Option Fragment) Timeouts
+
+abbrev pub CacheSeat : Type 0
+CacheSeat = RootPass CacheRule Note (Packet × Option Fragment) Timeouts rule.ghosts
+
+-- The roots of the cache's entries: the four of the set s have the numbers from 4 * s on.
+abbrev pub roots_of : PebrCache → CacheRoots
+roots_of cache = cache.roots
+
+-- The seat of these roots that a pass is.
+abbrev pub seat_of : PebrPass → CacheSeat
+seat_of pass = pass.inner
+
 abbrev pub means_of : PebrCache → CacheMeans
-means_of cache = record { sets = cache.sets; seats = (shape_at cache.roots).seats; limits = cache.timeouts }
+means_of cache = record { sets = cache.sets; seats = (shape_at (roots_of cache)).seats; limits = cache.timeouts }
 
 -- A lost try of the seat is one of the cache.
 abbrev pub try_of : Lost → LostTry
@@ -25,18 +47,18 @@ try_of (pasts.found_other root) = tries.found_other root
 -- The set that its last try read is that of the roots which it loaded.
 abbrev pub shown_of : PebrPass → PassMeans
 shown_of pass = record {
-  note = note_by first_note pass.inner;
-  lost = map try_of (lost_by pass.inner);
-  set = set_read (past_by pass.inner).loads;
-  entries = entries_read (past_by pass.inner) (set_read (past_by pass.inner).loads);
+  note = note_by first_note (seat_of pass);
+  lost = map try_of (lost_by (seat_of pass));
+  set = set_read (past_by (seat_of pass)).loads;
+  entries = entries_read (past_by (seat_of pass)) (set_read (past_by (seat_of pass)).loads);
 }
 
 -- How many slots it has retired, and the ejections that its seat made.
 abbrev pub retired_of : PebrPass → ℕ
-retired_of pass = retired_count (known_by pass.inner)
+retired_of pass = retired_count (known_by (seat_of pass))
 
 abbrev pub ejections_of : PebrPass → List Ejection
-ejections_of pass = (past_by pass.inner).ejections
+ejections_of pass = (past_by (seat_of pass)).ejections
 
 -- How many slots a pass of this cache has, fresh and retired together.
 abbrev pub slots_of : PebrCache → ℕ
@@ -48,6 +70,6 @@ IsTryOf set try = (try ≡ tries.was_ejected) ⊎ ((place : ℕ) × (place < 4) 
 
 -- A pass of this cache, whose note counts its seats.
 pub record IsOf (cache : PebrCache) (pass : PebrPass) : Type 0 where
-  pub of : roots.IsOf cache.roots pass.inner
-  pub seats : (note_by first_note pass.inner).seats ≡ count_by_pass pass.inner
-  pub united : IsUnitedPass empty_note pass.inner
+  pub of : roots.IsOf (roots_of cache) (seat_of pass)
+  pub seats : (note_by first_note (seat_of pass)).seats ≡ count_by_pass (seat_of pass)
+  pub united : IsUnitedPass empty_note (seat_of pass)

@@ -3,6 +3,7 @@
 ghost use Rattle.std.specs.Prelude.{◌≡◌, ◌+◌, ◌*◌, ◌<◌, ◌≤◌, ◌^◌, ◌∷◌, [], All};
 ghost use Rattle.cache_face.specs.Meaning.{IsMetered};
 ghost use Rattle.cache_face.specs.Notes.{metering};
+ghost use Rattle.flow_cache.specs.Closed.{metered_by};
 ghost use Rattle.flow_cache.specs.Shown.{means_of, shown_of, retired_of, slots_of, IsOf, IsTryOf};
 
 use crate::cache::{PebrCache, PebrPass};
@@ -67,7 +68,7 @@ impl PebrCaches {
 impl Caches for PebrCaches {
     type Cache = PebrCache;
 
-    ghost metered = { λ s. s.metered };
+    ghost metered = { metered_by };
 
     fn open(
         &mut self,

@@ -10,6 +10,7 @@ ghost use Rattle.pebr_words.specs.Pasts.{was_ejected, written_at};
 ghost use Rattle.pebr_roots.specs.Under.{slot_at, is_valid_at};
 ghost use Rattle.pebr_roots.specs.Passes.{known_by, note_by, past_by, IsOf, IsSame};
 ghost use Rattle.flow_cache.specs.Reading.{words_read, entries_read, set_read};
+ghost use Rattle.flow_cache.specs.Shown.{roots_of};
 ghost use Rattle.flow_cache.specs.Trying.{AreLoaded, AreProtected, IsUnlost, HasMore, HasTen};
 
 use crate::cache::PebrCache;
@@ -76,10 +77,10 @@ impl PebrCache {
     /// Reads the entry under a valid shield: the ten words of its slot. It is the same at each read until the shield is taken
     /// down or the pass enters anew.
     pub fn read_entry(&self, pass: &mut RootPass<CacheRule>, place: usize) -> Option<Fragment>
-        requires of { IsOf self.now.roots pass.old }
+        requires of { IsOf (roots_of self.now) pass.old }
         requires place { place < 4 }
         requires valid { IsTrue (is_valid_at (known_by pass.old) place) }
-        ensures same { IsSame self.now.roots pass.old pass.new }
+        ensures same { IsSame (roots_of self.now) pass.old pass.new }
         ensures note { note_by first_note pass.new ≡ note_by first_note pass.old }
         ensures known { known_by pass.new ≡ known_by pass.old }
         ensures past { past_by pass.new ≡ record (past_by pass.old) { last = (past_by pass.new).last; steps = (past_by pass.new).steps; reads = (past_by pass.new).reads } }
@@ -134,9 +135,9 @@ impl PebrCache {
 
     /// Reads the four entries of the set whose roots are protected.
     pub fn read_set(&self, pass: &mut RootPass<CacheRule>) -> [Option<Fragment>; 4]
-        requires of { IsOf self.now.roots pass.old }
+        requires of { IsOf (roots_of self.now) pass.old }
         requires valid { (place : ℕ) → place < 4 → IsTrue (is_valid_at (known_by pass.old) place) }
-        ensures same { IsSame self.now.roots pass.old pass.new }
+        ensures same { IsSame (roots_of self.now) pass.old pass.new }
         ensures note { note_by first_note pass.new ≡ note_by first_note pass.old }
         ensures known { known_by pass.new ≡ known_by pass.old }
         ensures past { past_by pass.new ≡ record (past_by pass.old) { last = (past_by pass.new).last; steps = (past_by pass.new).steps; reads = (past_by pass.new).reads } }

@@ -7,7 +7,7 @@ ghost use Rattle.pebr_core.specs.State.{is_out, is_down};
 ghost use Rattle.pebr_shields.specs.declared.checked.Checked.TheVariants as checked;
 ghost use Rattle.pebr_words.specs.Pasts.{was_ejected};
 ghost use Rattle.pebr_roots.specs.Passes.{known_by, note_by, past_by, lost_by, IsOf, IsSame};
-ghost use Rattle.flow_cache.specs.Shown.{means_of};
+ghost use Rattle.flow_cache.specs.Shown.{means_of, roots_of, seat_of};
 ghost use Rattle.flow_cache.specs.Trying.{AreProtected, IsUnlost};
 
 use crate::cache::{PebrCache, PebrPass};
@@ -18,7 +18,7 @@ use pebr_roots::{Checked, RootPass, Roots};
 impl PebrCache {
     /// The roots of its entries. Those of the set `s` have the numbers from `4 * s` on.
     pub fn roots(&self) -> &Roots<CacheRule>
-        ensures { result.now ≡ self.now.roots }
+        ensures { result.now ≡ roots_of self.now }
     {
         &self.roots
     }
@@ -34,10 +34,10 @@ impl PebrCache {
     /// Enters, loads and shields the four roots of a set, and checks. At `Valid` the slots under the four shields stay as they
     /// are until these are taken down, also once the pass has left.
     pub fn protect(&self, pass: &mut RootPass<CacheRule>, set: u64) -> Checked
-        requires of { IsOf self.now.roots pass.old }
+        requires of { IsOf (roots_of self.now) pass.old }
         requires set { set < (means_of self.now).sets }
         requires out { IsTrue (is_out (known_by pass.old).status) }
-        ensures same { IsSame self.now.roots pass.old pass.new }
+        ensures same { IsSame (roots_of self.now) pass.old pass.new }
         ensures note { note_by first_note pass.new ≡ note_by first_note pass.old }
         ensures entered { is_out (known_by pass.new).status ≡ false }
         ensures pins { (past_by pass.new).pins ≡ (past_by pass.old).pins + 1 }
@@ -52,7 +52,7 @@ impl PebrCache {
 impl PebrPass {
     /// The seat of the pass.
     pub fn into_seat(self) -> RootPass<CacheRule>
-        ensures seat { result ≡ self.inner }
+        ensures seat { result ≡ seat_of self }
         ensures out { IsTrue (is_out (known_by result).status) }
         ensures down { IsTrue (list_all is_down (known_by result).shields) }
     {
@@ -65,7 +65,7 @@ impl PebrPass {
         requires out { IsTrue (is_out (known_by seat).status) }
         requires down { IsTrue (list_all is_down (known_by seat).shields) }
         requires counted { lost ≡ min (length (lost_by seat)) (2 ^ 64 - 1) }
-        ensures seat { result.inner ≡ seat }
+        ensures seat { seat_of result ≡ seat }
     {
         PebrPass { inner: seat, lost }
     }

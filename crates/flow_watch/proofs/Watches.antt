@@ -9,6 +9,7 @@ use Rattle.cache_face.specs.Notes.{Note}
 use Rattle.pebr_words.specs.Pasts.{Lost, was_ejected}
 use Rattle.pebr_roots.specs.Passes.{known_by, IsSame}
 use Rattle.flow_cache.specs.declared.cache.PebrCache.{PebrCache}
+use Rattle.flow_cache.specs.Shown.{roots_of}
 use Rattle.flow_watch.specs.declared.watcher.Watch.{Watch}
 use Rattle.flow_watch.specs.declared.watcher.Watch.TheVariants as watch
 use Rattle.flow_watch.specs.declared.watcher.Watcher.{Watcher}
@@ -16,7 +17,7 @@ use Rattle.flow_watch.specs.Holding.{IsHolding}
 use Rattle.flow_watch.specs.Watching.{IsOf, IsWatched, note_of, past_of}
 
 -- it is a watcher of the same cache
-pub goes_on : (cache : PebrCache) (old new : Watcher) → IsOf cache old → IsSame cache.roots old.seat new.seat → note_of new ≡ note_of old
+pub goes_on : (cache : PebrCache) (old new : Watcher) → IsOf cache old → IsSame (roots_of cache) old.seat new.seat → note_of new ≡ note_of old
     → IfSome new.held (λ hold. IsHolding hold.place hold.fragment (known_by new.seat) (past_of new)) → IsOf cache new
 goes_on cache old new o same note holds = record {
   of = same.of;

@@ -10,6 +10,7 @@ use Rattle.pebr_words.specs.Pasts as pasts
 use Rattle.pebr_roots.specs.Passes as roots
 use Rattle.pebr_roots.specs.Passes.{known_by, note_by, past_by, lost_by, count_by_pass, IsUnitedPass}
 use Rattle.flow_cache.specs.declared.cache.PebrCache.{PebrCache}
+use Rattle.flow_cache.specs.Shown.{roots_of}
 use Rattle.flow_watch.specs.declared.watcher.Watcher.{Watcher}
 use Rattle.flow_watch.specs.declared.watcher.Watch.{Watch}
 use Rattle.flow_watch.specs.declared.watcher.Watch.TheVariants.{Held, Absent, Lost}
@@ -31,7 +32,7 @@ lost_of watcher = lost_by watcher.seat
 
 -- A watcher at a seat of this cache, whose note counts the seat. What it holds is under a valid shield.
 pub record IsOf (cache : PebrCache) (watcher : Watcher) : Type 0 where
-  pub of : roots.IsOf cache.roots watcher.seat
+  pub of : roots.IsOf (roots_of cache) watcher.seat
   pub seats : (note_of watcher).seats ≡ count_by_pass watcher.seat
   pub united : IsUnitedPass empty_note watcher.seat
   pub holds : IfSome watcher.held (λ hold. IsHolding hold.place hold.fragment (known_by watcher.seat) (past_of watcher))

@@ -9,7 +9,7 @@ ghost use Rattle.pebr_core.specs.State.{is_out, is_down};
 ghost use Rattle.pebr_words.specs.Ruled.{IsSure};
 ghost use Rattle.pebr_roots.specs.Passes.{shape_at, known_by, note_by, past_by, IsSame};
 ghost use Rattle.pebr_roots.specs.Passes as roots;
-ghost use Rattle.flow_cache.specs.Shown.{means_of};
+ghost use Rattle.flow_cache.specs.Shown.{means_of, roots_of};
 ghost use Rattle.flow_cache.specs.Trying.{AreProtected};
 ghost use Rattle.flow_watch.specs.Holding.{IsHolding, IsHeld, IsAbsent};
 ghost use Rattle.flow_watch.specs.Trying.{IsTried};
@@ -37,15 +37,15 @@ fn lowest_of(entries: &[Option<Fragment>; 4], key: &FlowKey) -> Option<Hold>
 
 /// Leaves. The shields stay up where an entry is held, and else are taken down.
 fn leave(cache: &PebrCache, seat: &mut RootPass<CacheRule>, holds: bool)
-    requires of { roots.IsOf cache.now.roots seat.old }
+    requires of { roots.IsOf (roots_of cache.now) seat.old }
     requires entered { is_out (known_by seat.old).status ≡ false }
-    ensures same { IsSame cache.now.roots seat.old seat.new }
+    ensures same { IsSame (roots_of cache.now) seat.old seat.new }
     ensures note { note_by first_note seat.new ≡ note_by first_note seat.old }
     ensures out { IsTrue (is_out (known_by seat.new).status) }
     ensures held { IsTrue holds → (known_by seat.new).shields ≡ (known_by seat.old).shields }
     ensures down { holds ≡ false → IsTrue (list_all is_down (known_by seat.new).shields) }
     ensures past { past_by seat.new ≡ record (past_by seat.old) { last = (past_by seat.new).last; steps = (past_by seat.new).steps } }
-    ensures sure { IsSure IsWhole (shape_at cache.now.roots) (known_by seat.new) (past_by seat.new) }
+    ensures sure { IsSure IsWhole (shape_at (roots_of cache.now)) (known_by seat.new) (past_by seat.new) }
 {
     if !holds {
         cache.roots().clear(seat);
@@ -65,10 +65,10 @@ pub(crate) enum Tried {
 
 /// Reads the entries of a set whose roots are protected, holds the one of the key, and leaves.
 fn keep(cache: &PebrCache, seat: &mut RootPass<CacheRule>, set: u64, key: &FlowKey) -> Option<Hold>
-    requires of { roots.IsOf cache.now.roots seat.old }
+    requires of { roots.IsOf (roots_of cache.now) seat.old }
     requires entered { is_out (known_by seat.old).status ≡ false }
     requires protected { AreProtected set (known_by seat.old) (past_by seat.old) }
-    ensures same { IsSame cache.now.roots seat.old seat.new }
+    ensures same { IsSame (roots_of cache.now) seat.old seat.new }
     ensures note { note_by first_note seat.new ≡ note_by first_note seat.old }
     ensures out { IsTrue (is_out (known_by seat.new).status) }
     ensures pins { (past_by seat.new).pins ≡ (past_by seat.old).pins }
@@ -89,10 +89,10 @@ pub(crate) fn attempt(
     set: u64,
     key: &FlowKey,
 ) -> Tried
-    requires of { roots.IsOf cache.now.roots seat.old }
+    requires of { roots.IsOf (roots_of cache.now) seat.old }
     requires set { set < (means_of cache.now).sets }
     requires out { IsTrue (is_out (known_by seat.old).status) }
-    ensures same { IsSame cache.now.roots seat.old seat.new }
+    ensures same { IsSame (roots_of cache.now) seat.old seat.new }
     ensures note { note_by first_note seat.new ≡ note_by first_note seat.old }
     ensures out { IsTrue (is_out (known_by seat.new).status) }
     ensures tried { IsTried set key.now (means_of cache.now).seats result (known_by seat.new) (past_by seat.old) (past_by seat.new) }
