@@ -15,6 +15,25 @@
 
 enum { PIECE = 256 };
 
+/*
+ * A packet in memory as `cache_pace` holds it: the fields of the public type of packets, in as many bytes and at the same
+ * places. A fragment's words are made of them for each packet, as there.
+ */
+struct held {
+    uint64_t number;
+    struct {
+        uint8_t version;
+        unsigned __int128 source, destination;
+        uint8_t protocol;
+        uint16_t source_port, destination_port;
+    } key;
+    uint64_t time;
+    uint32_t octets;
+    uint16_t flags;
+};
+
+_Static_assert(sizeof(struct held) == 96, "as many bytes as there");
+
 struct runner {
     pthread_t thread;
     uint64_t number;
@@ -23,7 +42,7 @@ struct runner {
     char apart[128];
 };
 
-static struct packet *packets;
+static struct held *packets;
 static size_t packet_count;
 static struct runner runners[MOST_SEATS];
 static uint64_t runner_count;
@@ -31,11 +50,47 @@ static struct turns turns;
 static struct slots slots;
 static int is_turn;
 
+static unsigned __int128 address(const uint64_t *halves)
+{
+    return (unsigned __int128)halves[0] << 64 | halves[1];
+}
+
+static void hold(struct held *held, const struct packet *packet, uint64_t number)
+{
+    held->number = number;
+    held->key.version = packet->key[0] >> 40;
+    held->key.source = address(packet->key + 1);
+    held->key.destination = address(packet->key + 3);
+    held->key.protocol = packet->key[0] >> 32;
+    held->key.source_port = packet->key[0] >> 16;
+    held->key.destination_port = packet->key[0];
+    held->time = packet->time;
+    held->octets = packet->octets;
+    held->flags = packet->flags;
+}
+
+/* The words of the fragment of this one packet. */
+static inline void words_of(const struct held *held, uint64_t *words)
+{
+    uint64_t ports = (uint64_t)held->key.source_port << 16 | held->key.destination_port;
+    words[0] = (uint64_t)held->key.version << 40 | (uint64_t)held->key.protocol << 32 | ports;
+    words[1] = held->key.source >> 64;
+    words[2] = held->key.source;
+    words[3] = held->key.destination >> 64;
+    words[4] = held->key.destination;
+    words[PACKETS] = 1;
+    words[OCTETS] = held->octets;
+    words[FIRST] = words[LAST] = held->time;
+    words[FLAGS] = held->flags;
+}
+
 static void read_packets(void)
 {
     static uint8_t record[RECORD_HEADER + MOST_CAPTURED];
     struct capture capture;
+    struct packet packet;
     size_t room = 1 << 16;
+    uint64_t number = 0;
     packets = malloc(room * sizeof *packets);
     if (packets == NULL || fread(record, 1, FILE_HEADER, stdin) != FILE_HEADER || !header_of(record, FILE_HEADER, &capture)) {
         exit(1);
@@ -45,7 +100,11 @@ static void read_packets(void)
         if (captured > MOST_CAPTURED || fread(record + RECORD_HEADER, 1, captured, stdin) != captured) {
             exit(1);
         }
-        packet_count += packet_of(&capture, record, packets + packet_count);
+        if (packet_of(&capture, record, &packet)) {
+            hold(packets + packet_count, &packet, number);
+            packet_count++;
+        }
+        number++;
         if (packet_count == room) {
             room *= 2;
             packets = realloc(packets, room * sizeof *packets);
@@ -58,13 +117,16 @@ static void read_packets(void)
 
 static void run_piece(struct runner *runner, size_t start, size_t end)
 {
+    uint64_t own[WORDS];
     if (is_turn) {
         for (size_t k = start; k < end; k++) {
-            meter_by_turn(&turns, runner->number, &packets[k], &runner->parts);
+            words_of(&packets[k], own);
+            meter_by_turn(&turns, runner->number, own, &runner->parts);
         }
     } else {
         for (size_t k = start; k < end; k++) {
-            meter_by_slot(&slots, &runner->seat, &packets[k], &runner->parts);
+            words_of(&packets[k], own);
+            meter_by_slot(&slots, &runner->seat, own, &runner->parts);
         }
     }
 }

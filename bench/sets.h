@@ -133,13 +133,12 @@ static inline int open_turns(struct turns *turns, uint64_t sets)
     return turns->words != NULL;
 }
 
-/* A packet is metered by the thread of a number. After three lost tries it is handed out itself. */
-static inline void meter_by_turn(struct turns *turns, uint64_t number, const struct packet *packet, struct parts *parts)
+/* A packet's own fragment is metered by the thread of a number. After three lost tries it is handed out itself. */
+static inline void meter_by_turn(struct turns *turns, uint64_t number, const uint64_t *own, struct parts *parts)
 {
-    uint64_t own[WORDS], entries[ENTRIES][WORDS], kept[WORDS];
-    word *set = turns->words + SET_WORDS * set_of(packet->key, turns->sets);
+    uint64_t entries[ENTRIES][WORDS], kept[WORDS];
+    word *set = turns->words + SET_WORDS * set_of(own, turns->sets);
     int out, tries = 0;
-    part_of(packet, own);
     for (uint64_t none = 0; !atomic_compare_exchange_strong(set, &none, number + 1); none = 0) {
         if (++tries == TRIES) {
             keep_part(parts, own);

@@ -179,13 +179,12 @@ static inline int try_slots(const struct slots *slots, struct seat *seat, word *
     return is_put;
 }
 
-/* A packet is metered through a seat. After three lost tries it is handed out itself. */
-static inline void meter_by_slot(const struct slots *slots, struct seat *seat, const struct packet *packet, struct parts *parts)
+/* A packet's own fragment is metered through a seat. After three lost tries it is handed out itself. */
+static inline void meter_by_slot(const struct slots *slots, struct seat *seat, const uint64_t *own, struct parts *parts)
 {
-    uint64_t own[WORDS], old[WORDS];
-    word *roots = roots_of(slots, set_of(packet->key, slots->sets));
+    uint64_t old[WORDS];
+    word *roots = roots_of(slots, set_of(own, slots->sets));
     int out;
-    part_of(packet, own);
     if (seat->retired_count >= BATCH) {
         collect(slots, seat, 0);
     }

@@ -73,11 +73,13 @@ static size_t find_records(size_t at)
 static void meter_record(struct worker *worker, const uint8_t *record)
 {
     struct packet packet;
+    uint64_t own[WORDS];
     worker->records++;
     if (packet_of(&capture, record, &packet)) {
         worker->packets++;
         worker->octets += packet.octets;
-        meter_by_turn(&cache, worker->number, &packet, &worker->parts);
+        part_of(&packet, own);
+        meter_by_turn(&cache, worker->number, own, &worker->parts);
     }
 }
 
