@@ -1,0 +1,4 @@
+pub mod Fronts
+pub mod Handed
+pub mod Firsts
+pub mod Walk
