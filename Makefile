@@ -4,6 +4,7 @@ PREFIX ?= /usr/local
 PROGRAM := bin/romtyalig
 PCAPNG := bin/romtyalig-pcapng
 PAIR := bin/romtyalig-pair
+WATCH := bin/romtyalig-watch
 THREADS := bin/two_threads
 METERING := bin/metering_alone
 PACE := bin/cache_pace
@@ -16,7 +17,7 @@ SOURCES := $(shell find crates -name out -prune -o \( -name '*.rt' -o -name '*.a
 help:
 	@echo "make demo                 build the program, which proves it, and show the records of a sample capture"
 	@echo "make test                 the gate: prove every crate from nothing, run all tests, then the checks of checks/"
-	@echo "make build                leave the programs as $(PROGRAM), $(PCAPNG) and $(PAIR)"
+	@echo "make build                leave the programs as $(PROGRAM), $(PCAPNG), $(PAIR) and $(WATCH)"
 	@echo "make check                compare the program with other readers and meters (checks/)"
 	@echo "make install PREFIX=DIR   install programs, pages and completions below DIR, $(PREFIX) by default"
 
@@ -26,7 +27,7 @@ demo: build
 	$(PROGRAM) meter < $(CAPTURE) > bin/web-exchange.ipfix
 	$(PROGRAM) show < bin/web-exchange.ipfix
 
-build: $(PROGRAM) $(PCAPNG) $(PAIR)
+build: $(PROGRAM) $(PCAPNG) $(PAIR) $(WATCH)
 
 # `rt run` proves the crates, builds the program and runs it, here on an empty stream.
 $(PROGRAM): crates.txt $(SOURCES)
@@ -36,7 +37,7 @@ $(PROGRAM): crates.txt $(SOURCES)
 	@mkdir -p bin
 	@cp crates/romtyalig/out/romtyalig $(PROGRAM)
 
-# The same for the two filters, here on the files of their stored runs.
+# The same for the two filters and the watcher, here on the files of their stored runs.
 $(PCAPNG): crates.txt $(SOURCES)
 	@cd crates/romtyalig_pcapng && rt run -- pcapng < stdin > build.log 2>&1 || { tail -n 20 build.log; exit 1; }
 	@rm -f crates/romtyalig_pcapng/build.log
@@ -48,6 +49,12 @@ $(PAIR): crates.txt $(SOURCES)
 	@rm -f crates/romtyalig_pair/build.log
 	@mkdir -p bin
 	@cp crates/romtyalig_pair/out/romtyalig_pair $(PAIR)
+
+$(WATCH): crates.txt $(SOURCES)
+	@cd crates/romtyalig_watch && rt run -- watch < stdin > build.log 2>&1 || { tail -n 20 build.log; exit 1; }
+	@rm -f crates/romtyalig_watch/build.log
+	@mkdir -p bin
+	@cp crates/romtyalig_watch/out/romtyalig_watch $(WATCH)
 
 # And for the program of checks/two_threads.sh.
 $(THREADS): crates.txt $(SOURCES)
@@ -79,8 +86,8 @@ test:
 # The gate leaves each program in its crate's folder out/; so nothing is proved a second time for the checks.
 take:
 	@mkdir -p bin
-	@for pair in romtyalig:$(PROGRAM) romtyalig_pcapng:$(PCAPNG) romtyalig_pair:$(PAIR) two_threads:$(THREADS) \
-	    metering_alone:$(METERING) cache_pace:$(PACE); do \
+	@for pair in romtyalig:$(PROGRAM) romtyalig_pcapng:$(PCAPNG) romtyalig_pair:$(PAIR) romtyalig_watch:$(WATCH) \
+	    two_threads:$(THREADS) metering_alone:$(METERING) cache_pace:$(PACE); do \
 	    made=crates/$${pair%%:*}/out/$${pair%%:*}; \
 	    if [ -x "$$made" ]; then cp "$$made" "$${pair#*:}"; fi; \
 	done
@@ -96,6 +103,7 @@ check: build $(THREADS)
 	checks/refused_memory.sh
 	python3 checks/workers.py
 	checks/one_set.sh
+	checks/watch.sh
 	python3 checks/second_meter.py 20000
 	python3 checks/second_reader.py 20000
 	python3 checks/second_pairer.py 2000
@@ -106,8 +114,9 @@ install: build
 	install -m 755 $(PROGRAM) $(DESTDIR)$(PREFIX)/bin/romtyalig
 	install -m 755 $(PCAPNG) $(DESTDIR)$(PREFIX)/bin/romtyalig-pcapng
 	install -m 755 $(PAIR) $(DESTDIR)$(PREFIX)/bin/romtyalig-pair
+	install -m 755 $(WATCH) $(DESTDIR)$(PREFIX)/bin/romtyalig-watch
 	install -d $(DESTDIR)$(PREFIX)/share/man/man1
-	install -m 644 man/romtyalig.1 man/romtyalig-pcapng.1 man/romtyalig-pair.1 $(DESTDIR)$(PREFIX)/share/man/man1
+	install -m 644 man/romtyalig.1 man/romtyalig-pcapng.1 man/romtyalig-pair.1 man/romtyalig-watch.1 $(DESTDIR)$(PREFIX)/share/man/man1
 	install -d $(DESTDIR)$(PREFIX)/share/bash-completion/completions
 	install -m 644 completions/romtyalig.bash $(DESTDIR)$(PREFIX)/share/bash-completion/completions/romtyalig
 	install -d $(DESTDIR)$(PREFIX)/share/zsh/vendor-completions

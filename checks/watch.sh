@@ -1,0 +1,70 @@
+#!/bin/sh
+# 63 workers and a watcher on one set: flows are asked for while they are metered.
+#
+#     checks/watch.sh [RUNS [WORKERS [SEED]]]
+#
+# Each run has a capture of its own, 200,000 packets of 8 keys, which `make` writes by the seed and the run's number (10 runs,
+# 63 workers and seed 1 unless given). `romtyalig-watch` meters it through one set of four entries and asks 1,000 times. It must
+# write a line for each ask, `held` with four numbers, of which the first is 1 at least and the third at most the fourth, `absent`
+# or `lost`, and behind them the total that the summary of `meter` has of the same capture. The last line counts the runs and the
+# lines; the status is not 0 where a run differs.
+#
+# ROMTYALIG and ROMTYALIG_WATCH are the programs' paths (bin/romtyalig and bin/romtyalig-watch unless set).
+set -u
+
+top=$(dirname "$(cd "$(dirname "$0")" && pwd)")
+program=${ROMTYALIG:-$top/bin/romtyalig}
+watcher=${ROMTYALIG_WATCH:-$top/bin/romtyalig-watch}
+runs=${1:-10}
+workers=${2:-63}
+seed=${3:-1}
+asks=1000
+
+for file in "$program" "$watcher"; do
+    if [ ! -x "$file" ]; then
+        echo "no program at $file" >&2
+        exit 2
+    fi
+done
+
+work=$(mktemp -d) || exit 2
+trap 'rm -rf "$work"' EXIT
+trap 'exit 2' HUP INT TERM
+
+# What a text says: how many lines are held, absent and lost, the total, and "wrong" where a line is none of these or is out of
+# place.
+told() {
+    awk '
+        total != "" { wrong = "wrong" }
+        $1 == "held" && NF == 5 && $2 >= 1 && $4 <= $5 { held++; next }
+        $0 == "absent" { absent++; next }
+        $0 == "lost" { lost++; next }
+        $1 == "total" && NF == 3 { total = $2 " " $3; next }
+        { wrong = "wrong" }
+        END { printf "%d %d %d %s%s\n", held, absent, lost, total, wrong }'
+}
+
+whole=0
+differ=0
+all_held=0
+all_absent=0
+all_lost=0
+for run in $(seq "$runs"); do
+    "$program" make --seed "$((seed + run))" --packets 200000 --keys 8 >"$work/capture" 2>/dev/null || exit 2
+    "$program" meter <"$work/capture" 2>"$work/summary" >/dev/null || exit 2
+    wanted=$(awk '$1 == "accepted" { packets = $2 } $1 == "octets" { octets = $2 } END { print packets, octets }' "$work/summary")
+    "$watcher" watch --workers "$workers" --sets 1 --asks "$asks" <"$work/capture" >"$work/text" || exit 2
+    told <"$work/text" >"$work/told"
+    read -r held absent lost total <"$work/told"
+    all_held=$((all_held + held))
+    all_absent=$((all_absent + absent))
+    all_lost=$((all_lost + lost))
+    if [ "$total" = "$wanted" ] && [ $((held + absent + lost)) -eq "$asks" ]; then
+        whole=$((whole + 1))
+    else
+        echo "DIFFERS: run $run of seed $seed: $(cat "$work/told"), and not $wanted"
+        differ=$((differ + 1))
+    fi
+done
+echo "$whole runs have all asks, packets and octets, $differ differ; $all_held held, $all_absent absent, $all_lost lost"
+[ "$differ" -eq 0 ]

@@ -1,0 +1,103 @@
+//! Who asks for open flows while workers meter.
+
+ghost use Rattle.std.specs.Prelude.{◌≡◌, None, All, IfOk, length};
+ghost use Rattle.cache_face.specs.Notes.{first_note};
+ghost use Rattle.flow_cache.specs.Shown.{shown_of};
+ghost use Rattle.flow_cache.specs.Shown as shown;
+ghost use Rattle.flow_watch.specs.Watching.{IsOf, held_by, note_of};
+ghost use Rattle.watch_program.specs.Answers.{IsSound, IsOfKey, AreInTurn, count_of};
+
+use crate::answer::Answer;
+use flow_cache::{PebrCache, PebrPass};
+use flow_key::FlowKey;
+use flow_watch::{Watch, Watcher};
+use meter_workers::Gate;
+use no_memory::NoMemory;
+use std::alloc::Global;
+
+/// What came of asking, and the pass of who asked.
+#[derive(Drop)]
+pub(crate) struct Asking {
+    pub(crate) pass: PebrPass,
+    pub(crate) answers: Result<Vec<Answer>, NoMemory>,
+}
+
+/// Asks for the flow of a key: holds it, reads it and releases it.
+fn ask(cache: &PebrCache, watcher: &mut Watcher, key: &FlowKey) -> Answer
+    requires of { IsOf cache.now watcher.old }
+    requires idle { held_by watcher.old ≡ None }
+    ensures of { IsOf cache.now watcher.new }
+    ensures idle { held_by watcher.new ≡ None }
+    ensures note { note_of watcher.new ≡ note_of watcher.old }
+    ensures sound { IsSound result }
+    ensures key { IsOfKey key.now result }
+{
+    match watcher.hold(cache, key) {
+        Watch::Held => {
+            let flow = watcher.read(cache);
+            watcher.release(cache);
+            Answer::Held(flow)
+        }
+        Watch::Absent => Answer::Absent,
+        Watch::Lost => Answer::Lost,
+    }
+}
+
+/// Asks so often, for the keys in turn. Before each ask the gate is told, as if a worker of this number came to a piece.
+fn ask_in_turn<G: Gate>(
+    alloc: Global,
+    cache: &PebrCache,
+    watcher: &mut Watcher,
+    keys: &[FlowKey],
+    asks: usize,
+    number: usize,
+    gate: &G,
+) -> Result<Vec<Answer>, NoMemory>
+    requires of { IsOf cache.now watcher.old }
+    requires idle { held_by watcher.old ≡ None }
+    ensures of { IsOf cache.now watcher.new }
+    ensures idle { held_by watcher.new ≡ None }
+    ensures note { note_of watcher.new ≡ note_of watcher.old }
+    ensures many { IfOk result (λ answers. length answers.items ≡ count_of asks keys.now) }
+    ensures sound { IfOk result (λ answers. All IsSound answers.items) }
+    ensures in_turn { IfOk result (λ answers. AreInTurn keys.now answers.items) }
+{
+    let mut answers = Vec::new(alloc);
+    if keys.is_empty() {
+        return Ok(answers);
+    }
+    for k in 0..asks {
+        gate.reach(number, k as u64);
+        answers.push(ask(cache, watcher, &keys[k % keys.len()]))?;
+    }
+    Ok(answers)
+}
+
+/// Asks so often, for the keys in turn, by a watcher at the seat of a pass that has done nothing, and closes the watcher. The pass
+/// has done nothing then either.
+///
+/// `number` is what the gate is told. The answers are `NoMemory` where there is no room for them.
+pub(crate) fn ask_all<G: Gate>(
+    alloc: Global,
+    cache: &PebrCache,
+    pass: PebrPass,
+    keys: &[FlowKey],
+    asks: usize,
+    number: usize,
+    gate: &G,
+) -> Asking
+    requires own { shown.IsOf cache.now pass }
+    requires fresh { (shown_of pass).note ≡ first_note }
+    ensures own { shown.IsOf cache.now result.pass }
+    ensures fresh { (shown_of result.pass).note ≡ first_note }
+    ensures many { IfOk result.answers (λ answers. length answers.items ≡ count_of asks keys.now) }
+    ensures sound { IfOk result.answers (λ answers. All IsSound answers.items) }
+    ensures in_turn { IfOk result.answers (λ answers. AreInTurn keys.now answers.items) }
+{
+    let mut watcher = Watcher::open(pass);
+    let answers = ask_in_turn(alloc, cache, &mut watcher, keys, asks, number, gate);
+    Asking {
+        pass: watcher.close(),
+        answers,
+    }
+}

@@ -1,0 +1,135 @@
+//! The top call.
+
+ghost use Rattle.std.specs.Prelude.{◌≡◌, ◌⊎◌, ◌≤◌, ◌^◌, None, map, length, IfOk, IfErr};
+ghost use Rattle.std.specs.String.{string_bytes};
+ghost use Rattle.meter_io.specs.Causes.{Rose};
+ghost use Rattle.meter_io.specs.Sides.{side};
+ghost use Rattle.watch_program.specs.Outcome.{IsWatched, BytesRefuse, Ends, RunMeans, IsComplete};
+ghost use Rattle.watch_program.specs.Words.{asked, asked_by};
+
+use crate::lines::text_of;
+use crate::settings::WatchSettings;
+use crate::status::WatchStatus;
+use crate::watching::watch_capture;
+use crate::words::settings_of;
+use command_words::OptionsError;
+use meter_io::{Failed, ReadError, Sink, Source, read_all, write_all};
+use meter_workers::Gate;
+use no_memory::NoMemory;
+use pcap_reader::{Capture, CaptureError, IndexError};
+use std::alloc::Global;
+use std::thread::Threads;
+
+/// The most bytes of a capture.
+const CAPTURE_LIMIT: u64 = 1 << 30;
+
+/// The text of watching while the capture that these bytes are is metered, or why there is none.
+fn text_for<R: Threads + Sync, G: Gate>(
+    rt: &R,
+    alloc: Global,
+    settings: &WatchSettings,
+    bytes: &[u8],
+    gate: &G,
+) -> Result<Vec<u8>, WatchStatus>
+    requires { length bytes.now ≤ 2 ^ 30 }
+    ensures text { IfOk result (λ text. IsWatched settings.now.asks bytes.now text.items) }
+    ensures refused { IfErr result (λ status. BytesRefuse bytes.now status) }
+{
+    let capture = match Capture::open(bytes) {
+        Ok(capture) => capture,
+        Err(CaptureError::NotCapture) => return Err(WatchStatus::NotCapture),
+        Err(CaptureError::LinkUnknown(link)) => return Err(WatchStatus::LinkUnknown(link)),
+    };
+    let index = match capture.index(alloc) {
+        Ok(index) => index,
+        Err(IndexError::Damaged(at)) => return Err(WatchStatus::Damaged(at)),
+        Err(IndexError::NoMemory) => return Err(WatchStatus::NoMemory),
+    };
+    let watched = match watch_capture(rt, alloc, settings, &capture, &index, gate) {
+        Ok(watched) => watched,
+        Err(NoMemory) => return Err(WatchStatus::NoMemory),
+    };
+    match text_of(
+        alloc,
+        watched.answers.as_slice(),
+        watched.packets,
+        watched.octets,
+    ) {
+        Ok(text) => Ok(text),
+        Err(NoMemory) => Err(WatchStatus::NoMemory),
+    }
+}
+
+/// Reads a capture from the input to its end, meters it while open flows are asked for, and writes what came of that.
+fn watch_input<R: Threads + Sync, S: Source, K: Sink, G: Gate>(
+    rt: &R,
+    alloc: Global,
+    settings: &WatchSettings,
+    input: &mut S,
+    output: &mut K,
+    gate: &G,
+) -> WatchStatus
+    ensures { Ends (asked settings.now) (side S.left S.faults input.old input.new) (side K.held K.faults output.old output.new) result }
+{
+    let bytes = match read_all(alloc, input, CAPTURE_LIMIT) {
+        Ok(bytes) => bytes,
+        Err(ReadError::Failed) => return WatchStatus::ReadFault,
+        Err(ReadError::TooLarge) => return WatchStatus::TooLarge,
+        Err(ReadError::NoMemory) => return WatchStatus::NoMemory,
+    };
+    let text = match text_for(rt, alloc, settings, bytes.as_slice(), gate) {
+        Ok(text) => text,
+        Err(status) => return status,
+    };
+    match write_all(output, text.as_slice()) {
+        Ok(()) => WatchStatus::Done,
+        Err(Failed) => WatchStatus::WriteFault,
+    }
+}
+
+/// Meters a capture by some workers through one cache, and meanwhile asks for open flows by a watcher, which holds each, reads it
+/// and releases it. The words are `watch`, and behind it `--workers`, from 1 to 63, by default 1, `--sets` with the number of sets
+/// of the cache, from 1 to 65,536, by default 4096, and `--asks` with how often is asked, from 1 to 10,000, by default 100; each at
+/// most once, in any order, as `--name value` or `--name=value`. The time-outs are 300 and 1800 seconds, and a piece has 256
+/// records.
+///
+/// Ask k, counted from 0, is for the flow of accepted packet k of the capture, modulo their number, in file order; without an
+/// accepted packet nothing is asked. The gate is told of each piece of a worker, and before ask k that the worker whose number is
+/// that of the workers is at piece k. For each ask the output takes a line: `held P O F L` with the packets, the octets, and the
+/// times of the earliest and of the latest packet in milliseconds since 1970-01-01T00:00:00Z, as the flow stood when it was held;
+/// `absent` where the cache had no such flow; `lost` where the watcher was ejected three times. Behind them stands `total P O`
+/// with the packets and the octets of all fragments that the cache handed out and kept: those of all accepted packets.
+///
+/// The input, at most 2^30 bytes, is read to its end, and all memory is taken before anything is written. At a refusal, any
+/// status but `Done` and `WriteFault`, nothing is written. They come in this order:
+///
+/// - `Usage`: exactly where the words are no command. Nothing is read.
+/// - `ReadFault`: only where a read failed and the input counted it. `TooLarge`: exactly where more bytes came than 2^30.
+/// - `NotCapture`: exactly where the bytes don't begin with the header of a classic capture. `LinkUnknown`: exactly where they do,
+///   and its link type isn't read. `Damaged`: exactly where the record header at that offset is the first that claims more than
+///   262,144 captured bytes.
+/// - `WriteFault`: only where a write failed and the output counted it; it took a beginning of what it was to take.
+/// - `NoMemory`: out of memory, at any point before the first write.
+pub fn run_watch<R: Threads + Sync, S: Source, K: Sink, G: Gate>(
+    rt: &R,
+    alloc: Global,
+    words: &[String],
+    input: &mut S,
+    output: &mut K,
+    gate: &G,
+) -> WatchStatus
+    ensures usage { result ≡ WatchStatus.Usage → asked_by (map string_bytes words.now) ≡ None }
+    ensures nothing { asked_by (map string_bytes words.now) ≡ None → (result ≡ WatchStatus.Usage) ⊎ (result ≡ WatchStatus.NoMemory) }
+    ensures means { RunMeans (asked_by (map string_bytes words.now)) (side S.left S.faults input.old input.new)
+        (side K.held K.faults output.old output.new) result }
+    ensures complete { IsComplete (asked_by (map string_bytes words.now)) (side S.left S.faults input.old input.new)
+        (side K.held K.faults output.old output.new) result }
+    ensures read_fault { result ≡ WatchStatus.ReadFault → Rose (S.faults input.old) (S.faults input.new) }
+    ensures write_fault { result ≡ WatchStatus.WriteFault → Rose (K.faults output.old) (K.faults output.new) }
+{
+    match settings_of(alloc, words) {
+        Ok(settings) => watch_input(rt, alloc, &settings, input, output, gate),
+        Err(OptionsError::NotOptions) => WatchStatus::Usage,
+        Err(OptionsError::NoMemory) => WatchStatus::NoMemory,
+    }
+}

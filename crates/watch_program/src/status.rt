@@ -1,0 +1,46 @@
+//! How a run ends.
+
+ghost use Rattle.std.specs.Prelude.{◌≡◌};
+ghost use Rattle.watch_program.specs.Statuses.{exit_status};
+
+/// How a run ends. [`WatchStatus::code`] is the exit status of the program.
+#[derive(Clone, Copy, Debug, PartialEq, Eq)]
+pub enum WatchStatus {
+    /// All was done.
+    Done,
+    /// The input failed.
+    ReadFault,
+    /// The words are no command.
+    Usage,
+    /// A write failed.
+    WriteFault,
+    /// The input is no classic capture.
+    NotCapture,
+    /// The capture has this link type, which isn't read.
+    LinkUnknown(u32),
+    /// The capture is damaged at this offset.
+    Damaged(u64),
+    /// The input is larger than the limit.
+    TooLarge,
+    /// Want of memory.
+    NoMemory,
+}
+
+impl WatchStatus {
+    /// The exit status of the program.
+    pub fn code(self) -> u8
+        ensures { result ≡ exit_status self }
+    {
+        match self {
+            WatchStatus::Done => 0,
+            WatchStatus::ReadFault => 1,
+            WatchStatus::Usage => 2,
+            WatchStatus::WriteFault => 3,
+            WatchStatus::NotCapture => 4,
+            WatchStatus::LinkUnknown(_) => 5,
+            WatchStatus::Damaged(_) => 6,
+            WatchStatus::TooLarge => 7,
+            WatchStatus::NoMemory => 8,
+        }
+    }
+}

@@ -1,0 +1,175 @@
+//! Workers that meter a capture through a cache, beside one who asks for its open flows.
+
+ghost use Rattle.std.specs.Prelude.{◌≡◌, ◌+◌, ◌^◌, ◌<◌, ◌≤◌, length, sum_by, All, IfOk, IsPermutation};
+ghost use Rattle.pcap_reader.specs.Index.{IsIndexOf};
+ghost use Rattle.pcap_reader.specs.Views.{file_of};
+ghost use Rattle.packet_accept.specs.Packets.{answers_of, packets_of};
+ghost use Rattle.flow_parts.specs.declared.fragment.Fragment.{Fragment};
+ghost use Rattle.capture_tally.specs.Tallies.{IsTallyOf, octets_of};
+ghost use Rattle.cache_face.specs.Meaning.{IsFresh};
+ghost use Rattle.cache_face.specs.Notes.{first_note};
+ghost use Rattle.flow_cache.specs.Shown.{IsOf, means_of, shown_of};
+ghost use Rattle.watch_program.specs.Answers.{IsSound, AreInTurn, asked_keys, count_of};
+
+use crate::answer::Answer;
+use crate::asking::{Asking, ask_all};
+use crate::keys::keys_of;
+use crate::settings::WatchSettings;
+use crate::total::total_of;
+use cache_face::{Caches, FlowCache};
+use flow_cache::{PebrCache, PebrCaches, PebrPass};
+use flow_key::FlowKey;
+use flow_parts::Timeouts;
+use flow_parts::laws::{sharing_out_counts, sharing_out_stands};
+use meter_workers::{Gate, Gathered, meter_all};
+use no_memory::NoMemory;
+use pcap_reader::{Capture, RecordIndex};
+use std::alloc::Global;
+use std::thread;
+use std::thread::Threads;
+
+/// The idle and the active time-out, in seconds.
+const IDLE: u32 = 300;
+
+const ACTIVE: u32 = 1800;
+
+/// How many records a piece has.
+const PIECE: u64 = 256;
+
+/// The answers, and the total of packets and octets.
+#[derive(Drop)]
+pub(crate) struct Watched {
+    pub(crate) answers: Vec<Answer>,
+    pub(crate) packets: u64,
+    pub(crate) octets: u64,
+}
+
+/// Meters the capture by a worker for each of the passes, and asks for open flows at the seat of one more pass, at once. What is
+/// asked hinders no worker, and no answer waits for one, so both end in any order.
+fn at_once<R: Threads + Sync, G: Gate>(
+    rt: &R,
+    alloc: Global,
+    capture: &Capture<'_>,
+    index: &RecordIndex,
+    cache: &PebrCache,
+    passes: Vec<PebrPass>,
+    own: PebrPass,
+    keys: &[FlowKey],
+    asks: usize,
+    gate: &G,
+) -> (Asking, Result<Gathered<PebrCache>, NoMemory>)
+    requires index { IsIndexOf index.now (file_of capture.now) }
+    requires few { length index.now.offsets < 2 ^ 32 }
+    requires passes { (0 < length passes.items) × (length passes.items ≤ 64) × All (λ p. IsOf cache.now p × IsFresh (shown_of p)) passes.items }
+    requires own { IsOf cache.now own × IsFresh (shown_of own) }
+    ensures own { IsOf cache.now result.0.pass × ((shown_of result.0.pass).note ≡ first_note) }
+    ensures many { IfOk result.0.answers (λ answers. length answers.items ≡ count_of asks keys.now) }
+    ensures sound { IfOk result.0.answers (λ answers. All IsSound answers.items) }
+    ensures in_turn { IfOk result.0.answers (λ answers. AreInTurn keys.now answers.items) }
+    ensures seats { IfOk result.1 (λ r. IsOf cache.now r.pass × ((shown_of r.pass).note.seats ≡ length passes.items)) }
+    ensures packets { IfOk result.1 (λ r. IsPermutation (packets_of (file_of capture.now)) (shown_of r.pass).note.packets) }
+    ensures parts { IfOk result.1 (λ r. r.parts.items ≡ (shown_of r.pass).note.handed) }
+    ensures tally { IfOk result.1 (λ r. IsTallyOf r.tally (answers_of (file_of capture.now))) }
+{
+    let number = passes.len();
+    thread::join(
+        rt,
+        move || -> Asking
+            requires own { IsOf cache.now own × IsFresh (shown_of own) }
+            ensures own { IsOf cache.entry.now result.pass × ((shown_of result.pass).note ≡ first_note) }
+            ensures many { IfOk result.answers (λ answers. length answers.items ≡ count_of asks keys.entry.now) }
+            ensures sound { IfOk result.answers (λ answers. All IsSound answers.items) }
+            ensures in_turn { IfOk result.answers (λ answers. AreInTurn keys.entry.now answers.items) }
+        { ask_all(alloc, cache, own, keys, asks, number, gate) },
+        move || -> Result<Gathered<PebrCache>, NoMemory>
+            requires index { IsIndexOf index.now (file_of capture.now) }
+            requires few { length index.now.offsets < 2 ^ 32 }
+            requires passes { (0 < length passes.items) × (length passes.items ≤ 64) × All (λ p. IsOf cache.now p × IsFresh (shown_of p)) passes.items }
+            ensures seats { IfOk result (λ r. IsOf cache.entry.now r.pass × ((shown_of r.pass).note.seats ≡ length passes.items)) }
+            ensures packets { IfOk result (λ r. IsPermutation (packets_of (file_of capture.entry.now)) (shown_of r.pass).note.packets) }
+            ensures parts { IfOk result (λ r. r.parts.items ≡ (shown_of r.pass).note.handed) }
+            ensures tally { IfOk result (λ r. IsTallyOf r.tally (answers_of (file_of capture.entry.now))) }
+        { meter_all(rt, alloc, capture, index, cache, passes, PIECE, gate) },
+    )
+}
+
+/// Closes the cache with the passes of who metered and of who asked, and adds up what it handed out and kept.
+fn total_behind(
+    alloc: Global,
+    capture: &Capture<'_>,
+    caches: &mut PebrCaches,
+    cache: PebrCache,
+    gathered: Gathered<PebrCache>,
+    pass: PebrPass,
+) -> Result<(u64, u64), NoMemory>
+    requires pass { IsOf cache pass × ((shown_of pass).note ≡ first_note) }
+    requires own { IsOf cache gathered.pass }
+    requires seats { (shown_of gathered.pass).note.seats + 1 ≡ (means_of cache).seats }
+    requires packets { IsPermutation (packets_of (file_of capture.now)) (shown_of gathered.pass).note.packets }
+    requires parts { gathered.parts.items ≡ (shown_of gathered.pass).note.handed }
+    requires tally { IsTallyOf gathered.tally (answers_of (file_of capture.now)) }
+    ensures packets { IfOk result (λ total. total.0 ≡ length (packets_of (file_of capture.now))) }
+    ensures octets { IfOk result (λ total. total.1 ≡ octets_of (packets_of (file_of capture.now))) }
+{
+    sharing_out_stands();
+    sharing_out_counts();
+    let _ = capture;
+    let Gathered {
+        pass: others,
+        parts,
+        tally: _,
+    } = gathered;
+    let pass = cache.unite(others, pass);
+    caches.close(alloc, cache, pass, parts)?;
+    Ok(total_of(caches.metered()))
+}
+
+/// Meters a capture by so many workers, asks meanwhile for the flows of its first accepted packets in turn, and adds up what came
+/// of all packets.
+///
+/// `NoMemory`: out of memory.
+pub(crate) fn watch_capture<R: Threads + Sync, G: Gate>(
+    rt: &R,
+    alloc: Global,
+    settings: &WatchSettings,
+    capture: &Capture<'_>,
+    index: &RecordIndex,
+    gate: &G,
+) -> Result<Watched, NoMemory>
+    requires index { IsIndexOf index.now (file_of capture.now) }
+    requires few { length index.now.offsets < 2 ^ 32 }
+    ensures many { IfOk result (λ w. length w.answers.items ≡ count_of settings.now.asks (packets_of (file_of capture.now))) }
+    ensures sound { IfOk result (λ w. All IsSound w.answers.items) }
+    ensures in_turn { IfOk result (λ w. AreInTurn (asked_keys settings.now.asks (packets_of (file_of capture.now))) w.answers.items) }
+    ensures packets { IfOk result (λ w. w.packets ≡ length (packets_of (file_of capture.now))) }
+    ensures octets { IfOk result (λ w. w.octets ≡ octets_of (packets_of (file_of capture.now))) }
+{
+    let keys = keys_of(alloc, capture, index, settings.asks)?;
+    let limits = Timeouts::new(IDLE, ACTIVE);
+    let mut caches = PebrCaches::new();
+    let (cache, mut passes) = caches.open(alloc, settings.sets, settings.workers + 1, limits)?;
+    let Some(own) = passes.pop() else {
+        unreachable!()
+    };
+    let (asking, metered) = at_once(
+        rt,
+        alloc,
+        capture,
+        index,
+        &cache,
+        passes,
+        own,
+        keys.as_slice(),
+        settings.asks,
+        gate,
+    );
+    let gathered = metered?;
+    let Asking { pass, answers } = asking;
+    let answers = answers?;
+    let (packets, octets) = total_behind(alloc, capture, &mut caches, cache, gathered, pass)?;
+    Ok(Watched {
+        answers,
+        packets,
+        octets,
+    })
+}
