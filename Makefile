@@ -119,8 +119,9 @@ install: build
 	install -m 644 man/romtyalig.1 man/romtyalig-pcapng.1 man/romtyalig-pair.1 man/romtyalig-watch.1 $(DESTDIR)$(PREFIX)/share/man/man1
 	install -d $(DESTDIR)$(PREFIX)/share/bash-completion/completions
 	install -m 644 completions/romtyalig.bash $(DESTDIR)$(PREFIX)/share/bash-completion/completions/romtyalig
+	install -m 644 completions/romtyalig-watch.bash $(DESTDIR)$(PREFIX)/share/bash-completion/completions/romtyalig-watch
 	install -d $(DESTDIR)$(PREFIX)/share/zsh/vendor-completions
-	install -m 644 completions/_romtyalig $(DESTDIR)$(PREFIX)/share/zsh/vendor-completions/_romtyalig
+	install -m 644 completions/_romtyalig completions/_romtyalig-watch $(DESTDIR)$(PREFIX)/share/zsh/vendor-completions
 
 clean:
 	rm -rf bin crates/*/out

@@ -10,6 +10,7 @@ use Rattle.watch_program.specs.declared.status.WatchStatus.{WatchStatus}
 use Rattle.watch_program.specs.declared.status.WatchStatus.TheVariants.{Done, ReadFault, Usage, WriteFault, NotCapture, LinkUnknown, Damaged, TooLarge, NoMemory}
 use Rattle.watch_program.specs.Outcome.{Ends, IsValid, limit}
 use Rattle.watch_program.specs.Words.{Asked}
+use Rattle.watch_program.proofs.Files.{both-kinds}
 
 some-is : {A : Type 0} (a b : A) → ◌≡◌ {A = Option A} (Some a) (Some b) → a ≡ b
 some-is a b e = cc
@@ -35,10 +36,6 @@ taken-few (Some xs) (Some ys) bytes taken is given =
 wrong-fails : (input : Side) (bytes : List ℕ) (Fault : List ℕ → Type 0) → input.before ≡ Some bytes → (Fault bytes → ⊥) → IsWrong input limit Fault → ⊥
 wrong-fails input bytes Fault is never wrong =
     never (subst Fault (all-read input.before input.after bytes wrong.bytes is wrong.read.given wrong.read.ended) wrong.fault)
-
-both-kinds : {X : Type 0} (o : Option X) (P Q : X → Type 0) → IsSomeAnd o P → IsSomeAnd o Q → ((x : X) → P x → Q x → ⊥) → ⊥
-both-kinds None P Q p q never = p
-both-kinds (Some x) P Q p q never = never x p q
 
 pub completes : (asked : Asked) (input output : Side) (bytes : List ℕ) (status : WatchStatus) → Ends asked input output status
     → input.before ≡ Some bytes → IsValid bytes → ¬ HasFailed input → ¬ HasFailed output → (status ≡ Done) ⊎ (status ≡ NoMemory)

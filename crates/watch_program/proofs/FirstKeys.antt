@@ -1,5 +1,5 @@
 -- The keys of the first packets.
-use Rattle.std.proofs.Common.{◌≡◌, ◌≤◌, ◌+◌, ℕ, List, [], ◌∷◌, ◌++◌, length, map, take, drop, refl, sym, ap, ◌∙◌, subst}
+use Rattle.std.proofs.Common.{◌≡◌, ◌≤◌, ◌+◌, ℕ, zero, suc, arith, List, [], ◌∷◌, ◌++◌, length, take, drop, refl, sym, ap, ◌∙◌, subst}
 use Rattle.std.specs.Prelude.{Result, Ok, Err}
 use Rattle.std.proofs.Math.Seq.{take-append_seam}
 use Rattle.std.proofs.lemmas.List.{map-append, append-nil, take-append-drop, take_all, length-map}
@@ -7,7 +7,7 @@ use Rattle.flow_key.specs.declared.key.FlowKey.{FlowKey}
 use Rattle.packet_accept.specs.declared.packet.Packet.{Packet}
 use Rattle.packet_accept.specs.declared.ignored.Ignored.{Ignored}
 use Rattle.packet_accept.specs.Packets.{packets_in}
-use Rattle.watch_program.specs.Answers.{keys_in, asked_keys}
+use Rattle.watch_program.specs.Answers.{keys_in, asked_keys, count_of}
 
 count : (keys : List FlowKey) (packets : List Packet) → keys ≡ keys_in packets → length keys ≡ length packets
 count keys packets are = ap length are ∙ length-map packets _
@@ -46,3 +46,9 @@ enough most n answers keys together are many =
 -- all are the first of all, where they are few
 pub all : (most : ℕ) (packets : List Packet) (keys : List FlowKey) → keys ≡ keys_in packets → length keys ≤ most → keys ≡ asked_keys most packets
 all most packets keys are few = are ∙ ap keys_in (sym (take_all most packets (subst (λ k. k ≤ most) (count keys packets are) few)))
+
+-- as many as are asked for are asked for, where there are packets
+pub count-same : (asks : ℕ) (packets : List Packet) → count_of asks (asked_keys asks packets) ≡ count_of asks packets
+count-same asks [] = ap (λ (l : List Packet). count_of asks (keys_in l)) (take_all asks [] (omega arith))
+count-same zero (p ∷ ps) = refl
+count-same (suc n) (p ∷ ps) = refl

@@ -45,7 +45,7 @@ fn text_for<R: Threads + Sync, G: Gate>(
         Err(IndexError::Damaged(at)) => return Err(WatchStatus::Damaged(at)),
         Err(IndexError::NoMemory) => return Err(WatchStatus::NoMemory),
     };
-    let watched = match watch_capture(rt, alloc, settings, &capture, &index, gate) {
+    let watched = match watch_capture(rt, alloc, settings, bytes, &capture, &index, gate) {
         Ok(watched) => watched,
         Err(NoMemory) => return Err(WatchStatus::NoMemory),
     };

@@ -1,10 +1,10 @@
 //! Workers that meter a capture through a cache, beside one who asks for its open flows.
 
-ghost use Rattle.std.specs.Prelude.{◌≡◌, ◌+◌, ◌^◌, ◌<◌, ◌≤◌, length, sum_by, All, IfOk, IsPermutation};
+ghost use Rattle.std.specs.Prelude.{◌≡◌, ◌+◌, ◌^◌, ◌<◌, ◌≤◌, length, Some, All, IfOk, IsPermutation};
+ghost use Rattle.pcap_reader.specs.File.{IsCaptureOf, capture_file, IsKnownLink};
 ghost use Rattle.pcap_reader.specs.Index.{IsIndexOf};
 ghost use Rattle.pcap_reader.specs.Views.{file_of};
 ghost use Rattle.packet_accept.specs.Packets.{answers_of, packets_of};
-ghost use Rattle.flow_parts.specs.declared.fragment.Fragment.{Fragment};
 ghost use Rattle.capture_tally.specs.Tallies.{IsTallyOf, octets_of};
 ghost use Rattle.cache_face.specs.Meaning.{IsFresh};
 ghost use Rattle.cache_face.specs.Notes.{first_note};
@@ -44,12 +44,38 @@ pub(crate) struct Watched {
     pub(crate) octets: u64,
 }
 
-/// Meters the capture by a worker for each of the passes, and asks for open flows at the seat of one more pass, at once. What is
-/// asked hinders no worker, and no answer waits for one, so both end in any order.
+/// Meters the capture that these bytes are by a worker for each of the passes.
+///
+/// The capture is opened anew, which reads its header alone: of a closure that holds a struct with a lifetime a join tells nothing.
+fn meter_bytes<R: Threads + Sync, G: Gate>(
+    rt: &R,
+    alloc: Global,
+    bytes: &[u8],
+    index: &RecordIndex,
+    cache: &PebrCache,
+    passes: Vec<PebrPass>,
+    gate: &G,
+) -> Result<Gathered<PebrCache>, NoMemory>
+    requires capture { IsCaptureOf (λ file. IsKnownLink file.link × IsIndexOf index.now file) bytes.now }
+    requires few { length index.now.offsets < 2 ^ 32 }
+    requires passes { (0 < length passes.items) × (length passes.items ≤ 64) × All (λ p. IsOf cache.now p × IsFresh (shown_of p)) passes.items }
+    ensures seats { IfOk result (λ r. IsOf cache.now r.pass × ((shown_of r.pass).note.seats ≡ length passes.items)) }
+    ensures packets { IfOk result (λ r. IsCaptureOf (λ file. IsPermutation (packets_of file) (shown_of r.pass).note.packets) bytes.now) }
+    ensures parts { IfOk result (λ r. r.parts.items ≡ (shown_of r.pass).note.handed) }
+    ensures tally { IfOk result (λ r. IsCaptureOf (λ file. IsTallyOf r.tally (answers_of file)) bytes.now) }
+{
+    let Ok(capture) = Capture::open(bytes) else {
+        unreachable!()
+    };
+    meter_all(rt, alloc, &capture, index, cache, passes, PIECE, gate)
+}
+
+/// Meters the capture that these bytes are, and asks for open flows at the seat of one more pass, at once. Neither waits for the
+/// other, so both end in any order.
 fn at_once<R: Threads + Sync, G: Gate>(
     rt: &R,
     alloc: Global,
-    capture: &Capture<'_>,
+    bytes: &[u8],
     index: &RecordIndex,
     cache: &PebrCache,
     passes: Vec<PebrPass>,
@@ -58,7 +84,7 @@ fn at_once<R: Threads + Sync, G: Gate>(
     asks: usize,
     gate: &G,
 ) -> (Asking, Result<Gathered<PebrCache>, NoMemory>)
-    requires index { IsIndexOf index.now (file_of capture.now) }
+    requires capture { IsCaptureOf (λ file. IsKnownLink file.link × IsIndexOf index.now file) bytes.now }
     requires few { length index.now.offsets < 2 ^ 32 }
     requires passes { (0 < length passes.items) × (length passes.items ≤ 64) × All (λ p. IsOf cache.now p × IsFresh (shown_of p)) passes.items }
     requires own { IsOf cache.now own × IsFresh (shown_of own) }
@@ -67,9 +93,9 @@ fn at_once<R: Threads + Sync, G: Gate>(
     ensures sound { IfOk result.0.answers (λ answers. All IsSound answers.items) }
     ensures in_turn { IfOk result.0.answers (λ answers. AreInTurn keys.now answers.items) }
     ensures seats { IfOk result.1 (λ r. IsOf cache.now r.pass × ((shown_of r.pass).note.seats ≡ length passes.items)) }
-    ensures packets { IfOk result.1 (λ r. IsPermutation (packets_of (file_of capture.now)) (shown_of r.pass).note.packets) }
+    ensures packets { IfOk result.1 (λ r. IsCaptureOf (λ file. IsPermutation (packets_of file) (shown_of r.pass).note.packets) bytes.now) }
     ensures parts { IfOk result.1 (λ r. r.parts.items ≡ (shown_of r.pass).note.handed) }
-    ensures tally { IfOk result.1 (λ r. IsTallyOf r.tally (answers_of (file_of capture.now))) }
+    ensures tally { IfOk result.1 (λ r. IsCaptureOf (λ file. IsTallyOf r.tally (answers_of file)) bytes.now) }
 {
     let number = passes.len();
     thread::join(
@@ -82,21 +108,21 @@ fn at_once<R: Threads + Sync, G: Gate>(
             ensures in_turn { IfOk result.answers (λ answers. AreInTurn keys.entry.now answers.items) }
         { ask_all(alloc, cache, own, keys, asks, number, gate) },
         move || -> Result<Gathered<PebrCache>, NoMemory>
-            requires index { IsIndexOf index.now (file_of capture.now) }
+            requires capture { IsCaptureOf (λ file. IsKnownLink file.link × IsIndexOf index.now file) bytes.now }
             requires few { length index.now.offsets < 2 ^ 32 }
             requires passes { (0 < length passes.items) × (length passes.items ≤ 64) × All (λ p. IsOf cache.now p × IsFresh (shown_of p)) passes.items }
             ensures seats { IfOk result (λ r. IsOf cache.entry.now r.pass × ((shown_of r.pass).note.seats ≡ length passes.items)) }
-            ensures packets { IfOk result (λ r. IsPermutation (packets_of (file_of capture.entry.now)) (shown_of r.pass).note.packets) }
+            ensures packets { IfOk result (λ r. IsCaptureOf (λ file. IsPermutation (packets_of file) (shown_of r.pass).note.packets) bytes.entry.now) }
             ensures parts { IfOk result (λ r. r.parts.items ≡ (shown_of r.pass).note.handed) }
-            ensures tally { IfOk result (λ r. IsTallyOf r.tally (answers_of (file_of capture.entry.now))) }
-        { meter_all(rt, alloc, capture, index, cache, passes, PIECE, gate) },
+            ensures tally { IfOk result (λ r. IsCaptureOf (λ file. IsTallyOf r.tally (answers_of file)) bytes.entry.now) }
+        { meter_bytes(rt, alloc, bytes, index, cache, passes, gate) },
     )
 }
 
 /// Closes the cache with the passes of who metered and of who asked, and adds up what it handed out and kept.
 fn total_behind(
     alloc: Global,
-    capture: &Capture<'_>,
+    bytes: &[u8],
     caches: &mut PebrCaches,
     cache: PebrCache,
     gathered: Gathered<PebrCache>,
@@ -105,26 +131,25 @@ fn total_behind(
     requires pass { IsOf cache pass × ((shown_of pass).note ≡ first_note) }
     requires own { IsOf cache gathered.pass }
     requires seats { (shown_of gathered.pass).note.seats + 1 ≡ (means_of cache).seats }
-    requires packets { IsPermutation (packets_of (file_of capture.now)) (shown_of gathered.pass).note.packets }
+    requires packets { IsCaptureOf (λ file. IsPermutation (packets_of file) (shown_of gathered.pass).note.packets) bytes.now }
     requires parts { gathered.parts.items ≡ (shown_of gathered.pass).note.handed }
-    requires tally { IsTallyOf gathered.tally (answers_of (file_of capture.now)) }
-    ensures packets { IfOk result (λ total. total.0 ≡ length (packets_of (file_of capture.now))) }
-    ensures octets { IfOk result (λ total. total.1 ≡ octets_of (packets_of (file_of capture.now))) }
+    requires tally { IsCaptureOf (λ file. IsTallyOf gathered.tally (answers_of file)) bytes.now }
+    ensures { IfOk result (λ total. IsCaptureOf (λ file. (total.0 ≡ length (packets_of file)) × (total.1 ≡ octets_of (packets_of file))) bytes.now) }
 {
     sharing_out_stands();
     sharing_out_counts();
-    let _ = capture;
+    let _ = bytes;
     let Gathered {
         pass: others,
         parts,
-        tally: _,
+        tally,
     } = gathered;
     let pass = cache.unite(others, pass);
     caches.close(alloc, cache, pass, parts)?;
-    Ok(total_of(caches.metered()))
+    Ok(total_of(caches.metered(), tally.accepted, tally.octets))
 }
 
-/// Meters a capture by so many workers, asks meanwhile for the flows of its first accepted packets in turn, and adds up what came
+/// Meters the capture that these bytes are by so many workers, asks meanwhile for the flows of its first accepted packets in turn, and adds up what came
 /// of all packets.
 ///
 /// `NoMemory`: out of memory.
@@ -132,10 +157,12 @@ pub(crate) fn watch_capture<R: Threads + Sync, G: Gate>(
     rt: &R,
     alloc: Global,
     settings: &WatchSettings,
+    bytes: &[u8],
     capture: &Capture<'_>,
     index: &RecordIndex,
     gate: &G,
 ) -> Result<Watched, NoMemory>
+    requires capture { (capture_file bytes.now ≡ Some (file_of capture.now)) × IsKnownLink (file_of capture.now).link }
     requires index { IsIndexOf index.now (file_of capture.now) }
     requires few { length index.now.offsets < 2 ^ 32 }
     ensures many { IfOk result (λ w. length w.answers.items ≡ count_of settings.now.asks (packets_of (file_of capture.now))) }
@@ -154,7 +181,7 @@ pub(crate) fn watch_capture<R: Threads + Sync, G: Gate>(
     let (asking, metered) = at_once(
         rt,
         alloc,
-        capture,
+        bytes,
         index,
         &cache,
         passes,
@@ -166,7 +193,7 @@ pub(crate) fn watch_capture<R: Threads + Sync, G: Gate>(
     let gathered = metered?;
     let Asking { pass, answers } = asking;
     let answers = answers?;
-    let (packets, octets) = total_behind(alloc, capture, &mut caches, cache, gathered, pass)?;
+    let (packets, octets) = total_behind(alloc, bytes, &mut caches, cache, gathered, pass)?;
     Ok(Watched {
         answers,
         packets,

@@ -1,0 +1,19 @@
+use Rattle.std.proofs.Common.{◌∙◌, ◌<◌, ◌%◌, length, rules}
+use Rattle.meter_workers.proofs.Taken.{all_pushed}
+use Rattle.watch_program.specs.Answers.{IsSound}
+use Rattle.watch_program.proofs.Turns.{next-in-turn}
+use Rattle.watch_program.proofs.asking.ask_in_turn.Goals as goal
+
+pub loop-k-preserved : goal.loop-k-preserved
+loop-k-preserved g c =
+    let before = c.loop-k.invariant in
+    let below : c.loop-k.k % length c.args.keys.now < length c.args.keys.now = search rules in
+    record {
+      of = c.ask.ensures.of;
+      idle = c.ask.ensures.idle;
+      note = c.ask.ensures.note ∙ before.note;
+      many = search rules;
+      sound = all_pushed IsSound c.loop-k.answers.items c.push.new.self.items c.ask.result before.sound c.ask.ensures.sound c.in_ok-push.ensures.items;
+      in_turn = next-in-turn c.args.keys.now c.loop-k.answers.items c.push.new.self.items c.ask.result c.index-keys-k.result c.loop-k.k before.many
+          c.index-keys-k.is below c.ask.ensures.key c.in_ok-push.ensures.items before.in_turn;
+    }
