@@ -3,11 +3,12 @@
 #
 #     checks/watch.sh [RUNS [WORKERS [SEED]]]
 #
-# Each run has a capture of its own, 200,000 packets of 8 keys, which `make` writes by the seed and the run's number (10 runs,
+# Each run has a capture of its own, 200,000 packets of 8 keys, which `make` writes by the seed and the run's number (20 runs,
 # 63 workers and seed 1 unless given). `romtyalig-watch` meters it through one set of four entries and asks 1,000 times. It must
 # write a line for each ask, `held` with four numbers, of which the first is 1 at least and the third at most the fourth, `absent`
-# or `lost`, and behind them the total that the summary of `meter` has of the same capture. The last line counts the runs and the
-# lines; the status is not 0 where a run differs.
+# or `lost`, and behind them the total that the summary of `meter` has of the same capture. Then an input one byte above the limit
+# must have exit status 7, and a full device 3. The last line counts the runs and the lines; the status is not 0 where a run
+# differs.
 #
 # ROMTYALIG and ROMTYALIG_WATCH are the programs' paths (bin/romtyalig and bin/romtyalig-watch unless set).
 set -u
@@ -15,7 +16,7 @@ set -u
 top=$(dirname "$(cd "$(dirname "$0")" && pwd)")
 program=${ROMTYALIG:-$top/bin/romtyalig}
 watcher=${ROMTYALIG_WATCH:-$top/bin/romtyalig-watch}
-runs=${1:-10}
+runs=${1:-20}
 workers=${2:-63}
 seed=${3:-1}
 asks=1000
@@ -66,5 +67,17 @@ for run in $(seq "$runs"); do
         differ=$((differ + 1))
     fi
 done
+
+# A status that a run must have, and what it is of.
+status_is() {
+    if [ "$1" -ne "$2" ]; then
+        echo "DIFFERS: status $2 of $3, and not $1"
+        differ=$((differ + 1))
+    fi
+}
+head -c 1073741825 /dev/zero | "$watcher" watch
+status_is 7 "$?" "an input above the limit"
+"$watcher" watch <"$work/capture" >/dev/full
+status_is 3 "$?" "a full device"
 echo "$whole runs have all asks, packets and octets, $differ differ; $all_held held, $all_absent absent, $all_lost lost"
 [ "$differ" -eq 0 ]
