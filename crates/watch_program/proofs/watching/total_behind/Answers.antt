@@ -2,6 +2,7 @@ use Rattle.std.proofs.Common.{◌≡◌, ◌∙◌, arith, length}
 use Rattle.pcap_reader.specs.File.{capture_file}
 use Rattle.packet_accept.specs.Packets.{packets_of}
 use Rattle.capture_tally.specs.Tallies.{octets_of}
+use Rattle.flow_cache.specs.Closed.{metered_by}
 use Rattle.flow_cache.specs.Shown.{shown_of, means_of}
 use Rattle.watch_program.proofs.Files.{and-so}
 use Rattle.watch_program.proofs.Totals.{HasCounts, handed-same, counted, tallied}
@@ -15,7 +16,7 @@ close-requires-clause-handed c =
 pub total_of-requires-clause-packets : goal.total_of-requires-clause-packets
 total_of-requires-clause-packets c =
     let counts = counted c.args.bytes.now (means_of c.args.cache).limits (shown_of c.args.gathered.pass) (shown_of c.args.pass) (shown_of c.unite-pass.result)
-    c.close.new.self.metered c.metered.result.now c.sharing_out_stands.ensures.permuted c.sharing_out_counts.ensures.counts c.unite-pass.ensures.united
+    (metered_by c.close.new.self) c.metered.result.now c.sharing_out_stands.ensures.permuted c.sharing_out_counts.ensures.counts c.unite-pass.ensures.united
     c.requires.pass.1 c.requires.packets c.in_ok-close.ensures.shared c.metered.ensures in
     let fits = (tallied c.args.bytes.now c.metered.result.now c.args.gathered.tally counts c.requires.tally).0 in
     omega (arith, fits)
@@ -23,7 +24,7 @@ total_of-requires-clause-packets c =
 pub total_of-requires-clause-octets : goal.total_of-requires-clause-octets
 total_of-requires-clause-octets c =
     let counts = counted c.args.bytes.now (means_of c.args.cache).limits (shown_of c.args.gathered.pass) (shown_of c.args.pass) (shown_of c.unite-pass.result)
-    c.close.new.self.metered c.metered.result.now c.sharing_out_stands.ensures.permuted c.sharing_out_counts.ensures.counts c.unite-pass.ensures.united
+    (metered_by c.close.new.self) c.metered.result.now c.sharing_out_stands.ensures.permuted c.sharing_out_counts.ensures.counts c.unite-pass.ensures.united
     c.requires.pass.1 c.requires.packets c.in_ok-close.ensures.shared c.metered.ensures in
     let fits = (tallied c.args.bytes.now c.metered.result.now c.args.gathered.tally counts c.requires.tally).1 in
     omega (arith, fits)
@@ -31,7 +32,7 @@ total_of-requires-clause-octets c =
 pub returns : goal.returns
 returns c =
     let counts = counted c.args.bytes.now (means_of c.args.cache).limits (shown_of c.args.gathered.pass) (shown_of c.args.pass) (shown_of c.unite-pass.result)
-    c.close.new.self.metered c.metered.result.now c.sharing_out_stands.ensures.permuted c.sharing_out_counts.ensures.counts c.unite-pass.ensures.united
+    (metered_by c.close.new.self) c.metered.result.now c.sharing_out_stands.ensures.permuted c.sharing_out_counts.ensures.counts c.unite-pass.ensures.united
     c.requires.pass.1 c.requires.packets c.in_ok-close.ensures.shared c.metered.ensures in
     and-so (capture_file c.args.bytes.now) (HasCounts c.metered.result.now)
     (λ file. (c.total_of.result.0 ≡ length (packets_of file)) × (c.total_of.result.1 ≡ octets_of (packets_of file))) counts
