@@ -1,0 +1,110 @@
+//! Captures that are metered while they are read, and in windows: the same comes of both.
+
+mod rows;
+
+ghost use Rattle.std.specs.Prelude.{◌≡◌, ◌≤◌, ◌^◌, length, All, IfOk, IsPermutation};
+ghost use Rattle.cache_face.specs.Meaning.{IsFresh};
+
+use cache_face::{Caches, FlowCache};
+use capture_tally::Tally;
+use flow_parts::Timeouts;
+use meter_io::{MemSource, Source};
+use meter_workers::{Gate, MeterFault, WindowGathered, meter_windows};
+use pipe_workers::meter_batches;
+use std::alloc::Global;
+use std::sync::Wait;
+use std::test::Fail;
+use std::thread::Threads;
+use turn_cache::TurnCaches;
+
+/// The most bytes of a capture.
+const LIMIT: u64 = 1 << 30;
+
+/// The smallest window.
+const SMALL: usize = 262_184;
+
+/// What comes of a capture: the tally of its records, how many bytes are left, and the packets and octets of all fragments.
+#[derive(Clone, Copy, Debug, PartialEq, Eq)]
+struct Outcome {
+    tally: Tally,
+    tail: u64,
+    packets: u64,
+    octets: u64,
+}
+
+/// How a capture is metered: with how many passes, in windows of which size, at most how many bytes of it, and which read of
+/// the source fails. With a room of 0 there is no queue, and a window is metered before the next is read.
+#[derive(Clone, Copy)]
+struct Setting {
+    passes: usize,
+    room: usize,
+    window: usize,
+    limit: u64,
+    fails: u64,
+}
+
+/// Meters what a source gives, with a queue or without.
+fn run<S: Source, C: FlowCache, G: Gate, R: Threads + Wait + Sync>(
+    rt: &R,
+    alloc: Global,
+    source: &mut S,
+    cache: &C,
+    passes: Vec<C::Pass>,
+    setting: Setting,
+    gate: &G,
+) -> Result<WindowGathered<C>, MeterFault>
+    requires room { setting.room ≤ 64 }
+    requires window { (262184 ≤ setting.window) × (setting.window ≤ 4194304) }
+    requires limit { setting.limit ≤ 2 ^ 30 }
+    requires passes { (3 ≤ length passes.items) × (length passes.items ≤ 64) × All (λ p. C.is_of cache.now p × IsFresh (C.shown p)) passes.items }
+    ensures own { IfOk result (λ r. C.is_of cache.now r.pass × ((C.shown r.pass).note.seats ≡ length passes.items)) }
+    ensures parts { IfOk result (λ r. IsPermutation (C.shown r.pass).note.handed r.parts.items) }
+{
+    let Setting {
+        room,
+        window,
+        limit,
+        ..
+    } = setting;
+    if room == 0 {
+        return meter_windows(rt, alloc, source, cache, passes, window, 256, limit, gate);
+    }
+    meter_batches(rt, alloc, source, cache, passes, room, window, limit, gate)
+}
+
+/// Meters a capture, and adds up what the cache kept of it.
+fn metered<G: Gate, R: Threads + Wait + Sync>(
+    rt: &R,
+    alloc: Global,
+    bytes: &[u8],
+    setting: Setting,
+    gate: &G,
+) -> Result<Result<Outcome, MeterFault>, Fail>
+    requires passes { (3 ≤ setting.passes) × (setting.passes ≤ 64) }
+    requires room { setting.room ≤ 64 }
+    requires window { (262184 ≤ setting.window) × (setting.window ≤ 4194304) }
+    requires limit { setting.limit ≤ 2 ^ 30 }
+{
+    let fails = [setting.fails];
+    let mut source = MemSource::new(bytes, 100_000, fails.as_slice());
+    let limits = Timeouts::new(300, 1800);
+    let mut caches = TurnCaches::new();
+    let (cache, passes) = caches.open(alloc, 4096, setting.passes, limits)?;
+    let gathered = match run(rt, alloc, &mut source, &cache, passes, setting, gate) {
+        Ok(gathered) => gathered,
+        Err(fault) => return Ok(Err(fault)),
+    };
+    caches.close(alloc, cache, gathered.pass, gathered.parts)?;
+    let mut packets = 0u64;
+    let mut octets = 0u64;
+    for part in caches.metered() {
+        packets = packets.saturating_add(part.packets);
+        octets = octets.saturating_add(part.octets);
+    }
+    Ok(Ok(Outcome {
+        tally: gathered.tally,
+        tail: gathered.tail,
+        packets,
+        octets,
+    }))
+}
