@@ -26,13 +26,6 @@ const BATCH: usize = 32;
 /// After so many lost tries a packet is passed by.
 const TRIES: u64 = 3;
 
-/// What became of a packet, and how many tries were lost.
-#[derive(Drop)]
-struct Tried {
-    metered: Metered,
-    lost: u64,
-}
-
 impl PebrCache {
     /// Collects without force from 32 retired slots on.
     fn collect_batch(&self, pass: &mut RootPass<CacheRule>)
@@ -87,15 +80,17 @@ impl PebrCache {
         self.collect_if_none(pass);
     }
 
-    /// Tries to put the packet's fragment into its set, and passes the packet by after the third lost try.
+    /// Tries to put the packet's fragment into its set, and passes the packet by after the third lost try. How many tries were
+    /// lost; what became of the packet goes into `metered`.
     fn put_in<T: Stop>(
         &self,
         pass: &mut RootPass<CacheRule>,
         set: u64,
         packet: &Packet,
         own: Fragment,
+        metered: &mut Metered,
         stop: &mut T,
-    ) -> Tried
+    ) -> u64
         requires of { IsOf self.now.roots pass.old }
         requires set { set < self.now.sets }
         requires out { IsTrue (is_out (known_by pass.old).status) }
@@ -106,24 +101,21 @@ impl PebrCache {
         ensures out { IsTrue (is_out (known_by pass.new).status) }
         ensures down { IsTrue (list_all is_down (known_by pass.new).shields) }
         ensures ejections { (past_by pass.new).ejections ≡ (past_by pass.old).ejections }
-        ensures note { note_by first_note pass.new ≡ metering (note_by first_note pass.old) (packet.now ∷ []) result.metered.out }
-        ensures lost { HaveLost set result.lost (past_by pass.old) (past_by pass.new) }
-        ensures outcome { IsOutcome self.now.timeouts (shape_at self.now.roots).seats set (past_by pass.new) own result.lost result.metered.how result.metered.out }
+        ensures note { note_by first_note pass.new ≡ metering (note_by first_note pass.old) (packet.now ∷ []) metered.new.out }
+        ensures lost { HaveLost set result (past_by pass.old) (past_by pass.new) }
+        ensures outcome { IsOutcome self.now.timeouts (shape_at self.now.roots).seats set (past_by pass.new) own result metered.new.how metered.new.out }
     {
         for lost in 0..TRIES {
             let last = lost + 1 == TRIES;
-            if let Some(metered) = self.attempt(pass, set, packet, own, last, stop) {
-                return Tried { metered, lost };
+            if self.attempt(pass, set, packet, own, last, metered, stop) {
+                return lost;
             }
         }
-        let metered = Metered {
+        *metered = Metered {
             how: How::PassedBy,
             out: Some(own),
         };
-        Tried {
-            metered,
-            lost: TRIES,
-        }
+        TRIES
     }
 
     /// Meters a packet whose number is above those that the pass metered, and calls `stop` at each point of each try. It waits
@@ -150,8 +142,12 @@ impl PebrCache {
         let own = Fragment::of(packet);
         let set = own.key.set_of(self.sets);
         self.make_room(&mut pass.inner);
-        let tried = self.put_in(&mut pass.inner, set, packet, own, stop);
-        pass.lost = pass.lost.saturating_add(tried.lost);
-        tried.metered
+        let mut metered = Metered {
+            how: How::PassedBy,
+            out: None,
+        };
+        let lost = self.put_in(&mut pass.inner, set, packet, own, &mut metered, stop);
+        pass.lost = pass.lost.saturating_add(lost);
+        metered
     }
 }

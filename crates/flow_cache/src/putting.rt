@@ -1,6 +1,6 @@
 //! A fragment is put into an entry, or passed by.
 
-ghost use Rattle.std.specs.Prelude.{◌≡◌, ◌≢◌, ℕ, ◌<◌, ◌∷◌, [], IsTrue, IsNone, IfSome, Some, None, true, false, if◌then◌else◌, slice_index};
+ghost use Rattle.std.specs.Prelude.{◌≡◌, ◌≢◌, ℕ, ◌<◌, ◌∷◌, [], IsTrue, Some, None, true, false, if◌then◌else◌, slice_index};
 ghost use Rattle.std.specs.List.{list_all};
 ghost use Rattle.cache_face.specs.Notes.{first_note, metering};
 ghost use Rattle.cache_face.specs.Keeping.{IsWhole};
@@ -24,11 +24,11 @@ use set_choice::choose_by_words;
 
 /// Whether the last try was lost.
 #[inline]
-fn is_passed_by(last: bool, metered: &Option<Metered>) -> bool
-    ensures some { IfSome metered.now (λ _. result ≡ false) }
-    ensures none { IsNone metered.now → result ≡ last }
+fn is_passed_by(last: bool, done: bool) -> bool
+    ensures done { IsTrue done → result ≡ false }
+    ensures undone { done ≡ false → result ≡ last }
 {
-    last && metered.is_none()
+    last && !done
 }
 
 /// What is done to the note of a pass that leaves: where its packet is passed by, it is metered, and its own fragment handed
@@ -61,15 +61,16 @@ impl PebrCache {
     }
 
     /// Puts the packet's fragment into the set whose roots are protected: reads the entries, writes the new one, and replaces
-    /// one root. `None` where that root had another slot.
+    /// one root. `false` where that root had another slot. What is answered goes into `metered`, so that it is written once.
     fn put<T: Stop>(
         &self,
         pass: &mut RootPass<CacheRule>,
         set: u64,
         packet: &Packet,
         own: Fragment,
+        metered: &mut Metered,
         stop: &mut T,
-    ) -> Option<Metered>
+    ) -> bool
         requires of { IsOf self.now.roots pass.old }
         requires set { set < self.now.sets }
         requires entered { is_out (known_by pass.old).status ≡ false }
@@ -80,9 +81,9 @@ impl PebrCache {
         ensures same { IsSame self.now.roots pass.old pass.new }
         ensures entered { is_out (known_by pass.new).status ≡ false }
         ensures ejections { (past_by pass.new).ejections ≡ (past_by pass.old).ejections }
-        ensures some { IfSome result (λ m. (note_by first_note pass.new ≡ metering (note_by first_note pass.old) (packet.now ∷ []) m.out)
-            × ((past_by pass.new).lost ≡ (past_by pass.old).lost) × HasChosen self.now.timeouts set (past_by pass.new) own m.how m.out) }
-        ensures none { IsNone result → (note_by first_note pass.new ≡ note_by first_note pass.old) × ((known_by pass.new).fresh ≡ (known_by pass.old).fresh)
+        ensures done { IsTrue result → (note_by first_note pass.new ≡ metering (note_by first_note pass.old) (packet.now ∷ []) metered.new.out)
+            × ((past_by pass.new).lost ≡ (past_by pass.old).lost) × HasChosen self.now.timeouts set (past_by pass.new) own metered.new.how metered.new.out }
+        ensures undone { result ≡ false → (note_by first_note pass.new ≡ note_by first_note pass.old) × ((known_by pass.new).fresh ≡ (known_by pass.old).fresh)
             × ((try : Lost) × ((past_by pass.new).lost ≡ try ∷ (past_by pass.old).lost) × IsTryOf set (try_of try)) }
     {
         stop.at(Point::Read);
@@ -94,23 +95,27 @@ impl PebrCache {
         let root = 4 * set as usize + choice.place;
         let act = Some((*packet, choice.out));
         match self.roots.replace(pass, root, choice.place, act) {
-            ReplaceEnd::Replaced => Some(Metered {
-                how: choice.how,
-                out: choice.out,
-            }),
-            ReplaceEnd::Other => None,
+            ReplaceEnd::Replaced => {
+                *metered = Metered {
+                    how: choice.how,
+                    out: choice.out,
+                };
+                true
+            }
+            ReplaceEnd::Other => false,
         }
     }
 
-    /// Reaches the set and puts the fragment in. `None` where the try is lost.
+    /// Reaches the set and puts the fragment in. `false` where the try is lost.
     fn reach_and_put<T: Stop>(
         &self,
         pass: &mut RootPass<CacheRule>,
         set: u64,
         packet: &Packet,
         own: Fragment,
+        metered: &mut Metered,
         stop: &mut T,
-    ) -> Option<Metered>
+    ) -> bool
         requires of { IsOf self.now.roots pass.old }
         requires set { set < self.now.sets }
         requires out { IsTrue (is_out (known_by pass.old).status) }
@@ -119,14 +124,14 @@ impl PebrCache {
         ensures same { IsSame self.now.roots pass.old pass.new }
         ensures entered { is_out (known_by pass.new).status ≡ false }
         ensures ejections { (past_by pass.new).ejections ≡ (past_by pass.old).ejections }
-        ensures some { IfSome result (λ m. (note_by first_note pass.new ≡ metering (note_by first_note pass.old) (packet.now ∷ []) m.out)
-            × ((past_by pass.new).lost ≡ (past_by pass.old).lost) × HasChosen self.now.timeouts set (past_by pass.new) own m.how m.out) }
-        ensures none { IsNone result → (note_by first_note pass.new ≡ note_by first_note pass.old) × ((known_by pass.new).fresh ≡ (known_by pass.old).fresh)
+        ensures done { IsTrue result → (note_by first_note pass.new ≡ metering (note_by first_note pass.old) (packet.now ∷ []) metered.new.out)
+            × ((past_by pass.new).lost ≡ (past_by pass.old).lost) × HasChosen self.now.timeouts set (past_by pass.new) own metered.new.how metered.new.out }
+        ensures undone { result ≡ false → (note_by first_note pass.new ≡ note_by first_note pass.old) × ((known_by pass.new).fresh ≡ (known_by pass.old).fresh)
             × ((try : Lost) × ((past_by pass.new).lost ≡ try ∷ (past_by pass.old).lost) × IsTryOf set (try_of try)) }
     {
         match self.reach(pass, set, stop) {
-            Checked::Valid => self.put(pass, set, packet, own, stop),
-            Checked::Ejected => None,
+            Checked::Valid => self.put(pass, set, packet, own, metered, stop),
+            Checked::Ejected => false,
         }
     }
 
@@ -168,7 +173,7 @@ impl PebrCache {
         self.roots.leave(pass, passing(packet, own, passes_by));
     }
 
-    /// One try. `None` where it is lost; where it is the last one the packet is passed by then.
+    /// One try. `false` where it is lost; where it is the last one the packet is passed by then.
     pub(crate) fn attempt<T: Stop>(
         &self,
         pass: &mut RootPass<CacheRule>,
@@ -176,8 +181,9 @@ impl PebrCache {
         packet: &Packet,
         own: Fragment,
         last: bool,
+        metered: &mut Metered,
         stop: &mut T,
-    ) -> Option<Metered>
+    ) -> bool
         requires of { IsOf self.now.roots pass.old }
         requires set { set < self.now.sets }
         requires out { IsTrue (is_out (known_by pass.old).status) }
@@ -187,15 +193,15 @@ impl PebrCache {
         ensures out { IsTrue (is_out (known_by pass.new).status) }
         ensures down { IsTrue (list_all is_down (known_by pass.new).shields) }
         ensures ejections { (past_by pass.new).ejections ≡ (past_by pass.old).ejections }
-        ensures some { IfSome result (λ m. (note_by first_note pass.new ≡ metering (note_by first_note pass.old) (packet.now ∷ []) m.out)
-            × ((past_by pass.new).lost ≡ (past_by pass.old).lost) × HasChosen self.now.timeouts set (past_by pass.new) own m.how m.out) }
-        ensures none { IsNone result → (note_by first_note pass.new ≡ (if last then metering (note_by first_note pass.old) (packet.now ∷ []) (Some own) else note_by first_note pass.old))
+        ensures done { IsTrue result → (note_by first_note pass.new ≡ metering (note_by first_note pass.old) (packet.now ∷ []) metered.new.out)
+            × ((past_by pass.new).lost ≡ (past_by pass.old).lost) × HasChosen self.now.timeouts set (past_by pass.new) own metered.new.how metered.new.out }
+        ensures undone { result ≡ false → (note_by first_note pass.new ≡ (if last then metering (note_by first_note pass.old) (packet.now ∷ []) (Some own) else note_by first_note pass.old))
             × ((known_by pass.new).fresh ≡ (known_by pass.old).fresh) × ((shape_at self.now.roots).seats ≢ 1)
             × ((try : Lost) × ((past_by pass.new).lost ≡ try ∷ (past_by pass.old).lost) × IsTryOf set (try_of try)) }
     {
-        let metered = self.reach_and_put(pass, set, packet, own, stop);
-        let passes_by = is_passed_by(last, &metered);
+        let done = self.reach_and_put(pass, set, packet, own, metered, stop);
+        let passes_by = is_passed_by(last, done);
         self.end(pass, packet, own, passes_by, stop);
-        metered
+        done
     }
 }

@@ -68,7 +68,8 @@ fn joined(timeouts: &Timeouts, content: &[u64; 10], own: &Fragment) -> Option<Fr
     None
 }
 
-/// The choice over all four entries, each as a fragment.
+/// The choice over all four entries, each as a fragment. Few packets come here.
+#[inline(never)]
 fn choose_among(timeouts: Timeouts, contents: &[[u64; 10]; 4], own: Fragment) -> Choice
     requires whole { All IsWhole contents.now }
     requires small { IsSmall own }
@@ -86,6 +87,7 @@ fn choose_among(timeouts: Timeouts, contents: &[[u64; 10]; 4], own: Fragment) ->
 
 /// Puts a fragment into one of the four entries that ten words each show, by the choice of
 /// [`choose`](cache_face::choose).
+#[inline(always)]
 pub fn choose_by_words(timeouts: Timeouts, contents: &[[u64; 10]; 4], own: Fragment) -> Choice
     requires whole { All IsWhole contents.now }
     requires small { IsSmall own }

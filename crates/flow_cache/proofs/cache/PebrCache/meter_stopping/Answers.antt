@@ -11,8 +11,8 @@ use Rattle.flow_cache.specs.Trying.{IsOwn}
 use Rattle.flow_cache.proofs.Answering.{own_of, lost_on, answered}
 use Rattle.flow_cache.proofs.cache.PebrCache.meter_stopping.Goals as goal
 
-pub put_in-tried-requires-clause-own : goal.put_in-tried-requires-clause-own
-put_in-tried-requires-clause-own g c =
+pub put_in-lost-requires-clause-own : goal.put_in-lost-requires-clause-own
+put_in-lost-requires-clause-own g c =
     let limits = c.args.self.now.timeouts in
     subst (λ (note : Note). IsOwn limits note c.args.packet.now c.of-own.result) (sym c.make_room.ensures.note)
     (own_of limits (note_by first_note c.args.pass.now.inner) c.args.packet.now c.of-own.result c.requires.single c.requires.number c.requires.octets c.requires.rises c.of-own.ensures.alone (c.of-own.ensures.heap limits))
@@ -20,9 +20,9 @@ put_in-tried-requires-clause-own g c =
 pub returns-clause-own : goal.returns-clause-own
 returns-clause-own g c =
     let room = c.make_room.ensures.same.still in
-    let put = c.put_in-tried.ensures.same.still in record {
-      of = c.put_in-tried.ensures.same.of;
-      seats = ap (λ (n : Note). n.seats) c.put_in-tried.ensures.note ∙ ap (λ (n : Note). n.seats) c.make_room.ensures.note ∙ c.requires.own.seats ∙ sym (put.3 ∙ room.3);
+    let put = c.put_in-lost.ensures.same.still in record {
+      of = c.put_in-lost.ensures.same.of;
+      seats = ap (λ (n : Note). n.seats) c.put_in-lost.ensures.note ∙ ap (λ (n : Note). n.seats) c.make_room.ensures.note ∙ c.requires.own.seats ∙ sym (put.3 ∙ room.3);
       united = λ place held at. c.requires.own.united place held (ap (λ (l : List _). get_elem? l place) (sym (put.4 ∙ room.4)) ∙ at);
     }
 
@@ -30,12 +30,12 @@ pub returns-clause-answer : goal.returns-clause-answer
 returns-clause-answer g c =
     let old = c.args.pass.now in
     let room = c.make_room.ensures.same.still in
-    let put = c.put_in-tried.ensures.same.still in
-    let tries = c.put_in-tried.ensures.lost in
-    let past = past_by c.put_in-tried.new.pass in
+    let put = c.put_in-lost.ensures.same.still in
+    let tries = c.put_in-lost.ensures.lost in
+    let past = past_by c.put_in-lost.new.pass in
     let now : PassMeans = record {
-      note = note_by first_note c.put_in-tried.new.pass;
-      lost = map try_of (lost_by c.put_in-tried.new.pass);
+      note = note_by first_note c.put_in-lost.new.pass;
+      lost = map try_of (lost_by c.put_in-lost.new.pass);
       set = set_read past.loads;
       entries = entries_read past (set_read past.loads);
     } in
@@ -43,6 +43,6 @@ returns-clause-answer g c =
     let more = ap (λ (l : List _). flat_map (λ held. held.past.lost) l) (put.4 ∙ room.4) in (
       c.of-own.result,
       c.of-own.ensures.alone,
-      answered (means_of c.args.self.now) (shown_of old) now past c.of-own.result c.put_in-tried.result.metered.out c.set_of-set.result c.put_in-tried.result.lost tries.tries
-          c.set_of-set.ensures.number refl refl (lost_on tries.tries (past_by old.inner).lost past.lost _ _ listed more) tries.many tries.each c.put_in-tried.result.metered.how c.put_in-tried.ensures.outcome,
+      answered (means_of c.args.self.now) (shown_of old) now past c.of-own.result c.put_in-lost.new.metered.out c.set_of-set.result c.put_in-lost.result tries.tries
+          c.set_of-set.ensures.number refl refl (lost_on tries.tries (past_by old.inner).lost past.lost _ _ listed more) tries.many tries.each c.put_in-lost.new.metered.how c.put_in-lost.ensures.outcome,
     )

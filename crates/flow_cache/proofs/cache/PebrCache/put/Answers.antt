@@ -56,8 +56,8 @@ replace-requires-clause-keeps g c =
     (can_replace cache.timeouts shape (past_by end) (number_by end) root slot (least (known_by start).fresh) note c.args.packet.now c.args.own kept out (ap (λ (s : Shape). s.width) cache.shaped)
     (subst (λ rs. HasTen rs slot) (sym reads) (c.read_contents-contents.ensures.ten place low)) filled c.requires.own takes)))
 
-pub returns-in-Replaced-clause-some : goal.returns-in-Replaced-clause-some
-returns-in-Replaced-clause-some g c =
+pub returns-in-Replaced-clause-done : goal.returns-in-Replaced-clause-done
+returns-in-Replaced-clause-done g c done =
     let start = c.args.pass.now in
     let mid = c.read_contents-contents.new.pass in
     let end = c.fill.new.pass in
@@ -79,8 +79,8 @@ returns-in-Replaced-clause-some g c =
           (c.read_contents-contents.ensures.entries c.args.set c.requires.protected) c.choose_by_words-choice.ensures.chosen loads reads,
     )
 
-pub returns-in-Other-clause-none : goal.returns-in-Other-clause-none
-returns-in-Other-clause-none g c none =
+pub returns-in-Other-clause-undone : goal.returns-in-Other-clause-undone
+returns-in-Other-clause-undone g c undone =
     let start = c.args.pass.now in
     let mid = c.read_contents-contents.new.pass in
     let end = c.fill.new.pass in
