@@ -1,8 +1,7 @@
-use Rattle.std.proofs.Common.{◌≡◌, ◌<◌, ◌+◌, ◌∷◌, [], ◌∙◌, ℕ, Bool, true, false, Option, Some, List, refl, sym, ap, subst, arith}
-use Rattle.std.specs.Prelude.{IsNone, ◌==◌, if◌then◌else◌}
+use Rattle.std.proofs.Common.{◌≡◌, ◌<◌, ◌+◌, ◌∷◌, [], ◌∙◌, ℕ, Bool, true, false, Some, List, ap, subst, arith}
+use Rattle.std.specs.Prelude.{◌==◌, if◌then◌else◌}
 use Rattle.std.proofs.lemmas.Grind.{common_steps}
 use Rattle.std.proofs.lemmas.List.Elements.{All-cons}
-use Rattle.cache_face.specs.declared.metered.Metered.{Metered}
 use Rattle.cache_face.specs.Notes.{Note, first_note, metering}
 use Rattle.pebr_words.specs.Pasts.{Lost}
 use Rattle.pebr_roots.specs.Passes.{note_by}
