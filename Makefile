@@ -4,6 +4,7 @@ PREFIX ?= /usr/local
 PROGRAM := bin/romtyalig
 PCAPNG := bin/romtyalig-pcapng
 PAIR := bin/romtyalig-pair
+PIPE := bin/romtyalig-pipe
 WATCH := bin/romtyalig-watch
 THREADS := bin/two_threads
 METERING := bin/metering_alone
@@ -17,7 +18,7 @@ SOURCES := $(shell find crates -name out -prune -o \( -name '*.rt' -o -name '*.a
 help:
 	@echo "make demo                 build the program, which proves it, and show the records of a sample capture"
 	@echo "make test                 the gate: prove every crate from nothing, run all tests, then the checks of checks/"
-	@echo "make build                leave the programs as $(PROGRAM), $(PCAPNG), $(PAIR) and $(WATCH)"
+	@echo "make build                leave the programs as $(PROGRAM), $(PIPE), $(PCAPNG), $(PAIR) and $(WATCH)"
 	@echo "make check                compare the program with other readers and meters (checks/)"
 	@echo "make install PREFIX=DIR   install programs, pages and completions below DIR, $(PREFIX) by default"
 
@@ -27,7 +28,7 @@ demo: build
 	$(PROGRAM) meter < $(CAPTURE) > bin/web-exchange.ipfix
 	$(PROGRAM) show < bin/web-exchange.ipfix
 
-build: $(PROGRAM) $(PCAPNG) $(PAIR) $(WATCH)
+build: $(PROGRAM) $(PIPE) $(PCAPNG) $(PAIR) $(WATCH)
 
 # `rt run` proves the crates, builds the program and runs it, here on an empty stream.
 $(PROGRAM): crates.txt $(SOURCES)
@@ -37,7 +38,13 @@ $(PROGRAM): crates.txt $(SOURCES)
 	@mkdir -p bin
 	@cp crates/romtyalig/out/romtyalig $(PROGRAM)
 
-# The same for the two filters and the watcher, here on the files of their stored runs.
+# The same for the pipelined meter, the two filters and the watcher, here on the files of their stored runs.
+$(PIPE): crates.txt $(SOURCES)
+	@cd crates/romtyalig_pipe && rt run -- pipe < stdin > build.log 2>&1 || { tail -n 20 build.log; exit 1; }
+	@rm -f crates/romtyalig_pipe/build.log
+	@mkdir -p bin
+	@cp crates/romtyalig_pipe/out/romtyalig_pipe $(PIPE)
+
 $(PCAPNG): crates.txt $(SOURCES)
 	@cd crates/romtyalig_pcapng && rt run -- pcapng < stdin > build.log 2>&1 || { tail -n 20 build.log; exit 1; }
 	@rm -f crates/romtyalig_pcapng/build.log
@@ -86,7 +93,7 @@ test:
 # The gate leaves each program in its crate's folder out/; so nothing is proved a second time for the checks.
 take:
 	@mkdir -p bin
-	@for pair in romtyalig:$(PROGRAM) romtyalig_pcapng:$(PCAPNG) romtyalig_pair:$(PAIR) romtyalig_watch:$(WATCH) \
+	@for pair in romtyalig:$(PROGRAM) romtyalig_pipe:$(PIPE) romtyalig_pcapng:$(PCAPNG) romtyalig_pair:$(PAIR) romtyalig_watch:$(WATCH) \
 	    two_threads:$(THREADS) metering_alone:$(METERING) cache_pace:$(PACE); do \
 	    made=crates/$${pair%%:*}/out/$${pair%%:*}; \
 	    if [ -x "$$made" ]; then cp "$$made" "$${pair#*:}"; fi; \
@@ -104,6 +111,7 @@ check: build $(THREADS)
 	python3 checks/workers.py
 	checks/one_set.sh
 	checks/watch.sh
+	checks/pipe.sh
 	python3 checks/second_meter.py 20000
 	python3 checks/second_reader.py 20000
 	python3 checks/second_pairer.py 2000
@@ -112,16 +120,18 @@ check: build $(THREADS)
 install: build
 	install -d $(DESTDIR)$(PREFIX)/bin
 	install -m 755 $(PROGRAM) $(DESTDIR)$(PREFIX)/bin/romtyalig
+	install -m 755 $(PIPE) $(DESTDIR)$(PREFIX)/bin/romtyalig-pipe
 	install -m 755 $(PCAPNG) $(DESTDIR)$(PREFIX)/bin/romtyalig-pcapng
 	install -m 755 $(PAIR) $(DESTDIR)$(PREFIX)/bin/romtyalig-pair
 	install -m 755 $(WATCH) $(DESTDIR)$(PREFIX)/bin/romtyalig-watch
 	install -d $(DESTDIR)$(PREFIX)/share/man/man1
-	install -m 644 man/romtyalig.1 man/romtyalig-pcapng.1 man/romtyalig-pair.1 man/romtyalig-watch.1 $(DESTDIR)$(PREFIX)/share/man/man1
+	install -m 644 man/romtyalig.1 man/romtyalig-pipe.1 man/romtyalig-pcapng.1 man/romtyalig-pair.1 man/romtyalig-watch.1 $(DESTDIR)$(PREFIX)/share/man/man1
 	install -d $(DESTDIR)$(PREFIX)/share/bash-completion/completions
 	install -m 644 completions/romtyalig.bash $(DESTDIR)$(PREFIX)/share/bash-completion/completions/romtyalig
+	install -m 644 completions/romtyalig-pipe.bash $(DESTDIR)$(PREFIX)/share/bash-completion/completions/romtyalig-pipe
 	install -m 644 completions/romtyalig-watch.bash $(DESTDIR)$(PREFIX)/share/bash-completion/completions/romtyalig-watch
 	install -d $(DESTDIR)$(PREFIX)/share/zsh/vendor-completions
-	install -m 644 completions/_romtyalig completions/_romtyalig-watch $(DESTDIR)$(PREFIX)/share/zsh/vendor-completions
+	install -m 644 completions/_romtyalig completions/_romtyalig-pipe completions/_romtyalig-watch $(DESTDIR)$(PREFIX)/share/zsh/vendor-completions
 
 clean:
 	rm -rf bin crates/*/out

@@ -6,16 +6,18 @@
 # Each block there that is marked `run: NAME, with PROGRAM` is taken as it stands and run in a folder with the files that it
 # names. One line for each; a block whose program is missing is skipped with one line. The status is not 0 where any differs.
 #
-# ROMTYALIG and ROMTYALIG_PCAPNG are the programs' paths (bin/romtyalig and bin/romtyalig-pcapng unless set).
+# ROMTYALIG, ROMTYALIG_PIPE and ROMTYALIG_PCAPNG are the programs' paths (bin/romtyalig, bin/romtyalig-pipe and
+# bin/romtyalig-pcapng unless set).
 set -u
 
 here=$(cd "$(dirname "$0")" && pwd)
 top=$(dirname "$here")
 program=${ROMTYALIG:-$top/bin/romtyalig}
+pipe=${ROMTYALIG_PIPE:-$top/bin/romtyalig-pipe}
 filter=${ROMTYALIG_PCAPNG:-$top/bin/romtyalig-pcapng}
 export LC_ALL=C TZ=UTC
 
-for needed in "$program" "$filter"; do
+for needed in "$program" "$pipe" "$filter"; do
     if [ ! -x "$needed" ]; then
         echo "no program at $needed" >&2
         exit 2
@@ -27,6 +29,7 @@ trap 'rm -rf "$work"' EXIT
 trap 'exit 2' HUP INT TERM
 mkdir "$work/bin" "$work/collected"
 ln -s "$program" "$work/bin/romtyalig"
+ln -s "$pipe" "$work/bin/romtyalig-pipe"
 ln -s "$filter" "$work/bin/romtyalig-pcapng"
 ln -s "$top/examples" "$work/examples"
 PATH="$work/bin:$PATH"
@@ -114,6 +117,7 @@ same_collected() {
 
 compare progress pv same_stream
 compare compressed zcat same_stream
+compare pipelined zcat same_stream
 compare several mergecap same_stream
 if [ -e capture.pcapng ]; then
     compare pcapng romtyalig-pcapng same_stream

@@ -1,23 +1,26 @@
 #!/bin/bash
-# The manual page, the completions, README.md and the program know the same options.
+# The manual pages, the completions, README.md and the programs that meter know the same options.
 #
 #     checks/page.sh
 #
-# For each command its options are taken from man/romtyalig.1, README.md and both completions, and must be the same in all;
+# For each command its options are taken from its program's page, README.md and both completions, and must be the same in all;
 # the program must take each of them, and refuse each name that is one letter longer or shorter. `mandoc` (Debian package
 # mandoc) must find nothing to say of the pages; where it is missing that is skipped with one line. The status is not 0 where
-# anything differs. ROMTYALIG is the program's path (bin/romtyalig unless set).
+# anything differs. ROMTYALIG and ROMTYALIG_PIPE are the programs' paths (bin/romtyalig and bin/romtyalig-pipe unless set).
 set -u
 
 here=$(cd "$(dirname "$0")" && pwd)
 top=$(dirname "$here")
 program=${ROMTYALIG:-$top/bin/romtyalig}
+pipe=${ROMTYALIG_PIPE:-$top/bin/romtyalig-pipe}
 export LC_ALL=C
 
-if [ ! -x "$program" ]; then
-    echo "no program at $program" >&2
-    exit 2
-fi
+for needed in "$program" "$pipe"; do
+    if [ ! -x "$needed" ]; then
+        echo "no program at $needed" >&2
+        exit 2
+    fi
+done
 cd "$top" || exit 2
 differ=0
 
@@ -26,25 +29,48 @@ differs() {
     differ=$((differ + 1))
 }
 
+# The name of the program that has a command, and its path.
+name_of() {
+    case $1 in
+    pipe) echo romtyalig-pipe ;;
+    *) echo romtyalig ;;
+    esac
+}
+path_of() {
+    case $1 in
+    pipe) echo "$pipe" ;;
+    *) echo "$program" ;;
+    esac
+}
+
 # The options of a command in each place.
 in_page() {
-    awk -v command="$1" '/^\.Cm / { found = ($2 == command) } /^\.Sh DESCRIPTION/ { exit } found && /Fl -/' man/romtyalig.1 |
+    awk -v command="$1" '/^\.Cm / { found = ($2 == command) } /^\.Sh DESCRIPTION/ { exit } found && /Fl -/' "man/$(name_of "$1").1" |
         grep -o 'Fl -[a-z]*' | sed 's/Fl /-/' | sort
 }
 in_readme() { awk -F'|' -v command="\`$1\`" 'index($3, command) && $2 ~ /--/ { gsub(/[` ]/, "", $2); print $2 }' README.md | sort; }
-in_bash() { grep "^    $1) options=" completions/romtyalig.bash | grep -o -e '--[a-z]*' | sort; }
+in_bash() { grep "^    $1) options=" "completions/$(name_of "$1").bash" | grep -o -e '--[a-z]*' | sort; }
 in_zsh() {
-    awk -v command="$1" '$1 == command ")" { found = 1 } found && /;;/ { exit } found' completions/_romtyalig |
+    awk -v command="$1" '$1 == command ")" { found = 1 } found && /;;/ { exit } found' "completions/_$(name_of "$1")" |
         grep -o "'--[a-z]*=" | tr -d "'=" | sort
 }
 
-# What the program says of words, reading nothing.
+# What the command's program says of words, reading nothing.
 status_of() {
-    "$program" "$@" </dev/null >/dev/null 2>&1
+    "$(path_of "$1")" "$@" </dev/null >/dev/null 2>&1
     echo $?
 }
 
-for command in meter show make schedule selftest; do
+# Whether these words are a command line with one of three values: one of them is in the range of each option.
+is_taken() {
+    local value
+    for value in 1 116 262184; do
+        [ "$(status_of "$@" "$value")" -eq 2 ] || return 0
+    done
+    return 1
+}
+
+for command in meter show make schedule selftest pipe; do
     wanted=$(in_page "$command")
     for place in readme bash zsh; do
         [ "$wanted" = "$("in_$place" "$command")" ] || differs "options of $command in $place"
@@ -58,10 +84,9 @@ for command in meter show make schedule selftest; do
             [ "${other%%=*}" = "$option" ] || others+=("$other")
         done
         others=(${others[@]+"${others[@]}"})
-        [ "$(status_of "$command" ${others[@]+"${others[@]}"} "$option" 116)" -ne 2 ] ||
-            [ "$(status_of "$command" ${others[@]+"${others[@]}"} "$option" 1)" -ne 2 ] || differs "$command refuses $option"
+        is_taken "$command" ${others[@]+"${others[@]}"} "$option" || differs "$command refuses $option"
         for wrong in "${option}s" "${option%?}"; do
-            [ "$(status_of "$command" ${given[@]+"${given[@]}"} "$wrong" 1)" -eq 2 ] || differs "$command takes $wrong"
+            is_taken "$command" ${given[@]+"${given[@]}"} "$wrong" && differs "$command takes $wrong"
         done
     done
 done
@@ -73,5 +98,5 @@ if command -v mandoc >/dev/null; then
 else
     echo "skipped: no mandoc"
 fi
-[ "$differ" -eq 0 ] && echo "page, completions, README.md and program have the same options"
+[ "$differ" -eq 0 ] && echo "pages, completions, README.md and programs have the same options"
 [ "$differ" -eq 0 ]

@@ -3,22 +3,25 @@
 #
 #     checks/refused_memory.sh
 #
-# `meter` on a capture of two packets, by one worker and by three, `schedule` on a short schedule and `show` on a short stream are
-# run with one allocation refused, the first, the second and so on to the last that the run makes. Each run must end with status
-# 0 and the output of a run with all its memory, or with status 8, no output and the line `no memory`. `refuse.c` stands in
-# front of the C library for that; without gcc all is skipped with one line. ROMTYALIG is the program's path (bin/romtyalig
-# unless set).
+# `meter` on a capture of two packets, by one worker and by three, `romtyalig-pipe` on the same, `schedule` on a short schedule and
+# `show` on a short stream are run with one allocation refused, the first, the second and so on to the last that the run makes.
+# Each run must end with status 0 and the output of a run with all its memory, or with status 8, no output and the line `no
+# memory`. `refuse.c` stands in front of the C library for that; without gcc all is skipped with one line. ROMTYALIG and
+# ROMTYALIG_PIPE are the programs' paths (bin/romtyalig and bin/romtyalig-pipe unless set).
 set -u
 
 here=$(cd "$(dirname "$0")" && pwd)
 top=$(dirname "$here")
 program=${ROMTYALIG:-$top/bin/romtyalig}
+pipe=${ROMTYALIG_PIPE:-$top/bin/romtyalig-pipe}
 export LC_ALL=C
 
-if [ ! -x "$program" ]; then
-    echo "no program at $program" >&2
-    exit 2
-fi
+for needed in "$program" "$pipe"; do
+    if [ ! -x "$needed" ]; then
+        echo "no program at $needed" >&2
+        exit 2
+    fi
+done
 if ! command -v gcc >/dev/null; then
     echo "skipped: no gcc"
     exit 0
@@ -27,11 +30,11 @@ work=$(mktemp -d)
 trap 'rm -rf "$work"' EXIT
 gcc -O1 -shared -fPIC -o "$work/refuse.so" "$here/refuse.c" -ldl || exit 2
 
-# The run of some words on an input, with the allocation of this number refused.
+# The run of a program and its words on an input, with the allocation of this number refused.
 run() {
     local number=$1 input=$2
     shift 2
-    REFUSED=$number COUNTED=$work/count LD_PRELOAD=$work/refuse.so "$program" "$@" <"$input" >"$work/out" 2>"$work/notes"
+    REFUSED=$number COUNTED=$work/count LD_PRELOAD=$work/refuse.so "$@" <"$input" >"$work/out" 2>"$work/notes"
 }
 
 differ=0
@@ -64,9 +67,11 @@ try_all() {
 "$program" make --seed=1 --packets=2 >"$work/two.pcap" 2>/dev/null
 "$program" meter <"$work/two.pcap" >"$work/two.ipfix" 2>/dev/null
 printf 'core 1 2 1 1 1\nnote 0\npin 0\nload 0 0\nshield 0 0 0\ncheck 0\nwrite 0 1 0 7\nreplace 0 0 0 1\nunshield 0 0\nleave 0\n' >"$work/steps"
-try_all "$work/two.pcap" meter
-try_all "$work/two.pcap" meter --workers=3 --piece=1
-try_all "$work/steps" schedule
-try_all "$work/two.ipfix" show
+try_all "$work/two.pcap" "$program" meter
+try_all "$work/two.pcap" "$program" meter --workers=3 --piece=1
+try_all "$work/two.pcap" "$pipe" pipe
+try_all "$work/two.pcap" "$pipe" pipe --workers=3 --queue=1
+try_all "$work/steps" "$program" schedule
+try_all "$work/two.ipfix" "$program" show
 [ "$differ" -eq 0 ] && echo "right: $refused runs were out of memory"
 [ "$differ" -eq 0 ]

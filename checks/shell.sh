@@ -1,27 +1,32 @@
 #!/bin/bash
-# The program in a shell, as an operator meets it: each command's exit status and the lines that it leaves on standard error.
+# The programs that meter in a shell, as an operator meets them: each command's exit status and the lines that it leaves on
+# standard error.
 #
 #     checks/shell.sh
 #
-# One line for each row of the table at the end. The status is not 0 where any differs. ROMTYALIG is the program's path
-# (bin/romtyalig unless set).
+# One line for each row of the table at the end. The status is not 0 where any differs. ROMTYALIG and ROMTYALIG_PIPE are the
+# programs' paths (bin/romtyalig and bin/romtyalig-pipe unless set).
 set -u
 
 here=$(cd "$(dirname "$0")" && pwd)
 top=$(dirname "$here")
 program=${ROMTYALIG:-$top/bin/romtyalig}
+pipe=${ROMTYALIG_PIPE:-$top/bin/romtyalig-pipe}
 export LC_ALL=C
 
-if [ ! -x "$program" ]; then
-    echo "no program at $program" >&2
-    exit 2
-fi
+for needed in "$program" "$pipe"; do
+    if [ ! -x "$needed" ]; then
+        echo "no program at $needed" >&2
+        exit 2
+    fi
+done
 work=$(mktemp -d) || exit 2
 trap 'rm -rf "$work"' EXIT
 trap 'exit 2' HUP INT TERM
 cd "$work" || exit 2
 mkdir bin folder
 ln -s "$program" bin/romtyalig
+ln -s "$pipe" bin/romtyalig-pipe
 PATH="$work/bin:$PATH"
 capture=$top/examples/web-exchange.pcap
 export capture
@@ -77,5 +82,16 @@ row "a closed pipe" 3 none none '{ sleep 1; romtyalig meter <"$capture"; echo $?
 row "notes to a full device" 3 none whole 'romtyalig meter <"$capture" 2>/dev/full'
 row "notes of a refusal to a full device" 4 none none 'romtyalig meter </dev/null 2>/dev/full'
 row "notes of a wrong word to a closed standard error" 2 none none 'romtyalig metre 2>&-'
+
+piped=$(line "usage: pipe")
+row "a capture by the pipeline" 0 summary whole 'romtyalig-pipe pipe --workers 2 --queue=1 <"$capture"'
+row "no words of the pipeline" 2 "$piped" none 'romtyalig-pipe <"$capture"'
+row "a wrong word of the pipeline" 2 "$piped" none 'romtyalig-pipe meter <"$capture"'
+row "a word of the pipeline that is not UTF-8" 2 "$piped" none 'romtyalig-pipe $'"'"'pipe\xff'"'"' <"$capture"'
+row "a folder as input of the pipeline" 1 "$(line "read fault")" none 'romtyalig-pipe pipe <folder'
+row "an empty input of the pipeline" 4 "$(line "not a capture")" none 'romtyalig-pipe pipe </dev/null'
+row "a slow input of the pipeline" 0 summary whole '{ head -c 300 "$capture"; sleep 1; tail -c +301 "$capture"; } | romtyalig-pipe pipe'
+row "a full device of the pipeline" 3 none none 'romtyalig-pipe pipe <"$capture" >/dev/full'
+row "notes of the pipeline to a full device" 3 none whole 'romtyalig-pipe pipe <"$capture" 2>/dev/full'
 echo "$same the same, $differ that differ"
 [ "$differ" -eq 0 ]

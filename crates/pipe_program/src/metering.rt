@@ -1,0 +1,118 @@
+//! Metering a capture in batches through one cache, and gathering what the cache gave.
+
+ghost use Rattle.std.specs.Prelude.{◌≡◌, IfOk, IfErr};
+ghost use Rattle.meter_io.specs.Sides.{IsUntouched, side};
+ghost use Rattle.meter_program.specs.Metering.{IsReadAndKept, IsReadAndGathered, status_for};
+ghost use Rattle.meter_program.specs.Outcome.{MeterRefuses, Ends};
+ghost use Rattle.meter_program.specs.Seen.{seen_of};
+ghost use Rattle.pipe_program.specs.Words.{as_meter, piping};
+
+use crate::settings::PipeSettings;
+use cache_face::Caches;
+use flow_parts::Timeouts;
+use flow_parts::laws::sharing_out_stands;
+use meter_io::{Sink, Source};
+use meter_program::{Counted, Gathered, Status, gathered_of, written};
+use meter_workers::{Gate, MeterFault};
+use pipe_workers::meter_batches;
+use std::alloc::Global;
+use std::sync::Wait;
+use std::thread::Threads;
+
+/// The most bytes of a capture.
+const CAPTURE_LIMIT: u64 = 1 << 30;
+
+/// The seats of the cache beside those of the workers: the reader's, and that of what is left in the queue in the end.
+const OTHER_SEATS: usize = 2;
+
+/// The status of a run whose input couldn't be metered.
+fn status_of(fault: MeterFault) -> Status
+    ensures { result ≡ status_for fault }
+{
+    match fault {
+        MeterFault::Failed => Status::ReadFault,
+        MeterFault::TooLarge => Status::TooLarge,
+        MeterFault::NotCapture => Status::NotCapture,
+        MeterFault::LinkUnknown(link) => Status::LinkUnknown(link),
+        MeterFault::Damaged(at) => Status::Damaged(at),
+        MeterFault::NoMemory => Status::NoMemory,
+    }
+}
+
+/// Meters the capture that the input gives through a cache, by the reader and all workers at once, and closes the cache.
+fn metered<R: Threads + Wait + Sync, S: Source, M: Caches, G: Gate>(
+    rt: &R,
+    alloc: Global,
+    settings: &PipeSettings,
+    limits: Timeouts,
+    input: &mut S,
+    caches: &mut M,
+    gate: &G,
+) -> Result<Counted, Status>
+    ensures kept { IfOk result (λ r. IsReadAndKept (side S.left S.faults input.old input.new) limits (M.metered caches.new) r.tally r.tail) }
+    ensures refused { IfErr result (λ status. MeterRefuses (side S.left S.faults input.old input.new) status) }
+{
+    sharing_out_stands();
+    let seats = settings.workers + OTHER_SEATS;
+    let (cache, passes) = caches.open(alloc, settings.sets, seats, limits)?;
+    let done = match meter_batches(
+        rt,
+        alloc,
+        input,
+        &cache,
+        passes,
+        settings.queue,
+        settings.batch,
+        CAPTURE_LIMIT,
+        gate,
+    ) {
+        Ok(done) => done,
+        Err(fault) => return Err(status_of(fault)),
+    };
+    caches.close(alloc, cache, done.pass, done.parts)?;
+    Ok(Counted {
+        tally: done.tally,
+        tail: done.tail,
+    })
+}
+
+/// The records of the capture that the input gives, metered through a cache of `caches`, or why there are none.
+fn gathered_from<R: Threads + Wait + Sync, S: Source, M: Caches, G: Gate>(
+    rt: &R,
+    alloc: Global,
+    settings: &PipeSettings,
+    input: &mut S,
+    caches: &mut M,
+    gate: &G,
+) -> Result<Gathered, Status>
+    ensures records { IfOk result (λ g. IsReadAndGathered (side S.left S.faults input.old input.new) settings.now.idle settings.now.active
+        (M.metered caches.new) g.records.items g.tally g.tail) }
+    ensures refused { IfErr result (λ status. MeterRefuses (side S.left S.faults input.old input.new) status) }
+{
+    let limits = Timeouts::new(settings.idle, settings.active);
+    let counted = metered(rt, alloc, settings, limits, input, caches, gate)?;
+    let gathered = gathered_of(alloc, caches, limits, counted)?;
+    Ok(gathered)
+}
+
+/// Reads a capture from the input to its end, meters it through a cache of `caches`, writes the records of its flows to the
+/// output and notes the summary.
+pub fn piped<R: Threads + Wait + Sync, S: Source, K: Sink, N: Sink, M: Caches, G: Gate>(
+    rt: &R,
+    alloc: Global,
+    settings: &PipeSettings,
+    input: &mut S,
+    output: &mut K,
+    notes: &mut N,
+    caches: &mut M,
+    gate: &G,
+) -> Status
+    ensures { let seen = seen_of (side S.left S.faults input.old input.new) (side K.held K.faults output.old output.new)
+        (side N.held N.faults notes.old notes.new) (M.metered caches.new)
+        in Ends (as_meter (piping settings.now)) seen (IsUntouched seen.notes) result }
+{
+    match gathered_from(rt, alloc, settings, input, caches, gate) {
+        Ok(gathered) => written(alloc, &gathered, settings.size, output, notes),
+        Err(status) => status,
+    }
+}

@@ -1,0 +1,50 @@
+//! The program `romtyalig-pipe`: the command line's words, the standard streams, and the exit status. It meters a capture
+//! while it reads it.
+#![tactic(auto)]
+
+use flow_cache::PebrCaches;
+use meter_io::{StdSink, StdSource};
+use meter_program::Status;
+use meter_workers::OpenGate;
+use pipe_program::{pipe_line, run_pipe};
+use std::alloc::Global;
+use std::env;
+use std::io::ErrorKind;
+use std::process::ExitCode;
+
+/// The words behind the program's name. A word that isn't UTF-8 is a faulty command line.
+fn words_of(rt: &HostRuntime) -> Result<Vec<String>, Status> {
+    match env::args(rt) {
+        Ok(words) => words
+            .skip(1)
+            .collect(rt.alloc())
+            .map_err(|_| Status::NoMemory),
+        Err(error) if error.kind() == ErrorKind::InvalidData => Err(Status::Usage),
+        Err(_) => Err(Status::NoMemory),
+    }
+}
+
+fn main(rt: HostRuntime) -> ExitCode {
+    let alloc: Global = rt.alloc();
+    let mut input = StdSource::new(rt.stdin());
+    let mut output = StdSink::new(rt.stdout());
+    let mut notes = StdSink::new(rt.stderr());
+    let words = match words_of(&rt) {
+        Ok(words) => words,
+        Err(status) => {
+            let _noted = pipe_line(&mut notes, &status);
+            return ExitCode::from(status.code());
+        }
+    };
+    let status = run_pipe(
+        &rt,
+        alloc,
+        words.as_slice(),
+        &mut input,
+        &mut output,
+        &mut notes,
+        &mut PebrCaches::new(),
+        &OpenGate,
+    );
+    ExitCode::from(status.code())
+}
