@@ -1,0 +1,69 @@
+//! A reader and workers that wait for each other, so both meter.
+
+use super::{metered, piped};
+use capture_maker::capture;
+use meter_program::Status;
+use meter_workers::Gate;
+use std::sync::atomic::{AtomicU64, Ordering};
+use std::test::Fail;
+
+/// How often one that is held looks for the other before it gives up.
+const TURNS: u64 = 100_000_000;
+
+/// A gate that holds all but one at a batch until this one was at a batch.
+#[derive(Drop)]
+struct Holding {
+    awaited: usize,
+    came: AtomicU64,
+    failed: AtomicU64,
+}
+
+impl Holding {
+    /// A gate that nobody has reached.
+    fn new(awaited: usize) -> Holding {
+        Holding {
+            awaited,
+            came: AtomicU64::new(0),
+            failed: AtomicU64::new(0),
+        }
+    }
+}
+
+impl Gate for Holding {
+    fn reach(&self, who: usize, _batch: u64) {
+        if who == self.awaited {
+            self.came.store(1, Ordering::SeqCst);
+        }
+        for _turn in 0..TURNS {
+            if self.came.load(Ordering::SeqCst) == 1 {
+                return;
+            }
+        }
+        self.failed.store(1, Ordering::SeqCst);
+    }
+}
+
+/// Runs of captures of four batches and of seven: the packets, the command line, and who is awaited: the reader, whose number is
+/// that of the workers, or the one worker.
+static RUNS: [(u32, &str, usize); 3] = [
+    (20_000, "pipe --workers 1 --queue 1 --batch 262184", 1),
+    (20_000, "pipe --workers 1 --queue 1 --batch 262184", 0),
+    (40_000, "pipe --workers 3 --queue 1 --batch 262184", 3),
+];
+
+#[test]
+fn reader_and_workers_wait_for_each_other(rt: HostRuntime) -> Result<(), Fail> {
+    let alloc = rt.alloc();
+    for (packets, line, awaited) in RUNS {
+        assert!(rt; packets <= 40_000);
+        let input = capture(alloc, 1, packets, 64)?;
+        let wanted = metered(&rt, alloc, input.as_slice())?;
+        assert_eq!(rt; wanted.status, Status::Done);
+        let gate = Holding::new(awaited);
+        let ran = piped(&rt, alloc, line, input.as_slice(), &gate)?;
+        assert_eq!(rt; gate.failed.load(Ordering::SeqCst), 0, "{line}, {awaited}");
+        assert_eq!(rt; gate.came.load(Ordering::SeqCst), 1, "{line}, {awaited}");
+        assert!(rt; ran == wanted, "{line}, {awaited}");
+    }
+    Ok(())
+}
