@@ -1,6 +1,6 @@
 //! What one worker does.
 
-ghost use Rattle.std.specs.Prelude.{◌≡◌, ◌≤◌, ◌^◌, List, [], OnOk, IsPermutation};
+ghost use Rattle.std.specs.Prelude.{◌≡◌, ◌≤◌, ◌^◌, List, [], true, OnOk, IsPermutation};
 ghost use Rattle.meter_workers.specs.Work.{Did, IsTallied};
 ghost use Rattle.batch_queue.specs.Passes.{IsPassOf, IsMore, StandsForAll, put_of, took_of};
 ghost use Rattle.batch_queue.specs.declared.batch.Batch.{Batch};
@@ -29,7 +29,28 @@ pub struct Shared {
     /// The memory of batches that were metered.
     pub spare: ArrayQueue<Vec<u8>>,
     /// Whether no more batches come.
-    pub ended: AtomicBool,
+    ended: AtomicBool,
+}
+
+impl Shared {
+    /// What they share before anything was read: more batches come.
+    pub fn new(queue: BatchQueue, spare: ArrayQueue<Vec<u8>>) -> Shared
+        ensures { result.queue ≡ queue }
+    {
+        Shared {
+            queue,
+            spare,
+            ended: AtomicBool::new(false),
+        }
+    }
+
+    /// Says that no more batches come. The reader keeps in mind whether that was said: it puts none behind it.
+    pub fn end(&self, is_said: &mut bool)
+        ensures { is_said.new ≡ true }
+    {
+        self.ended.store(true, Ordering::SeqCst);
+        *is_said = true;
+    }
 }
 
 /// Gives the memory of a metered batch back.

@@ -1,6 +1,6 @@
 //! How the reader hands on the records of a window.
 
-ghost use Rattle.std.specs.Prelude.{◌≡◌, ◌+◌, ◌^◌, ◌<◌, ◌≤◌, length, OnOk, IfOk};
+ghost use Rattle.std.specs.Prelude.{◌≡◌, ◌+◌, ◌^◌, ◌<◌, ◌≤◌, length, false, OnOk, IfOk};
 ghost use Rattle.pcap_reader.specs.Views.{part_of};
 ghost use Rattle.pcap_reader.specs.Records.{records_of, rest_of};
 ghost use Rattle.pcap_reader.specs.Index.{IsIndexOf};
@@ -35,7 +35,7 @@ pub(crate) struct Going {
 }
 
 /// Puts a batch into the queue. The reader meters it itself where the queue has no room, and the gate is told of it before, by
-/// this number of a worker. It gives the memory of the index back.
+/// this number of a worker. It gives the memory of the index back. It must not have been said yet that no more batches come.
 fn hand_over<C: FlowCache, G: Gate, R: Wait>(
     rt: &R,
     alloc: Global,
@@ -43,12 +43,14 @@ fn hand_over<C: FlowCache, G: Gate, R: Wait>(
     worker: usize,
     cache: &C,
     share: &mut BatchShare<C>,
+    is_said: &bool,
     batch: Batch,
     index: RecordIndex,
     gate: &G,
 ) -> Result<RecordIndex, NoMemory>
     requires own { C.is_of cache.now share.old.pass × IsPassOf shared.now.queue share.old.seat × IsReaders share.old.seat }
     requires single { (C.shown share.old.pass).note.seats ≡ 1 }
+    requires unsaid { is_said.now ≡ false }
     requires ready { IsReadyAt batch.number batch.base (put_of share.old.seat) (C.shown share.old.pass).note.packets share.old.tally.captured }
     requires tallied { IsTallied share.old.tally }
     ensures own { OnOk result (C.is_of cache.now share.new.pass × IsPassOf shared.now.queue share.new.seat) }
@@ -60,6 +62,7 @@ fn hand_over<C: FlowCache, G: Gate, R: Wait>(
         share.old.parts.items share.new.parts.items share.old.tally share.new.tally) }
 {
     packets_law();
+    let _ = is_said;
     match shared.queue.offer(rt, &mut share.seat, batch) {
         Ok(()) => Ok(index),
         Err(back) => {
@@ -90,6 +93,7 @@ pub(crate) fn hand_window<C: FlowCache, G: Gate, R: Wait>(
     worker: usize,
     cache: &C,
     share: &mut BatchShare<C>,
+    is_said: &bool,
     head: Head,
     going: Going,
     size: usize,
@@ -101,6 +105,7 @@ pub(crate) fn hand_window<C: FlowCache, G: Gate, R: Wait>(
     requires few { (going.number ≤ going.base) × (going.base + length (records_of (part_of head going.input.window.bytes)) < 2 ^ 32) }
     requires own { C.is_of cache.now share.old.pass × IsPassOf shared.now.queue share.old.seat × IsReaders share.old.seat }
     requires single { (C.shown share.old.pass).note.seats ≡ 1 }
+    requires unsaid { is_said.now ≡ false }
     requires ready { IsReadyAt going.number going.base (put_of share.old.seat) (C.shown share.old.pass).note.packets share.old.tally.captured }
     requires tallied { IsTallied share.old.tally }
     ensures rest { IfOk result (λ r. (r.input.window.bytes ≡ rest_of (part_of head going.input.window.bytes)) × (r.input.window.size ≡ size)) }
@@ -138,7 +143,9 @@ pub(crate) fn hand_window<C: FlowCache, G: Gate, R: Wait>(
         head,
         bytes,
     };
-    let index = hand_over(rt, alloc, shared, worker, cache, share, batch, index, gate)?;
+    let index = hand_over(
+        rt, alloc, shared, worker, cache, share, is_said, batch, index, gate,
+    )?;
     Ok(Going {
         input,
         index,

@@ -27,7 +27,6 @@ use packet_accept::packets_law;
 use std::alloc::Global;
 use std::mem;
 use std::sync::Wait;
-use std::sync::atomic::AtomicBool;
 use std::thread::{Threads, join_mut};
 
 /// All workers work at once. The workers, once they have worked; none are left where they stood.
@@ -136,11 +135,7 @@ fn crew_of<C: FlowCache>(
         parts: Vec::new(alloc),
         tally: Tally::new(),
     };
-    let shared = Shared {
-        queue,
-        spare,
-        ended: AtomicBool::new(false),
-    };
+    let shared = Shared::new(queue, spare);
     Ok(Crew {
         shared,
         share,

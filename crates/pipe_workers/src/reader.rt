@@ -1,6 +1,6 @@
 //! The reader.
 
-ghost use Rattle.std.specs.Prelude.{◌≡◌, ◌+◌, ◌^◌, ◌<◌, ◌≤◌, ℕ, [], List, Some, IfOk, IfErr, IsTrue, length, drop};
+ghost use Rattle.std.specs.Prelude.{◌≡◌, ◌+◌, ◌^◌, ◌<◌, ◌≤◌, ℕ, [], List, Some, IfOk, IfErr, IsTrue, false, length, drop};
 ghost use Rattle.std.specs.declared.option.Option.{Option};
 ghost use Rattle.std.specs.Io.KnownBytes.{Consumes, IsAtEnd};
 ghost use Rattle.meter_io.specs.Sides.{side};
@@ -24,7 +24,6 @@ use packet_accept::packets_law;
 use pcap_reader::{Capture, Head, RecordIndex, parts_law};
 use std::alloc::Global;
 use std::sync::Wait;
-use std::sync::atomic::Ordering;
 
 /// The length of the file header, behind which the records of the first window begin.
 const FILE_HEADER: usize = 24;
@@ -39,6 +38,7 @@ fn read_windows<S: Source, C: FlowCache, G: Gate, R: Wait>(
     worker: usize,
     cache: &C,
     share: &mut BatchShare<C>,
+    is_said: &bool,
     head: Head,
     going: Going,
     size: usize,
@@ -51,6 +51,7 @@ fn read_windows<S: Source, C: FlowCache, G: Gate, R: Wait>(
     requires within { (going.input.taken ≤ going.input.limit) × (going.input.limit ≤ 2 ^ 30) }
     requires ended { IsTrue going.input.ended → IsAtEnd (S.left source.old) }
     requires place { (going.number ≡ 0) × (going.base ≡ 0) }
+    requires unsaid { is_said.now ≡ false }
     requires unread { IsUnread (C.is_of cache.now) C.shown shared.now.queue share.old.pass share.old.seat share.old.parts.items share.old.tally }
     ensures read { IfOk result (λ tail. (before : Option (List ℕ)) → Consumes before (S.left source.old) going.input.window.bytes
         → HasRead (C.is_of cache.now) C.shown shared.now.queue (began before (side S.left S.faults source.old source.new)) going.input.limit
@@ -85,7 +86,7 @@ fn read_windows<S: Source, C: FlowCache, G: Gate, R: Wait>(
             base,
         };
         going = match hand_window(
-            rt, alloc, shared, worker, cache, share, head, read, size, gate,
+            rt, alloc, shared, worker, cache, share, is_said, head, read, size, gate,
         ) {
             Ok(going) => going,
             Err(NoMemory) => return Err(MeterFault::NoMemory),
@@ -110,12 +111,14 @@ fn read_capture<S: Source, C: FlowCache, G: Gate, R: Wait>(
     worker: usize,
     cache: &C,
     share: &mut BatchShare<C>,
+    is_said: &bool,
     size: usize,
     limit: u64,
     gate: &G,
 ) -> Result<u64, MeterFault>
     requires size { (262184 ≤ size) × (size ≤ 4194304) }
     requires limit { limit ≤ 2 ^ 30 }
+    requires unsaid { is_said.now ≡ false }
     requires unread { IsUnread (C.is_of cache.now) C.shown shared.now.queue share.old.pass share.old.seat share.old.parts.items share.old.tally }
     ensures read { IfOk result (λ tail. HasRead (C.is_of cache.now) C.shown shared.now.queue (side S.left S.faults source.old source.new) limit
         share.old.seat share.new.seat share.new.pass share.new.parts.items share.new.tally tail) }
@@ -137,11 +140,11 @@ fn read_capture<S: Source, C: FlowCache, G: Gate, R: Wait>(
         base: 0,
     };
     read_windows(
-        rt, alloc, source, shared, worker, cache, share, head, going, size, gate,
+        rt, alloc, source, shared, worker, cache, share, is_said, head, going, size, gate,
     )
 }
 
-/// The same, and no more batches come then, however it ended.
+/// The same, and says then that no more batches come, however it ended.
 pub(crate) fn read_all<S: Source, C: FlowCache, G: Gate, R: Wait>(
     rt: &R,
     alloc: Global,
@@ -162,9 +165,10 @@ pub(crate) fn read_all<S: Source, C: FlowCache, G: Gate, R: Wait>(
     ensures refused { IfErr result (λ fault. IsRefused (side S.left S.faults source.old source.new) limit fault) }
     ensures faults { HasFaults (side S.left S.faults source.old source.new) result }
 {
+    let mut is_said = false;
     let end = read_capture(
-        rt, alloc, source, shared, worker, cache, share, size, limit, gate,
+        rt, alloc, source, shared, worker, cache, share, &is_said, size, limit, gate,
     );
-    shared.ended.store(true, Ordering::SeqCst);
+    shared.end(&mut is_said);
     end
 }

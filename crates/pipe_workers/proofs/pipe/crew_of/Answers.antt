@@ -1,8 +1,12 @@
 -- Who has which pass.
 use Rattle.std.proofs.Common.{◌≡◌, ◌<◌, length, get_or, sym, subst, ap, ◌∙◌, arith}
+use Rattle.std.specs.Prelude.{All}
 use Rattle.cache_face.specs.Meaning.{IsFresh}
+use Rattle.batch_queue.specs.declared.queue.BatchQueue.{BatchQueue}
 use Rattle.batch_queue.specs.declared.queue.QueuePass.{QueuePass}
 use Rattle.batch_queue.specs.Passes.{IsPassOf, IsReaders, IsFresh as IsFreshSeat}
+use Rattle.batch_workers.specs.declared.worker.BatchWorker.{BatchWorker}
+use Rattle.batch_workers.specs.Sharing.{IsReady}
 use Rattle.pipe_workers.proofs.Firsts.{first-item, others-all}
 use Rattle.pipe_workers.proofs.pipe.crew_of.Goals as goal
 
@@ -18,7 +22,7 @@ returns-clause-reader g c =
     let same : c.remove-seat.result ≡ opened.reader.first = c.remove-seat.ensures.value ∙ ap (λ l. get_or l 0 c.remove-seat.result) opened.reader.are in
     record {
       own = p.0;
-      of = s.0;
+      of = subst (λ (q : BatchQueue). IsPassOf q c.remove-seat.result) (sym c.new-shared.ensures) s.0;
       reader = subst IsReaders (sym same) opened.reader.reader;
       fresh = s.1;
       unused = p.1.0;
@@ -34,3 +38,8 @@ returns-clause-last g c =
     omega (arith, few, len, c.remove-first.new.self.ok.0, c.args.passes.ok.0)) in
     let p = first-item Pass c.remove-first.new.self.items c.remove-last.result left some c.remove-last.ensures.value in
     (p.0, p.1.0)
+
+pub returns-clause-workers : goal.returns-clause-workers
+returns-clause-workers g c =
+    subst (λ (q : BatchQueue). All (λ (w : BatchWorker g.row.C.Denot g.row.C-Pass.Denot). IsReady (g.C.FlowCache.is_of c.args.cache.now) g.C.FlowCache.shown q w.pass w.seat w.out.items w.tally)
+    c.in_ok-workers.workers.items) (sym c.new-shared.ensures) c.in_ok-workers.ensures.ready
