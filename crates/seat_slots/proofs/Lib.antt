@@ -1,4 +1,6 @@
-pub mod Changes
+pub mod Listing
+pub mod Tables
+pub mod Finding
+pub mod Apart
 pub mod Tags
 pub mod Keeping
-pub mod Listing

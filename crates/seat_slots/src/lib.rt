@@ -3,7 +3,7 @@
 #![tactic(auto)]
 
 mod fresh;
-mod marks;
 mod slots;
+mod tagged;
 
 pub use slots::SeatSlots;

@@ -1,55 +1,54 @@
 //! The slots of one seat.
 
-ghost use Rattle.std.specs.Prelude.{◌≡◌, ◌≢◌, ◌<◌, ◌≤◌, ◌+◌, ◌^◌, ◌&&◌, ℕ, IfOk, IfSome, IsSome, map, replicate, length, count_by, false, true, nat_lt, slice_set, slice_index_or, if◌then◌else◌, vec_capacity};
+ghost use Rattle.std.specs.Prelude.{◌≡◌, ◌≢◌, ◌<◌, ◌≤◌, ◌+◌, ◌++◌, ◌^◌, ◌&&◌, ℕ, IfOk, map, replicate, length, count_by, false, true, nat_lt, slice_set, slice_index_or, if◌then◌else◌, vec_capacity};
 ghost use Rattle.pebr_core.specs.declared.kinds.Retired.TheVariants as retire;
 ghost use Rattle.pebr_core.specs.State.{has, is_retired, first_seat, slot_count, slots_per_seat};
 ghost use Rattle.pebr_core.specs.Steps.{tag_with, is_above_tags, united, released};
 ghost use Rattle.pebr_core.specs.Kept.{IsWithinLimits};
-ghost use Rattle.seat_slots.specs.declared.marks.Mark.TheVariants as mark;
-ghost use Rattle.seat_slots.specs.Marks.{first_mark, mark_at};
-ghost use Rattle.std.specs.List.{range_with_len};
 ghost use Rattle.seat_slots.specs.Sets.{given, is_above, least};
 
-use crate::fresh::{falling_from, free_all, let_fall, place_of};
-use crate::marks::{Change, Mark, change_from};
+use crate::fresh::{falling_from, let_fall, place_of, push_all};
+use crate::tagged::{
+    TaggedSlot, free_all, has_slot, keep_slot, leave_kept, newest_of, noted, tag_all, unkeep,
+};
 use no_memory::NoMemory;
 use pebr_core::Shape;
 use std::alloc::Global;
 use std::marker::Model;
-use std::mem;
 
-/// What the slots are to a seat. A step changes a mark and a count; a Note goes over the slots that were
-/// retired since the last. A Give goes over those that are retired, and sorts the fresh ones. No call goes
-/// over all slots, and the least fresh slot is the last of a list.
+/// What the slots are to a seat: short lists, as long together as there is room for retired slots, however
+/// many slots the table has. A replacement takes the last of one list and puts a slot behind another; a
+/// Note goes over the slots that were retired since the last. A slot on which a shield was found is looked
+/// for among those that are retired. A Give goes over these, and sorts the fresh ones.
 #[derive(Debug, Drop)]
 pub struct SeatSlots {
-    /// What each slot is.
-    marks: Vec<Mark>,
     /// The fresh slots, each once, the least last.
     fresh: Vec<usize>,
-    /// The retired slots, in the order in which they were retired, and how many of them have a tag.
-    retired: Vec<usize>,
-    tagged: usize,
-    /// The slots that the scan keeps.
-    kept: Vec<usize>,
-    /// The newest tag of the retired slots, and that of the kept ones.
+    /// The slots that were retired since the last Note, in the order in which they were.
+    untagged: Vec<usize>,
+    /// The other retired slots, in the order in which they were retired.
+    tagged: Vec<TaggedSlot>,
+    /// The newest tag.
     newest: Option<u64>,
-    newest_kept: Option<u64>,
+    /// Whether the scan may keep some of them.
+    some_kept: bool,
+    /// How many slots the table has.
+    slots: usize,
     /// How many slots there is room for to be retired at a time.
     room: usize,
 }
 
 impl Model for SeatSlots {
-    ghost use Rattle.std.specs.Prelude.{◌≡◌, ◌≤◌, ◌+◌, map, length, vec_capacity};
+    ghost use Rattle.std.specs.Prelude.{◌≤◌, vec_capacity};
     ghost use Rattle.seat_slots.specs.Sets.{Sets};
-    ghost use Rattle.seat_slots.specs.Marks.{is_fresh, sets_of, AreKept, AreOnce, AreFalling};
+    ghost use Rattle.seat_slots.specs.Shown.{sets_of, AreApart, AreFalling, IsNewest, IsSignOf};
 
     ghost Value = { Sets };
 
-    ghost view = { λ s. sets_of s.marks.items s.room };
+    ghost view = { λ s. sets_of s.slots s.room s.fresh.items s.untagged.items s.tagged.items };
 
-    ghost invariant = { λ s. AreKept s.marks.items s.retired.items s.kept.items s.tagged s.newest s.newest_kept s.room × (s.room ≤ vec_capacity s.retired) × (s.room ≤ vec_capacity s.kept)
-        × AreOnce (map is_fresh s.marks.items) s.fresh.items × AreFalling s.fresh.items × (s.room ≤ vec_capacity s.fresh) × (length s.fresh.items + length s.retired.items ≡ s.room) };
+    ghost invariant = { λ s. AreApart s.slots s.room s.fresh.items s.untagged.items s.tagged.items × AreFalling s.fresh.items × IsNewest s.newest s.tagged.items × IsSignOf s.some_kept s.tagged.items
+        × (s.room ≤ vec_capacity s.fresh) × (s.room ≤ vec_capacity s.untagged) × (s.room ≤ vec_capacity s.tagged) };
 }
 
 impl SeatSlots {
@@ -67,18 +66,16 @@ impl SeatSlots {
     {
         let room = shape.slots_per_seat();
         let first = shape.roots + seat * room;
-        let marks = first_marks(alloc, shape.slot_count(), first, room)?;
         let fresh = falling_from(alloc, first, room)?;
-        let retired = Vec::with_capacity(alloc, room)?;
-        let kept = Vec::with_capacity(alloc, room)?;
+        let untagged = Vec::with_capacity(alloc, room)?;
+        let tagged = Vec::with_capacity(alloc, room)?;
         Ok(SeatSlots {
-            marks,
             fresh,
-            retired,
-            tagged: 0,
-            kept,
+            untagged,
+            tagged,
             newest: None,
-            newest_kept: None,
+            some_kept: false,
+            slots: shape.slot_count(),
             room,
         })
     }
@@ -87,14 +84,14 @@ impl SeatSlots {
     pub fn is_fresh(&self, slot: usize) -> bool
         ensures { result ≡ has self.now.fresh slot }
     {
-        mark_of(&self.marks, slot).is_fresh()
+        self.fresh.contains(&slot)
     }
 
     /// Whether a slot is retired.
     pub fn is_retired(&self, slot: usize) -> bool
         ensures { result ≡ is_retired (slice_index_or self.now.retired slot retire.No) }
     {
-        mark_of(&self.marks, slot).is_retired()
+        self.untagged.contains(&slot) || has_slot(&self.tagged, slot)
     }
 
     /// How many slots are fresh.
@@ -105,6 +102,7 @@ impl SeatSlots {
     }
 
     /// The least fresh slot.
+    #[inline]
     pub fn least_fresh(&self) -> usize
         requires { 0 < count_by (λ mark. mark) self.now.fresh }
         ensures { result ≡ least self.now.fresh }
@@ -116,7 +114,7 @@ impl SeatSlots {
     pub fn retired_len(&self) -> usize
         ensures { result ≡ count_by is_retired self.now.retired }
     {
-        self.retired.len()
+        self.untagged.len() + self.tagged.len()
     }
 
     /// The newest tag of a retired slot.
@@ -133,21 +131,15 @@ impl SeatSlots {
         ensures kept { self.new.kept ≡ replicate (length self.old.retired) false }
         ensures room { self.new.room ≡ self.old.room }
     {
-        let len = self.retired.len();
-        self.newest = noted(self.newest, len - self.tagged, epoch);
-        change_from(
-            &mut self.marks,
-            &self.retired,
-            self.tagged,
-            Change::Note(epoch),
-        );
-        change_from(&mut self.marks, &self.kept, 0, Change::Unkeep);
-        self.tagged = len;
-        self.kept.clear();
-        self.newest_kept = None;
+        self.newest = noted(self.newest, &self.untagged, epoch);
+        tag_all(&mut self.tagged, &self.untagged, epoch);
+        self.untagged.clear();
+        unkeep(&mut self.tagged, self.some_kept);
+        self.some_kept = false;
     }
 
     /// A replacement: the new slot isn't fresh any more, and the old one is retired without a tag.
+    #[inline]
     pub fn replace(&mut self, old: usize, new: usize)
         requires apart { (slice_index_or self.old.retired old retire.No ≡ retire.No) × (has self.old.fresh old ≡ false) }
         requires fresh { has self.old.fresh new ≡ true }
@@ -160,9 +152,7 @@ impl SeatSlots {
     {
         let place = place_of(&self.fresh, new);
         self.fresh.remove(place);
-        self.marks[new] = Mark::Other;
-        self.marks[old] = Mark::Untagged;
-        self.retired.push_reserved(old);
+        self.untagged.push_reserved(old);
     }
 
     /// A shield was found on the slot: it is kept, where it is retired.
@@ -174,11 +164,8 @@ impl SeatSlots {
         ensures kept { self.new.kept ≡ (if is_retired (slice_index_or self.old.retired slot retire.No) then slice_set self.old.kept slot true else self.old.kept) }
         ensures room { self.new.room ≡ self.old.room }
     {
-        if let Mark::Tagged(tag) = self.marks[slot] {
-            self.marks[slot] = Mark::Kept(tag);
-            self.kept.push_reserved(slot);
-            self.newest_kept = Some(newer(self.newest_kept, tag));
-        }
+        keep_slot(&mut self.tagged, slot);
+        self.some_kept = true;
     }
 
     /// A Give: the retired slots that aren't kept are fresh. It answers how many these are, and how many
@@ -190,77 +177,16 @@ impl SeatSlots {
         ensures left { result.1 ≡ count_by is_retired self.new.retired }
         ensures room { self.new.room ≡ self.old.room }
     {
-        let left = self.kept.len();
-        let given = self.retired.len() - left;
-        free_all(&mut self.marks, &mut self.fresh, &self.retired);
+        let retired = self.retired_len();
+        push_all(&mut self.fresh, &self.untagged);
+        self.untagged.clear();
+        free_all(&self.tagged, &mut self.fresh);
         let_fall(&mut self.fresh);
-        change_from(&mut self.marks, &self.kept, 0, Change::Unkeep);
-        mem::swap(&mut self.retired, &mut self.kept);
-        self.kept.clear();
-        self.tagged = left;
-        self.newest = self.newest_kept;
-        self.newest_kept = None;
-        (given, left)
+        leave_kept(&mut self.tagged);
+        unkeep(&mut self.tagged, self.some_kept);
+        self.some_kept = false;
+        self.newest = newest_of(&self.tagged);
+        let left = self.tagged.len();
+        (retired - left, left)
     }
-}
-
-/// What a slot is; past the end, no slot of the seat's.
-fn mark_of(marks: &[Mark], slot: usize) -> Mark
-    ensures { result ≡ mark_at marks.now slot }
-{
-    match marks.get(slot) {
-        Some(mark) => *mark,
-        None => Mark::Other,
-    }
-}
-
-/// What a slot is at first.
-fn first_mark(first: usize, count: usize, slot: usize) -> Mark
-    requires { first + count < 2 ^ 32 }
-    ensures { result ≡ first_mark first count slot }
-{
-    if slot >= first && slot < first + count {
-        Mark::Fresh
-    } else {
-        Mark::Other
-    }
-}
-
-/// What each slot is at first: so many from one on are fresh.
-fn first_marks(
-    alloc: Global,
-    slots: usize,
-    first: usize,
-    count: usize,
-) -> Result<Vec<Mark>, NoMemory>
-    requires { first + count < 2 ^ 32 }
-    ensures { IfOk result (λ marks. marks.items ≡ map (first_mark first count) (range_with_len 0 slots)) }
-{
-    let mut marks = Vec::with_capacity(alloc, slots)?;
-    for slot in 0..slots {
-        marks.push(first_mark(first, count, slot))?;
-    }
-    Ok(marks)
-}
-
-/// The newer of a tag and another.
-fn newer(newest: Option<u64>, tag: u64) -> u64
-    ensures { (epoch : ℕ) → nat_lt result epoch ≡ (is_above newest epoch && nat_lt tag epoch) }
-{
-    match newest {
-        Some(other) if tag < other => other,
-        _ => tag,
-    }
-}
-
-/// The newest tag, once so many slots more have this one.
-fn noted(newest: Option<u64>, more: usize, tag: u64) -> Option<u64>
-    ensures more { 0 < more → IfSome result (λ newer. (epoch : ℕ) → nat_lt newer epoch ≡ (is_above newest epoch && nat_lt tag epoch)) }
-    ensures some { 0 < more → IsSome result }
-    ensures none { more ≡ 0 → result ≡ newest }
-{
-    if more == 0 {
-        return newest;
-    }
-    Some(newer(newest, tag))
 }

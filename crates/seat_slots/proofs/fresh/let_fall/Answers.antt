@@ -1,6 +1,6 @@
 use Rattle.std.proofs.Common.{sym, subst}
 use Rattle.std.proofs.lemmas.List.Sorted.{IsPermutation-trans, IsNonDecreasingBy-from_sort}
-use Rattle.seat_slots.specs.Marks.{AreFalling}
+use Rattle.seat_slots.specs.Shown.{AreFalling}
 use Rattle.seat_slots.proofs.Listing.{falling_reversed}
 use Rattle.seat_slots.proofs.fresh.let_fall.Goals as goal
 

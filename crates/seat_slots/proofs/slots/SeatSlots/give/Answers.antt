@@ -1,97 +1,100 @@
-use Rattle.std.proofs.Common.{◌≡◌, [], map, length, None, count_by, sym, ap, ◌∙◌, subst, arith}
-use Rattle.std.specs.Prelude.{vec_capacity, vec_items}
+use Rattle.std.proofs.Common.{◌≡◌, ◌++◌, ◌+◌, ℕ, [], length, map, count_by, sym, ap, ◌∙◌, subst, arith}
+use Rattle.std.specs.Prelude.{nat_lt}
+use Rattle.std.specs.List.{range_with_len, filter, list_all}
+use Rattle.std.specs.List.Sorted.{IsPermutation}
+use Rattle.std.proofs.lemmas.List.{length-map}
 use Rattle.pebr_core.specs.State.{is_retired}
 use Rattle.pebr_core.specs.Steps.{united, released}
+use Rattle.seat_slots.specs.declared.tagged.TaggedSlot.{TaggedSlot}
 use Rattle.seat_slots.specs.Sets.{Sets, given}
-use Rattle.seat_slots.proofs.Changes.{give_fresh, give_retired, give_counts}
-use Rattle.seat_slots.specs.declared.marks.Change.TheVariants as change
-use Rattle.seat_slots.specs.Marks.{is_fresh, is_retired_mark, retired_as, changed, sets_of, AreListed, AreSlots, AreKept}
-use Rattle.seat_slots.proofs.Keeping.{free_listed, unkeep_listed, free_keeps, kept_low, give_kept, give_count, given_all, changed_slots}
-use Rattle.std.proofs.lemmas.List.Sorted.{length_permutation}
-use Rattle.seat_slots.proofs.Listing.{once_as, once_permuted, unkept_as, freed_retired}
+use Rattle.seat_slots.specs.Shown.{is_given, is_kept, slots_of, retired_as, unkept, AreApart}
+use Rattle.seat_slots.proofs.Finding.{none_left, unkept_twice}
+use Rattle.seat_slots.proofs.Keeping.{left, given_apart, given_fresh, given_retired, given_number, retired_count}
 use Rattle.seat_slots.proofs.slots.SeatSlots.give.Goals as goal
 
-pub free_all-requires-clause-listed : goal.free_all-requires-clause-listed
-free_all-requires-clause-listed c = subst (AreListed change.Free c.self.inside.marks.items) (sym c.deref.ensures.value) (free_listed c.self.inside.marks.items c.self.inside.retired.items c.self.invariant.0.retired_listed)
+pub unkeep-requires : goal.unkeep-requires
+unkeep-requires c = λ unsigned. subst (λ l. map unkept l ≡ l) (sym c.leave_kept.ensures.slots) (none_left c.self.inside.tagged.items (c.self.invariant.3 unsigned))
 
-pub free_all-requires-clause-slots : goal.free_all-requires-clause-slots
-free_all-requires-clause-slots c = subst (AreSlots c.self.inside.marks.items) (sym c.deref.ensures.value) c.self.invariant.0.retired_slots
-
-pub free_all-requires-clause-room : goal.free_all-requires-clause-room
-free_all-requires-clause-room c = let r = c.self.invariant.0.retired_count in omega (arith, r, c.self.invariant.5, c.self.invariant.6)
-
-pub change_from-requires-clause-listed : goal.change_from-requires-clause-listed
-change_from-requires-clause-listed c =
-    let kept = c.self.inside.kept.items in
-    subst (λ l. AreListed change.Unkeep l kept) (sym c.free_all.ensures.marks)
-    (unkeep_listed change.Free free_keeps c.self.inside.marks.items kept c.self.invariant.0.kept_listed)
-
-pub change_from-requires-clause-slots : goal.change_from-requires-clause-slots
-change_from-requires-clause-slots c = subst (λ l. AreSlots l c.self.inside.kept.items) (sym c.free_all.ensures.marks) (changed_slots change.Free c.self.inside.marks.items c.self.inside.kept.items c.self.invariant.0.kept_slots)
-
-pub overflow_sub-given : goal.overflow_sub-given
-overflow_sub-given c =
+pub overflow_sub-result : goal.overflow_sub-result
+overflow_sub-result c =
     let inside = c.self.inside in
-    let low = kept_low inside.marks.items inside.retired.items inside.kept.items inside.tagged inside.newest inside.newest_kept inside.room c.self.invariant.0 in
-    let a = c.len-left.ensures in
-    let b = c.len.ensures in
-    let k = inside.kept.ok.0 in
-    let r = inside.retired.ok.0 in
-    omega (arith, low, a, b, k, r)
+    let a = c.retired_len-retired.ensures in
+    let b = retired_count inside.slots inside.room inside.fresh.items inside.untagged.items inside.tagged.items c.self.invariant.0 in
+    let d = ap (λ (s : Sets). count_by is_retired s.retired) c.self.view_is in
+    let e = given_number inside.slots inside.room inside.fresh.items inside.untagged.items inside.tagged.items c.self.invariant.0 in
+    let f = c.len-left.ensures in
+    let g = ap length c.unkeep.ensures.slots in
+    let h = ap length c.leave_kept.ensures.slots in
+    let i = length-map c.leave_kept.new.tagged.items unkept in
+    let ok = c.unkeep.new.tagged.ok.0 in
+    omega (arith, a, b, d, e, f, g, h, i, ok)
 
 pub invariant_of-self : goal.invariant_of-self
 invariant_of-self c =
     let inside = c.self.inside in
-    let left : c.len-left.result ≡ length inside.kept.items = c.len-left.ensures ∙ inside.kept.ok.0 in
-    let is = c.change_from.ensures ∙ ap (map (changed change.Unkeep)) c.free_all.ensures.marks in
-    let kept = give_kept inside.marks.items inside.retired.items inside.kept.items inside.tagged inside.newest inside.newest_kept inside.room c.self.invariant.0 in (
-      subst (λ m. AreKept m c.swap.new.x.items c.clear.new.self.items c.len-left.result inside.newest_kept None inside.room) (sym is)
-          (subst (λ l. AreKept (given_all inside.marks.items) l c.clear.new.self.items c.len-left.result inside.newest_kept None inside.room) (sym (ap vec_items c.swap.ensures.x_after))
-          (subst (λ l. AreKept (given_all inside.marks.items) inside.kept.items l c.len-left.result inside.newest_kept None inside.room) (sym c.clear.ensures.items)
-          (subst (λ n. AreKept (given_all inside.marks.items) inside.kept.items [] n inside.newest_kept None inside.room) (sym left) kept))),
-      omega (arith, c.self.invariant.2, ap vec_capacity c.swap.ensures.x_after),
-      omega (arith, c.self.invariant.1, c.clear.ensures.capacity, ap vec_capacity c.swap.ensures.y_after),
-      once_as (map is_fresh c.free_all.new.marks.items) _ c.let_fall.new.fresh.items (ap (map is_fresh) c.change_from.ensures ∙ unkept_as c.free_all.new.marks.items)
-          (once_permuted (map is_fresh c.free_all.new.marks.items) c.free_all.new.fresh.items c.let_fall.new.fresh.items c.let_fall.ensures.slots c.free_all.ensures.once),
+    let untagged = inside.untagged.items in
+    let tagged = inside.tagged.items in
+    let pushed = c.push_all.ensures.slots ∙ ap (λ l. inside.fresh.items ++ l) c.deref.ensures.value in
+    let whole = c.free_all.ensures.slots ∙ (ap (λ l. l ++ slots_of (filter is_given c.deref-2.result.now)) pushed ∙ ap (λ l. (inside.fresh.items ++ untagged) ++ slots_of (filter is_given l)) c.deref-2.ensures.value) in
+    let is = c.unkeep.ensures.slots ∙ ap (map unkept) c.leave_kept.ensures.slots in (
+      subst (λ l. AreApart inside.slots inside.room c.let_fall.new.fresh.items l c.unkeep.new.tagged.items) (sym c.clear.ensures.items)
+          (subst (AreApart inside.slots inside.room c.let_fall.new.fresh.items []) (sym is)
+          (given_apart inside.slots inside.room inside.fresh.items untagged tagged c.let_fall.new.fresh.items c.self.invariant.0 (subst (λ l. IsPermutation l c.let_fall.new.fresh.items) whole c.let_fall.ensures.slots))),
       c.let_fall.ensures.falling,
-      omega (arith, c.self.invariant.5, c.free_all.ensures.room, c.let_fall.ensures.room),
-      (let a = length_permutation c.free_all.new.fresh.items c.let_fall.new.fresh.items c.let_fall.ensures.slots in
-          let b = c.free_all.ensures.many in
-          let d = ap (λ l. count_by is_retired_mark l) c.free_all.ensures.marks in
-          let e = freed_retired inside.marks.items in
-          let k = c.self.invariant.0.kept_count in
-          let r = c.self.invariant.0.retired_count in
-          let s = ap (λ v. length (vec_items v)) c.swap.ensures.x_after in
-          omega (arith, a, b, d, e, k, r, s, c.self.invariant.6)),
+      λ epoch. ap (list_all (λ (entry : TaggedSlot). nat_lt entry.tag epoch)) (sym c.deref-3.ensures.value) ∙ c.newest_of-self-inside.ensures epoch,
+      λ _. subst (λ l. map unkept l ≡ l) (sym is) (unkept_twice (filter is_kept tagged)),
+      omega (arith, c.self.invariant.4, c.push_all.ensures.room, c.free_all.ensures.room, c.let_fall.ensures.room),
+      omega (arith, c.self.invariant.5, c.clear.ensures.capacity),
+      omega (arith, c.self.invariant.6, c.leave_kept.ensures.room, c.unkeep.ensures.room),
     )
 
 pub returns-clause-fresh : goal.returns-clause-fresh
 returns-clause-fresh c =
-    ap (map is_fresh) (c.change_from.ensures ∙ ap (map (changed change.Unkeep)) c.free_all.ensures.marks)
-    ∙ (give_fresh c.self.inside.marks.items ∙ ap (λ (s : Sets). united s.fresh (given s)) c.self.view_is)
+    let inside = c.self.inside in
+    let untagged = inside.untagged.items in
+    let tagged = inside.tagged.items in
+    let pushed = c.push_all.ensures.slots ∙ ap (λ l. inside.fresh.items ++ l) c.deref.ensures.value in
+    let whole = c.free_all.ensures.slots ∙ (ap (λ l. l ++ slots_of (filter is_given c.deref-2.result.now)) pushed ∙ ap (λ l. (inside.fresh.items ++ untagged) ++ slots_of (filter is_given l)) c.deref-2.ensures.value) in
+    given_fresh inside.slots inside.room inside.fresh.items untagged tagged c.let_fall.new.fresh.items c.self.invariant.0 (subst (λ l. IsPermutation l c.let_fall.new.fresh.items) whole c.let_fall.ensures.slots)
+    ∙ ap (λ (s : Sets). united s.fresh (given s)) c.self.view_is
 
 pub returns-clause-retired : goal.returns-clause-retired
 returns-clause-retired c =
-    ap (map retired_as) (c.change_from.ensures ∙ ap (map (changed change.Unkeep)) c.free_all.ensures.marks)
-    ∙ (give_retired c.self.inside.marks.items ∙ ap (λ (s : Sets). released s.retired (given s)) c.self.view_is)
+    let inside = c.self.inside in
+    let is = c.unkeep.ensures.slots ∙ ap (map unkept) c.leave_kept.ensures.slots in
+    ap (λ l. map (retired_as l c.unkeep.new.tagged.items) (range_with_len 0 inside.slots)) c.clear.ensures.items
+    ∙ (ap (λ l. map (retired_as [] l) (range_with_len 0 inside.slots)) is
+    ∙ (given_retired inside.slots inside.room inside.fresh.items inside.untagged.items inside.tagged.items c.self.invariant.0
+    ∙ ap (λ (s : Sets). released s.retired (given s)) c.self.view_is))
 
 pub returns-clause-given : goal.returns-clause-given
 returns-clause-given c =
     let inside = c.self.inside in
-    let counts = give_counts inside.marks.items in
-    let h = c.self.invariant.0 in
-    let view : count_by (λ mark. mark) (given (sets_of inside.marks.items inside.room)) ≡ count_by (λ mark. mark) (given c.args.self.now) = ap (λ (s : Sets). count_by (λ mark. mark) (given s)) c.self.view_is in
-    let a = c.len-left.ensures in
-    let b = c.len.ensures in
-    let k = inside.kept.ok.0 in
-    let r = inside.retired.ok.0 in
-    let kc = h.kept_count in
-    let rc = h.retired_count in
-    omega (arith, counts, view, a, b, k, r, kc, rc)
+    let a = c.retired_len-retired.ensures in
+    let b = retired_count inside.slots inside.room inside.fresh.items inside.untagged.items inside.tagged.items c.self.invariant.0 in
+    let d = ap (λ (s : Sets). count_by is_retired s.retired) c.self.view_is in
+    let e = given_number inside.slots inside.room inside.fresh.items inside.untagged.items inside.tagged.items c.self.invariant.0 in
+    let v = ap (λ (s : Sets). count_by (λ m. m) (given s)) c.self.view_is in
+    let f = c.len-left.ensures in
+    let g = ap length c.unkeep.ensures.slots in
+    let h = ap length c.leave_kept.ensures.slots in
+    let i = length-map c.leave_kept.new.tagged.items unkept in
+    let ok = c.unkeep.new.tagged.ok.0 in
+    omega (arith, a, b, d, e, v, f, g, h, i, ok)
 
 pub returns-clause-left : goal.returns-clause-left
 returns-clause-left c =
     let inside = c.self.inside in
-    c.len-left.ensures ∙ (inside.kept.ok.0
-    ∙ (sym (give_count inside.marks.items inside.retired.items inside.kept.items inside.tagged inside.newest inside.newest_kept inside.room c.self.invariant.0)
-    ∙ ap (λ m. count_by is_retired (map retired_as m)) (sym (c.change_from.ensures ∙ ap (map (changed change.Unkeep)) c.free_all.ensures.marks))))
+    let untagged = inside.untagged.items in
+    let tagged = inside.tagged.items in
+    let fresh = c.let_fall.new.fresh.items in
+    let pushed = c.push_all.ensures.slots ∙ ap (λ l. inside.fresh.items ++ l) c.deref.ensures.value in
+    let whole = c.free_all.ensures.slots ∙ (ap (λ l. l ++ slots_of (filter is_given c.deref-2.result.now)) pushed ∙ ap (λ l. (inside.fresh.items ++ untagged) ++ slots_of (filter is_given l)) c.deref-2.ensures.value) in
+    let is = c.unkeep.ensures.slots ∙ ap (map unkept) c.leave_kept.ensures.slots in
+    let apart = given_apart inside.slots inside.room inside.fresh.items untagged tagged fresh c.self.invariant.0 (subst (λ l. IsPermutation l fresh) whole c.let_fall.ensures.slots) in
+    c.len-left.ensures ∙ (c.unkeep.new.tagged.ok.0 ∙ (ap length is ∙ (none_before (length (left tagged)) ∙ (sym (retired_count inside.slots inside.room fresh [] (left tagged) apart)
+    ∙ (ap (λ l. count_by is_retired (map (retired_as [] l) (range_with_len 0 inside.slots))) (sym is)
+    ∙ ap (λ l. count_by is_retired (map (retired_as l c.unkeep.new.tagged.items) (range_with_len 0 inside.slots))) (sym c.clear.ensures.items))))))
+  where
+    none_before : (n : ℕ) → n ≡ 0 + n
+    none_before n = omega arith

@@ -1,90 +1,46 @@
-use Rattle.std.proofs.Common.{◌≡◌, ◌<◌, length, map, get_or, set, true, cond, Some, sym, ap, ◌∙◌, subst, arith, refl}
+use Rattle.std.proofs.Common.{cond, false, true, length, map, set, get_or, refl, sym, ap, ◌∙◌, subst}
+use Rattle.std.specs.List.{range_with_len}
+use Rattle.std.proofs.lemmas.Bool.{false≢true}
 use Rattle.std.proofs.lemmas.List.{length-map}
 use Rattle.pebr_core.specs.declared.kinds.Retired.TheVariants as retire
 use Rattle.pebr_core.specs.State.{is_retired}
-use Rattle.seat_slots.specs.declared.marks.Mark.TheVariants as mark
+use Rattle.pebr_core.proofs.Marks.{written_back}
 use Rattle.seat_slots.specs.Sets.{Sets}
-use Rattle.seat_slots.specs.Marks.{is_fresh, retired_as, mark_at, AreKept}
-use Rattle.seat_slots.proofs.Changes.{get_or_map}
-use Rattle.seat_slots.proofs.Keeping.{mark_read, kept_already, kept_room, keep_kept, kept_fresh, kept_retired, kept_set}
-use Rattle.seat_slots.proofs.Listing.{once_as}
+use Rattle.seat_slots.specs.Shown.{found, is_kept, kept_at, retired_as, AreApart, IsNewest}
+use Rattle.seat_slots.proofs.Keeping.{kept_apart, kept_newest, kept_retired, kept_set, retired_at_all}
 use Rattle.seat_slots.proofs.slots.SeatSlots.keep.Goals as goal
-
-pub push_reserved-requires : goal.push_reserved-requires
-push_reserved-requires c =
-    let inside = c.self.inside in
-    let marks = inside.marks.items in
-    let view = c.self.view_is in
-    let h = c.self.invariant.0 in
-    let in_range : c.args.slot < length marks = (let r = c.requires.range in let a = length-map marks retired_as in let b = ap (λ (s : Sets). length s.retired) view in omega (arith, r, a, b)) in
-    let is = mark_read marks c.args.slot c.index.result.now (mark.Tagged c.in-Tagged.tag) in_range c.index.ensures c.in-Tagged.is in
-    let room = kept_room marks inside.retired.items inside.kept.items inside.tagged inside.newest inside.newest_kept inside.room h c.args.slot c.in-Tagged.tag is in_range in
-    let k = inside.kept.ok.0 in
-    omega (arith, room, k, c.self.invariant.2)
 
 pub invariant_of-self : goal.invariant_of-self
 invariant_of-self c =
     let inside = c.self.inside in
-    let marks = inside.marks.items in
-    let view = c.self.view_is in
-    let h = c.self.invariant.0 in
-    let in_range : c.args.slot < length marks = (let r = c.requires.range in let a = length-map marks retired_as in let b = ap (λ (s : Sets). length s.retired) view in omega (arith, r, a, b)) in
-    let is = mark_read marks c.args.slot c.index.result.now (mark.Tagged c.in-Tagged.tag) in_range c.index.ensures c.in-Tagged.is in
-    let kept = keep_kept marks inside.retired.items inside.kept.items inside.tagged inside.newest inside.newest_kept inside.room h c.args.slot c.in-Tagged.tag is in_range c.newer.result c.newer.ensures in (
-      subst (λ l. AreKept (set marks c.args.slot (mark.Kept c.in-Tagged.tag)) inside.retired.items l inside.tagged inside.newest (Some c.newer.result) inside.room) (sym c.push_reserved.ensures.items) kept,
+    let now = c.keep_slot.ensures ∙ ap (map (kept_at c.args.slot)) c.deref_mut.ensures.value in
+    let is = written_back c.keep_slot.new.tagged inside.tagged.items inside.tagged.len inside.tagged.ok.0 (ap length now ∙ length-map inside.tagged.items (kept_at c.args.slot)) ∙ now in (
+      subst (AreApart inside.slots inside.room inside.fresh.items inside.untagged.items) (sym is) (kept_apart inside.slots inside.room inside.fresh.items inside.untagged.items inside.tagged.items c.args.slot c.self.invariant.0),
       c.self.invariant.1,
-      omega (arith, c.self.invariant.2, c.push_reserved.ensures.capacity),
-      once_as (map is_fresh marks) _ inside.fresh.items (kept_fresh marks inside.retired.items inside.kept.items inside.tagged inside.newest inside.newest_kept inside.room h c.args.slot c.in-Tagged.tag is in_range) c.self.invariant.3,
+      subst (IsNewest inside.newest) (sym is) (kept_newest inside.newest inside.tagged.items (kept_at c.args.slot) (λ _. refl) c.self.invariant.2),
+      λ h. absurd (false≢true (sym h)),
       c.self.invariant.4,
       c.self.invariant.5,
       c.self.invariant.6,
     )
 
-pub returns-in-Tagged-clause-fresh : goal.returns-in-Tagged-clause-fresh
-returns-in-Tagged-clause-fresh c =
+pub returns-clause-retired : goal.returns-clause-retired
+returns-clause-retired c =
     let inside = c.self.inside in
-    let marks = inside.marks.items in
-    let view = c.self.view_is in
-    let h = c.self.invariant.0 in
-    let in_range : c.args.slot < length marks = (let r = c.requires.range in let a = length-map marks retired_as in let b = ap (λ (s : Sets). length s.retired) view in omega (arith, r, a, b)) in
-    let is = mark_read marks c.args.slot c.index.result.now (mark.Tagged c.in-Tagged.tag) in_range c.index.ensures c.in-Tagged.is in
-    kept_fresh marks inside.retired.items inside.kept.items inside.tagged inside.newest inside.newest_kept inside.room h c.args.slot c.in-Tagged.tag is in_range ∙ ap (λ (s : Sets). s.fresh) view
+    let now = c.keep_slot.ensures ∙ ap (map (kept_at c.args.slot)) c.deref_mut.ensures.value in
+    let is = written_back c.keep_slot.new.tagged inside.tagged.items inside.tagged.len inside.tagged.ok.0 (ap length now ∙ length-map inside.tagged.items (kept_at c.args.slot)) ∙ now in
+    ap (λ l. map (retired_as inside.untagged.items l) (range_with_len 0 inside.slots)) is
+    ∙ (kept_retired inside.slots inside.untagged.items inside.tagged.items c.args.slot ∙ ap (λ (s : Sets). s.retired) c.self.view_is)
 
-pub returns-in-Tagged-clause-retired : goal.returns-in-Tagged-clause-retired
-returns-in-Tagged-clause-retired c =
+pub returns-clause-kept : goal.returns-clause-kept
+returns-clause-kept c =
     let inside = c.self.inside in
-    let marks = inside.marks.items in
-    let view = c.self.view_is in
-    let h = c.self.invariant.0 in
-    let in_range : c.args.slot < length marks = (let r = c.requires.range in let a = length-map marks retired_as in let b = ap (λ (s : Sets). length s.retired) view in omega (arith, r, a, b)) in
-    let is = mark_read marks c.args.slot c.index.result.now (mark.Tagged c.in-Tagged.tag) in_range c.index.ensures c.in-Tagged.is in
-    kept_retired marks inside.retired.items inside.kept.items inside.tagged inside.newest inside.newest_kept inside.room h c.args.slot c.in-Tagged.tag is in_range ∙ ap (λ (s : Sets). s.retired) view
-
-pub returns-in-Tagged-clause-kept : goal.returns-in-Tagged-clause-kept
-returns-in-Tagged-clause-kept c =
-    let inside = c.self.inside in
-    let marks = inside.marks.items in
-    let view = c.self.view_is in
-    let h = c.self.invariant.0 in
-    let in_range : c.args.slot < length marks = (let r = c.requires.range in let a = length-map marks retired_as in let b = ap (λ (s : Sets). length s.retired) view in omega (arith, r, a, b)) in
-    let is = mark_read marks c.args.slot c.index.result.now (mark.Tagged c.in-Tagged.tag) in_range c.index.ensures c.in-Tagged.is in
-    let is_r : get_or c.args.self.now.retired c.args.slot retire.No ≡ retire.Tagged c.in-Tagged.tag =
-    ap (λ (s : Sets). get_or s.retired c.args.slot retire.No) (sym view) ∙ (get_or_map retired_as marks c.args.slot mark.Other ∙ ap retired_as is) in
-    kept_set marks inside.retired.items inside.kept.items inside.tagged inside.newest inside.newest_kept inside.room h c.args.slot c.in-Tagged.tag is in_range ∙ (ap (λ (s : Sets). set s.kept c.args.slot true) view ∙ sym (ap (λ r. cond (is_retired r) (set c.args.self.now.kept c.args.slot true) c.args.self.now.kept) is_r))
-
-pub returns-in_default : goal.returns-in_default
-returns-in_default c =
-    let inside = c.self.inside in
-    let marks = inside.marks.items in
-    let view = c.self.view_is in
-    let h = c.self.invariant.0 in
-    let in_range : c.args.slot < length marks = (let r = c.requires.range in let a = length-map marks retired_as in let b = ap (λ (s : Sets). length s.retired) view in omega (arith, r, a, b)) in
-    let at : mark_at marks c.args.slot ≡ c.index.result.now = mark_read marks c.args.slot c.index.result.now c.index.result.now in_range c.index.ensures refl in
-    record {
-      fresh = refl;
-      retired = refl;
-      kept = subst (λ (s : Sets). s.kept ≡ cond (is_retired (get_or s.retired c.args.slot retire.No)) (set s.kept c.args.slot true) s.kept) view
-          (kept_already marks c.args.slot (λ u. c.requires.tagged (ap (λ (s : Sets). get_or s.retired c.args.slot retire.No) (sym view) ∙ (get_or_map retired_as marks c.args.slot mark.Other ∙ u)))
-          (λ tag e. c.in_default.not-Tagged tag (sym at ∙ e)));
-      room = refl;
-    }
+    let slot = c.args.slot in
+    let now = c.keep_slot.ensures ∙ ap (map (kept_at slot)) c.deref_mut.ensures.value in
+    let is = written_back c.keep_slot.new.tagged inside.tagged.items inside.tagged.len inside.tagged.ok.0 (ap length now ∙ length-map inside.tagged.items (kept_at slot)) ∙ now in
+    let at = retired_at_all inside.slots inside.room inside.fresh.items inside.untagged.items inside.tagged.items c.self.invariant.0 slot in
+    let view = ap (λ (s : Sets). get_or s.retired slot retire.No) c.self.view_is in
+    ap (λ l. map (found is_kept false l) (range_with_len 0 inside.slots)) is
+    ∙ (kept_set inside.slots inside.room inside.fresh.items inside.untagged.items inside.tagged.items slot c.self.invariant.0 (λ e. c.requires.tagged (sym view ∙ (at ∙ e)))
+    ∙ (ap (λ r. cond (is_retired r) (set (map (found is_kept false inside.tagged.items) (range_with_len 0 inside.slots)) slot true) (map (found is_kept false inside.tagged.items) (range_with_len 0 inside.slots))) (sym at)
+    ∙ ap (λ (s : Sets). cond (is_retired (get_or s.retired slot retire.No)) (set s.kept slot true) s.kept) c.self.view_is))

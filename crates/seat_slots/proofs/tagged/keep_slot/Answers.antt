@@ -1,0 +1,15 @@
+use Rattle.std.proofs.Common.{◌∙◌, ap, arith, get_or, set}
+use Rattle.std.proofs.lemmas.List.{get_or_default}
+use Rattle.std.proofs.lemmas.List.Edits.{map_over_more}
+use Rattle.seat_slots.specs.declared.tagged.TaggedSlot.{TaggedSlot}
+use Rattle.seat_slots.specs.Shown.{kept_at}
+use Rattle.seat_slots.proofs.Finding.{nobody}
+use Rattle.seat_slots.proofs.tagged.keep_slot.Goals as goal
+
+pub loop-entry-preserved : goal.loop-entry-preserved
+loop-entry-preserved c =
+    let tagged = c.loop-entry.tagged in
+    let index = c.loop-entry.entry-index in
+    let entry : TaggedSlot = get_or tagged index nobody in
+    ap (set tagged index) c.found_at.ensures
+    ∙ map_over_more (kept_at c.args.slot) c.args.tagged.now tagged index entry c.loop-entry-test.true c.loop-entry.invariant (get_or_default tagged index nobody entry (omega (arith, c.loop-entry-test.true, c.loop-entry.auto.tagged)))
