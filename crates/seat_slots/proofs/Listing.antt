@@ -1,11 +1,11 @@
 -- How often lists have slots, and the falling list of the fresh ones.
-use Rattle.std.proofs.Common.{◌≡◌, ◌≢◌, ℕ, zero, suc, ◌+◌, ◌<◌, ◌≤◌, ◌-◌, ◌⊎◌, inl, inr, Bool, true, false, ◌&&◌, ◌||◌, cond, List, [], ◌∷◌, ◌++◌, length, get_or, reverse, refl, sym, ap, ◌∙◌, subst, arith, eqb}
+use Rattle.std.proofs.Common.{◌≡◌, ◌≢◌, ℕ, zero, suc, ◌+◌, ◌<◌, ◌≤◌, ◌-◌, ◌⊎◌, inl, inr, Bool, true, false, ◌&&◌, ◌||◌, cond, List, [], ◌∷◌, ◌++◌, length, get_or, take, reverse, refl, sym, ap, ◌∙◌, subst, arith, eqb}
 use Rattle.std.specs.Prelude.{nat_le, nat_lt}
 use Rattle.std.specs.List.{range_with_len, remove, list_any}
 use Rattle.std.specs.List.Sorted.{IsNonDecreasing}
 use Rattle.std.proofs.lemmas.Bool.{false≢true, eq-eqb, ne_eqb, cases_lt}
 use Rattle.std.proofs.lemmas.Bool.Decides.{nat_tests}
-use Rattle.std.proofs.lemmas.List.{length-reverse, get_or-reverse, map-id}
+use Rattle.std.proofs.lemmas.List.{append-nil, drop_all, length-reverse, get_or-reverse, map-id}
 use Rattle.std.proofs.lemmas.List.FromFn.{map-range_with_len_more}
 use Rattle.std.proofs.lemmas.List.Edits.{length-remove, get_or-remove_below, get_or-remove_above}
 use Rattle.std.proofs.lemmas.List.Sums.{sum_by-cons}
@@ -107,6 +107,9 @@ falling_without slots place inside falling i j le lt = pick (cases_lt i place) (
     pick (inl a) (inr b) = subst (λ n. n ≤ get_or (remove slots place) i 0) (sym (get_or-remove_above slots place 0 j b inside)) (subst (λ n. get_or slots (j + 1) 0 ≤ n) (sym (get_or-remove_below slots place 0 i a inside)) (falling i (j + 1) (omega arith) (omega (arith, long, lt))))
     pick (inr a) (inl b) = absurd (omega arith)
     pick (inr a) (inr b) = subst (λ n. n ≤ get_or (remove slots place) i 0) (sym (get_or-remove_above slots place 0 j b inside)) (subst (λ n. get_or slots (j + 1) 0 ≤ n) (sym (get_or-remove_above slots place 0 i a inside)) (falling (i + 1) (j + 1) (omega arith) (omega (arith, long, lt))))
+
+pub remove_last : (slots : List ℕ) (place : ℕ) → place + 1 ≡ length slots → remove slots place ≡ take place slots
+remove_last slots place last = ap (λ l. take place slots ++ l) (drop_all (suc place) slots (omega (arith, last))) ∙ append-nil (take place slots)
 
 pub falling_reversed : (slots : List ℕ) → IsNonDecreasing slots → AreFalling (reverse slots)
 falling_reversed slots rising i j le lt =

@@ -1,7 +1,7 @@
 //! The list of the fresh slots: each once, the least last.
 
 ghost use Rattle.std.specs.Prelude.{◌≡◌, ◌<◌, ◌≤◌, ◌+◌, ◌++◌, ◌^◌, ℕ, IfOk, length, slice_index, vec_capacity};
-ghost use Rattle.std.specs.List.{range_with_len};
+ghost use Rattle.std.specs.List.{range_with_len, remove};
 ghost use Rattle.std.specs.List.Sorted.{IsPermutation};
 ghost use Rattle.seat_slots.specs.Shown.{times, AreFalling};
 
@@ -33,9 +33,24 @@ pub fn let_fall(fresh: &mut Vec<usize>)
     fresh.reverse();
 }
 
+/// Takes a slot out. The least one is the last, and nothing moves then.
+#[inline]
+pub fn take_out(fresh: &mut Vec<usize>, slot: usize)
+    requires { 0 < times slot fresh.old.items }
+    ensures slots { (place : ℕ) × (place < length fresh.old.items) × (slice_index fresh.old.items place ≡ slot) × (fresh.new.items ≡ remove fresh.old.items place) }
+    ensures room { vec_capacity fresh.new ≡ vec_capacity fresh.old }
+{
+    let place = place_of(fresh, slot);
+    if place + 1 == fresh.len() {
+        fresh.pop();
+    } else {
+        fresh.remove(place);
+    }
+}
+
 /// The place of a slot in the list. It is looked for from the end on, where the least one is.
 #[inline]
-pub fn place_of(fresh: &[usize], slot: usize) -> usize
+fn place_of(fresh: &[usize], slot: usize) -> usize
     requires { 0 < times slot fresh.now }
     ensures range { result < length fresh.now }
     ensures at { slice_index fresh.now result ≡ slot }

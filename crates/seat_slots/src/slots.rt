@@ -7,7 +7,7 @@ ghost use Rattle.pebr_core.specs.Steps.{tag_with, is_above_tags, united, release
 ghost use Rattle.pebr_core.specs.Kept.{IsWithinLimits};
 ghost use Rattle.seat_slots.specs.Sets.{given, is_above, least};
 
-use crate::fresh::{falling_from, let_fall, place_of, push_all};
+use crate::fresh::{falling_from, let_fall, push_all, take_out};
 use crate::tagged::{
     TaggedSlot, free_all, has_slot, keep_slot, leave_kept, newest_of, noted, tag_all, unkeep,
 };
@@ -150,8 +150,7 @@ impl SeatSlots {
         ensures kept { self.new.kept ≡ self.old.kept }
         ensures room { self.new.room ≡ self.old.room }
     {
-        let place = place_of(&self.fresh, new);
-        self.fresh.remove(place);
+        take_out(&mut self.fresh, new);
         self.untagged.push_reserved(old);
     }
 
