@@ -7,6 +7,7 @@ PAIR := bin/romtyalig-pair
 PIPE := bin/romtyalig-pipe
 WATCH := bin/romtyalig-watch
 THREADS := bin/two_threads
+LISTS := bin/watch_lists
 METERING := bin/metering_alone
 PACE := bin/cache_pace
 CAPTURE := examples/web-exchange.pcap
@@ -70,6 +71,13 @@ $(THREADS): crates.txt $(SOURCES)
 	@mkdir -p bin
 	@cp crates/two_threads/out/two_threads $(THREADS)
 
+# And for that of checks/watch.sh which looks at lists.
+$(LISTS): crates.txt $(SOURCES)
+	@cd crates/watch_lists && rt run -- 1 0 < stdin > build.log 2>&1 || { tail -n 20 build.log; exit 1; }
+	@rm -f crates/watch_lists/build.log
+	@mkdir -p bin
+	@cp crates/watch_lists/out/watch_lists $(LISTS)
+
 # And for the program of bench/reading.sh.
 $(METERING): crates.txt $(SOURCES)
 	@cd crates/metering_alone && rt run -- 2 262184 4 < stdin > build.log 2>&1 || { tail -n 20 build.log; exit 1; }
@@ -94,12 +102,12 @@ test:
 take:
 	@mkdir -p bin
 	@for pair in romtyalig:$(PROGRAM) romtyalig_pipe:$(PIPE) romtyalig_pcapng:$(PCAPNG) romtyalig_pair:$(PAIR) romtyalig_watch:$(WATCH) \
-	    two_threads:$(THREADS) metering_alone:$(METERING) cache_pace:$(PACE); do \
+	    two_threads:$(THREADS) watch_lists:$(LISTS) metering_alone:$(METERING) cache_pace:$(PACE); do \
 	    made=crates/$${pair%%:*}/out/$${pair%%:*}; \
 	    if [ -x "$$made" ]; then cp "$$made" "$${pair#*:}"; fi; \
 	done
 
-check: build $(THREADS)
+check: build $(THREADS) $(LISTS)
 	checks/shell.sh
 	checks/page.sh
 	checks/operators.sh

@@ -1,0 +1,110 @@
+//! Who asks for open flows while workers meter.
+
+ghost use Rattle.std.specs.Prelude.{◌≡◌, ◌≢◌, None};
+ghost use Rattle.cache_face.specs.Notes.{first_note};
+ghost use Rattle.flow_cache.specs.Shown.{shown_of};
+ghost use Rattle.flow_cache.specs.Shown as shown;
+ghost use Rattle.flow_watch.specs.Watching.{IsOf, held_by, note_of};
+
+use flow_cache::{PebrCache, PebrPass};
+use flow_key::FlowKey;
+use flow_watch::{Watch, Watcher};
+
+/// How often an ask tries at most to hold its flow, which may come into the set meanwhile.
+const TRIES: u32 = 1000;
+
+/// How often a flow that is held is read, so that workers put it out meanwhile.
+const READS: u32 = 100;
+
+/// The pass of who asked, how many asks held a flow, and the most slots that the pass had retired behind any of them.
+#[derive(Drop)]
+pub(crate) struct Asked {
+    pub(crate) pass: PebrPass,
+    pub(crate) held: u64,
+    pub(crate) most: usize,
+}
+
+/// Reads the flow that is held some times.
+fn read_some(cache: &PebrCache, watcher: &mut Watcher)
+    requires of { IsOf cache.now watcher.old }
+    requires holding { held_by watcher.old ≢ None }
+    ensures of { IsOf cache.now watcher.new }
+    ensures holding { held_by watcher.new ≡ held_by watcher.old }
+    ensures note { note_of watcher.new ≡ note_of watcher.old }
+{
+    for _turn in 0..READS {
+        watcher.read(cache);
+    }
+}
+
+/// Tries to hold the flow of a key, reads it and releases it. Whether it was held.
+fn try_once(cache: &PebrCache, watcher: &mut Watcher, key: &FlowKey) -> bool
+    requires of { IsOf cache.now watcher.old }
+    requires idle { held_by watcher.old ≡ None }
+    ensures of { IsOf cache.now watcher.new }
+    ensures idle { held_by watcher.new ≡ None }
+    ensures note { note_of watcher.new ≡ note_of watcher.old }
+{
+    match watcher.hold(cache, key) {
+        Watch::Held => {
+            read_some(cache, watcher);
+            watcher.release(cache);
+            true
+        }
+        Watch::Absent => false,
+        Watch::Lost => false,
+    }
+}
+
+/// Asks for the flow of a key. Whether it was held.
+fn ask(cache: &PebrCache, watcher: &mut Watcher, key: &FlowKey) -> bool
+    requires of { IsOf cache.now watcher.old }
+    requires idle { held_by watcher.old ≡ None }
+    ensures of { IsOf cache.now watcher.new }
+    ensures idle { held_by watcher.new ≡ None }
+    ensures note { note_of watcher.new ≡ note_of watcher.old }
+{
+    for _turn in 0..TRIES {
+        if try_once(cache, watcher, key) {
+            return true;
+        }
+    }
+    false
+}
+
+/// Asks for the flow of a key by a watcher at the seat of a pass, and looks at the pass behind it.
+fn ask_by(cache: &PebrCache, asked: Asked, key: &FlowKey) -> Asked
+    requires own { shown.IsOf cache.now asked.pass }
+    requires fresh { (shown_of asked.pass).note ≡ first_note }
+    ensures own { shown.IsOf cache.now result.pass }
+    ensures fresh { (shown_of result.pass).note ≡ first_note }
+{
+    let Asked { pass, held, most } = asked;
+    let mut watcher = Watcher::open(pass);
+    let was_held = ask(cache, &mut watcher, key);
+    let pass = watcher.close();
+    let most = most.max(pass.retired());
+    Asked {
+        pass,
+        held: held.saturating_add(u64::from(was_held)),
+        most,
+    }
+}
+
+/// Asks for the flow of each key in turn, at the seat of a pass that has done nothing. It has metered nothing then either.
+pub(crate) fn ask_all(cache: &PebrCache, pass: PebrPass, keys: &[FlowKey]) -> Asked
+    requires own { shown.IsOf cache.now pass }
+    requires fresh { (shown_of pass).note ≡ first_note }
+    ensures own { shown.IsOf cache.now result.pass }
+    ensures fresh { (shown_of result.pass).note ≡ first_note }
+{
+    let mut asked = Asked {
+        pass,
+        held: 0,
+        most: 0,
+    };
+    for key in keys {
+        asked = ask_by(cache, asked, key);
+    }
+    asked
+}
