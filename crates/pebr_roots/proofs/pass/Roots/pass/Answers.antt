@@ -1,0 +1,27 @@
+use Rattle.std.proofs.Common.{length, sym, ap, ◌∙◌, arith}
+use Rattle.std.proofs.lemmas.List.{length-replicate}
+use Rattle.std.proofs.lemmas.List.FromFn.{get_or-map-range_with_len}
+use Rattle.pebr_core.specs.State.{first_seat, nobody}
+use Rattle.pebr_core.specs.Kept.{held_count}
+use Rattle.pebr_roots.proofs.pass.Roots.pass.Goals as goal
+
+pub returns : goal.returns
+returns g c =
+    let opened = c.requires.opened in
+    let shape = c.args.self.now.words.shape in
+    let i = c.args.number in
+    let at = get_or-map-range_with_len (first_seat shape) 0 shape.seats i i nobody c.requires.inside (omega arith) in
+    record {
+      of = record {
+        at = opened.0;
+        wide = ap length c.requires.under ∙ length-replicate shape.shields 0;
+        held = ap held_count (opened.2 ∙ sym at) ∙ (c.start_is_sound.ensures shape).holding i c.requires.inside;
+      };
+      number = opened.1;
+      known = opened.2;
+      note = opened.3;
+      past = opened.4;
+      numbers = opened.5;
+      count = opened.6;
+      united = opened.7;
+    }
