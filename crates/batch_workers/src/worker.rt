@@ -1,6 +1,6 @@
 //! A worker, and all workers at once.
 
-ghost use Rattle.std.specs.Prelude.{◌≡◌, ◌<◌, All, length};
+ghost use Rattle.std.specs.Prelude.{◌≡◌, ◌≢◌, ◌<◌, All, length};
 ghost use Rattle.batch_workers.specs.Sharing.{IsReady, HasWorked};
 
 use crate::working::{Shared, work_batches};
@@ -39,6 +39,7 @@ fn work<C: FlowCache, G: Gate, R: Wait>(
 )
     requires ready { IsReady (C.is_of cache.now) C.shown shared.now.queue worker.old.pass worker.old.seat worker.old.out.items worker.old.tally }
     ensures worked { HasWorked (C.is_of cache.now) C.shown shared.now.queue worker.new.pass worker.new.seat worker.new.out.items worker.new.tally worker.new.state }
+    ensures ended { worker.new.state ≢ WorkState.Going }
 {
     let end = work_batches(
         rt,
@@ -71,6 +72,7 @@ fn work_all<C: FlowCache, G: Gate, R: Threads + Wait + Sync>(
     requires ready { All (λ w. IsReady (C.is_of cache.now) C.shown shared.now.queue w.pass w.seat w.out.items w.tally) workers.old }
     ensures same { length workers.new ≡ length workers.old }
     ensures worked { All (λ w. HasWorked (C.is_of cache.now) C.shown shared.now.queue w.pass w.seat w.out.items w.tally w.state) workers.new }
+    ensures ended { All (λ w. w.state ≢ WorkState.Going) workers.new }
 {
     let count = workers.len();
     thread::for_each_mut(
@@ -80,11 +82,12 @@ fn work_all<C: FlowCache, G: Gate, R: Threads + Wait + Sync>(
         &|_, w: &mut BatchWorker<C>|
             requires ready { IsReady (C.is_of cache.now) C.shown shared.now.queue w.old.pass w.old.seat w.old.out.items w.old.tally }
             ensures worked { HasWorked (C.is_of cache.entry.now) C.shown shared.entry.now.queue w.new.pass w.new.seat w.new.out.items w.new.tally w.new.state }
+            ensures ended { w.new.state ≢ WorkState.Going }
         { work(rt, alloc, shared, cache, w, gate) },
     );
 }
 
-/// The workers, once they have worked, all at once.
+/// The workers, once they have worked, all at once: each is `Finished`, or `NoMemory` where memory was out.
 pub fn worked<C: FlowCache, G: Gate, R: Threads + Wait + Sync>(
     rt: &R,
     alloc: Global,
@@ -97,6 +100,7 @@ pub fn worked<C: FlowCache, G: Gate, R: Threads + Wait + Sync>(
     requires ready { All (λ w. IsReady (C.is_of cache.now) C.shown shared.now.queue w.pass w.seat w.out.items w.tally) workers.items }
     ensures same { length result.items ≡ length workers.items }
     ensures worked { All (λ w. HasWorked (C.is_of cache.now) C.shown shared.now.queue w.pass w.seat w.out.items w.tally w.state) result.items }
+    ensures ended { All (λ w. w.state ≢ WorkState.Going) result.items }
 {
     work_all(rt, alloc, shared, cache, workers.as_mut_slice(), gate);
     workers
