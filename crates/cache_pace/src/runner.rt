@@ -16,13 +16,15 @@ use std::thread::Threads;
 const PIECE: usize = 256;
 
 /// What a thread meters through, which of the threads it is, the least number of its next packet, and the fragments that it
-/// was handed.
+/// was handed. The unused words behind it keep the cache lines of two threads apart.
 #[derive(Drop)]
+#[repr(C)]
 pub(crate) struct Runner<C: FlowCache> {
     pub(crate) pass: C::Pass,
     pub(crate) place: usize,
     pub(crate) next: u64,
     pub(crate) out: Vec<Fragment>,
+    apart: [u64; 16],
 }
 
 /// A runner for each pass.
@@ -46,6 +48,7 @@ pub(crate) fn runners_of<C: FlowCache>(
             place,
             next: 0,
             out,
+            apart: [0; 16],
         })?;
     }
     Ok(runners)
