@@ -17,15 +17,12 @@ pub struct TaggedSlot {
 }
 
 impl TaggedSlot {
-    /// What it is once a shield was found on a slot.
-    fn found_at(self, slot: usize) -> TaggedSlot
-        ensures { result ≡ kept_at slot self }
+    /// Whether the scan keeps it once a shield was found on a slot.
+    #[inline]
+    fn stays(&self, slot: usize) -> bool
+        ensures { result ≡ (kept_at slot self.now).kept }
     {
-        if self.slot == slot {
-            TaggedSlot { kept: true, ..self }
-        } else {
-            self
-        }
+        self.slot == slot || self.kept
     }
 }
 
@@ -61,7 +58,7 @@ pub fn keep_slot(tagged: &mut [TaggedSlot], slot: usize)
     ensures { tagged.new ≡ map (kept_at slot) tagged.old }
 {
     for entry in tagged.iter_mut() {
-        *entry = entry.found_at(slot);
+        entry.kept = entry.stays(slot);
     }
 }
 
