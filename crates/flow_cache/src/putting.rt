@@ -176,10 +176,6 @@ impl PebrCache {
     }
 
     /// One try. `false` where it is lost; where it is the last one the packet is passed by then.
-    ///
-    /// A call of its own, so that what goes into `metered` is written to memory once. Inlined, it would be kept in pieces
-    /// until the shields are down, and be copied from piece to piece.
-    #[inline(never)]
     pub(crate) fn attempt<T: Stop>(
         &self,
         pass: &mut RootPass<CacheRule>,
