@@ -34,11 +34,11 @@ fn is_passed_by(last: bool, done: bool) -> bool
 /// What is done to the note of a pass that leaves: where its packet is passed by, it is metered, and its own fragment handed
 /// out.
 #[inline]
-fn passing(packet: &Packet, own: &Fragment, passes_by: bool) -> Option<(Packet, Option<Fragment>)>
-    ensures { result ≡ (if passes_by then Some (packet.now, Some own.now) else None) }
+fn passing(packet: &Packet, own: Fragment, passes_by: bool) -> Option<(Packet, Option<Fragment>)>
+    ensures { result ≡ (if passes_by then Some (packet.now, Some own) else None) }
 {
     if passes_by {
-        Some((*packet, Some(*own)))
+        Some((*packet, Some(own)))
     } else {
         None
     }
@@ -68,7 +68,7 @@ impl PebrCache {
         pass: &mut RootPass<CacheRule>,
         set: u64,
         packet: &Packet,
-        own: &Fragment,
+        own: Fragment,
         metered: &mut Metered,
         stop: &mut T,
     ) -> bool
@@ -78,19 +78,18 @@ impl PebrCache {
         requires fresh { 0 < fresh_count (known_by pass.old) }
         requires protected { AreProtected set (known_by pass.old) (past_by pass.old) }
         requires unlost { (past_by pass.old).has_lost ≡ false }
-        requires own { IsOwn self.now.timeouts (note_by first_note pass.old) packet.now own.now }
+        requires own { IsOwn self.now.timeouts (note_by first_note pass.old) packet.now own }
         ensures same { IsSame self.now.roots pass.old pass.new }
         ensures entered { is_out (known_by pass.new).status ≡ false }
         ensures ejections { (past_by pass.new).ejections ≡ (past_by pass.old).ejections }
         ensures done { IsTrue result → (note_by first_note pass.new ≡ metering (note_by first_note pass.old) (packet.now ∷ []) metered.new.out)
-            × ((past_by pass.new).lost ≡ (past_by pass.old).lost) × HasChosen self.now.timeouts set (past_by pass.new) own.now metered.new.how metered.new.out }
+            × ((past_by pass.new).lost ≡ (past_by pass.old).lost) × HasChosen self.now.timeouts set (past_by pass.new) own metered.new.how metered.new.out }
         ensures undone { result ≡ false → (note_by first_note pass.new ≡ note_by first_note pass.old) × ((known_by pass.new).fresh ≡ (known_by pass.old).fresh)
             × ((try : Lost) × ((past_by pass.new).lost ≡ try ∷ (past_by pass.old).lost) × IsTryOf set (try_of try)) }
     {
         stop.at(Point::Read);
-        let mut contents = [[0; 10]; 4];
-        self.read_contents(pass, &mut contents);
-        let choice = choose_by_words(self.timeouts, &contents, *own);
+        let contents = self.read_contents(pass);
+        let choice = choose_by_words(self.timeouts, &contents, own);
         stop.at(Point::Write);
         self.fill(pass, choice.kept.to_words());
         stop.at(Point::Replace);
@@ -114,7 +113,7 @@ impl PebrCache {
         pass: &mut RootPass<CacheRule>,
         set: u64,
         packet: &Packet,
-        own: &Fragment,
+        own: Fragment,
         metered: &mut Metered,
         stop: &mut T,
     ) -> bool
@@ -122,12 +121,12 @@ impl PebrCache {
         requires set { set < self.now.sets }
         requires out { IsTrue (is_out (known_by pass.old).status) }
         requires fresh { 0 < fresh_count (known_by pass.old) }
-        requires own { IsOwn self.now.timeouts (note_by first_note pass.old) packet.now own.now }
+        requires own { IsOwn self.now.timeouts (note_by first_note pass.old) packet.now own }
         ensures same { IsSame self.now.roots pass.old pass.new }
         ensures entered { is_out (known_by pass.new).status ≡ false }
         ensures ejections { (past_by pass.new).ejections ≡ (past_by pass.old).ejections }
         ensures done { IsTrue result → (note_by first_note pass.new ≡ metering (note_by first_note pass.old) (packet.now ∷ []) metered.new.out)
-            × ((past_by pass.new).lost ≡ (past_by pass.old).lost) × HasChosen self.now.timeouts set (past_by pass.new) own.now metered.new.how metered.new.out }
+            × ((past_by pass.new).lost ≡ (past_by pass.old).lost) × HasChosen self.now.timeouts set (past_by pass.new) own metered.new.how metered.new.out }
         ensures undone { result ≡ false → (note_by first_note pass.new ≡ note_by first_note pass.old) × ((known_by pass.new).fresh ≡ (known_by pass.old).fresh)
             × ((try : Lost) × ((past_by pass.new).lost ≡ try ∷ (past_by pass.old).lost) × IsTryOf set (try_of try)) }
     {
@@ -155,18 +154,18 @@ impl PebrCache {
         &self,
         pass: &mut RootPass<CacheRule>,
         packet: &Packet,
-        own: &Fragment,
+        own: Fragment,
         passes_by: bool,
         stop: &mut T,
     )
         requires of { IsOf self.now.roots pass.old }
         requires entered { is_out (known_by pass.old).status ≡ false }
-        requires own { IsTrue passes_by → IsOwn self.now.timeouts (note_by first_note pass.old) packet.now own.now }
+        requires own { IsTrue passes_by → IsOwn self.now.timeouts (note_by first_note pass.old) packet.now own }
         ensures same { IsSame self.now.roots pass.old pass.new }
         ensures out { IsTrue (is_out (known_by pass.new).status) }
         ensures down { IsTrue (list_all is_down (known_by pass.new).shields) }
         ensures fresh { (known_by pass.new).fresh ≡ (known_by pass.old).fresh }
-        ensures note { note_by first_note pass.new ≡ (if passes_by then metering (note_by first_note pass.old) (packet.now ∷ []) (Some own.now) else note_by first_note pass.old) }
+        ensures note { note_by first_note pass.new ≡ (if passes_by then metering (note_by first_note pass.old) (packet.now ∷ []) (Some own) else note_by first_note pass.old) }
         ensures past { past_by pass.new ≡ record (past_by pass.old) { last = (past_by pass.new).last; steps = (past_by pass.new).steps } }
         ensures sure { IsSure IsWhole (shape_at self.now.roots) (known_by pass.new) (past_by pass.new) }
     {
@@ -181,7 +180,7 @@ impl PebrCache {
         pass: &mut RootPass<CacheRule>,
         set: u64,
         packet: &Packet,
-        own: &Fragment,
+        own: Fragment,
         last: bool,
         metered: &mut Metered,
         stop: &mut T,
@@ -190,14 +189,14 @@ impl PebrCache {
         requires set { set < self.now.sets }
         requires out { IsTrue (is_out (known_by pass.old).status) }
         requires fresh { 0 < fresh_count (known_by pass.old) }
-        requires own { IsOwn self.now.timeouts (note_by first_note pass.old) packet.now own.now }
+        requires own { IsOwn self.now.timeouts (note_by first_note pass.old) packet.now own }
         ensures same { IsSame self.now.roots pass.old pass.new }
         ensures out { IsTrue (is_out (known_by pass.new).status) }
         ensures down { IsTrue (list_all is_down (known_by pass.new).shields) }
         ensures ejections { (past_by pass.new).ejections ≡ (past_by pass.old).ejections }
         ensures done { IsTrue result → (note_by first_note pass.new ≡ metering (note_by first_note pass.old) (packet.now ∷ []) metered.new.out)
-            × ((past_by pass.new).lost ≡ (past_by pass.old).lost) × HasChosen self.now.timeouts set (past_by pass.new) own.now metered.new.how metered.new.out }
-        ensures undone { result ≡ false → (note_by first_note pass.new ≡ (if last then metering (note_by first_note pass.old) (packet.now ∷ []) (Some own.now) else note_by first_note pass.old))
+            × ((past_by pass.new).lost ≡ (past_by pass.old).lost) × HasChosen self.now.timeouts set (past_by pass.new) own metered.new.how metered.new.out }
+        ensures undone { result ≡ false → (note_by first_note pass.new ≡ (if last then metering (note_by first_note pass.old) (packet.now ∷ []) (Some own) else note_by first_note pass.old))
             × ((known_by pass.new).fresh ≡ (known_by pass.old).fresh) × ((shape_at self.now.roots).seats ≢ 1)
             × ((try : Lost) × ((past_by pass.new).lost ≡ try ∷ (past_by pass.old).lost) × IsTryOf set (try_of try)) }
     {
