@@ -54,30 +54,6 @@ fn protect(roots: &Roots<Free>, pass: &mut RootPass<Free>) -> (usize, Checked)
     (slot, found)
 }
 
-/// The word under the shield.
-fn look(roots: &Roots<Free>, pass: &mut RootPass<Free>) -> u64
-    requires of { IsOf roots.now pass.old }
-    requires one { ((shape_at roots.now).shields ≡ 1) × ((shape_at roots.now).width ≡ 1) }
-    requires valid { IsTrue (is_valid_at (known_by pass.old) 0) }
-    ensures same { IsSame roots.now pass.old pass.new }
-    ensures known { known_by pass.new ≡ known_by pass.old }
-{
-    let under = roots.under(pass, 0);
-    roots.read(pass, under, 0)
-}
-
-/// Writes the word of the least fresh slot.
-fn write(roots: &Roots<Free>, pass: &mut RootPass<Free>, value: u64)
-    requires of { IsOf roots.now pass.old }
-    requires one { (shape_at roots.now).width ≡ 1 }
-    requires fresh { 0 < fresh_count (known_by pass.old) }
-    ensures same { IsSame roots.now pass.old pass.new }
-    ensures known { known_by pass.new ≡ known_by pass.old }
-{
-    let fresh = roots.fresh_slot(pass);
-    roots.write_fresh(pass, fresh, 0, value);
-}
-
 /// Writes a word into the least fresh slot, if there is one, and puts it into the root.
 fn swap(roots: &Roots<Free>, pass: &mut RootPass<Free>, value: u64) -> Option<ReplaceEnd>
     requires of { IsOf roots.now pass.old }
@@ -90,7 +66,8 @@ fn swap(roots: &Roots<Free>, pass: &mut RootPass<Free>, value: u64) -> Option<Re
     if pass.fresh() == 0 {
         return None;
     }
-    write(roots, pass, value);
+    let fresh = roots.fresh_slot(pass);
+    roots.write_fresh(pass, fresh, 0, value);
     Some(roots.replace(pass, 0, 0, None))
 }
 
@@ -155,7 +132,10 @@ fn read_if(roots: &Roots<Free>, pass: &mut RootPass<Free>, found: Checked) -> u6
     ensures entered { is_out (known_by pass.new).status ≡ false }
 {
     match found {
-        Checked::Valid => look(roots, pass),
+        Checked::Valid => {
+            let under = roots.under(pass, 0);
+            roots.read(pass, under, 0)
+        }
         Checked::Ejected => 99,
     }
 }
@@ -264,10 +244,12 @@ fn stop_behind_check(roots: &Roots<Free>, pass: &mut RootPass<Free>, calls: usiz
     ensures { IsOf roots.now pass.new }
 {
     if calls > 3 {
-        look(roots, pass);
+        let under = roots.under(pass, 0);
+        roots.read(pass, under, 0);
     }
     if calls == 5 && pass.fresh() > 0 {
-        write(roots, pass, 6);
+        let fresh = roots.fresh_slot(pass);
+        roots.write_fresh(pass, fresh, 0, 6);
     }
     if calls > 5 {
         swap(roots, pass, 6);
