@@ -55,9 +55,8 @@ impl PebrCache {
         ensures past { past_by pass.new ≡ record (past_by pass.old) { last = (past_by pass.new).last; steps = (past_by pass.new).steps; written = (past_by pass.new).written } }
         ensures written { (word : ℕ) → word < 10 → written_at (past_by pass.new).written (least (known_by pass.old).fresh) word ≡ Some (slice_index words word) }
     {
-        let fresh = self.roots.fresh_slot(pass);
         for word in 0..10 {
-            self.roots.write_fresh(pass, fresh, word, words[word]);
+            self.roots.write_fresh(pass, word, words[word]);
         }
     }
 

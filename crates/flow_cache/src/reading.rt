@@ -107,10 +107,9 @@ impl PebrCache {
         ensures read { (word : ℕ) → word < 10 → written_at (past_by pass.new).reads (slot_at (known_by pass.old) place) word ≡ Some (slice_index result word) }
         ensures whole { IsWhole result }
     {
-        let under = self.roots.under(pass, place);
         let mut words = [0; 10];
         for word in 0..10 {
-            words[word] = self.roots.read(pass, under, word);
+            words[word] = self.roots.read(pass, place, word);
         }
         words
     }

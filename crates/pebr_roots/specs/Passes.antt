@@ -6,9 +6,8 @@ use Rattle.pebr_core.specs.declared.kinds.Answer.{Answer}
 use Rattle.pebr_core.specs.State as core
 use Rattle.pebr_core.specs.State.{slots_per_seat}
 use Rattle.pebr_core.specs.Kept.{held_count}
-use Rattle.pebr_words.specs.declared.slot_words.SlotWords.{SlotWords}
 use Rattle.pebr_words.specs.Pasts.{History, Lost, Ejection, no_history}
-use Rattle.pebr_words.specs.Seats.{shape_of, fixed_of, known_of, number_of, numbers_of, note_of, past_of, lost_of, ejections_of, count_of, IsUnited, IsAt, IsSlotOf, IsStill, IsStep}
+use Rattle.pebr_words.specs.Seats.{shape_of, fixed_of, known_of, number_of, numbers_of, note_of, past_of, lost_of, ejections_of, count_of, IsUnited, IsAt, IsStill, IsStep}
 use Rattle.pebr_roots.specs.declared.pass.RootPass.{RootPass}
 use Rattle.pebr_roots.specs.declared.pass.Roots.{Roots}
 
@@ -18,10 +17,6 @@ module _ {P N A F : Type 0} where
 
   abbrev pub fixed_at : Roots P N A F → F
   fixed_at roots = fixed_of roots.words
-
-  -- a slot of these roots, with the place of its first word
-  abbrev pub IsSlotAt : Roots P N A F → SlotWords → Type 0
-  IsSlotAt roots slot = IsSlotOf roots.words slot
 
   -- what the pass knows of its part of the core
   abbrev pub known_by : {g : _} → RootPass P N A F g → core.Seat

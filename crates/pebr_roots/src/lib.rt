@@ -9,10 +9,10 @@
 //! - **Load** a root and set a shield on its slot ([`Roots::load`]), a few roots if need be.
 //! - **Check** ([`Roots::check`]): if the pass is still in, the shields are valid. If another pass has ejected it, leave and
 //!   try again.
-//! - **Read** the words of a slot under a valid shield ([`Roots::under`] finds where they lie, [`Roots::read`] reads one).
-//!   Nobody writes them while the shield stays up, even if the pass is ejected afterwards. A content that was read word by
-//!   word is whole: it is one that some pass put into a root.
-//! - **Replace**: write the least fresh slot ([`Roots::fresh_slot`], [`Roots::write_fresh`]), then put it into a root that still has the slot under
+//! - **Read** the words of a slot under a valid shield ([`Roots::read`]). Nobody writes them while the shield stays up, even
+//!   if the pass is ejected afterwards. A content that was read word by word is whole: it is one that some pass put into a
+//!   root.
+//! - **Replace**: write the least fresh slot ([`Roots::write_fresh`]), then put it into a root that still has the slot under
 //!   the shield ([`Roots::replace`]). The old slot is retired.
 //! - **Clear** the shields and **leave** ([`Roots::clear`], [`Roots::leave`]).
 //!
@@ -49,4 +49,4 @@ mod writes;
 
 pub use ends::{Collected, ReplaceEnd};
 pub use pass::{RootPass, Roots};
-pub use pebr_shields::{Checked, NoMemory, RootProtocol, Shape, SlotWords};
+pub use pebr_shields::{Checked, NoMemory, RootProtocol, Shape};

@@ -6,18 +6,17 @@ ghost use Rattle.pebr_core.specs.declared.kinds.Step.TheVariants as step;
 ghost use Rattle.pebr_core.specs.declared.kinds.Answer.TheVariants as answer;
 ghost use Rattle.pebr_core.specs.declared.kinds.ShieldAt.TheVariants as shield;
 ghost use Rattle.pebr_core.specs.State.{has, is_out, is_down, shield_at, slot_count};
-ghost use Rattle.pebr_core.specs.Steps.{is_shielded};
 ghost use Rattle.pebr_words.specs.Pasts.{Read};
 ghost use Rattle.pebr_words.specs.Ruled.{IsIn, IsSure, HasReadWhole};
 ghost use Rattle.pebr_shields.specs.declared.checked.Checked.TheVariants as checked;
 ghost use Rattle.pebr_shields.specs.Found.{answer_to, checked_seat};
 ghost use Rattle.pebr_roots.specs.Under.{slot_at, is_valid_at};
 ghost use Rattle.pebr_roots.specs.Ends.{loaded_seat, loaded_past, cleared_seat, cleared_past};
-ghost use Rattle.pebr_roots.specs.Passes.{shape_at, known_by, number_by, note_by, past_by, IsOf, IsSlotAt, IsSame, IsOneStep};
+ghost use Rattle.pebr_roots.specs.Passes.{shape_at, known_by, number_by, note_by, past_by, IsOf, IsSame, IsOneStep};
 
 use crate::pass::{RootPass, Roots};
 use pebr_core::valid_shields_protect;
-use pebr_shields::{Checked, RootProtocol, SlotWords, check, shield, unshield};
+use pebr_shields::{Checked, RootProtocol, check, shield, unshield};
 
 impl<P: RootProtocol> Roots<P> {
     /// Loads a root and sets a shield on its slot. The shield protects nothing before a check has said so.
@@ -54,36 +53,23 @@ impl<P: RootProtocol> Roots<P> {
         check(&self.words, &mut pass.seat)
     }
 
-    /// Where the words of the slot under a valid shield lie.
-    pub fn under(&self, pass: &RootPass<P>, place: usize) -> SlotWords
-        requires of { IsOf self.now pass.now }
-        requires place { place < (shape_at self.now).shields }
-        requires valid { IsTrue (is_valid_at (known_by pass.now) place) }
-        ensures same { result.slot ≡ slot_at (known_by pass.now) place }
-        ensures slot { IsSlotAt self.now result }
-        ensures protected { IsTrue (is_shielded (known_by pass.now) result.slot) }
-    {
-        valid_shields_protect();
-        let slot = pass.under[place];
-        self.words.words_of(slot)
-    }
-
-    /// Reads a word of a slot that stands under a valid shield. It is the same at each read until the shield is
-    /// taken down or the pass enters anew, whatever other passes do, and although this one was ejected. Once each
+    /// Reads a word of the slot under a valid shield. It is the same at each read until the shield is taken
+    /// down or the pass enters anew, whatever other passes do, and although this one was ejected. Once each
     /// word of the slot was read, the content is whole.
-    pub fn read(&self, pass: &mut RootPass<P>, under: SlotWords, word: usize) -> u64
+    pub fn read(&self, pass: &mut RootPass<P>, place: usize, word: usize) -> u64
         requires of { IsOf self.now pass.old }
-        requires slot { IsSlotAt self.now under }
-        requires word { word < (shape_at self.now).width }
-        requires protected { IsTrue (is_shielded (known_by pass.old) under.slot) }
+        requires range { (place < (shape_at self.now).shields) × (word < (shape_at self.now).width) }
+        requires valid { IsTrue (is_valid_at (known_by pass.old) place) }
         ensures same { IsSame self.now pass.old pass.new }
         ensures note { note_by P.first pass.new ≡ note_by P.first pass.old }
         ensures known { known_by pass.new ≡ known_by pass.old }
-        ensures step { IsOneStep P.whole self.now pass.old pass.new (step.Read (number_by pass.old) under.slot word) (answer.Word result) }
-        ensures again { (read : Read) → IsIn read (past_by pass.old).reads → read.slot ≡ under.slot → read.word ≡ word → result ≡ read.value }
-        ensures whole { (content : List ℕ) → HasReadWhole (shape_at self.now) (past_by pass.new) under.slot content → P.whole content }
+        ensures step { IsOneStep P.whole self.now pass.old pass.new (step.Read (number_by pass.old) (slot_at (known_by pass.old) place) word) (answer.Word result) }
+        ensures again { (read : Read) → IsIn read (past_by pass.old).reads → read.slot ≡ slot_at (known_by pass.old) place → read.word ≡ word → result ≡ read.value }
+        ensures whole { (content : List ℕ) → HasReadWhole (shape_at self.now) (past_by pass.new) (slot_at (known_by pass.old) place) content → P.whole content }
     {
-        self.words.read_word(&mut pass.seat, under, word)
+        valid_shields_protect();
+        let slot = pass.under[place];
+        self.words.read_word(&mut pass.seat, slot, word)
     }
 
     /// Takes each shield down.

@@ -66,8 +66,7 @@ fn swap(roots: &Roots<Free>, pass: &mut RootPass<Free>, value: u64) -> Option<Re
     if pass.fresh() == 0 {
         return None;
     }
-    let fresh = roots.fresh_slot(pass);
-    roots.write_fresh(pass, fresh, 0, value);
+    roots.write_fresh(pass, 0, value);
     Some(roots.replace(pass, 0, 0, None))
 }
 
@@ -132,10 +131,7 @@ fn read_if(roots: &Roots<Free>, pass: &mut RootPass<Free>, found: Checked) -> u6
     ensures entered { is_out (known_by pass.new).status ≡ false }
 {
     match found {
-        Checked::Valid => {
-            let under = roots.under(pass, 0);
-            roots.read(pass, under, 0)
-        }
+        Checked::Valid => roots.read(pass, 0, 0),
         Checked::Ejected => 99,
     }
 }
@@ -244,12 +240,10 @@ fn stop_behind_check(roots: &Roots<Free>, pass: &mut RootPass<Free>, calls: usiz
     ensures { IsOf roots.now pass.new }
 {
     if calls > 3 {
-        let under = roots.under(pass, 0);
-        roots.read(pass, under, 0);
+        roots.read(pass, 0, 0);
     }
     if calls == 5 && pass.fresh() > 0 {
-        let fresh = roots.fresh_slot(pass);
-        roots.write_fresh(pass, fresh, 0, 6);
+        roots.write_fresh(pass, 0, 6);
     }
     if calls > 5 {
         swap(roots, pass, 6);

@@ -1,46 +1,34 @@
 //! Writing a fresh slot and putting it into a root.
 
-ghost use Rattle.std.specs.Prelude.{◌≡◌, ◌<◌, IsTrue, true, false};
+ghost use Rattle.std.specs.Prelude.{◌≡◌, ◌<◌, IsTrue, false};
 ghost use Rattle.pebr_core.specs.declared.kinds.Step.TheVariants as step;
 ghost use Rattle.pebr_core.specs.declared.kinds.Answer.TheVariants as answer;
-ghost use Rattle.pebr_core.specs.State.{has, is_out};
+ghost use Rattle.pebr_core.specs.State.{is_out};
 ghost use Rattle.pebr_core.specs.Frames.{fresh_count};
 ghost use Rattle.seat_slots.specs.Sets.{least};
 ghost use Rattle.pebr_words.specs.Making.{act_on};
 ghost use Rattle.pebr_words.specs.Ruled.{CanReplace};
 ghost use Rattle.pebr_roots.specs.Under.{slot_at, is_valid_at};
 ghost use Rattle.pebr_roots.specs.Ends.{answer_to, replaced_seat, replaced_note};
-ghost use Rattle.pebr_roots.specs.Passes.{shape_at, fixed_at, known_by, number_by, note_by, past_by, IsOf, IsSlotAt, IsSame, IsOneStep};
+ghost use Rattle.pebr_roots.specs.Passes.{shape_at, fixed_at, known_by, number_by, note_by, past_by, IsOf, IsSame, IsOneStep};
 
 use crate::ends::ReplaceEnd;
 use crate::pass::{RootPass, Roots};
 use pebr_core::{steps_are_safe, steps_leave_the_rest, valid_shields_protect};
-use pebr_shields::{RootProtocol, SlotWords};
+use pebr_shields::RootProtocol;
 
 impl<P: RootProtocol> Roots<P> {
-    /// Where the words of the least fresh slot lie.
-    pub fn fresh_slot(&self, pass: &RootPass<P>) -> SlotWords
-        requires of { IsOf self.now pass.now }
-        requires some { 0 < fresh_count (known_by pass.now) }
-        ensures least { result.slot ≡ least (known_by pass.now).fresh }
-        ensures slot { IsSlotAt self.now result }
-        ensures fresh { has (known_by pass.now).fresh result.slot ≡ true }
-    {
-        let slot = pass.seat.least_fresh();
-        self.words.words_of(slot)
-    }
-
-    /// Writes a word of a fresh slot.
-    pub fn write_fresh(&self, pass: &mut RootPass<P>, slot: SlotWords, word: usize, value: u64)
+    /// Writes a word of the least fresh slot.
+    pub fn write_fresh(&self, pass: &mut RootPass<P>, word: usize, value: u64)
         requires of { IsOf self.now pass.old }
-        requires slot { IsSlotAt self.now slot }
         requires word { word < (shape_at self.now).width }
-        requires fresh { has (known_by pass.old).fresh slot.slot ≡ true }
+        requires fresh { 0 < fresh_count (known_by pass.old) }
         ensures same { IsSame self.now pass.old pass.new }
         ensures note { note_by P.first pass.new ≡ note_by P.first pass.old }
         ensures known { known_by pass.new ≡ known_by pass.old }
-        ensures step { IsOneStep P.whole self.now pass.old pass.new (step.Write (number_by pass.old) slot.slot word value) answer.Written }
+        ensures step { IsOneStep P.whole self.now pass.old pass.new (step.Write (number_by pass.old) (least (known_by pass.old).fresh) word value) answer.Written }
     {
+        let slot = pass.seat.least_fresh();
         self.words.write_word(&mut pass.seat, slot, word, value);
     }
 

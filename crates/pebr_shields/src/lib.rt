@@ -12,5 +12,5 @@ mod checked;
 mod shields;
 
 pub use checked::Checked;
-pub use pebr_words::{NoMemory, RootProtocol, Seat, Shape, SlotWords, Words};
+pub use pebr_words::{NoMemory, RootProtocol, Seat, Shape, Words};
 pub use shields::{check, scan, shield, unshield};

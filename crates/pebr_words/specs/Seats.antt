@@ -3,12 +3,10 @@ use Rattle.std.specs.Prelude.{◌≡◌, ℕ, ◌<◌, ◌∷◌, [], ◌++◌, 
 use Rattle.std.specs.List.{flat_map}
 use Rattle.pebr_core.specs.declared.kinds.Shape.{Shape}
 use Rattle.pebr_core.specs.State as core
-use Rattle.pebr_core.specs.State.{slot_count, slots_per_seat}
+use Rattle.pebr_core.specs.State.{slots_per_seat}
 use Rattle.pebr_core.specs.Kept.{IsSeatOfShape}
 use Rattle.pebr_words.specs.declared.words.Words.{Words}
 use Rattle.pebr_words.specs.declared.words.Seat.{Seat}
-use Rattle.pebr_words.specs.declared.slot_words.SlotWords.{SlotWords}
-use Rattle.pebr_words.specs.Places.{slot_word, index}
 use mathlib.Core.Option.{some}
 use lib.ListN.{get_elem?}
 use Rattle.pebr_words.specs.declared.views.Held.{Held}
@@ -24,10 +22,6 @@ module _ {P N A F : Type 0} where
 
   abbrev pub fixed_of : Words P N A F → F
   fixed_of words = words.table.shared.key.fixed
-
-  -- a slot of these words, with the place of its first word
-  abbrev pub IsSlotOf : Words P N A F → SlotWords → Type 0
-  IsSlotOf words slot = (slot.slot < slot_count words.shape) × (slot.start ≡ index words.shape (slot_word slot.slot 0))
 
   -- what the seat knows of its part of the core
   abbrev pub known_of : {g : _} → Seat P N A F g → core.Seat

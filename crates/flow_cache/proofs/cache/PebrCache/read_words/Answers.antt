@@ -1,9 +1,9 @@
-use Rattle.std.proofs.Common.{◌≡◌, ◌≢◌, ◌+◌, ◌<◌, ◌∙◌, ◌∷◌, ℕ, List, Some, true, length, set, sym, ap, subst, arith}
+use Rattle.std.proofs.Common.{◌≡◌, ◌≢◌, ◌+◌, ◌<◌, ◌∙◌, ◌∷◌, ℕ, List, Some, length, set, sym, ap, subst, arith}
 use Rattle.std.specs.Prelude.{slice_index}
 use Rattle.std.proofs.lemmas.List.{length-set, get_or-set_same, get_or-set_other}
 use mathlib.Core.Logic.{dite}
 use native.Mathlib.Decide.{ℕ_discrete}
-use Rattle.pebr_core.specs.Steps.{is_shielded}
+use Rattle.pebr_core.specs.State.{Seat}
 use Rattle.pebr_core.specs.declared.kinds.Shape.{Shape}
 use Rattle.pebr_words.specs.Pasts.{Read, History, written_at}
 use Rattle.pebr_words.specs.Ruled.{HasReadWhole}
@@ -22,9 +22,6 @@ next_word reads slot word value words low before k lt = dite (ℕ_discrete k wor
     (word_here reads slot word value ∙ ap (λ n. Some n) (sym (get_or-set_same words word value 0 low))))
     (λ (apart : k ≢ word). word_else reads slot word value k (λ e. apart (sym e)) ∙ before k (omega (arith, lt, apart)) ∙ ap (λ n. Some n) (sym (get_or-set_other words word k value 0 apart)))
 
-pub read-requires-clause-protected : goal.read-requires-clause-protected
-read-requires-clause-protected c = let before = c.loop-word.invariant in subst (λ k. is_shielded k c.under-under.result.slot ≡ true) (sym before.known) c.under-under.ensures.protected
-
 pub loop-word-preserved : goal.loop-word-preserved
 loop-word-preserved c =
     let before = c.loop-word.invariant in
@@ -35,8 +32,7 @@ loop-word-preserved c =
     let word : ℕ = c.loop-word.word in
     let value : ℕ = c.read.result in
     let slot : ℕ = slot_at (known_by c.args.pass.now) place in
-    let under : ℕ = c.under-under.result.slot in
-    let slot_is : under ≡ slot = c.under-under.ensures.same in
+    let slot_is : slot_at (known_by old) place ≡ slot = ap (λ (s : Seat). slot_at s place) before.known in
     let reads : (past_by new).reads ≡ record { slot = slot; word = word; value = value } ∷ (past_by old).reads
     = ap (λ (p : History). p.reads) c.read.ensures.step.past ∙ ap (λ n. record { slot = n; word = word; value = value } ∷ (past_by old).reads) slot_is in
     let again : (read : Read) → _ → read.slot ≡ slot → read.word ≡ word → value ≡ read.value = λ read at s w. c.read.ensures.again read at (s ∙ sym slot_is) w in
