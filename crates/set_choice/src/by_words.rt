@@ -6,6 +6,7 @@ ghost use Rattle.cache_face.specs.Choice.{CanJoin, HasKey, IsChoice, entry_at};
 ghost use Rattle.flow_parts.specs.Parts.{IsJoined};
 ghost use Rattle.cache_face.specs.Keeping.{entry_of, IsSmall, IsWhole};
 ghost use Rattle.cache_face.specs.Choice as choice;
+ghost use Rattle.set_choice.specs.Chosen.{IsChosen, out_of};
 
 use cache_face::laws::contents_show;
 use cache_face::{Choice, How, choose};
@@ -68,13 +69,23 @@ fn joined(timeouts: &Timeouts, content: &[u64; 10], own: &Fragment) -> Option<Fr
     None
 }
 
+/// What becomes of the content at one place.
+#[derive(Clone, Copy, Debug)]
+pub struct WordChoice {
+    pub how: How,
+    /// Which of the contents, counted from 0.
+    pub place: usize,
+    /// The ten words that the content is to have.
+    pub words: [u64; 10],
+}
+
 /// The choice over all four entries, each as a fragment. Few packets come here.
 #[inline(never)]
-fn choose_among(timeouts: Timeouts, contents: &[[u64; 10]; 4], own: Fragment) -> Choice
+fn choose_among(timeouts: Timeouts, contents: &[[u64; 10]; 4], own: &Fragment) -> WordChoice
     requires whole { All IsWhole contents.now }
-    requires small { IsSmall own }
+    requires small { IsSmall own.now }
     ensures place { result.place < 4 }
-    ensures chosen { IsChoice timeouts (map entry_of contents.now) own result.how result.place result.out result.kept }
+    ensures chosen { IsChosen timeouts contents.now own.now result.how result.place result.words }
 {
     let entries = [
         entry(&contents[0]),
@@ -82,27 +93,36 @@ fn choose_among(timeouts: Timeouts, contents: &[[u64; 10]; 4], own: Fragment) ->
         entry(&contents[2]),
         entry(&contents[3]),
     ];
-    choose(timeouts, &entries, own)
+    let choice = choose(timeouts, &entries, *own);
+    WordChoice {
+        how: choice.how,
+        place: choice.place,
+        words: choice.kept.to_words(),
+    }
 }
 
 /// Puts a fragment into one of the four entries that ten words each show, by the choice of
 /// [`choose`](cache_face::choose).
-#[inline(always)]
-pub fn choose_by_words(timeouts: Timeouts, contents: &[[u64; 10]; 4], own: Fragment) -> Choice
+pub fn choose_by_words(
+    timeouts: Timeouts,
+    contents: &[[u64; 10]; 4],
+    own: &Fragment,
+) -> WordChoice
     requires whole { All IsWhole contents.now }
-    requires small { IsSmall own }
+    requires small { IsSmall own.now }
     ensures place { result.place < 4 }
-    ensures chosen { IsChoice timeouts (map entry_of contents.now) own result.how result.place result.out result.kept }
+    ensures chosen { IsChosen timeouts contents.now own.now result.how result.place result.words }
 {
-    if let Some(place) = lowest_with_words(contents, &own.key) {
-        if let Some(kept) = joined(&timeouts, &contents[place], &own) {
-            return Choice {
-                how: How::Joined,
-                place,
-                out: None,
-                kept,
-            };
-        }
-    }
     choose_among(timeouts, contents, own)
+}
+
+/// What is put out of the entry that ten words show.
+pub fn put_out(how: How, content: &[u64; 10]) -> Option<Fragment>
+    ensures { result ≡ out_of how (entry_of content.now) }
+{
+    fragments_have_fields();
+    match how {
+        How::Replaced => Fragment::of_words(content),
+        _ => None,
+    }
 }

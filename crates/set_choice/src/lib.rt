@@ -9,4 +9,4 @@ mod by_words;
 #[cfg(test)]
 mod tests;
 
-pub use by_words::choose_by_words;
+pub use by_words::{WordChoice, choose_by_words, put_out};

@@ -1,10 +1,10 @@
-use Rattle.std.proofs.Common.{rules, List, ◌∷◌, [], Option, sym, ◌∙◌, subst}
-use Rattle.flow_parts.specs.declared.fragment.Fragment.{Fragment}
-use Rattle.cache_face.specs.Choice.{IsChoice}
+use Rattle.std.proofs.Common.{rules, ◌∷◌, [], sym, ◌∙◌}
 use Rattle.set_choice.proofs.ByWords.{four_here}
+use Rattle.set_choice.proofs.Putting.{chosen_is}
 use Rattle.set_choice.proofs.by_words.choose_among.Goals as goal
 
 pub returns-clause-chosen : goal.returns-clause-chosen
 returns-clause-chosen c =
-    subst (λ (es : List (Option Fragment)). IsChoice c.args.timeouts es c.args.own c.choose.result.how c.choose.result.place c.choose.result.out c.choose.result.kept)
-    ((λ i. c.entry.ensures.entry i ∷ c.entry-2.ensures.entry i ∷ c.entry-3.ensures.entry i ∷ c.entry-4.ensures.entry i ∷ []) ∙ sym (four_here c.args.contents.now (search rules))) c.choose.ensures.chosen
+    chosen_is c.args.timeouts c.args.contents.now (c.entry.result ∷ c.entry-2.result ∷ c.entry-3.result ∷ c.entry-4.result ∷ []) c.args.own.now c.choose-choice.result.kept c.choose-choice.result.how c.choose-choice.result.place c.choose-choice.result.out c.to_words.result
+    ((λ i. c.entry.ensures.entry i ∷ c.entry-2.ensures.entry i ∷ c.entry-3.ensures.entry i ∷ c.entry-4.ensures.entry i ∷ []) ∙ sym (four_here c.args.contents.now (search rules)))
+    (sym c.to_words.ensures) c.choose-choice.ensures.chosen
