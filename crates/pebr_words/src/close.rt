@@ -91,7 +91,11 @@ impl<P: RootProtocol> Words<P> {
         ensures keeps { IfOk result (λ contents. P.keeps (fixed_of self) (rows_of (shape_of self) contents.items)
             (slice_set (replicate (shape_of self).seats P.empty) (number_of seat) (note_of P.first seat))) }
     {
-        let Words { table, shape } = self;
+        let Words {
+            table,
+            shape,
+            contents: _,
+        } = self;
         let Seat {
             inner,
             number: _,

@@ -3,7 +3,7 @@
 ghost use Rattle.std.specs.Prelude.{◌≡◌, ℕ, ◌*◌, ◌+◌, ◌-◌, ◌^◌, ◌<◌, ◌≤◌, [], ◌∷◌, length, replicate, IfOk, OnOk, All, ◌++◌};
 ghost use Rattle.std.specs.List.{range_with_len};
 ghost use Rattle.pebr_core.specs.Kept.{IsWithinLimits};
-ghost use Rattle.pebr_words.specs.Places.{roots_from};
+ghost use Rattle.pebr_words.specs.Places.{roots_from, slots_from};
 ghost use Rattle.pebr_words.specs.Opening.{opening_words, rows_of, spare_slots};
 ghost use Rattle.pebr_words.specs.Mirrors.{IsFirst};
 ghost use Rattle.pebr_words.specs.Ruled.{first_view, view_from};
@@ -25,6 +25,14 @@ pub(crate) fn roots_from(shape: Shape) -> usize
     ensures { result ≡ roots_from shape }
 {
     16 * (2 * shape.seats + 1)
+}
+
+/// How many words come before the slots'.
+fn slots_from(shape: Shape) -> usize
+    requires { IsWithinLimits shape }
+    ensures { result ≡ slots_from shape }
+{
+    roots_from(shape) + shape.roots
 }
 
 /// How many words the slots have that aren't in a root.
@@ -191,7 +199,12 @@ impl<P: RootProtocol> Words<P> {
         let Ok((table, seat)) = Table::of_words(alloc, words.as_slice(), &told) else {
             return Err(NoMemory);
         };
-        let words = Words { table, shape };
+        let contents = slots_from(shape);
+        let words = Words {
+            table,
+            shape,
+            contents,
+        };
         let seats = words.deal(alloc, seat)?;
         Ok((words, seats))
     }

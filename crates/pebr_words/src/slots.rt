@@ -5,24 +5,22 @@ ghost use Rattle.pebr_core.specs.declared.kinds.Step.TheVariants as step;
 ghost use Rattle.pebr_core.specs.declared.kinds.Answer.TheVariants as answer;
 ghost use Rattle.pebr_core.specs.State.{has, slot_count};
 ghost use Rattle.pebr_core.specs.Steps.{is_shielded};
-ghost use Rattle.pebr_core.specs.Kept.{IsWithinLimits};
 ghost use Rattle.pebr_words.specs.Places.{slot_word, index};
 ghost use Rattle.pebr_words.specs.Seats.{IsAt, IsStill, IsStep, shape_of, known_of, number_of, note_of};
 
-use crate::open::roots_from;
 use crate::protocol::RootProtocol;
 use crate::words::{Seat, Words};
-use pebr_core::{Shape, Step};
-
-/// The place of a word of a slot.
-fn slot_place(shape: Shape, slot: usize, word: usize) -> usize
-    requires { IsWithinLimits shape × (slot < slot_count shape) × (word < shape.width) }
-    ensures { result ≡ index shape (slot_word slot word) }
-{
-    roots_from(shape) + shape.roots + (slot * shape.width + word)
-}
+use pebr_core::Step;
 
 impl<P: RootProtocol> Words<P> {
+    /// The place of a word of a slot.
+    fn slot_place(&self, slot: usize, word: usize) -> usize
+        requires { (slot < slot_count self.now.shape) × (word < self.now.shape.width) }
+        ensures { result ≡ index self.now.shape (slot_word slot word) }
+    {
+        self.contents + (slot * self.shape.width + word)
+    }
+
     /// Reads a word of a slot that a shield of the seat is valid on.
     pub fn read_word(&self, seat: &mut Seat<P>, slot: usize, word: usize) -> u64
         requires at { IsAt self.now seat.old }
@@ -33,7 +31,7 @@ impl<P: RootProtocol> Words<P> {
         ensures known { known_of seat.new ≡ known_of seat.old }
         ensures step { IsStep P.whole self.now seat.old seat.new (step.Read (number_of seat.old) slot word) (answer.Word result) }
     {
-        let place = slot_place(self.shape, slot, word);
+        let place = self.slot_place(slot, word);
         let step = Step::Read(seat.number, slot, word);
         self.load(&mut seat.inner, place, step, None)
     }
@@ -48,7 +46,7 @@ impl<P: RootProtocol> Words<P> {
         ensures known { known_of seat.new ≡ known_of seat.old }
         ensures step { IsStep P.whole self.now seat.old seat.new (step.Write (number_of seat.old) slot word value) answer.Written }
     {
-        let place = slot_place(self.shape, slot, word);
+        let place = self.slot_place(slot, word);
         let step = Step::Write(seat.number, slot, word, value);
         self.store(&mut seat.inner, place, value, step, None);
     }

@@ -1,7 +1,7 @@
 //! The words that threads share, and a seat at them.
 
 ghost use Rattle.std.specs.Prelude.{◌≡◌};
-ghost use Rattle.pebr_words.specs.Places.{word_count};
+ghost use Rattle.pebr_words.specs.Places.{word_count, slots_from};
 ghost use Rattle.pebr_words.specs.Making.{number_in, known_in};
 ghost use Rattle.pebr_core.specs.Kept.{IsWithinLimits};
 ghost use Rattle.pebr_words.specs.Mirrors.{Mirrors};
@@ -19,10 +19,13 @@ use std::alloc::Global;
 pub struct Words<P: RootProtocol> {
     pub(crate) table: Table<(), View<P::Note>, Told<P::Fixed>, Rule<P>, Global>,
     pub(crate) shape: Shape,
+    /// The place of the first word of the first slot.
+    pub(crate) contents: usize,
     ghost told: { table.shared.key.shape ≡ shape },
     ghost counted: { table.shared.table_id.words ≡ word_count shape },
     ghost slotless: { table.shared.table_id.slots ≡ 0 },
     ghost limits: { IsWithinLimits shape },
+    ghost placed: { contents ≡ slots_from shape },
 }
 
 /// A seat at the words.

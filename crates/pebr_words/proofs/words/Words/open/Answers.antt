@@ -21,4 +21,5 @@ invariant_of-words g c = record {
   counted = c.in-Ok.ensures.0 ∙ (ap length (c.as_slice.ensures.value ∙ c.in_ok-words.ensures) ∙ opening_wide c.args.shape c.args.contents.now c.requires.long);
   slotless = c.in-Ok.ensures.1;
   limits = c.requires.limits;
+  placed = c.slots_from-contents.ensures;
 }
