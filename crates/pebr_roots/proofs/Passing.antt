@@ -1,9 +1,9 @@
 -- What is used of a pass: the slot under a valid shield, the least fresh slot, and that a seat has its number of slots.
 use Rattle.std.proofs.Common.{◌≡◌, ◌≢◌, ℕ, zero, suc, ◌<◌, Bool, true, false, List, [], ◌∷◌, length, get_or, set, map, replicate, Some, unwrap_or, cond, refl, sym, ap, ◌∙◌, subst, ⊎_elim, arith, count_by}
-use Rattle.std.specs.Prelude.{IsTrue}
+use Rattle.std.specs.Prelude.{IsTrue, slice_index}
 use Rattle.std.specs.List.{list_all}
 use Rattle.std.proofs.lemmas.Bool.{false≢true}
-use Rattle.std.proofs.lemmas.List.{get_or_default, get_or-set_other}
+use Rattle.std.proofs.lemmas.List.{get_or-set_other, get_or-set_same}
 use Rattle.std.proofs.lemmas.List.Sums.{sum_by-cons}
 use mathlib.Core.Logic.{dite}
 use native.Mathlib.Decide.{ℕ_discrete}
@@ -38,9 +38,8 @@ pub valid_at : (known : Seat) (place : ℕ) → IsTrue (is_valid_at known place)
 valid_at known place h = valid_as (shield_at known place) h
 
 -- what a pass keeps of a valid shield
-pub under_valid : (under : List ℕ) (known : Seat) (place found : ℕ) → AreUnder under known → place < length under → found ≡ get_or under place found → IsTrue (is_valid_at known place) → found ≡ slot_at known place
-under_valid under known place found h inside read valid =
-    read ∙ (get_or_default under place found 0 inside ∙ h place (slot_at known place) (ap slot_under (valid_at known place valid)))
+pub under_valid : (under : List ℕ) (known : Seat) (place : ℕ) → AreUnder under known → IsTrue (is_valid_at known place) → slice_index under place ≡ slot_at known place
+under_valid under known place h valid = h place (slot_at known place) (ap slot_under (valid_at known place valid))
 
 -- the least slot of a set that has one
 pub least_has : (marks : List Bool) → 0 < count_by (λ mark. mark) marks → has marks (least marks) ≡ true
@@ -77,6 +76,19 @@ slot_checked (stance.Ejected epoch) seen shields place = refl
 pub under_checked : (under : List ℕ) (result : Checked) (known : Seat) → AreUnder under known → AreUnder under (checked_seat result known)
 under_checked under found.Valid known h = λ place slot up. h place slot (sym (slot_checked known.status known.seen known.shields place) ∙ up)
 under_checked under found.Ejected known h = h
+
+-- a shield that is set
+pub under_set : (under : List ℕ) (known : Seat) (place slot : ℕ) → place < length under → AreUnder under known → AreUnder (set under place slot) (after_shield place (shield.Set slot) known)
+under_set under known place slot inside h = λ k other up. dite (ℕ_discrete k place)
+    (λ (same : k ≡ place). subst (λ n. get_or (set under place slot) n 0 ≡ other) (sym same)
+    (get_or-set_same under place slot 0 inside ∙ told known.shields place (subst (λ n. slot_under (get_or (set known.shields place (shield.Set slot)) n shield.Down) ≡ Some other) same up)))
+    (λ (apart : k ≢ place). get_or-set_other under place k slot 0 apart
+    ∙ h k other (sym (ap slot_under (get_or-set_other known.shields place k (shield.Set slot) shield.Down apart)) ∙ up))
+  where
+    told : (shields : List ShieldAt) (n : ℕ) {other : ℕ} → slot_under (get_or (set shields n (shield.Set slot)) n shield.Down) ≡ Some other → slot ≡ other
+    told [] n e = absurd cc
+    told (s ∷ ss) zero e = ap (λ o. unwrap_or o 0) e
+    told (s ∷ ss) (suc n) e = told ss n e
 
 -- a shield that is taken down
 pub under_down : (under : List ℕ) (known : Seat) (place : ℕ) → AreUnder under known → AreUnder under (after_shield place shield.Down known)

@@ -54,7 +54,6 @@ module _ {P N A F : Type 0} where
   -- A pass of these roots. It has its number of slots, fresh and retired together.
   pub record IsOf {g : _} (roots : Roots P N A F) (pass : RootPass P N A F g) : Type 0 where
     pub at : IsAt roots.words pass.seat
-    pub wide : length pass.under.items ≡ (shape_of roots.words).shields
     pub held : held_count (known_of pass.seat) ≡ slots_per_seat (shape_of roots.words)
 
   -- Steps were made: it is a pass of these roots with the same numbers as before.

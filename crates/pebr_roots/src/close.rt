@@ -28,9 +28,8 @@ impl<P: RootProtocol> Roots<P> {
         let RootPass { seat, under } = first;
         let RootPass {
             seat: other,
-            under: spent,
+            under: _,
         } = second;
-        drop(spent);
         let seat = self.words.unite(seat, other);
         RootPass { seat, under }
     }
@@ -51,8 +50,7 @@ impl<P: RootProtocol> Roots<P> {
             (slice_set (replicate (shape_at self).seats P.empty) (number_by pass) (note_by P.first pass))) }
     {
         let Roots { words } = self;
-        let RootPass { seat, under } = pass;
-        drop(under);
+        let RootPass { seat, under: _ } = pass;
         words.close(alloc, seat)
     }
 }

@@ -20,23 +20,17 @@ fn put<T: Drop>(list: &mut Vec<T>, value: T) -> Result<(), NoMemory>
 }
 
 impl<P: RootProtocol> Roots<P> {
-    /// Room for the slots under the shields of a pass.
-    fn no_slots(&self, alloc: Global) -> Result<Vec<usize>, NoMemory>
-        ensures { IfOk result (λ under. under.items ≡ replicate (shape_at self.now).shields 0) }
-    {
-        let under = Vec::from_elem(alloc, 0usize, self.words.shape().shields)?;
-        Ok(under)
-    }
-
     /// The pass of a seat that was opened.
-    fn pass(&self, seat: Seat<P>, under: Vec<usize>, number: usize) -> RootPass<P>
+    fn pass(&self, seat: Seat<P>, number: usize) -> RootPass<P>
         requires opened { IsOpenedSeat self.now.words P.first number seat }
         requires inside { number < (shape_at self.now).seats }
-        requires under { under.items ≡ replicate (shape_at self.now).shields 0 }
         ensures { IsOpenedPass self.now P.first number result }
     {
         start_is_sound();
-        RootPass { seat, under }
+        RootPass {
+            seat,
+            under: [0; 8],
+        }
     }
 
     /// A pass for each seat. The last seat is taken first, so the passes are turned round at the end.
@@ -49,8 +43,7 @@ impl<P: RootProtocol> Roots<P> {
             let Some(seat) = seats.pop() else {
                 return Err(NoMemory);
             };
-            let under = self.no_slots(alloc)?;
-            let pass = self.pass(seat, under, seats.len());
+            let pass = self.pass(seat, seats.len());
             put(&mut passes, pass)?;
         }
         passes.reverse();

@@ -15,7 +15,7 @@ pub struct Roots<P: RootProtocol> {
 #[derive(Drop)]
 pub struct RootPass<P: RootProtocol> {
     pub(crate) seat: Seat<P>,
-    /// The slot under each shield that is up.
-    pub(crate) under: Vec<usize>,
-    ghost slots: { AreUnder under.items (known_of seat) },
+    /// The slot under each shield that is up. No shape has more than 8 shields.
+    pub(crate) under: [usize; 8],
+    ghost slots: { AreUnder under (known_of seat) },
 }

@@ -20,7 +20,6 @@ returns-then-not-pass_all-clause-same g c =
     record {
       of = record {
         at = b.0;
-        wide = c.requires.of.wide;
         held = opened_held shape opened.noted old opened (known_of c.pass_all.new.seat) c.open_scan.ensures.known c.pass_all.ensures.known.scan ∙ c.requires.of.held;
       };
       still = (b.0, b.1 ∙ a.1, b.2 ∙ a.2, b.3 ∙ a.3, b.4 ∙ a.4);
@@ -53,7 +52,6 @@ returns-clause-same g c =
     record {
       of = record {
         at = e.0;
-        wide = c.requires.of.wide;
         held = held_after shape _ _ (known_of c.scan_all.new.seat) (known_of c.give-given.new.seat) c.steps_are_safe.ensures.sound c.steps_leave_the_rest.ensures d.0.3 c.give-given.ensures.step.core;
       };
       still = (e.0, e.1 ∙ (d.1 ∙ (b.1 ∙ a.1)), e.2 ∙ (d.2 ∙ (b.2 ∙ a.2)), e.3 ∙ (d.3 ∙ (b.3 ∙ a.3)), e.4 ∙ (d.4 ∙ (b.4 ∙ a.4)));

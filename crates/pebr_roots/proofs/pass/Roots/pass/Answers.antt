@@ -1,5 +1,4 @@
-use Rattle.std.proofs.Common.{length, sym, ap, ◌∙◌, arith}
-use Rattle.std.proofs.lemmas.List.{length-replicate}
+use Rattle.std.proofs.Common.{sym, ap, ◌∙◌, arith}
 use Rattle.std.proofs.lemmas.List.FromFn.{get_or-map-range_with_len}
 use Rattle.pebr_core.specs.State.{first_seat, nobody}
 use Rattle.pebr_core.specs.Kept.{held_count}
@@ -14,7 +13,6 @@ returns g c =
     record {
       of = record {
         at = opened.0;
-        wide = ap length c.requires.under ∙ length-replicate shape.shields 0;
         held = ap held_count (opened.2 ∙ sym at) ∙ (c.start_is_sound.ensures shape).holding i c.requires.inside;
       };
       number = opened.1;
