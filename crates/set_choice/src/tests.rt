@@ -3,8 +3,8 @@
 ghost use Rattle.std.specs.Prelude.{◌≤◌};
 ghost use Rattle.cache_face.specs.Keeping.{IsSmall, IsWhole};
 
-use crate::choose_by_words;
-use cache_face::{Choice, How};
+use crate::{WordChoice, choose_by_words, put_out};
+use cache_face::How;
 use flow_parts::{Fragment, Timeouts};
 use samples::udp_key;
 
@@ -31,14 +31,23 @@ fn words(part: Fragment) -> [u64; 10]
     part.to_words()
 }
 
-/// The choice among four contents, where the time-outs are 300 and 1800 s.
+/// The words of a fragment, without its packets: an empty content that has the words of a key.
+fn emptied(part: Fragment) -> [u64; 10]
+    ensures { IsWhole result }
+{
+    let mut content = part.to_words();
+    content[5] = 0;
+    content
+}
+
+/// The choice among four contents, where the time-outs are 300 and 1800 s, and what it puts out.
 fn put(
     first: [u64; 10],
     second: [u64; 10],
     third: [u64; 10],
     fourth: [u64; 10],
     own: Fragment,
-) -> Choice
+) -> (WordChoice, Option<Fragment>)
     requires first { IsWhole first }
     requires second { IsWhole second }
     requires third { IsWhole third }
@@ -46,10 +55,23 @@ fn put(
     requires own { IsSmall own }
 {
     let contents = [first, second, third, fourth];
-    choose_by_words(Timeouts::new(300, 1800), &contents, own)
+    let choice = choose_by_words(Timeouts::new(300, 1800), &contents, &own);
+    (choice, put_out(choice.how, &contents[choice.place]))
 }
 
-/// Four entries that end at 5, 1, 3 and 4 s, or three of them and an empty one.
+/// Whether this is done at this place, the content is to have the words of this fragment, and this one is put out.
+fn is(
+    answer: (WordChoice, Option<Fragment>),
+    how: How,
+    place: usize,
+    kept: Fragment,
+    out: Option<Fragment>,
+) -> bool {
+    let (choice, was_out) = answer;
+    choice.how == how && choice.place == place && choice.words == kept.to_words() && was_out == out
+}
+
+/// Four entries that end at 5, 1, 3 and 4 s, or some of them and empty ones.
 #[test]
 fn choices_by_words(rt: HostRuntime) {
     let five = words(part(1, 4, 5));
@@ -57,17 +79,51 @@ fn choices_by_words(rt: HostRuntime) {
     let three = words(part(3, 2, 3));
     let last = words(part(4, 4, 4));
     let own = part(9, 9, 9);
-    let joined = put(five, one, [0; 10], last, part(4, 10, 10));
-    assert!(rt; joined.how == How::Joined && joined.place == 3 && joined.out.is_none());
-    assert!(rt;
-        joined.kept.packets == 4 && joined.kept.first == 4000 && joined.kept.last == 10_000
-    );
-    let late = put(five, one, [0; 10], last, part(2, 302, 302));
-    assert!(rt; late.how == How::Replaced && late.place == 1 && late.out == Some(part(2, 1, 1)));
+    let (joined, none) = put(five, one, [0; 10], last, part(4, 10, 10));
+    assert!(rt; joined.how == How::Joined && joined.place == 3 && none.is_none());
+    let [a, b, c, d, e, packets, octets, first, end, flags] = joined.words;
+    assert!(rt; [a, b, c, d, e] == udp_key(4).to_words());
+    assert!(rt; [packets, octets, first, end, flags] == [4, 160, 4000, 10_000, 0]);
+    let late = part(2, 302, 302);
+    let one_out = Some(part(2, 1, 1));
+    let anew = put(five, one, [0; 10], last, late);
+    assert!(rt; is(anew, How::Replaced, 1, late, one_out));
     let opened = put(five, one, [0; 10], last, own);
-    assert!(rt; opened.how == How::Opened && opened.place == 2 && opened.kept == own);
+    assert!(rt; is(opened, How::Opened, 2, own, None));
+    let lowest = put([0; 10], one, [0; 10], last, own);
+    assert!(rt; is(lowest, How::Opened, 0, own, None));
+    let again = put(five, emptied(own), three, [0; 10], own);
+    assert!(rt; is(again, How::Opened, 1, own, None));
     let oldest = put(five, one, three, last, own);
-    assert!(rt;
-        oldest.how == How::Replaced && oldest.place == 1 && oldest.out == Some(part(2, 1, 1))
-    );
+    assert!(rt; is(oldest, How::Replaced, 1, own, one_out));
+}
+
+/// Among equals the lowest: of two entries that end at once, and of two of one key that don't take the fragment in. Of those
+/// of one key the lowest that takes it in.
+#[test]
+fn lowest_among_equals(rt: HostRuntime) {
+    let old = part(1, 100, 100);
+    let content = words(old);
+    let new = words(part(1, 2000, 2000));
+    let (joined, none) = put(content, new, new, [0; 10], part(1, 2001, 2001));
+    assert!(rt; joined.how == How::Joined && joined.place == 1 && none.is_none());
+    let late = part(1, 9000, 9000);
+    let anew = put(content, new, new, [0; 10], late);
+    assert!(rt; is(anew, How::Replaced, 0, late, Some(old)));
+    let other = part(2, 100, 100);
+    let own = part(3, 1, 1);
+    let oldest = put(new, words(other), words(other), words(other), own);
+    assert!(rt; is(oldest, How::Replaced, 1, own, Some(other)));
+}
+
+/// What each answer puts out of an entry.
+#[test]
+fn out_of_an_entry(rt: HostRuntime) {
+    let old = part(1, 4, 5);
+    let content = words(old);
+    assert!(rt; put_out(How::Replaced, &content) == Some(old));
+    assert!(rt; put_out(How::Replaced, &[0; 10]).is_none());
+    assert!(rt; put_out(How::Joined, &content).is_none());
+    assert!(rt; put_out(How::Opened, &content).is_none());
+    assert!(rt; put_out(How::PassedBy, &content).is_none());
 }

@@ -6,5 +6,5 @@ use Rattle.set_choice.proofs.by_words.lowest_with_words.Given as goal
 
 abbrev pub invariant-loop-place : goal.invariant-loop-place
 invariant-loop-place l = record {
-  below : (lower : ℕ) → lower < l.place → ¬ HasKey l.key (entry_at (map entry_of l.contents) lower);
+  below : (lower : ℕ) → lower < l.place → ¬ HasKey l._key (entry_at (map entry_of l.contents) lower);
 }

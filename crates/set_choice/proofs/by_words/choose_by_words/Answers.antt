@@ -1,0 +1,14 @@
+use Rattle.std.proofs.Common.{rules, sym}
+use Rattle.set_choice.proofs.Putting.{joins_there}
+use Rattle.set_choice.proofs.by_words.choose_by_words.Goals as goal
+
+pub returns-in-Some-joined-clause-chosen : goal.returns-in-Some-joined-clause-chosen
+returns-in-Some-joined-clause-chosen c = (
+  c.in-Some-joined.kept,
+  sym c.to_words.ensures,
+  joins_there c.args.timeouts c.args.contents.now c.args.own.now c.in-Some-joined.kept c.in-Some.place (search rules)
+      c.in-Some.ensures.some.2 c.in-Some-joined.ensures.some.0 c.in-Some-joined.ensures.some.1,
+)
+
+pub returns-in-None-clause-chosen : goal.returns-in-None-clause-chosen
+returns-in-None-clause-chosen c = c.choose_else.ensures.chosen c.args.timeouts
