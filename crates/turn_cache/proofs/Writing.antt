@@ -1,5 +1,5 @@
 -- Ten words that are read and written one after another.
-use Rattle.std.proofs.Common.{◌≡◌, ℕ, zero, suc, ◌+◌, ◌*◌, ◌<◌, List, [], ◌∷◌, ◌++◌, length, get_or, set, take, drop, sym, refl, ap, ◌∙◌, arith, append_assoc, length-append, None}
+use Rattle.std.proofs.Common.{◌≡◌, ℕ, zero, suc, ◌+◌, ◌*◌, ◌<◌, List, [], ◌∷◌, ◌++◌, length, map, get_or, set, take, drop, sym, refl, ap, ◌∙◌, arith, append_assoc, length-append, None}
 use Rattle.std.proofs.lemmas.List.{append-nil}
 use Rattle.cache_face.specs.Keeping.{entry_of}
 use Rattle.turn_cache.specs.Hands.{Hand, entries_of}
@@ -80,6 +80,17 @@ take_next xs k n low = ap (λ m. take m (set xs k n)) (sym (next_is k)) ∙ take
 pub mixed_next : (k : ℕ) (new old : List ℕ) → k < length new → k < length old → set (mixed k new old) k (get_or new k 0) ≡ mixed (k + 1) new old
 mixed_next k new old low low' = mixed_written k new old low low' ∙ ap (λ m. mixed m new old) (next_is k)
 
+-- where the next word is new already, no word changes
+mixed_same : (k : ℕ) (new old : List ℕ) → k < length new → k < length old → get_or old k 0 ≡ get_or new k 0 → mixed (suc k) new old ≡ mixed k new old
+unfolding mixed
+mixed_same k [] old low low' e = absurd (omega (arith, low))
+mixed_same k (x ∷ xs) [] low low' e = absurd (omega (arith, low'))
+mixed_same zero (x ∷ xs) (y ∷ ys) low low' e = ap (λ z. z ∷ ys) (sym e)
+mixed_same (suc k) (x ∷ xs) (y ∷ ys) low low' e = ap (λ l. x ∷ l) (mixed_same k xs ys (omega (arith, low)) (omega (arith, low')) e)
+
+pub mixed_stays : (k : ℕ) (new old : List ℕ) → k < length new → k < length old → get_or old k 0 ≡ get_or new k 0 → mixed (k + 1) new old ≡ mixed k new old
+mixed_stays k new old low low' e = ap (λ m. mixed m new old) (sym (next_is k)) ∙ mixed_same k new old low low' e
+
 -- four entries, each of ten words
 pub four_entries : (a b c d : List ℕ) → length a ≡ 10 → length b ≡ 10 → length c ≡ 10 → length d ≡ 10
     → entries_of (a ++ (b ++ (c ++ d))) ≡ entry_of a ∷ entry_of b ∷ entry_of c ∷ entry_of d ∷ []
@@ -99,13 +110,20 @@ piece a b c d (suc (suc zero)) low p q r = (a ++ b, d, sym (append_assoc a b (c 
 piece a b c d (suc (suc (suc zero))) low p q r = ((a ++ b) ++ c, [], sym (append_assoc a b (c ++ d)) ∙ (sym (append_assoc (a ++ b) c d) ∙ ap (λ z. ((a ++ b) ++ c) ++ z) (sym (append-nil d))), (let l = length-append (a ++ b) c in let m = length-append a b in omega (arith, l, m, p, q, r)))
 piece a b c d (suc (suc (suc (suc k)))) low p q r = absurd (omega (arith, low))
 
--- the entry at that place
-pub entry_there : (a b c d : List ℕ) (place : ℕ) → place < 4 → get_or (entry_of a ∷ entry_of b ∷ entry_of c ∷ entry_of d ∷ []) place None ≡ entry_of (get_or (a ∷ b ∷ c ∷ d ∷ []) place [])
-entry_there a b c d zero low = refl
-entry_there a b c d (suc zero) low = refl
-entry_there a b c d (suc (suc zero)) low = refl
-entry_there a b c d (suc (suc (suc zero))) low = refl
-entry_there a b c d (suc (suc (suc (suc k)))) low = absurd (omega (arith, low))
+-- four contents, each put in its place
+pub four_set : (contents : List (List ℕ)) (a b c d : List ℕ) → length contents ≡ 4 → set (set (set (set contents 0 a) 1 b) 2 c) 3 d ≡ a ∷ b ∷ c ∷ d ∷ []
+four_set [] a b c d long = absurd (omega (arith, long))
+four_set (x ∷ []) a b c d long = absurd (omega (arith, long))
+four_set (x ∷ y ∷ []) a b c d long = absurd (omega (arith, long))
+four_set (x ∷ y ∷ z ∷ []) a b c d long = absurd (omega (arith, long))
+four_set (x ∷ y ∷ z ∷ w ∷ []) a b c d long = refl
+four_set (x ∷ y ∷ z ∷ w ∷ v ∷ vs) a b c d long = absurd (omega (arith, long))
+
+-- the entry at a place is that of the content there
+pub entry_there : (contents : List (List ℕ)) (place : ℕ) → place < length contents → get_or (map entry_of contents) place None ≡ entry_of (get_or contents place [])
+entry_there [] place low = absurd (omega (arith, low))
+entry_there (content ∷ contents) zero low = refl
+entry_there (content ∷ contents) (suc place) low = entry_there contents place (omega (arith, low))
 
 -- read one after another
 pub read_four : (hand : Hand) (a b c d : List ℕ) → hand.read ≡ [] → more_read d (more_read c (more_read b (more_read a hand))) ≡ record hand { read = a ++ (b ++ (c ++ d)) }

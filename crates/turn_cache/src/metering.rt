@@ -1,6 +1,6 @@
 //! A fragment is put into its set.
 
-ghost use Rattle.std.specs.Prelude.{◌≡◌, ◌≢◌, ℕ, ◌+◌, ◌*◌, ◌<◌, ◌≤◌, ◌++◌, length, [], ◌∷◌, List, IsTrue, true, false, slice_set, slice_index, slice_index_or, Some};
+ghost use Rattle.std.specs.Prelude.{◌≡◌, ◌≢◌, ℕ, ◌+◌, ◌*◌, ◌<◌, ◌≤◌, ◌++◌, length, [], ◌∷◌, List, IsTrue, true, false, slice_set, slice_index, slice_index_or, None, Some};
 ghost use Rattle.flow_key.specs.Key.{set_number};
 ghost use Rattle.flow_parts.specs.declared.fragment.Fragment.{Fragment};
 ghost use Rattle.flow_parts.specs.Parts.{part_words};
@@ -8,6 +8,8 @@ ghost use Rattle.cache_face.specs.Choice as choice;
 ghost use Rattle.cache_face.specs.Keeping.{entry_of, IsWhole};
 ghost use Rattle.cache_face.specs.Meaning.{IsAnswer};
 ghost use Rattle.cache_face.specs.Notes.{metering};
+ghost use Rattle.cache_face.specs.declared.metered.How.TheVariants.{PassedBy};
+ghost use Rattle.set_choice.specs.Chosen.{out_of};
 ghost use Rattle.turn_cache.specs.Hands.{number_of, idle, reading, writing, entries_of};
 ghost use Rattle.turn_cache.specs.Moves as moves;
 ghost use Rattle.turn_cache.specs.Shown.{means_of, shown_of, IsOf, IsTryOf};
@@ -17,23 +19,35 @@ use crate::rule::{IsTaken, Known};
 use atomic_table::Seat;
 use cache_face::{How, Metered};
 use flow_parts::Fragment;
-use set_choice::choose_by_words;
+use set_choice::{choose_by_words, put_out};
+
+/// Writes the answer of a packet that was put in: what became of it, and the fragment that is put out, where there is one.
+#[inline]
+fn answer(how: How, old: &[u64; 10], metered: &mut Metered)
+    requires none_out { metered.old.out ≡ None }
+    ensures how { metered.new.how ≡ how }
+    ensures out { metered.new.out ≡ out_of how (entry_of old.now) }
+{
+    metered.how = how;
+    if how == How::Replaced {
+        metered.out = put_out(how, old);
+    }
+}
 
 impl TurnCache {
-    /// Reads the ten words of the set's next entry.
-    fn read_entry(&self, seat: &mut Seat<(), Known>, set: u64, place: usize) -> [u64; 10]
+    /// Reads the ten words of the set's next entry into `words`.
+    fn read_entry(&self, seat: &mut Seat<(), Known>, set: u64, place: usize, words: &mut [u64; 10])
         requires at { seat.old.table_id ≡ self.now.table.shared.table_id }
         requires reading { (seat.old.me.0.turn ≡ reading set) × (length seat.old.me.0.read ≡ 10 * place) }
         requires below { (set < self.now.sets) × (place < 4) }
         ensures at { seat.new.table_id ≡ seat.old.table_id }
-        ensures reads { seat.new.me ≡ (moves.more_read result seat.old.me.0, seat.old.me.1) }
-        ensures whole { IsWhole result }
+        ensures reads { seat.new.me ≡ (moves.more_read words.new seat.old.me.0, seat.old.me.1) }
+        ensures long { length words.new ≡ 10 }
+        ensures whole { IsWhole words.new }
     {
-        let mut words = [0; 10];
         for k in 0..10 {
             words[k] = self.load_word(seat, set, 10 * place + k);
         }
-        words
     }
 
     /// Stores those words of an entry that change, behind its first store.
@@ -42,23 +56,24 @@ impl TurnCache {
         seat: &mut Seat<(), Known>,
         set: u64,
         place: usize,
-        old: [u64; 10],
-        new: [u64; 10],
+        old: &[u64; 10],
+        new: &[u64; 10],
     )
         requires at { seat.old.table_id ≡ self.now.table.shared.table_id }
-        requires writing { seat.old.me.0.turn ≡ writing set place new (slice_set old 5 (slice_index new 5)) }
+        requires writing { seat.old.me.0.turn ≡ writing set place new.now (slice_set old.now 5 (slice_index new.now 5)) }
         requires below { (set < self.now.sets) × (place < 4) }
         ensures at { seat.new.table_id ≡ seat.old.table_id }
-        ensures written { seat.new.me ≡ (moves.at_turn (writing set place new new) seat.old.me.0, seat.old.me.1) }
+        ensures written { seat.new.me ≡ (moves.at_turn (writing set place new.now new.now) seat.old.me.0, seat.old.me.1) }
     {
-        let mut stands = old;
-        stands[5] = new[5];
         for k in 0..10 {
-            self.write_word(seat, set, place, k, stands[k], new[k]);
+            if k != 5 {
+                self.write_word(seat, set, place, k, old[k], new[k]);
+            }
         }
     }
 
     /// Stores a word of an entry, where it changes.
+    #[inline]
     fn write_word(
         &self,
         seat: &mut Seat<(), Known>,
@@ -86,49 +101,51 @@ impl TurnCache {
         seat: &mut Seat<(), Known>,
         set: u64,
         place: usize,
-        old: [u64; 10],
-        own: Fragment,
-        kept: Fragment,
-        out: Option<Fragment>,
+        old: &[u64; 10],
+        new: &[u64; 10],
+        own: &Fragment,
+        how: How,
     )
         requires at { seat.old.table_id ≡ self.now.table.shared.table_id }
         requires reading { seat.old.me.0.turn ≡ reading set }
         requires below { (set < self.now.sets) × (place < 4) }
-        requires read { (before after : List ℕ) × (seat.old.me.0.read ≡ before ++ (old ++ after)) × (length before ≡ 10 * place) }
-        requires own { moves.IsOwn self.now.timeouts seat.old.me.0.note K.packets own }
-        requires kept { choice.Takes self.now.timeouts own (entry_of old) out kept }
+        requires read { (before after : List ℕ) × (seat.old.me.0.read ≡ before ++ (old.now ++ after)) × (length before ≡ 10 * place) }
+        requires own { moves.IsOwn self.now.timeouts seat.old.me.0.note K.packets own.now }
+        requires kept { (kept : Fragment) × (part_words kept ≡ new.now) × choice.Takes self.now.timeouts own.now (entry_of old.now) (out_of how (entry_of old.now)) kept }
         ensures at { seat.new.table_id ≡ seat.old.table_id }
-        ensures filled { seat.new.me ≡ (moves.filled seat.old.me.0.read K.packets out seat.old.me.0, seat.old.me.1) }
+        ensures filled { seat.new.me ≡ (moves.filled seat.old.me.0.read K.packets (out_of how (entry_of old.now)) seat.old.me.0, seat.old.me.1) }
     {
-        let new = kept.to_words();
-        self.commit::<K>(seat, set, place, old, new, own, kept, out);
+        self.commit::<K>(seat, set, place, old, new, own, how);
         self.write_rest(seat, set, place, old, new);
         self.give(seat, set);
     }
 
-    /// Puts a fragment into the set whose turn the seat has.
-    fn put<K: IsTaken>(&self, seat: &mut Seat<(), Known>, set: u64, own: Fragment) -> Metered
+    /// Puts a fragment into the set whose turn the seat has. The words of the set are read into `contents`.
+    fn put<K: IsTaken>(
+        &self,
+        seat: &mut Seat<(), Known>,
+        set: u64,
+        own: &Fragment,
+        contents: &mut [[u64; 10]; 4],
+        metered: &mut Metered,
+    )
         requires at { seat.old.table_id ≡ self.now.table.shared.table_id }
         requires reading { (seat.old.me.0.turn ≡ reading set) × (seat.old.me.0.read ≡ []) }
         requires below { set < self.now.sets }
-        requires own { moves.IsOwn self.now.timeouts seat.old.me.0.note K.packets own }
+        requires own { moves.IsOwn self.now.timeouts seat.old.me.0.note K.packets own.now }
+        requires none_out { metered.old.out ≡ None }
         ensures at { seat.new.table_id ≡ seat.old.table_id }
-        ensures filled { (words : List ℕ) × (seat.new.me ≡ (moves.filled words K.packets result.out seat.old.me.0, seat.old.me.1))
-            × ((place : ℕ) × (kept : Fragment) × choice.IsChoice self.now.timeouts (entries_of words) own result.how place result.out kept) }
+        ensures filled { (words : List ℕ) × (seat.new.me ≡ (moves.filled words K.packets metered.new.out seat.old.me.0, seat.old.me.1))
+            × ((place : ℕ) × (kept : Fragment) × choice.IsChoice self.now.timeouts (entries_of words) own.now metered.new.how place metered.new.out kept) }
     {
-        let contents = [
-            self.read_entry(seat, set, 0),
-            self.read_entry(seat, set, 1),
-            self.read_entry(seat, set, 2),
-            self.read_entry(seat, set, 3),
-        ];
-        let choice = choose_by_words(self.timeouts, &contents, own);
-        let old = contents[choice.place];
-        self.write::<K>(seat, set, choice.place, old, own, choice.kept, choice.out);
-        Metered {
-            how: choice.how,
-            out: choice.out,
-        }
+        self.read_entry(seat, set, 0, &mut contents[0]);
+        self.read_entry(seat, set, 1, &mut contents[1]);
+        self.read_entry(seat, set, 2, &mut contents[2]);
+        self.read_entry(seat, set, 3, &mut contents[3]);
+        let choice = choose_by_words(self.timeouts, contents, own);
+        let old = &contents[choice.place];
+        self.write::<K>(seat, set, choice.place, old, &choice.words, own, choice.how);
+        answer(choice.how, old, metered);
     }
 
     /// Tries three times to take the turn of a set. After the third lost try the own fragment is handed out.
@@ -137,16 +154,16 @@ impl TurnCache {
         seat: &mut Seat<(), Known>,
         number: u64,
         set: u64,
-        own: Fragment,
+        own: &Fragment,
     ) -> bool
         requires at { seat.old.table_id ≡ self.now.table.shared.table_id }
         requires idle { (seat.old.me.0.turn ≡ idle) × (0 < length seat.old.me.0.numbers) × (number_of seat.old.me.0.numbers ≡ number) }
         requires set { set < self.now.sets }
         requires number { number < 64 }
-        requires own { moves.IsOwn self.now.timeouts seat.old.me.0.note K.packets own }
+        requires own { moves.IsOwn self.now.timeouts seat.old.me.0.note K.packets own.now }
         ensures at { seat.new.table_id ≡ seat.old.table_id }
         ensures taken { IsTrue result → ((n : ℕ) × (n < 3) × (seat.new.me ≡ (moves.after_tries set n seat.old.me.0, seat.old.me.1))) }
-        ensures lost { result ≡ false → (seat.new.me ≡ (moves.passed_by set K.packets own seat.old.me.0, seat.old.me.1)) × (self.now.seats ≢ 1) }
+        ensures lost { result ≡ false → (seat.new.me ≡ (moves.passed_by set K.packets own.now seat.old.me.0, seat.old.me.1)) × (self.now.seats ≢ 1) }
     {
         if self.take::<K>(seat, number, set, own, false) {
             return true;
@@ -157,22 +174,29 @@ impl TurnCache {
         self.take::<K>(seat, number, set, own, true)
     }
 
-    /// Puts a fragment into its set, or passes it by.
-    pub(crate) fn put_in<K: IsTaken>(&self, pass: &mut TurnPass, own: Fragment) -> Metered
+    /// Puts a fragment into its set, or passes it by. The answer begins as that of a packet that is passed by, with nothing
+    /// handed out; what is to be otherwise is written.
+    #[inline(never)]
+    pub(crate) fn put_in<K: IsTaken>(
+        &self,
+        pass: &mut TurnPass,
+        own: &Fragment,
+        metered: &mut Metered,
+    )
         requires own { IsOf self.now pass.old }
-        requires fragment { moves.IsOwn self.now.timeouts (shown_of pass.old).note K.packets own }
+        requires fragment { moves.IsOwn self.now.timeouts (shown_of pass.old).note K.packets own.now }
+        requires passed_by { (metered.old.how ≡ PassedBy) × (metered.old.out ≡ None) }
         ensures own { IsOf self.now pass.new }
-        ensures note { (shown_of pass.new).note ≡ metering (shown_of pass.old).note K.packets result.out }
-        ensures answer { IsAnswer (means_of self.now) IsTryOf (shown_of pass.old) (shown_of pass.new) own result.how result.out }
+        ensures note { (shown_of pass.new).note ≡ metering (shown_of pass.old).note K.packets metered.new.out }
+        ensures answer { IsAnswer (means_of self.now) IsTryOf (shown_of pass.old) (shown_of pass.new) own.now metered.new.how metered.new.out }
     {
         let set = own.key.set_of(self.sets);
         let number = pass.number;
+        let mut contents = [[0; 10]; 4];
         if self.take_turn::<K>(&mut pass.seat, number, set, own) {
-            return self.put::<K>(&mut pass.seat, set, own);
-        }
-        Metered {
-            how: How::PassedBy,
-            out: Some(own),
+            self.put::<K>(&mut pass.seat, set, own, &mut contents, metered);
+        } else {
+            metered.out = Some(*own);
         }
     }
 }

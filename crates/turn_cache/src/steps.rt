@@ -5,12 +5,14 @@ ghost use Rattle.flow_parts.specs.declared.fragment.Fragment.{Fragment};
 ghost use Rattle.flow_parts.specs.Parts.{part_words};
 ghost use Rattle.cache_face.specs.Choice as choice;
 ghost use Rattle.cache_face.specs.Keeping.{entry_of};
+ghost use Rattle.set_choice.specs.Chosen.{out_of};
 ghost use Rattle.turn_cache.specs.Hands.{number_of, idle, reading, writing};
 ghost use Rattle.turn_cache.specs.Moves as moves;
 
 use crate::cache::TurnCache;
 use crate::rule::{Commits, Gives, IsMove, IsTaken, Known, Loads, Stores, Takes};
 use atomic_table::Seat;
+use cache_face::How;
 use flow_parts::Fragment;
 use std::marker::Brand;
 
@@ -20,17 +22,17 @@ impl TurnCache {
         seat: &mut Seat<(), Known>,
         number: u64,
         set: u64,
-        _own: Fragment,
+        _own: &Fragment,
         _last: bool,
     ) -> u64
-        requires about { M.about ≡ moves.trying self.now.seats set K.packets _own _last }
+        requires about { M.about ≡ moves.trying self.now.seats set K.packets _own.now _last }
         requires at { seat.old.table_id ≡ self.now.table.shared.table_id }
         requires idle { (seat.old.me.0.turn ≡ idle) × (0 < length seat.old.me.0.numbers) × (number_of seat.old.me.0.numbers ≡ number) }
         requires set { set < self.now.sets }
         requires number { number < 64 }
-        requires own { moves.IsOwn self.now.timeouts seat.old.me.0.note K.packets _own }
+        requires own { moves.IsOwn self.now.timeouts seat.old.me.0.note K.packets _own.now }
         ensures at { seat.new.table_id ≡ seat.old.table_id }
-        ensures tells { moves.Tells (moves.trying self.now.seats set K.packets _own _last) seat.old.me result seat.new.me }
+        ensures tells { moves.Tells (moves.trying self.now.seats set K.packets _own.now _last) seat.old.me result seat.new.me }
     {
         let word = 64 * set as usize;
         self.table
@@ -45,17 +47,17 @@ impl TurnCache {
         seat: &mut Seat<(), Known>,
         number: u64,
         set: u64,
-        own: Fragment,
+        own: &Fragment,
         last: bool,
     ) -> bool
         requires at { seat.old.table_id ≡ self.now.table.shared.table_id }
         requires idle { (seat.old.me.0.turn ≡ idle) × (0 < length seat.old.me.0.numbers) × (number_of seat.old.me.0.numbers ≡ number) }
         requires set { set < self.now.sets }
         requires number { number < 64 }
-        requires own { moves.IsOwn self.now.timeouts seat.old.me.0.note K.packets own }
+        requires own { moves.IsOwn self.now.timeouts seat.old.me.0.note K.packets own.now }
         ensures at { seat.new.table_id ≡ seat.old.table_id }
         ensures taken { IsTrue result → seat.new.me ≡ (moves.taken set seat.old.me.0, seat.old.me.1) }
-        ensures lost { result ≡ false → (seat.new.me ≡ (moves.lost (moves.trying self.now.seats set K.packets own last) seat.old.me.0, seat.old.me.1)) × (self.now.seats ≢ 1) }
+        ensures lost { result ≡ false → (seat.new.me ≡ (moves.lost (moves.trying self.now.seats set K.packets own.now last) seat.old.me.0, seat.old.me.1)) × (self.now.seats ≢ 1) }
     {
         self.take_as::<Brand, K>(seat, number, set, own, last) == 0
     }
@@ -77,21 +79,20 @@ impl TurnCache {
         seat: &mut Seat<(), Known>,
         set: u64,
         place: usize,
-        _old: [u64; 10],
-        new: [u64; 10],
-        _own: Fragment,
-        _kept: Fragment,
-        _out: Option<Fragment>,
+        _old: &[u64; 10],
+        new: &[u64; 10],
+        _own: &Fragment,
+        _how: How,
     )
-        requires about { M.about ≡ moves.writes_to set place K.packets _out _old new }
+        requires about { M.about ≡ moves.writes_to set place K.packets (out_of _how (entry_of _old.now)) _old.now new.now }
         requires at { seat.old.table_id ≡ self.now.table.shared.table_id }
         requires reading { seat.old.me.0.turn ≡ reading set }
         requires below { (set < self.now.sets) × (place < 4) }
-        requires read { (before after : List ℕ) × (seat.old.me.0.read ≡ before ++ (_old ++ after)) × (length before ≡ 10 * place) }
-        requires own { moves.IsOwn self.now.timeouts seat.old.me.0.note K.packets _own }
-        requires kept { (part_words _kept ≡ new) × choice.Takes self.now.timeouts _own (entry_of _old) _out _kept }
+        requires read { (before after : List ℕ) × (seat.old.me.0.read ≡ before ++ (_old.now ++ after)) × (length before ≡ 10 * place) }
+        requires own { moves.IsOwn self.now.timeouts seat.old.me.0.note K.packets _own.now }
+        requires kept { (kept : Fragment) × (part_words kept ≡ new.now) × choice.Takes self.now.timeouts _own.now (entry_of _old.now) (out_of _how (entry_of _old.now)) kept }
         ensures at { seat.new.table_id ≡ seat.old.table_id }
-        ensures commits { moves.Commits (moves.writes_to set place K.packets _out _old new) seat.old.me seat.new.me }
+        ensures commits { moves.Commits (moves.writes_to set place K.packets (out_of _how (entry_of _old.now)) _old.now new.now) seat.old.me seat.new.me }
     {
         let word = 64 * set as usize + 16 + (10 * place + 5);
         self.table.shared.store::<Commits<M>>(seat, word, new[5]);
@@ -103,22 +104,21 @@ impl TurnCache {
         seat: &mut Seat<(), Known>,
         set: u64,
         place: usize,
-        old: [u64; 10],
-        new: [u64; 10],
-        own: Fragment,
-        kept: Fragment,
-        out: Option<Fragment>,
+        old: &[u64; 10],
+        new: &[u64; 10],
+        own: &Fragment,
+        how: How,
     )
         requires at { seat.old.table_id ≡ self.now.table.shared.table_id }
         requires reading { seat.old.me.0.turn ≡ reading set }
         requires below { (set < self.now.sets) × (place < 4) }
-        requires read { (before after : List ℕ) × (seat.old.me.0.read ≡ before ++ (old ++ after)) × (length before ≡ 10 * place) }
-        requires own { moves.IsOwn self.now.timeouts seat.old.me.0.note K.packets own }
-        requires kept { (part_words kept ≡ new) × choice.Takes self.now.timeouts own (entry_of old) out kept }
+        requires read { (before after : List ℕ) × (seat.old.me.0.read ≡ before ++ (old.now ++ after)) × (length before ≡ 10 * place) }
+        requires own { moves.IsOwn self.now.timeouts seat.old.me.0.note K.packets own.now }
+        requires kept { (kept : Fragment) × (part_words kept ≡ new.now) × choice.Takes self.now.timeouts own.now (entry_of old.now) (out_of how (entry_of old.now)) kept }
         ensures at { seat.new.table_id ≡ seat.old.table_id }
-        ensures commits { moves.Commits (moves.writes_to set place K.packets out old new) seat.old.me seat.new.me }
+        ensures commits { moves.Commits (moves.writes_to set place K.packets (out_of how (entry_of old.now)) old.now new.now) seat.old.me seat.new.me }
     {
-        self.commit_as::<Brand, K>(seat, set, place, old, new, own, kept, out);
+        self.commit_as::<Brand, K>(seat, set, place, old, new, own, how);
     }
 
     /// Stores a further word of the entry.
