@@ -1,4 +1,5 @@
 pub mod Answering
+pub mod Choosing
 pub mod Endings
 pub mod Histories
 pub mod Sets

@@ -1,6 +1,6 @@
 //! A packet is metered.
 
-ghost use Rattle.std.specs.Prelude.{◌≡◌, ◌≢◌, ◌+◌, ◌*◌, ◌<◌, ◌≤◌, ◌^◌, ◌∷◌, [], All, IsTrue};
+ghost use Rattle.std.specs.Prelude.{◌≡◌, ◌≢◌, ◌+◌, ◌*◌, ◌<◌, ◌≤◌, ◌^◌, ◌∷◌, [], All, None, IsTrue};
 ghost use Rattle.std.specs.List.{list_all};
 ghost use Rattle.cache_face.specs.Meaning.{IsMetered};
 ghost use Rattle.cache_face.specs.Notes.{first_note, metering};
@@ -87,7 +87,7 @@ impl PebrCache {
         pass: &mut RootPass<CacheRule>,
         set: u64,
         packet: &Packet,
-        own: Fragment,
+        own: &Fragment,
         metered: &mut Metered,
         stop: &mut T,
     ) -> u64
@@ -96,14 +96,15 @@ impl PebrCache {
         requires out { IsTrue (is_out (known_by pass.old).status) }
         requires down { IsTrue (list_all is_down (known_by pass.old).shields) }
         requires fresh { 0 < fresh_count (known_by pass.old) }
-        requires own { IsOwn self.now.timeouts (note_by first_note pass.old) packet.now own }
+        requires own { IsOwn self.now.timeouts (note_by first_note pass.old) packet.now own.now }
+        requires none { metered.old.out ≡ None }
         ensures same { IsSame self.now.roots pass.old pass.new }
         ensures out { IsTrue (is_out (known_by pass.new).status) }
         ensures down { IsTrue (list_all is_down (known_by pass.new).shields) }
         ensures ejections { (past_by pass.new).ejections ≡ (past_by pass.old).ejections }
         ensures note { note_by first_note pass.new ≡ metering (note_by first_note pass.old) (packet.now ∷ []) metered.new.out }
         ensures lost { HaveLost set result (past_by pass.old) (past_by pass.new) }
-        ensures outcome { IsOutcome self.now.timeouts (shape_at self.now.roots).seats set (past_by pass.new) own result metered.new.how metered.new.out }
+        ensures outcome { IsOutcome self.now.timeouts (shape_at self.now.roots).seats set (past_by pass.new) own.now result metered.new.how metered.new.out }
     {
         for lost in 0..TRIES {
             let last = lost + 1 == TRIES;
@@ -113,7 +114,7 @@ impl PebrCache {
         }
         *metered = Metered {
             how: How::PassedBy,
-            out: Some(own),
+            out: Some(*own),
         };
         TRIES
     }
@@ -146,7 +147,7 @@ impl PebrCache {
             how: How::PassedBy,
             out: None,
         };
-        let lost = self.put_in(&mut pass.inner, set, packet, own, &mut metered, stop);
+        let lost = self.put_in(&mut pass.inner, set, packet, &own, &mut metered, stop);
         pass.lost = pass.lost.saturating_add(lost);
         metered
     }

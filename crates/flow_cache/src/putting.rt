@@ -1,6 +1,6 @@
 //! A fragment is put into an entry, or passed by.
 
-ghost use Rattle.std.specs.Prelude.{◌≡◌, ◌≢◌, ℕ, ◌<◌, ◌∷◌, [], IsTrue, Some, None, true, false, if◌then◌else◌, slice_index};
+ghost use Rattle.std.specs.Prelude.{◌≡◌, ◌≢◌, ℕ, ◌<◌, ◌∷◌, [], IsTrue, Option, Some, None, true, false, if◌then◌else◌, slice_index};
 ghost use Rattle.std.specs.List.{list_all};
 ghost use Rattle.cache_face.specs.Notes.{first_note, metering};
 ghost use Rattle.cache_face.specs.Keeping.{IsWhole};
@@ -10,17 +10,18 @@ ghost use Rattle.seat_slots.specs.Sets.{least};
 ghost use Rattle.pebr_words.specs.Pasts.{Lost, written_at};
 ghost use Rattle.pebr_words.specs.Ruled.{IsSure};
 ghost use Rattle.pebr_roots.specs.Passes.{shape_at, known_by, note_by, past_by, IsOf, IsSame};
+ghost use Rattle.set_choice.specs.Chosen.{out_of};
 ghost use Rattle.flow_cache.specs.Shown.{try_of, IsTryOf};
 ghost use Rattle.flow_cache.specs.Trying.{IsOwn, AreProtected, IsUnlost, HasChosen};
 
 use crate::cache::PebrCache;
 use crate::protocol::CacheRule;
 use crate::stop::{Point, Stop};
-use cache_face::Metered;
+use cache_face::{How, Metered};
 use flow_parts::Fragment;
 use packet_accept::Packet;
 use pebr_roots::{Checked, ReplaceEnd, RootPass};
-use set_choice::choose_by_words;
+use set_choice::{choose_by_words, put_out};
 
 /// Whether the last try was lost.
 #[inline]
@@ -34,26 +35,40 @@ fn is_passed_by(last: bool, done: bool) -> bool
 /// What is done to the note of a pass that leaves: where its packet is passed by, it is metered, and its own fragment handed
 /// out.
 #[inline]
-fn passing(packet: &Packet, own: Fragment, passes_by: bool) -> Option<(Packet, Option<Fragment>)>
-    ensures { result ≡ (if passes_by then Some (packet.now, Some own) else None) }
+fn passing(packet: &Packet, own: &Fragment, passes_by: bool) -> Option<(Packet, Option<Fragment>)>
+    ensures { result ≡ (if passes_by then Some (packet.now, Some own.now) else None) }
 {
     if passes_by {
-        Some((*packet, Some(own)))
+        Some((*packet, Some(*own)))
     } else {
         None
     }
 }
 
+/// Tells what became of the packet. Where no fragment is put out, `out` is left as it is, so that none is written.
+#[inline]
+fn tell(metered: &mut Metered, how: How, out: Option<Fragment>)
+    requires none { metered.old.out ≡ None }
+    requires out { (entry : Option Fragment) × (out ≡ out_of how entry) }
+    ensures how { metered.new.how ≡ how }
+    ensures out { metered.new.out ≡ out }
+{
+    metered.how = how;
+    if how == How::Replaced {
+        metered.out = out;
+    }
+}
+
 impl PebrCache {
     /// Writes ten words into the fresh slot.
-    fn fill(&self, pass: &mut RootPass<CacheRule>, words: [u64; 10])
+    fn fill(&self, pass: &mut RootPass<CacheRule>, words: &[u64; 10])
         requires of { IsOf self.now.roots pass.old }
         requires fresh { 0 < fresh_count (known_by pass.old) }
         ensures same { IsSame self.now.roots pass.old pass.new }
         ensures note { note_by first_note pass.new ≡ note_by first_note pass.old }
         ensures known { known_by pass.new ≡ known_by pass.old }
         ensures past { past_by pass.new ≡ record (past_by pass.old) { last = (past_by pass.new).last; steps = (past_by pass.new).steps; written = (past_by pass.new).written } }
-        ensures written { (word : ℕ) → word < 10 → written_at (past_by pass.new).written (least (known_by pass.old).fresh) word ≡ Some (slice_index words word) }
+        ensures written { (word : ℕ) → word < 10 → written_at (past_by pass.new).written (least (known_by pass.old).fresh) word ≡ Some (slice_index words.now word) }
     {
         for word in 0..10 {
             self.roots.write_fresh(pass, word, words[word]);
@@ -61,13 +76,14 @@ impl PebrCache {
     }
 
     /// Puts the packet's fragment into the set whose roots are protected: reads the entries, writes the new one, and replaces
-    /// one root. `false` where that root had another slot. What is answered goes into `metered`, so that it is written once.
+    /// one root. `false` where that root had another slot. What is answered goes into `metered`, so that it is written once;
+    /// nothing was handed out before.
     fn put<T: Stop>(
         &self,
         pass: &mut RootPass<CacheRule>,
         set: u64,
         packet: &Packet,
-        own: Fragment,
+        own: &Fragment,
         metered: &mut Metered,
         stop: &mut T,
     ) -> bool
@@ -77,29 +93,30 @@ impl PebrCache {
         requires fresh { 0 < fresh_count (known_by pass.old) }
         requires protected { AreProtected set (known_by pass.old) (past_by pass.old) }
         requires unlost { (past_by pass.old).has_lost ≡ false }
-        requires own { IsOwn self.now.timeouts (note_by first_note pass.old) packet.now own }
+        requires own { IsOwn self.now.timeouts (note_by first_note pass.old) packet.now own.now }
+        requires none { metered.old.out ≡ None }
         ensures same { IsSame self.now.roots pass.old pass.new }
         ensures entered { is_out (known_by pass.new).status ≡ false }
         ensures ejections { (past_by pass.new).ejections ≡ (past_by pass.old).ejections }
         ensures done { IsTrue result → (note_by first_note pass.new ≡ metering (note_by first_note pass.old) (packet.now ∷ []) metered.new.out)
-            × ((past_by pass.new).lost ≡ (past_by pass.old).lost) × HasChosen self.now.timeouts set (past_by pass.new) own metered.new.how metered.new.out }
+            × ((past_by pass.new).lost ≡ (past_by pass.old).lost) × HasChosen self.now.timeouts set (past_by pass.new) own.now metered.new.how metered.new.out }
         ensures undone { result ≡ false → (note_by first_note pass.new ≡ note_by first_note pass.old) × ((known_by pass.new).fresh ≡ (known_by pass.old).fresh)
             × ((try : Lost) × ((past_by pass.new).lost ≡ try ∷ (past_by pass.old).lost) × IsTryOf set (try_of try)) }
+        ensures untouched { result ≡ false → metered.new.out ≡ None }
     {
         stop.at(Point::Read);
-        let contents = self.read_contents(pass);
+        let mut contents = [[0; 10]; 4];
+        self.read_contents(pass, &mut contents);
         let choice = choose_by_words(self.timeouts, &contents, own);
+        let out = put_out(choice.how, &contents[choice.place]);
         stop.at(Point::Write);
-        self.fill(pass, choice.kept.to_words());
+        self.fill(pass, &choice.words);
         stop.at(Point::Replace);
         let root = 4 * set as usize + choice.place;
-        let act = Some((*packet, choice.out));
+        let act = Some((*packet, out));
         match self.roots.replace(pass, root, choice.place, act) {
             ReplaceEnd::Replaced => {
-                *metered = Metered {
-                    how: choice.how,
-                    out: choice.out,
-                };
+                tell(metered, choice.how, out);
                 true
             }
             ReplaceEnd::Other => false,
@@ -112,7 +129,7 @@ impl PebrCache {
         pass: &mut RootPass<CacheRule>,
         set: u64,
         packet: &Packet,
-        own: Fragment,
+        own: &Fragment,
         metered: &mut Metered,
         stop: &mut T,
     ) -> bool
@@ -120,14 +137,16 @@ impl PebrCache {
         requires set { set < self.now.sets }
         requires out { IsTrue (is_out (known_by pass.old).status) }
         requires fresh { 0 < fresh_count (known_by pass.old) }
-        requires own { IsOwn self.now.timeouts (note_by first_note pass.old) packet.now own }
+        requires own { IsOwn self.now.timeouts (note_by first_note pass.old) packet.now own.now }
+        requires none { metered.old.out ≡ None }
         ensures same { IsSame self.now.roots pass.old pass.new }
         ensures entered { is_out (known_by pass.new).status ≡ false }
         ensures ejections { (past_by pass.new).ejections ≡ (past_by pass.old).ejections }
         ensures done { IsTrue result → (note_by first_note pass.new ≡ metering (note_by first_note pass.old) (packet.now ∷ []) metered.new.out)
-            × ((past_by pass.new).lost ≡ (past_by pass.old).lost) × HasChosen self.now.timeouts set (past_by pass.new) own metered.new.how metered.new.out }
+            × ((past_by pass.new).lost ≡ (past_by pass.old).lost) × HasChosen self.now.timeouts set (past_by pass.new) own.now metered.new.how metered.new.out }
         ensures undone { result ≡ false → (note_by first_note pass.new ≡ note_by first_note pass.old) × ((known_by pass.new).fresh ≡ (known_by pass.old).fresh)
             × ((try : Lost) × ((past_by pass.new).lost ≡ try ∷ (past_by pass.old).lost) × IsTryOf set (try_of try)) }
+        ensures untouched { result ≡ false → metered.new.out ≡ None }
     {
         match self.reach(pass, set, stop) {
             Checked::Valid => self.put(pass, set, packet, own, metered, stop),
@@ -153,18 +172,18 @@ impl PebrCache {
         &self,
         pass: &mut RootPass<CacheRule>,
         packet: &Packet,
-        own: Fragment,
+        own: &Fragment,
         passes_by: bool,
         stop: &mut T,
     )
         requires of { IsOf self.now.roots pass.old }
         requires entered { is_out (known_by pass.old).status ≡ false }
-        requires own { IsTrue passes_by → IsOwn self.now.timeouts (note_by first_note pass.old) packet.now own }
+        requires own { IsTrue passes_by → IsOwn self.now.timeouts (note_by first_note pass.old) packet.now own.now }
         ensures same { IsSame self.now.roots pass.old pass.new }
         ensures out { IsTrue (is_out (known_by pass.new).status) }
         ensures down { IsTrue (list_all is_down (known_by pass.new).shields) }
         ensures fresh { (known_by pass.new).fresh ≡ (known_by pass.old).fresh }
-        ensures note { note_by first_note pass.new ≡ (if passes_by then metering (note_by first_note pass.old) (packet.now ∷ []) (Some own) else note_by first_note pass.old) }
+        ensures note { note_by first_note pass.new ≡ (if passes_by then metering (note_by first_note pass.old) (packet.now ∷ []) (Some own.now) else note_by first_note pass.old) }
         ensures past { past_by pass.new ≡ record (past_by pass.old) { last = (past_by pass.new).last; steps = (past_by pass.new).steps } }
         ensures sure { IsSure IsWhole (shape_at self.now.roots) (known_by pass.new) (past_by pass.new) }
     {
@@ -174,12 +193,16 @@ impl PebrCache {
     }
 
     /// One try. `false` where it is lost; where it is the last one the packet is passed by then.
+    ///
+    /// A call of its own, so that what goes into `metered` is written to memory once. Inlined, it would be kept in pieces
+    /// until the shields are down, and be copied from piece to piece.
+    #[inline(never)]
     pub(crate) fn attempt<T: Stop>(
         &self,
         pass: &mut RootPass<CacheRule>,
         set: u64,
         packet: &Packet,
-        own: Fragment,
+        own: &Fragment,
         last: bool,
         metered: &mut Metered,
         stop: &mut T,
@@ -188,16 +211,18 @@ impl PebrCache {
         requires set { set < self.now.sets }
         requires out { IsTrue (is_out (known_by pass.old).status) }
         requires fresh { 0 < fresh_count (known_by pass.old) }
-        requires own { IsOwn self.now.timeouts (note_by first_note pass.old) packet.now own }
+        requires own { IsOwn self.now.timeouts (note_by first_note pass.old) packet.now own.now }
+        requires none { metered.old.out ≡ None }
         ensures same { IsSame self.now.roots pass.old pass.new }
         ensures out { IsTrue (is_out (known_by pass.new).status) }
         ensures down { IsTrue (list_all is_down (known_by pass.new).shields) }
         ensures ejections { (past_by pass.new).ejections ≡ (past_by pass.old).ejections }
         ensures done { IsTrue result → (note_by first_note pass.new ≡ metering (note_by first_note pass.old) (packet.now ∷ []) metered.new.out)
-            × ((past_by pass.new).lost ≡ (past_by pass.old).lost) × HasChosen self.now.timeouts set (past_by pass.new) own metered.new.how metered.new.out }
-        ensures undone { result ≡ false → (note_by first_note pass.new ≡ (if last then metering (note_by first_note pass.old) (packet.now ∷ []) (Some own) else note_by first_note pass.old))
+            × ((past_by pass.new).lost ≡ (past_by pass.old).lost) × HasChosen self.now.timeouts set (past_by pass.new) own.now metered.new.how metered.new.out }
+        ensures undone { result ≡ false → (note_by first_note pass.new ≡ (if last then metering (note_by first_note pass.old) (packet.now ∷ []) (Some own.now) else note_by first_note pass.old))
             × ((known_by pass.new).fresh ≡ (known_by pass.old).fresh) × ((shape_at self.now.roots).seats ≢ 1)
             × ((try : Lost) × ((past_by pass.new).lost ≡ try ∷ (past_by pass.old).lost) × IsTryOf set (try_of try)) }
+        ensures untouched { result ≡ false → metered.new.out ≡ None }
     {
         let done = self.reach_and_put(pass, set, packet, own, metered, stop);
         let passes_by = is_passed_by(last, done);

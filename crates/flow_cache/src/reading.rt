@@ -90,11 +90,14 @@ impl PebrCache {
         ensures entry { result ≡ entry_of (words_read (past_by pass.new).reads (slot_at (known_by pass.old) place)) }
         ensures small { IsSmallEntry result }
     {
-        entry(self.read_words(pass, place))
+        let mut words = [0; 10];
+        self.read_words(pass, place, &mut words);
+        entry(words)
     }
 
-    /// Reads the ten words of the slot under a shield.
-    fn read_words(&self, pass: &mut RootPass<CacheRule>, place: usize) -> [u64; 10]
+    /// Reads the ten words of the slot under a shield into `words`.
+    #[inline(always)]
+    fn read_words(&self, pass: &mut RootPass<CacheRule>, place: usize, words: &mut [u64; 10])
         requires of { IsOf self.now.roots pass.old }
         requires place { place < 4 }
         requires valid { IsTrue (is_valid_at (known_by pass.old) place) }
@@ -104,18 +107,21 @@ impl PebrCache {
         ensures past { past_by pass.new ≡ record (past_by pass.old) { last = (past_by pass.new).last; steps = (past_by pass.new).steps; reads = (past_by pass.new).reads } }
         ensures count { length (past_by pass.new).reads ≡ 10 + length (past_by pass.old).reads }
         ensures more { HasMore (past_by pass.old).reads (past_by pass.new).reads }
-        ensures read { (word : ℕ) → word < 10 → written_at (past_by pass.new).reads (slot_at (known_by pass.old) place) word ≡ Some (slice_index result word) }
-        ensures whole { IsWhole result }
+        ensures read { (word : ℕ) → word < 10 → written_at (past_by pass.new).reads (slot_at (known_by pass.old) place) word ≡ Some (slice_index words.new word) }
+        ensures long { length words.new ≡ 10 }
+        ensures whole { IsWhole words.new }
     {
-        let mut words = [0; 10];
         for word in 0..10 {
             words[word] = self.roots.read(pass, place, word);
         }
-        words
     }
 
-    /// Reads the ten words of each entry of the set whose roots are protected.
-    pub(crate) fn read_contents(&self, pass: &mut RootPass<CacheRule>) -> [[u64; 10]; 4]
+    /// Reads the ten words of each entry of the set whose roots are protected into `contents`.
+    pub(crate) fn read_contents(
+        &self,
+        pass: &mut RootPass<CacheRule>,
+        contents: &mut [[u64; 10]; 4],
+    )
         requires of { IsOf self.now.roots pass.old }
         requires valid { (place : ℕ) → place < 4 → IsTrue (is_valid_at (known_by pass.old) place) }
         ensures same { IsSame self.now.roots pass.old pass.new }
@@ -123,14 +129,13 @@ impl PebrCache {
         ensures known { known_by pass.new ≡ known_by pass.old }
         ensures past { past_by pass.new ≡ record (past_by pass.old) { last = (past_by pass.new).last; steps = (past_by pass.new).steps; reads = (past_by pass.new).reads } }
         ensures ten { (place : ℕ) → place < 4 → HasTen (past_by pass.new).reads (slot_at (known_by pass.old) place) }
-        ensures entries { (set : ℕ) → AreProtected set (known_by pass.old) (past_by pass.old) → map entry_of result ≡ entries_read (past_by pass.new) set }
-        ensures whole { All IsWhole result }
+        ensures entries { (set : ℕ) → AreProtected set (known_by pass.old) (past_by pass.old) → map entry_of contents.new ≡ entries_read (past_by pass.new) set }
+        ensures whole { All IsWhole contents.new }
     {
-        let first = self.read_words(pass, 0);
-        let second = self.read_words(pass, 1);
-        let third = self.read_words(pass, 2);
-        let fourth = self.read_words(pass, 3);
-        [first, second, third, fourth]
+        self.read_words(pass, 0, &mut contents[0]);
+        self.read_words(pass, 1, &mut contents[1]);
+        self.read_words(pass, 2, &mut contents[2]);
+        self.read_words(pass, 3, &mut contents[3]);
     }
 
     /// Reads the four entries of the set whose roots are protected.
@@ -145,7 +150,8 @@ impl PebrCache {
         ensures entries { (set : ℕ) → AreProtected set (known_by pass.old) (past_by pass.old) → result ≡ entries_read (past_by pass.new) set }
         ensures small { All IsSmallEntry result }
     {
-        let contents = self.read_contents(pass);
+        let mut contents = [[0; 10]; 4];
+        self.read_contents(pass, &mut contents);
         [
             entry(contents[0]),
             entry(contents[1]),

@@ -17,4 +17,4 @@ leave-requires-clause-keeps g c =
     subst (λ limits. can limits (note_by first_note c.take_down.new.pass) c.passing.result) (sym c.args.self.now.fixed)
     (subst (λ note. can c.args.self.now.timeouts note c.passing.result) (sym c.take_down.ensures.note)
     (subst (λ act. can c.args.self.now.timeouts (note_by first_note c.args.pass.now) act) (sym c.passing.ensures)
-    (can_end c.args.self.now.timeouts number (note_by first_note c.args.pass.now) c.args.packet.now c.args.own c.args.passes_by c.requires.own)))
+    (can_end c.args.self.now.timeouts number (note_by first_note c.args.pass.now) c.args.packet.now c.args.own.now c.args.passes_by c.requires.own)))

@@ -24,7 +24,7 @@ loop-lost-preserved g c =
     let n : ℕ = c.loop-lost.lost in
     let low = c.loop-lost-test.true in
     let h = c.attempt.ensures.undone c.if-attempt.false in
-    let passed : Note → Note = λ note. metering note (c.args.packet.now ∷ []) (Some c.args.own) in
+    let passed : Note → Note = λ note. metering note (c.args.packet.now ∷ []) (Some c.args.own.now) in
     let ended : Bool → Type 0 = λ b. note_by first_note new ≡ (if b then passed (note_by first_note old) else note_by first_note old) in
     record {
       low = omega (arith, low);
@@ -33,6 +33,7 @@ loop-lost-preserved g c =
       down = c.attempt.ensures.down;
       fresh = h.1 ∙ before.fresh;
       ejections = c.attempt.ensures.ejections ∙ before.ejections;
+      none = c.attempt.ensures.untouched c.if-attempt.false;
       note = λ lt. subst ended (not_last n lt) h.0 ∙ before.note low;
       passed = λ is. (subst ended (is_last n is) h.0 ∙ ap passed (before.note low), h.2);
       tries = record {

@@ -1,4 +1,4 @@
-use Rattle.std.proofs.Common.{◌≡◌, ◌≢◌, ◌<◌, ◌≤◌, ◌∷◌, [], Some}
+use Rattle.std.proofs.Common.{◌≡◌, ◌≢◌, ◌<◌, ◌≤◌, ◌∷◌, [], Some, None}
 use Rattle.std.specs.Prelude.{IsTrue}
 use Rattle.std.specs.List.{list_all}
 use Rattle.cache_face.specs.Notes.{first_note, metering}
@@ -15,6 +15,7 @@ invariant-loop-lost g l = record {
   down : IsTrue (list_all is_down (known_by l.pass).shields);
   fresh : (known_by l.pass).fresh ≡ (known_by l.initial.pass).fresh;
   ejections : (past_by l.pass).ejections ≡ (past_by l.initial.pass).ejections;
+  none : l.metered.out ≡ None;
   note : l.lost < 3 → note_by first_note l.pass ≡ note_by first_note l.initial.pass;
   passed : l.lost ≡ 3 → (note_by first_note l.pass ≡ metering (note_by first_note l.initial.pass) (l.packet ∷ []) (Some l.own)) × ((shape_at l.self.roots).seats ≢ 1);
   tries : HaveLost l.set l.lost (past_by l.initial.pass) (past_by l.pass);

@@ -1,4 +1,4 @@
-use Rattle.std.proofs.Common.{rules, ◌≡◌, ◌∙◌, List, ℕ, Option, Some, None, sym, ap}
+use Rattle.std.proofs.Common.{◌≡◌, ◌∙◌, List, ℕ, Option, Some, None, sym, ap}
 use Rattle.std.specs.Prelude.{slice_index}
 use Rattle.flow_parts.specs.declared.fragment.Fragment.{Fragment}
 use Rattle.cache_face.specs.Choice.{IsSmallEntry}
@@ -14,11 +14,11 @@ small_entry content None whole is = tt
 small_entry content (Some old) whole is = whole_is_small content old whole (sym is)
 
 pub returns-clause-ten : goal.returns-clause-ten
-returns-clause-ten c word low = (slice_index c.read_words.result word, c.read_words.ensures.read word low)
+returns-clause-ten c word low = (slice_index c.read_words.new.words word, c.read_words.ensures.read word low)
 
 pub returns-clause-entry : goal.returns-clause-entry
 returns-clause-entry c =
-    c.entry.ensures ∙ ap entry_of (words_are (past_by c.read_words.new.pass).reads (slot_at (known_by c.args.pass.now) c.args.place) c.read_words.result (search rules) c.read_words.ensures.read)
+    c.entry.ensures ∙ ap entry_of (words_are (past_by c.read_words.new.pass).reads (slot_at (known_by c.args.pass.now) c.args.place) c.read_words.new.words c.read_words.ensures.long c.read_words.ensures.read)
 
 pub returns-clause-small : goal.returns-clause-small
-returns-clause-small c = small_entry c.read_words.result c.entry.result c.read_words.ensures.whole c.entry.ensures
+returns-clause-small c = small_entry c.read_words.new.words c.entry.result c.read_words.ensures.whole c.entry.ensures
