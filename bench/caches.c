@@ -5,8 +5,8 @@
  *
  *     caches turn|pebr THREADS SETS < CAPTURE
  *
- * What it took, in nanoseconds a packet from start to end, goes to standard error. All packets must be in the fragments that
- * were handed out and those of the cache in the end, else the status is 1.
+ * What it took, in nanoseconds a packet from start to end, goes to standard error. The packets of fragments that are handed out
+ * are added up. With those of the cache's entries in the end they must be all, else the status is 1.
  */
 #include "slots.h"
 #include <pthread.h>
@@ -14,6 +14,16 @@
 #include <time.h>
 
 enum { PIECE = 256 };
+
+/* The packets of all fragments that a thread was handed. */
+struct parts {
+    uint64_t packets;
+};
+
+static inline void keep_part(struct parts *parts, const uint64_t *words)
+{
+    parts->packets += words[PACKETS];
+}
 
 /*
  * A packet in memory as `cache_pace` holds it: the fields of the public type of packets, in as many bytes and at the same
@@ -158,9 +168,7 @@ static uint64_t packets_kept(uint64_t sets)
 {
     uint64_t sum = 0;
     for (uint64_t i = 0; i < runner_count; i++) {
-        for (size_t k = 0; k < runners[i].parts.count; k++) {
-            sum += runners[i].parts.list[k][PACKETS];
-        }
+        sum += runners[i].parts.packets;
     }
     for (uint64_t entry = 0; entry < ENTRIES * sets; entry++) {
         word *content = is_turn ? turns.words + SET_WORDS * (entry / ENTRIES) + SET_CONTENT + WORDS * (entry % ENTRIES)

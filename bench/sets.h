@@ -20,23 +20,9 @@ enum { SET_WORDS = 64, SET_CONTENT = 16 };
 
 static const uint64_t idle_time = 300000, active_time = 1800000;
 
-/* The fragments that a thread was handed. */
-struct parts {
-    uint64_t (*list)[WORDS];
-    size_t count, room;
-};
-
-static inline void keep_part(struct parts *parts, const uint64_t *words)
-{
-    if (parts->count == parts->room) {
-        parts->room = parts->room != 0 ? 2 * parts->room : 64;
-        parts->list = realloc(parts->list, parts->room * sizeof *parts->list);
-        if (parts->list == NULL) {
-            exit(3);
-        }
-    }
-    memcpy(parts->list[parts->count++], words, sizeof *parts->list);
-}
+/* What a thread does with a fragment that it is handed: the program that includes this file says. */
+struct parts;
+static inline void keep_part(struct parts *parts, const uint64_t *words);
 
 static inline void part_of(const struct packet *packet, uint64_t *words)
 {

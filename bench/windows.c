@@ -15,6 +15,24 @@
 
 enum { PIECE = 256, MOST_WORKERS = 64 };
 
+/* The fragments that a thread was handed. */
+struct parts {
+    uint64_t (*list)[WORDS];
+    size_t count, room;
+};
+
+static inline void keep_part(struct parts *parts, const uint64_t *words)
+{
+    if (parts->count == parts->room) {
+        parts->room = parts->room != 0 ? 2 * parts->room : 64;
+        parts->list = realloc(parts->list, parts->room * sizeof *parts->list);
+        if (parts->list == NULL) {
+            exit(3);
+        }
+    }
+    memcpy(parts->list[parts->count++], words, sizeof *parts->list);
+}
+
 struct worker {
     pthread_t thread;
     uint64_t number, records, packets, octets;

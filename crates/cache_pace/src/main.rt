@@ -4,8 +4,9 @@
 //!
 //!     cache_pace turn|pebr THREADS SETS < CAPTURE
 //!
-//! What it took, in nanoseconds a packet from start to end, goes to standard error. The status is 0; 1 where the capture can't
-//! be read or metered; 2 for other words.
+//! What it took, in nanoseconds a packet from start to end, goes to standard error. The packets of fragments that are handed out
+//! are added up, and the fragments let go. The status is 0; 1 where the capture can't be read or metered, or more packets are
+//! handed out than there are; 2 for other words.
 #![tactic(auto)]
 
 mod packets;
@@ -13,7 +14,7 @@ mod runner;
 mod words;
 
 use crate::packets::packets_of;
-use crate::runner::{run_all, runners_of};
+use crate::runner::{handed_to, run_all, runners_of};
 use crate::words::{Kind, Setting, setting_of};
 use cache_face::Caches;
 use flow_cache::PebrCaches;
@@ -27,7 +28,8 @@ use std::thread::Threads;
 use std::time::{Clock, Instant};
 use turn_cache::TurnCaches;
 
-/// Meters the packets through a cache of `caches`, and tells the nanoseconds that it took.
+/// Meters the packets through a cache of `caches`, and tells the nanoseconds that it took. `None` where it has no clock or no
+/// memory, or more packets are handed out than there are.
 fn pace<R: Threads + Clock + Sync, M: Caches>(
     rt: &R,
     alloc: Global,
@@ -43,6 +45,9 @@ fn pace<R: Threads + Clock + Sync, M: Caches>(
     let start = Instant::now(rt).ok()?;
     run_all(rt, packets, &cache, runners.as_mut_slice());
     let took = start.elapsed(rt).ok()?;
+    if handed_to(runners.as_slice()) > packets.len() as u64 {
+        return None;
+    }
     u64::try_from(took.as_nanos()).ok()
 }
 

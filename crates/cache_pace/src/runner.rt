@@ -5,7 +5,6 @@ ghost use Rattle.cache_face.specs.Meaning.{IsFresh};
 ghost use Rattle.cache_pace.specs.Going.{IsGoing};
 
 use cache_face::FlowCache;
-use flow_parts::Fragment;
 use no_memory::NoMemory;
 use packet_accept::Packet;
 use std::alloc::Global;
@@ -15,15 +14,15 @@ use std::thread::Threads;
 /// How many packets a thread takes at a time.
 const PIECE: usize = 256;
 
-/// What a thread meters through, which of the threads it is, the least number of its next packet, and the fragments that it
-/// was handed. The unused words behind it keep the cache lines of two threads apart.
+/// What a thread meters through, which of the threads it is, the least number of its next packet, and how many packets the
+/// fragments have that it was handed. The unused words behind it keep the cache lines of two threads apart.
 #[derive(Drop)]
 #[repr(C)]
 pub(crate) struct Runner<C: FlowCache> {
     pub(crate) pass: C::Pass,
     pub(crate) place: usize,
     pub(crate) next: u64,
-    pub(crate) out: Vec<Fragment>,
+    pub(crate) handed: u64,
     apart: [u64; 16],
 }
 
@@ -41,25 +40,20 @@ pub(crate) fn runners_of<C: FlowCache>(
     let mut runners = Vec::new(alloc);
     let mut passes = passes;
     while let Some(pass) = passes.pop() {
-        let out = Vec::new(alloc);
         let place = runners.len();
         runners.push(Runner {
             pass,
             place,
             next: 0,
-            out,
+            handed: 0,
             apart: [0; 16],
         })?;
     }
     Ok(runners)
 }
 
-/// Meters a packet whose number is not below the next one.
-fn run_packet<C: FlowCache>(
-    packet: &Packet,
-    cache: &C,
-    runner: &mut Runner<C>,
-) -> Result<(), NoMemory>
+/// Meters a packet whose number is not below the next one, and adds the packets of the fragment that is handed out.
+fn run_packet<C: FlowCache>(packet: &Packet, cache: &C, runner: &mut Runner<C>)
     requires own { C.is_of cache.now runner.old.pass }
     requires going { IsGoing runner.old.next (C.shown runner.old.pass) }
     ensures own { C.is_of cache.now runner.new.pass }
@@ -67,31 +61,25 @@ fn run_packet<C: FlowCache>(
 {
     let number = packet.number;
     if number < runner.next || number > 0xffff_ffff || packet.octets >= 1 << 24 {
-        return Ok(());
+        return;
     }
     let metered = cache.meter(&mut runner.pass, packet);
     runner.next = number + 1;
     if let Some(fragment) = metered.out {
-        runner.out.push(fragment)?;
+        runner.handed = runner.handed.wrapping_add(fragment.packets);
     }
-    Ok(())
 }
 
 /// Meters the packets of a piece.
-fn run_piece<C: FlowCache>(
-    packets: &[Packet],
-    cache: &C,
-    runner: &mut Runner<C>,
-) -> Result<(), NoMemory>
+fn run_piece<C: FlowCache>(packets: &[Packet], cache: &C, runner: &mut Runner<C>)
     requires own { C.is_of cache.now runner.old.pass }
     requires going { IsGoing runner.old.next (C.shown runner.old.pass) }
     ensures own { C.is_of cache.now runner.new.pass }
     ensures going { IsGoing runner.new.next (C.shown runner.new.pass) }
 {
     for packet in packets {
-        run_packet(packet, cache, runner)?;
+        run_packet(packet, cache, runner);
     }
-    Ok(())
 }
 
 /// Meters a runner's pieces, each so manieth.
@@ -102,11 +90,20 @@ fn run_share<C: FlowCache>(packets: &[Packet], count: usize, cache: &C, runner: 
 {
     let mut turn = 0;
     for piece in packets.chunks(PIECE) {
-        if turn == runner.place && run_piece(piece, cache, runner).is_err() {
-            return;
+        if turn == runner.place {
+            run_piece(piece, cache, runner);
         }
         turn = if turn < count - 1 { turn + 1 } else { 0 };
     }
+}
+
+/// How many packets the fragments have that all runners were handed.
+pub(crate) fn handed_to<C: FlowCache>(runners: &[Runner<C>]) -> u64 {
+    let mut sum = 0u64;
+    for runner in runners {
+        sum = sum.wrapping_add(runner.handed);
+    }
+    sum
 }
 
 /// All runners meter at once.
