@@ -1,5 +1,6 @@
 -- Lists that are made of the views of all passes, and batches in rising order.
-use Rattle.std.proofs.Common.{◌≡◌, ℕ, zero, suc, ◌+◌, ◌<◌, ◌≤◌, List, [], ◌∷◌, ◌++◌, length, set, sym, refl, ap, ◌∙◌, subst, arith, append_assoc, append-nil}
+use Rattle.std.proofs.Common.{◌≡◌, ℕ, zero, suc, ◌+◌, ◌<◌, ◌≤◌, List, [], ◌∷◌, ◌++◌, length, set, sym, refl, ap, ◌∙◌}
+use Rattle.std.proofs.Common.{subst, arith, append_assoc, append-nil}
 use Rattle.std.specs.Prelude.{flat_map, sum_by, All, IsPermutation}
 use Rattle.std.proofs.lemmas.List.{length-append}
 use Rattle.std.proofs.lemmas.List.Sums.{sum_by-cons}
@@ -13,7 +14,8 @@ use Rattle.batch_queue.specs.Batches.{IsBefore, AreRising}
 
 -- sums, where one element changes
 module _ {X : Type 0} (f : X → ℕ) where
-  pub sum-set : (xs : List X) (i : ℕ) (x y : X) → get_elem? xs i ≡ some x → sum_by f (set xs i y) + f x ≡ sum_by f xs + f y
+  pub sum-set : (xs : List X) (i : ℕ) (x y : X) → get_elem? xs i ≡ some x
+      → sum_by f (set xs i y) + f x ≡ sum_by f xs + f y
   sum-set [] i x y at = absurd (some-ne-none x (sym at))
   sum-set (u ∷ us) zero x y at =
       let is : f u ≡ f x = ap f (some-injective u x at) in
@@ -39,7 +41,8 @@ module _ {Y : Type 0} (P : Y → Type 0) where
 
 -- lists one behind the other, where one element changes
 module _ {X Y : Type 0} (f : X → List Y) where
-  pub flat-same : (xs : List X) (i : ℕ) (x y : X) → get_elem? xs i ≡ some x → f y ≡ f x → flat_map f (set xs i y) ≡ flat_map f xs
+  pub flat-same : (xs : List X) (i : ℕ) (x y : X) → get_elem? xs i ≡ some x → f y ≡ f x
+      → flat_map f (set xs i y) ≡ flat_map f xs
   flat-same [] i x y at same = absurd (some-ne-none x (sym at))
   flat-same (u ∷ us) zero x y at same = ap (λ l. l ++ flat_map f us) (same ∙ sym (ap f (some-injective u x at)))
   flat-same (u ∷ us) (suc i) x y at same = ap (λ l. f u ++ l) (flat-same us i x y at same)
@@ -60,7 +63,8 @@ module _ {X Y : Type 0} (f : X → List Y) where
       (IsPermutation-append_right (f u) (rest ++ more) (more ++ rest) (IsPermutation-append_comm rest more))))
   flat-more (u ∷ us) (suc i) x y more at grown =
       subst (λ l. IsPermutation l (f u ++ flat_map f (set us i y))) (sym (append_assoc (f u) (flat_map f us) more))
-      (IsPermutation-append_right (f u) (flat_map f us ++ more) (flat_map f (set us i y)) (flat-more us i x y more at grown))
+      (IsPermutation-append_right (f u) (flat_map f us ++ more) (flat_map f (set us i y))
+      (flat-more us i x y more at grown))
 
   pub flat-less : (xs : List X) (i : ℕ) (x y : X) → get_elem? xs i ≡ some x → f y ≡ []
       → IsPermutation (flat_map f xs) (flat_map f (set xs i y) ++ f x)
@@ -68,33 +72,39 @@ module _ {X Y : Type 0} (f : X → List Y) where
   flat-less (u ∷ us) zero x y at none =
       let rest = flat_map f us in
       subst (λ l. IsPermutation (f u ++ rest) ((l ++ rest) ++ f x)) (sym none)
-      (subst (λ a. IsPermutation (f u ++ rest) (rest ++ f a)) (some-injective u x at) (IsPermutation-append_comm (f u) rest))
+      (subst (λ a. IsPermutation (f u ++ rest) (rest ++ f a)) (some-injective u x at)
+      (IsPermutation-append_comm (f u) rest))
   flat-less (u ∷ us) (suc i) x y at none =
       subst (λ l. IsPermutation (f u ++ flat_map f us) l) (sym (append_assoc (f u) (flat_map f (set us i y)) (f x)))
       (IsPermutation-append_right (f u) (flat_map f us) (flat_map f (set us i y) ++ f x) (flat-less us i x y at none))
 
-  pub flat-at : (P : Y → Type 0) (xs : List X) (i : ℕ) (x : X) → get_elem? xs i ≡ some x → All P (flat_map f xs) → All P (f x)
+  pub flat-at : (P : Y → Type 0) (xs : List X) (i : ℕ) (x : X) → get_elem? xs i ≡ some x → All P (flat_map f xs)
+      → All P (f x)
   flat-at P [] i x at all = absurd (some-ne-none x (sym at))
-  flat-at P (u ∷ us) zero x at all = subst (λ a. All P (f a)) (some-injective u x at) (front P (f u) (flat_map f us) all)
+  flat-at P (u ∷ us) zero x at all = subst (λ a. All P (f a)) (some-injective u x at)
+      (front P (f u) (flat_map f us) all)
   flat-at P (u ∷ us) (suc i) x at all = flat-at P us i x at (back P (f u) (flat_map f us) all)
 
   -- where the elements of no weight give nothing, and one has all the weight, it gives all
   module _ (g : X → ℕ) where
-    flat-none : (xs : List X) → ((i : ℕ) (x : X) → get_elem? xs i ≡ some x → g x ≡ 0 → f x ≡ []) → sum_by g xs ≡ 0 → flat_map f xs ≡ []
+    flat-none : (xs : List X) → ((i : ℕ) (x : X) → get_elem? xs i ≡ some x → g x ≡ 0 → f x ≡ []) → sum_by g xs ≡ 0
+        → flat_map f xs ≡ []
     flat-none [] idle none = refl
     flat-none (u ∷ us) idle none =
         let sum = sum_by-cons g u us in
         ap (λ l. l ++ flat_map f us) (idle 0 u refl (omega (arith, sum, none)))
         ∙ flat-none us (λ i x at. idle (suc i) x at) (omega (arith, sum, none))
 
-    pub flat-only : (xs : List X) (i : ℕ) (x : X) → get_elem? xs i ≡ some x → ((j : ℕ) (y : X) → get_elem? xs j ≡ some y → g y ≡ 0 → f y ≡ [])
+    pub flat-only : (xs : List X) (i : ℕ) (x : X) → get_elem? xs i ≡ some x
+        → ((j : ℕ) (y : X) → get_elem? xs j ≡ some y → g y ≡ 0 → f y ≡ [])
         → sum_by g xs ≡ g x → flat_map f xs ≡ f x
     flat-only [] i x at idle all = absurd (some-ne-none x (sym at))
     flat-only (u ∷ us) zero x at idle all =
         let sum = sum_by-cons g u us in
         let is : u ≡ x = some-injective u x at in
         let same : g u ≡ g x = ap g is in
-        ap (λ l. f u ++ l) (flat-none us (λ j y at'. idle (suc j) y at') (omega (arith, sum, all, same))) ∙ append-nil (f u) ∙ ap f is
+        ap (λ l. f u ++ l) (flat-none us (λ j y at'. idle (suc j) y at') (omega (arith, sum, all, same)))
+        ∙ append-nil (f u) ∙ ap f is
     flat-only (u ∷ us) (suc i) x at idle all =
         let sum = sum_by-cons g u us in
         let le = sum-at g us i x at in
@@ -104,11 +114,16 @@ module _ {X Y : Type 0} (f : X → List Y) where
 -- batches in rising order
 pub rising-last : (xs : List Batch) (x : Batch) → AreRising xs → All (λ b. IsBefore b x) xs → AreRising (xs ++ x ∷ [])
 rising-last [] x rising before = (All-nil (IsBefore x), tt)
-rising-last (y ∷ ys) x rising before =
-    (All-push (IsBefore y) ys x rising.0 (All-head (λ b. IsBefore b x) y ys before), rising-last ys x rising.1 (All-tail (λ b. IsBefore b x) y ys before))
+rising-last (y ∷ ys) x rising before = (
+  All-push (IsBefore y) ys x rising.0 (All-head (λ b. IsBefore b x) y ys before),
+  rising-last ys x rising.1
+      (All-tail (λ b. IsBefore b x) y ys before),
+)
 
-pub rising-before : (xs : List Batch) (x : Batch) (ys : List Batch) → AreRising (xs ++ x ∷ ys) → All (λ b. IsBefore b x) xs
+pub rising-before : (xs : List Batch) (x : Batch) (ys : List Batch) → AreRising (xs ++ x ∷ ys)
+    → All (λ b. IsBefore b x) xs
 rising-before [] x ys rising = All-nil (λ b. IsBefore b x)
 rising-before (z ∷ zs) x ys rising =
     let there : length zs < length (zs ++ x ∷ ys) = let long = length-append zs (x ∷ ys) in omega (arith, long) in
-    All-cons (λ b. IsBefore b x) z zs (subst (IsBefore z) (get_or-append_seam zs x ys x) (rising.0 (length zs) x there)) (rising-before zs x ys rising.1)
+    All-cons (λ b. IsBefore b x) z zs (subst (IsBefore z) (get_or-append_seam zs x ys x) (rising.0 (length zs) x there))
+    (rising-before zs x ys rising.1)

@@ -3,8 +3,8 @@
 //! A [`Batch`] is some whole records, one directly behind the other, with the number of the batch and the number of the
 //! first of its records. [`BatchQueue::open`] makes a [`QueuePass`] for each seat, the first of them the reader's. The
 //! reader offers batches in rising order ([`BatchQueue::offer`]); any pass takes the one at the front
-//! ([`BatchQueue::take`]). Passes are united by [`BatchQueue::unite`]: what a pass of all seats took, and what is left in
-//! the queue, are the batches that were put, each once.
+//! ([`BatchQueue::take`]). Passes are united by [`BatchQueue::unite`]: what a pass of all seats took, and what is left
+//! in the queue, are the batches that were put, each once.
 //!
 //! The queue is the kit's ruled array queue. Its rule, `Queued` in `specs/Queueing.antt`, holds between any two steps,
 //! whatever the threads do in turn.

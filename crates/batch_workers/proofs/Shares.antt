@@ -26,28 +26,34 @@ metered-both a b p q r out out' out'' t u v together united grown joins one othe
     let packets = ap packets_in both ∙ together (answers_in a) (answers_in b) in
     record {
       packets = subst (λ l. IsPermutation l r.note.packets) (sym packets)
-          (subst (λ l. IsPermutation (packets_in (answers_in a) ++ packets_in (answers_in b)) l) (sym (ap (λ (n : Note). n.packets) united.0))
-          (IsPermutation-append (packets_in (answers_in a)) p.note.packets (packets_in (answers_in b)) q.note.packets one.packets other.packets));
+          (subst (λ l. IsPermutation (packets_in (answers_in a) ++ packets_in (answers_in b)) l)
+          (sym (ap (λ (n : Note). n.packets) united.0))
+          (IsPermutation-append (packets_in (answers_in a)) p.note.packets
+          (packets_in (answers_in b)) q.note.packets one.packets other.packets));
       handed = grown ∙ (λ i. one.handed i ++ other.handed i) ∙ sym (ap (λ (n : Note). n.handed) united.0);
       tallied = subst (IsTallyOf v) (sym both) (joins (answers_in a) (answers_in b) one.tallied other.tallied);
       sound = sound-both t u v together joins one.sound other.sound;
     }
 
 -- a pass that had done nothing
-pub metered-first : (more : List Batch) (before after : PassMeans) (out out' : List Fragment) (t u : Tally) → before.note ≡ first_note → out ≡ [] → IsTallyOf t []
+pub metered-first : (more : List Batch) (before after : PassMeans) (out out' : List Fragment) (t u : Tally)
+    → before.note ≡ first_note → out ≡ [] → IsTallyOf t []
     → Did before out t (answers_in more) after out' u → IsTallied u → HasMetered more after out' u
 metered-first more before after out out' t u unused none untallied did sound =
     let packets : packets_in (answers_in more) ≡ after.note.packets =
     sym (did.metered ∙ ap (λ (n : Note). n.packets ++ packets_in (answers_in more)) unused) in
     record {
-      packets = subst (IsPermutation (packets_in (answers_in more))) packets (IsPermutation-refl (packets_in (answers_in more)));
-      handed = did.kept ∙ ap (λ l. l ++ did.more) none ∙ sym (did.handed ∙ ap (λ (n : Note). n.handed ++ did.more) unused);
+      packets = subst (IsPermutation (packets_in (answers_in more))) packets
+          (IsPermutation-refl (packets_in (answers_in more)));
+      handed = did.kept ∙ ap (λ l. l ++ did.more) none
+          ∙ sym (did.handed ∙ ap (λ (n : Note). n.handed ++ did.more) unused);
       tallied = did.tallied [] untallied;
       sound = sound;
     }
 
 -- the batches taken besides stand behind the others
-pub metered-behind : (own took more took' : List Batch) (pass : PassMeans) (out : List Fragment) (tally : Tally) → took' ≡ took ++ more
+pub metered-behind : (own took more took' : List Batch) (pass : PassMeans) (out : List Fragment) (tally : Tally)
+    → took' ≡ took ++ more
     → HasMetered ((own ++ took) ++ more) pass out tally → HasMetered (own ++ took') pass out tally
 metered-behind own took more took' pass out tally is metered =
     subst (λ l. HasMetered l pass out tally) (append_assoc own took more ∙ ap (λ l. own ++ l) (sym is)) metered

@@ -46,15 +46,19 @@ pub took-same : (p q : QueuePass) → IsSame p q → took_of q ≡ took_of p
 took-same p q same = λ i. (same i).took
 
 -- the answers to one batch more
-pub answers-more : (batches : List Batch) (batch : Batch) → answers_in (batches ++ batch ∷ []) ≡ answers_in batches ++ answers_by batch
+pub answers-more : (batches : List Batch) (batch : Batch)
+    → answers_in (batches ++ batch ∷ []) ≡ answers_in batches ++ answers_by batch
 answers-more batches batch = flat_map-last answers_by batches batch
 
 -- a worker that took a batch more and metered it is ready for those behind it
-pub ready-more : (taken taken' : List Batch) (batch : Batch) (packets : List Packet) (captured : ℕ) → taken' ≡ taken ++ batch ∷ []
-    → AreBelow (batch.base + count_of batch) packets → captured ≤ batch.base + count_of batch → IsReadyFor taken' packets captured
+pub ready-more : (taken taken' : List Batch) (batch : Batch) (packets : List Packet) (captured : ℕ)
+    → taken' ≡ taken ++ batch ∷ []
+    → AreBelow (batch.base + count_of batch) packets → captured ≤ batch.base + count_of batch
+    → IsReadyFor taken' packets captured
 ready-more taken taken' batch packets captured more below few = λ next all.
     let last : IsBefore batch next = (all_popped (λ b. IsBefore b next) taken' taken batch all more).1 in
     (below-more (batch.base + count_of batch) next.base packets last.1 below, omega (arith, few, last.1))
 
-pub ready-same : (taken taken' : List Batch) (packets : List Packet) (captured : ℕ) → taken' ≡ taken → IsReadyFor taken packets captured → IsReadyFor taken' packets captured
+pub ready-same : (taken taken' : List Batch) (packets : List Packet) (captured : ℕ) → taken' ≡ taken
+    → IsReadyFor taken packets captured → IsReadyFor taken' packets captured
 ready-same taken taken' packets captured same ready = subst (λ l. IsReadyFor l packets captured) (sym same) ready

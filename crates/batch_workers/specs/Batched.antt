@@ -14,7 +14,8 @@ answers_by batch = answers_from batch.base (part_of batch.head batch.bytes.items
 abbrev pub answers_in : List Batch → List Answer
 answers_in batches = flat_map answers_by batches
 
--- A worker that took these batches is ready for each that stands behind them: its packets have smaller numbers than those of
--- the next batch's records, and it tallied no more records than stand before that batch.
+-- A worker that took these batches is ready for each that stands behind them: its packets have smaller numbers than
+-- those of the next batch's records, and it tallied no more records than stand before that batch.
 abbrev pub IsReadyFor : List Batch → List Packet → ℕ → Type 0
-IsReadyFor taken packets captured = (next : Batch) → All (λ batch. IsBefore batch next) taken → AreBelow next.base packets × (captured ≤ next.base)
+IsReadyFor taken packets captured = (next : Batch) → All (λ batch. IsBefore batch next) taken
+    → AreBelow next.base packets × (captured ≤ next.base)

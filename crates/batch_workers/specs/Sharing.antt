@@ -16,7 +16,8 @@ use Rattle.batch_queue.specs.Passes.{IsPassOf, IsFresh, took_of, put_of, seats_o
 use Rattle.batch_workers.specs.Batched.{answers_in}
 
 -- A worker that has done nothing.
-pub record IsReady {P : Type 0} (is_of : P → Type 0) (shown : P → PassMeans) (queue : BatchQueue) (pass : P) (seat : QueuePass)
+pub record IsReady {P : Type 0} (is_of : P → Type 0) (shown : P → PassMeans) (queue : BatchQueue) (pass : P)
+    (seat : QueuePass)
     (out : List Fragment) (tally : Tally) : Type 0 where
   pub own : is_of pass
   pub of : IsPassOf queue seat
@@ -33,7 +34,8 @@ pub record HasMetered (batches : List Batch) (pass : PassMeans) (out : List Frag
   pub sound : IsTallied tally
 
 -- Of so many seats, those of the queue put nothing and took just the batches that were metered.
-pub record HasDone {P : Type 0} (is_of : P → Type 0) (shown : P → PassMeans) (queue : BatchQueue) (seats : ℕ) (pass : P) (seat : QueuePass)
+pub record HasDone {P : Type 0} (is_of : P → Type 0) (shown : P → PassMeans) (queue : BatchQueue) (seats : ℕ) (pass : P)
+    (seat : QueuePass)
     (out : List Fragment) (tally : Tally) : Type 0 where
   pub own : is_of pass
   pub of : IsPassOf queue seat
@@ -43,11 +45,14 @@ pub record HasDone {P : Type 0} (is_of : P → Type 0) (shown : P → PassMeans)
   pub few : tally.captured ≤ seats * 2 ^ 32
 
 -- A worker that has worked: where it finished, it has done so.
-abbrev pub HasWorked : {P : Type 0} → (P → Type 0) → (P → PassMeans) → BatchQueue → P → QueuePass → List Fragment → Tally → WorkState → Type 0
-HasWorked is_of shown queue pass seat out tally state = state ≡ Finished → HasDone is_of shown queue 1 pass seat out tally
+abbrev pub HasWorked : {P : Type 0} → (P → Type 0) → (P → PassMeans) → BatchQueue → P → QueuePass → List Fragment
+    → Tally → WorkState → Type 0
+HasWorked is_of shown queue pass seat out tally state =
+    state ≡ Finished → HasDone is_of shown queue 1 pass seat out tally
 
 -- What several seats did together: at most 2^32 records for each.
-pub record IsShare {P : Type 0} (is_of : P → Type 0) (shown : P → PassMeans) (queue : BatchQueue) (pass : P) (seat : QueuePass) (tally : Tally) : Type 0 where
+pub record IsShare {P : Type 0} (is_of : P → Type 0) (shown : P → PassMeans) (queue : BatchQueue) (pass : P)
+    (seat : QueuePass) (tally : Tally) : Type 0 where
   pub own : is_of pass
   pub of : IsPassOf queue seat
   pub sound : IsTallied tally

@@ -35,7 +35,9 @@ pub fn meter_batch<C: FlowCache>(
     requires few { tally.old.captured ≤ batch.now.base }
     requires tallied { IsTallied tally.old }
     ensures own { C.is_of cache.now pass.new }
-    ensures did { OnOk result (Did (C.shown pass.old) out.old.items tally.old (answers_by batch.now) (C.shown pass.new) out.new.items tally.new) }
+    ensures did { OnOk result
+        (Did (C.shown pass.old) out.old.items tally.old (answers_by batch.now)
+        (C.shown pass.new) out.new.items tally.new) }
     ensures below { OnOk result (AreBelow (batch.now.base + count_of batch.now) (C.shown pass.new).note.packets) }
     ensures few { OnOk result (tally.new.captured ≤ batch.now.base + count_of batch.now) }
     ensures tallied { OnOk result (IsTallied tally.new) }

@@ -19,8 +19,8 @@ use packet_accept::packets_law;
 use std::alloc::Global;
 use std::sync::Wait;
 
-/// What several seats did together: their pass of the queue and of the cache, the fragments that the cache handed them, and
-/// the tally of their records.
+/// What several seats did together: their pass of the queue and of the cache, the fragments that the cache handed them,
+/// and the tally of their records.
 #[derive(Drop)]
 pub struct BatchShare<C: FlowCache> {
     pub seat: QueuePass,
@@ -42,9 +42,11 @@ fn gained<C: FlowCache>(
     requires own { C.is_of cache.now pass × C.is_of cache.now other }
     requires sound { IsTallied tally × IsTallied rest }
     requires few { (tally.captured < 2 ^ 38) × (rest.captured < 2 ^ 38) }
-    ensures own { IfOk result (λ r. C.is_of cache.now r.0 × ((C.shown r.0).note.seats ≡ (C.shown pass).note.seats + (C.shown other).note.seats)) }
+    ensures own { IfOk result (λ r. C.is_of cache.now r.0
+        × ((C.shown r.0).note.seats ≡ (C.shown pass).note.seats + (C.shown other).note.seats)) }
     ensures sound { IfOk result (λ r. IsTallied r.2 × (r.2.captured ≡ tally.captured + rest.captured)) }
-    ensures metered { (a b : List Batch) → HasMetered a (C.shown pass) parts.items tally → HasMetered b (C.shown other) more.items rest
+    ensures metered { (a b : List Batch) → HasMetered a (C.shown pass) parts.items tally
+        → HasMetered b (C.shown other) more.items rest
         → IfOk result (λ r. HasMetered (a ++ b) (C.shown r.0) r.1.items r.2) }
 {
     packets_law();
@@ -64,11 +66,15 @@ fn joined<C: FlowCache>(
 ) -> Result<BatchShare<C>, NoMemory>
     requires share { IsShare (C.is_of cache.now) C.shown queue.now share.pass share.seat share.tally }
     requires room { (C.shown share.pass).note.seats < 64 }
-    requires worker { HasDone (C.is_of cache.now) C.shown queue.now 1 worker.pass worker.seat worker.out.items worker.tally }
+    requires worker { HasDone (C.is_of cache.now) C.shown queue.now 1 worker.pass worker.seat worker.out.items
+        worker.tally }
     ensures share { IfOk result (λ r. IsShare (C.is_of cache.now) C.shown queue.now r.pass r.seat r.tally) }
-    ensures seats { IfOk result (λ r. ((C.shown r.pass).note.seats ≡ (C.shown share.pass).note.seats + 1) × (seats_of r.seat ≡ seats_of share.seat + 1)) }
-    ensures seat { IfOk result (λ r. (IsReaders share.seat → IsReaders r.seat) × (others_of r.seat ≡ others_of share.seat) × (put_of r.seat ≡ put_of share.seat)) }
-    ensures metered { (own : List Batch) → HasMetered (own ++ took_of share.seat) (C.shown share.pass) share.parts.items share.tally
+    ensures seats { IfOk result (λ r. ((C.shown r.pass).note.seats ≡ (C.shown share.pass).note.seats + 1)
+        × (seats_of r.seat ≡ seats_of share.seat + 1)) }
+    ensures seat { IfOk result (λ r. (IsReaders share.seat → IsReaders r.seat)
+        × (others_of r.seat ≡ others_of share.seat) × (put_of r.seat ≡ put_of share.seat)) }
+    ensures metered { (own : List Batch) → HasMetered (own ++ took_of share.seat)
+        (C.shown share.pass) share.parts.items share.tally
         → IfOk result (λ r. HasMetered (own ++ took_of r.seat) (C.shown r.pass) r.parts.items r.tally) }
 {
     let BatchShare {
@@ -106,12 +112,16 @@ pub fn united<C: FlowCache>(
 ) -> Result<BatchShare<C>, NoMemory>
     requires share { IsShare (C.is_of cache.now) C.shown queue.now share.pass share.seat share.tally }
     requires room { (C.shown share.pass).note.seats + length workers.items ≤ 64 }
-    requires workers { All (λ w. HasWorked (C.is_of cache.now) C.shown queue.now w.pass w.seat w.out.items w.tally w.state) workers.items }
+    requires workers { All
+        (λ w. HasWorked (C.is_of cache.now) C.shown queue.now w.pass w.seat w.out.items w.tally w.state) workers.items }
     ensures share { IfOk result (λ r. IsShare (C.is_of cache.now) C.shown queue.now r.pass r.seat r.tally) }
-    ensures seats { IfOk result (λ r. ((C.shown r.pass).note.seats ≡ (C.shown share.pass).note.seats + length workers.items)
+    ensures seats { IfOk result
+        (λ r. ((C.shown r.pass).note.seats ≡ (C.shown share.pass).note.seats + length workers.items)
         × (seats_of r.seat ≡ seats_of share.seat + length workers.items)) }
-    ensures seat { IfOk result (λ r. (IsReaders share.seat → IsReaders r.seat) × (others_of r.seat ≡ others_of share.seat) × (put_of r.seat ≡ put_of share.seat)) }
-    ensures metered { (own : List Batch) → HasMetered (own ++ took_of share.seat) (C.shown share.pass) share.parts.items share.tally
+    ensures seat { IfOk result (λ r. (IsReaders share.seat → IsReaders r.seat)
+        × (others_of r.seat ≡ others_of share.seat) × (put_of r.seat ≡ put_of share.seat)) }
+    ensures metered { (own : List Batch) → HasMetered (own ++ took_of share.seat)
+        (C.shown share.pass) share.parts.items share.tally
         → IfOk result (λ r. HasMetered (own ++ took_of r.seat) (C.shown r.pass) r.parts.items r.tally) }
 {
     let mut share = share;
@@ -126,8 +136,8 @@ pub fn united<C: FlowCache>(
     Ok(share)
 }
 
-/// Takes and meters what is left in the queue, by another pass of the cache that has done nothing. The gate is told of each
-/// batch by this number of a worker.
+/// Takes and meters what is left in the queue, by another pass of the cache that has done nothing. The gate is told of
+/// each batch by this number of a worker.
 ///
 /// Where the share's pass of the queue stands for all seats, all batches that were put were metered then.
 pub fn drained<C: FlowCache, G: Gate, R: Wait>(
@@ -147,7 +157,8 @@ pub fn drained<C: FlowCache, G: Gate, R: Wait>(
     ensures seats { IfOk result (λ r. (C.shown r.pass).note.seats ≡ (C.shown share.pass).note.seats + 1) }
     ensures put { IfOk result (λ r. put_of r.seat ≡ put_of share.seat) }
     ensures all { IfOk result (λ r. StandsForAll share.seat → IsPermutation (put_of r.seat) (took_of r.seat)) }
-    ensures metered { (own : List Batch) → HasMetered (own ++ took_of share.seat) (C.shown share.pass) share.parts.items share.tally
+    ensures metered { (own : List Batch) → HasMetered (own ++ took_of share.seat)
+        (C.shown share.pass) share.parts.items share.tally
         → IfOk result (λ r. HasMetered (own ++ took_of r.seat) (C.shown r.pass) r.parts.items r.tally) }
 {
     let BatchShare {

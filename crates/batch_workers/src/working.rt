@@ -60,11 +60,12 @@ fn give_back<R: Wait>(rt: &R, shared: &Shared, batch: Batch) {
     let _freed = shared.spare.push(rt, bytes);
 }
 
-/// Takes batches and meters each through this pass, until no more come and none is left. Before each batch the gate is told
-/// of it, by this number of a worker.
+/// Takes batches and meters each through this pass, until no more come and none is left. Before each batch the gate is
+/// told of it, by this number of a worker.
 ///
-/// The queue pass took some batches more, and the pass's packets grew by just the accepted packets of all their records, `out`
-/// by what the pass was handed, and the tally by these records. A queue pass for all seats took all batches that were put.
+/// The queue pass took some batches more, and the pass's packets grew by just the accepted packets of all their
+/// records, `out` by what the pass was handed, and the tally by these records. A queue pass for all seats took all
+/// batches that were put.
 ///
 /// `NoMemory`: out of memory. Nothing is said of the batches then.
 pub fn work_batches<C: FlowCache, G: Gate, R: Wait>(

@@ -1,5 +1,6 @@
 -- Where a stream of flow records was given and no call failed, a command is done, or memory is out.
-use Rattle.std.proofs.Common.{◌≡◌, ◌⊎◌, inl, inr, ◌+◌, ◌≤◌, ◌<◌, ℕ, List, [], ◌∷◌, ◌++◌, length, Option, Some, None, Result, Ok, Err, refl, sym, ap, ◌∙◌, subst, arith, length-append}
+use Rattle.std.proofs.Common.{◌≡◌, ◌⊎◌, inl, inr, ◌+◌, ◌≤◌, ◌<◌, ℕ, List, [], ◌∷◌, ◌++◌, length, Option, Some, None}
+use Rattle.std.proofs.Common.{Result, Ok, Err, refl, sym, ap, ◌∙◌, subst, arith, length-append}
 use Rattle.std.proofs.lemmas.List.{append-nil}
 use Rattle.std.specs.Io.KnownBytes.{Consumes, IsAtEnd}
 use Rattle.record_ledger.specs.declared.record.FlowRecord.{FlowRecord}
@@ -9,60 +10,72 @@ use Rattle.ipfix_reader.specs.Messages.{decode}
 use Rattle.ipfix_reader.specs.Flows.{flows_in, flows_of}
 use Rattle.meter_io.specs.Sides.{Side, HasFailed}
 use Rattle.biflow_pair.specs.declared.status.PairStatus.{PairStatus}
-use Rattle.biflow_pair.specs.declared.status.PairStatus.TheVariants.{Done, ReadFault, Usage, WriteFault, TooLarge, NoMemory, NotStream, NotFlows}
+use Rattle.biflow_pair.specs.declared.status.PairStatus.TheVariants.{Done, ReadFault, Usage, WriteFault, TooLarge}
+use Rattle.biflow_pair.specs.declared.status.PairStatus.TheVariants.{NoMemory, NotStream, NotFlows}
 use Rattle.biflow_pair.specs.Outcome.{Ends, IsValid}
 use Rattle.biflow_pair.specs.Pairing.{IsFirstOther}
 use Rattle.biflow_pair.specs.Words.{Asked}
 use Rattle.biflow_pair.proofs.Whole.{flows-decode, each-flow}
 
 -- what was read to the end is all that was there
-all-read : (before after : Option (List ℕ)) (bytes read : List ℕ) → before ≡ Some bytes → Consumes before after read → IsAtEnd after → read ≡ bytes
+all-read : (before after : Option (List ℕ)) (bytes read : List ℕ) → before ≡ Some bytes → Consumes before after read
+    → IsAtEnd after → read ≡ bytes
 all-read None after bytes read is given ended = absurd (let z : ◌≡◌ {A = Option (List ℕ)} None (Some bytes) = is in cc)
 all-read (Some xs) None bytes read is given ended = absurd given
 all-read (Some xs) (Some ys) bytes read is given ended =
-    sym (append-nil read) ∙ (ap (λ l. read ++ l) (sym ended) ∙ (sym given ∙ (let same : xs ≡ bytes = some_is xs bytes is in same)))
+    sym (append-nil read)
+    ∙ (ap (λ l. read ++ l) (sym ended) ∙ (sym given ∙ (let same : xs ≡ bytes = some_is xs bytes is in same)))
   where
     some_is : (a b : List ℕ) → ◌≡◌ {A = Option (List ℕ)} (Some a) (Some b) → a ≡ b
     some_is a b e = cc
 
-taken-few : (before after : Option (List ℕ)) (bytes taken : List ℕ) → before ≡ Some bytes → Consumes before after taken → length taken ≤ length bytes
+taken-few : (before after : Option (List ℕ)) (bytes taken : List ℕ) → before ≡ Some bytes → Consumes before after taken
+    → length taken ≤ length bytes
 taken-few None after bytes taken is given = absurd (let z : ◌≡◌ {A = Option (List ℕ)} None (Some bytes) = is in cc)
 taken-few (Some xs) None bytes taken is given = absurd given
 taken-few (Some xs) (Some ys) bytes taken is given =
     let same : length xs ≡ length bytes = ap length (some_is xs bytes is) in
-    let all : length xs ≡ length taken + length ys = ap length given ∙ length-append taken ys in omega (arith, same, all)
+    let all : length xs ≡ length taken + length ys = ap length given ∙ length-append taken ys in
+    omega (arith, same, all)
   where
     some_is : (a b : List ℕ) → ◌≡◌ {A = Option (List ℕ)} (Some a) (Some b) → a ≡ b
     some_is a b e = cc
 
-no-fault : (bytes : List ℕ) (flows : List FlowRecord) (fault : StreamFault) → flows_of bytes ≡ Some flows → decode bytes ≡ Err fault → ⊥
+no-fault : (bytes : List ℕ) (flows : List FlowRecord) (fault : StreamFault) → flows_of bytes ≡ Some flows
+    → decode bytes ≡ Err fault → ⊥
 no-fault bytes flows fault are wrong =
     let read = flows-decode bytes flows are in
     let two : Ok read.0 ≡ Err fault = sym read.1 ∙ wrong in cc
 
-same-records : (records others : List DataRecord) → ◌≡◌ {A = Result (List DataRecord) StreamFault} (Ok records) (Ok others) → records ≡ others
+same-records : (records others : List DataRecord)
+    → ◌≡◌ {A = Result (List DataRecord) StreamFault} (Ok records) (Ok others) → records ≡ others
 same-records records others e = cc
 
-no-other : (bytes : List ℕ) (flows : List FlowRecord) (records : List DataRecord) (place : ℕ) → flows_of bytes ≡ Some flows → decode bytes ≡ Ok records
+no-other : (bytes : List ℕ) (flows : List FlowRecord) (records : List DataRecord) (place : ℕ)
+    → flows_of bytes ≡ Some flows → decode bytes ≡ Ok records
     → IsFirstOther records place → ⊥
 no-other bytes flows records place are decoded first =
     let read = flows-decode bytes flows are in
     let same : records ≡ read.0 = same-records records read.0 (sym decoded ∙ read.1) in
-    each-flow records flows (subst (λ rs. flows_in rs ≡ Some flows) (sym same) read.2) place (any records first.inside) first.inside (first.other (any records first.inside))
+    each-flow records flows (subst (λ rs. flows_in rs ≡ Some flows) (sym same) read.2) place
+    (any records first.inside) first.inside (first.other (any records first.inside))
   where
     any : (rs : List DataRecord) → place < length rs → DataRecord
     any [] low = absurd (omega (arith, low))
     any (r ∷ rs) low = r
 
-pub completes : (asked : Asked) (input output : Side) (bytes : List ℕ) (status : PairStatus) → Ends asked input output status
-    → input.before ≡ Some bytes → IsValid bytes → ¬ HasFailed input → ¬ HasFailed output → (status ≡ Done) ⊎ (status ≡ NoMemory)
+pub completes : (asked : Asked) (input output : Side) (bytes : List ℕ) (status : PairStatus)
+    → Ends asked input output status
+    → input.before ≡ Some bytes → IsValid bytes → ¬ HasFailed input → ¬ HasFailed output
+    → (status ≡ Done) ⊎ (status ≡ NoMemory)
 completes asked input output bytes Done ends is valid quiet quiet' = inl refl
 completes asked input output bytes NoMemory ends is valid quiet quiet' = inr refl
 completes asked input output bytes WriteFault ends is valid quiet quiet' = absurd (quiet' ends.cause)
 completes asked input output bytes ReadFault ends is valid quiet quiet' = absurd (quiet ends.cause.cause)
 completes asked input output bytes Usage ends is valid quiet quiet' = absurd ends.cause
 completes asked input output bytes TooLarge ends is valid quiet quiet' =
-    absurd (let few = taken-few input.before input.after bytes ends.cause.0 is ends.cause.2 in let long = ends.cause.1 in let within = valid.0 in omega (arith, few, long, within))
+    absurd (let few = taken-few input.before input.after bytes ends.cause.0 is ends.cause.2 in
+    let long = ends.cause.1 in let within = valid.0 in omega (arith, few, long, within))
 completes asked input output bytes (NotStream fault) ends is valid quiet quiet' =
     let wrong = ends.cause in
     let same = all-read input.before input.after bytes wrong.bytes is wrong.read.given wrong.read.ended in

@@ -17,7 +17,8 @@ use Rattle.biflow_pair.specs.Chains.{RisesFrom}
 pub by_start_total : IsTotalOrder by_start
 by_start_total =
     then_total (on_total (λ (r : FlowRecord). r.part.first) nat_cmp_total)
-    (then_total (on_total (λ (r : FlowRecord). r.part.last) nat_cmp_total) (on_total (λ (r : FlowRecord). r.part.key) key_order_total))
+    (then_total (on_total (λ (r : FlowRecord). r.part.last) nat_cmp_total)
+    (on_total (λ (r : FlowRecord). r.part.key) key_order_total))
 
 pub by_start_weak : IsStrictWeakOrder (λ (x y : FlowRecord). is_lt (by_start x y))
 by_start_weak = ranks_by by_start_total (λ (r : FlowRecord). r)

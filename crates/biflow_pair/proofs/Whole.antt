@@ -1,5 +1,6 @@
 -- A stream of flow records has no fault, and no record that is no flow.
-use Rattle.std.proofs.Common.{◌≡◌, ◌≢◌, ◌<◌, ℕ, zero, suc, List, [], ◌∷◌, length, get_or, Option, Some, None, Result, Ok, Err, option_map, refl, sym, arith}
+use Rattle.std.proofs.Common.{◌≡◌, ◌≢◌, ◌<◌, ℕ, zero, suc, List, [], ◌∷◌, length, get_or, Option, Some, None, Result}
+use Rattle.std.proofs.Common.{Ok, Err, option_map, refl, sym, arith}
 use Rattle.std.specs.Option.{option_and_then}
 use Rattle.std.specs.Result.{result_ok}
 use Rattle.record_ledger.specs.declared.record.FlowRecord.{FlowRecord}
@@ -11,7 +12,8 @@ use Rattle.ipfix_reader.specs.Flows.{flow, flows_in, flows_of}
 none_some : {A B : Type 0} (a : A) → ◌≡◌ {A = Option A} None (Some a) → B
 none_some a e = absurd (let z : ◌≡◌ {A = Option _} None (Some a) = e in cc)
 
-by_result : (r : Result (List DataRecord) StreamFault) (flows : List FlowRecord) → option_and_then flows_in (result_ok r) ≡ Some flows
+by_result : (r : Result (List DataRecord) StreamFault) (flows : List FlowRecord)
+    → option_and_then flows_in (result_ok r) ≡ Some flows
     → (records : List DataRecord) × (r ≡ Ok records) × (flows_in records ≡ Some flows)
 by_result (Ok records) flows e = (records, refl, e)
 by_result (Err fault) flows e = none_some flows e
@@ -33,4 +35,5 @@ pub each-flow : (records : List DataRecord) (flows : List FlowRecord) → flows_
 each-flow [] flows e place d low = absurd (omega (arith, low))
 each-flow (x ∷ xs) flows e zero d low = (two-parts (flow x) (flows_in xs) flows e).0
 each-flow (x ∷ xs) flows e (suc place) d low =
-    let parts = two-parts (flow x) (flows_in xs) flows e in each-flow xs parts.1.0 parts.1.1 place d (omega (arith, low))
+    let parts = two-parts (flow x) (flows_in xs) flows e in
+    each-flow xs parts.1.0 parts.1.1 place d (omega (arith, low))

@@ -5,7 +5,10 @@ use Rattle.flow_key.specs.Fields.{KeyFields}
 use Rattle.record_ledger.specs.declared.record.FlowRecord.{FlowRecord}
 use Rattle.ipfix_model.specs.declared.values.FieldValue.{FieldValue}
 use Rattle.ipfix_model.specs.declared.values.DataRecord.{DataRecord}
-use Rattle.ipfix_model.specs.Elements.{octet_delta_count, packet_delta_count, tcp_control_bits, source_ipv4_address, destination_ipv4_address, source_ipv6_address, destination_ipv6_address, flow_end_reason, flow_start_milliseconds, flow_end_milliseconds, reverse_enterprise}
+use Rattle.ipfix_model.specs.Elements.{octet_delta_count, packet_delta_count, tcp_control_bits, source_ipv4_address}
+use Rattle.ipfix_model.specs.Elements.{destination_ipv4_address, source_ipv6_address, destination_ipv6_address}
+use Rattle.ipfix_model.specs.Elements.{flow_end_reason, flow_start_milliseconds, flow_end_milliseconds}
+use Rattle.ipfix_model.specs.Elements.{reverse_enterprise}
 use Rattle.ipfix_model.specs.Templates.{v4_bi_fields, v6_bi_fields}
 use Rattle.ipfix_model.specs.Values.{are_values_of, number_of}
 use Rattle.ipfix_reader.specs.FlowFields.{FlowFields, fields_in}
@@ -29,8 +32,8 @@ reverse_of key = record {
 abbrev pub reverse_number : ℕ → List FieldValue → ℕ
 reverse_number element values = number_of (Some reverse_enterprise) element values
 
--- The numbers of the reverse flow: its key is the reverse of the forward flow's, and the others are in the values of the
--- reverse elements.
+-- The numbers of the reverse flow: its key is the reverse of the forward flow's, and the others are in the values of
+-- the reverse elements.
 abbrev pub reverse_fields_in : KeyFields → List FieldValue → FlowFields
 reverse_fields_in key values = record {
   part = record {
@@ -51,8 +54,8 @@ biflow_with forward values =
     option_and_then (λ (f : FlowRecord). option_map (λ (r : FlowRecord). record { forward = f; reverse = Some r })
     (flow_with (reverse_fields_in forward.part.key values))) (flow_with forward)
 
--- The biflow that a data record is: of the template for biflows over IPv4 or over IPv6, or a flow record without a reverse
--- flow. Else none.
+-- The biflow that a data record is: of the template for biflows over IPv4 or over IPv6, or a flow record without a
+-- reverse flow. Else none.
 unfoldable pub biflow : DataRecord → Option Biflow
 biflow data_record =
     if are_values_of v4_bi_fields data_record.fields
@@ -65,7 +68,8 @@ biflow data_record =
 abbrev pub biflows_in : List DataRecord → Option (List Biflow)
 biflows_in [] = Some []
 biflows_in (data_record ∷ data_records) =
-    option_and_then (λ (first : Biflow). option_map (λ (pairs : List Biflow). first ∷ pairs) (biflows_in data_records)) (biflow data_record)
+    option_and_then (λ (first : Biflow). option_map (λ (pairs : List Biflow). first ∷ pairs) (biflows_in data_records))
+    (biflow data_record)
 
 -- The biflows of a stream: those that its data records are, where it has no fault and each is one.
 unfoldable pub biflows_of : List ℕ → Option (List Biflow)

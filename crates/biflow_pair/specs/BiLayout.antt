@@ -1,7 +1,8 @@
 -- The layout of biflows as a stream of messages (RFC 7011, sections 3.1 to 3.4; RFC 5103).
 use Rattle.std.specs.Prelude.{ℕ, ◌++◌, List, Option, Some, None}
 use Rattle.record_ledger.specs.declared.record.FlowRecord.{FlowRecord}
-use Rattle.ipfix_model.specs.Templates.{v4_template, v4_fields, v6_template, v6_fields, v4_bi_template, v4_bi_fields, v6_bi_template, v6_bi_fields, bi_template_of, bi_fields_of}
+use Rattle.ipfix_model.specs.Templates.{v4_template, v4_fields, v6_template, v6_fields, v4_bi_template, v4_bi_fields}
+use Rattle.ipfix_model.specs.Templates.{v6_bi_template, v6_bi_fields, bi_template_of, bi_fields_of}
 use Rattle.ipfix_model.specs.Values.{record_bytes, bi_field_value}
 use Rattle.ipfix_writer.specs.Encoding.{message, set, template_record}
 use Rattle.ipfix_writer.specs.Layout.{RecordSet, encode_flow, IsStream}
@@ -32,4 +33,5 @@ bi_template_message export_time = message export_time 0 (set 2 bi_template_recor
 -- The bytes are the layout of the biflows: that message, then their data messages, each with the longest prefix of the
 -- biflows still left whose message is at most `size` bytes long.
 abbrev pub IsBiLayout : ℕ → ℕ → List Biflow → List ℕ → Type 0
-IsBiLayout size export_time pairs bytes = IsStream encode_biflow size export_time (bi_template_message export_time) pairs bytes
+IsBiLayout size export_time pairs bytes =
+    IsStream encode_biflow size export_time (bi_template_message export_time) pairs bytes

@@ -1,8 +1,10 @@
 -- The code's own: data records of one template are of one length, as the writer's trait for them says.
-use Rattle.std.proofs.Common.{◌≡◌, ◌==◌, ℕ, Bool, true, false, length, if◌then◌else◌, Option, Some, None, refl, sym, ◌∙◌, arith}
+use Rattle.std.proofs.Common.{◌≡◌, ◌==◌, ℕ, Bool, true, false, length, if◌then◌else◌, Option, Some, None, refl, sym}
+use Rattle.std.proofs.Common.{◌∙◌, arith}
 use Rattle.record_ledger.specs.declared.record.FlowRecord.{FlowRecord}
 use Rattle.ipfix_model.specs.Fields.{record_length}
-use Rattle.ipfix_model.specs.Templates.{v4_template, v4_fields, v6_template, v6_fields, template_of, v4_bi_template, v4_bi_fields, v6_bi_template, v6_bi_fields, bi_template_of, bi_fields_of}
+use Rattle.ipfix_model.specs.Templates.{v4_template, v4_fields, v6_template, v6_fields, template_of, v4_bi_template}
+use Rattle.ipfix_model.specs.Templates.{v4_bi_fields, v6_bi_template, v6_bi_fields, bi_template_of, bi_fields_of}
 use Rattle.ipfix_model.specs.Values.{bi_field_value}
 use Rattle.ipfix_writer.specs.DataSizes.{length-record_bytes, length-data_record}
 use Rattle.biflow_pair.specs.declared.biflow.Biflow.{Biflow}
@@ -10,12 +12,14 @@ use Rattle.biflow_pair.specs.BiLayout.{bi_record, encode_both, encode_biflow}
 
 -- the template of a record over this version, with a reverse flow or without
 abbrev pub template_by : Bool → Bool → ℕ
-template_by both v4 = if both then (if v4 then v4_bi_template else v6_bi_template) else (if v4 then v4_template else v6_template)
+template_by both v4 = if both then (if v4 then v4_bi_template else v6_bi_template)
+    else (if v4 then v4_template else v6_template)
 
 abbrev pub length_by : Bool → Bool → ℕ
 length_by both v4 = if both then (if v4 then 83 else 107) else (if v4 then 48 else 72)
 
-sized_by : (both v4 both' v4' : Bool) → template_by both v4 ≡ template_by both' v4' → length_by both v4 ≡ length_by both' v4'
+sized_by : (both v4 both' v4' : Bool) → template_by both v4 ≡ template_by both' v4'
+    → length_by both v4 ≡ length_by both' v4'
 sized_by true true true true is = refl
 sized_by true true true false is = absurd (omega arith)
 sized_by true true false true is = absurd (omega arith)
@@ -49,12 +53,15 @@ bi_length : (v4 : Bool) → record_length (if v4 then v4_bi_fields else v6_bi_fi
 bi_length true = refl
 bi_length false = refl
 
-pub length-both : (forward : FlowRecord) (reverse : Option FlowRecord) → length (encode_both forward reverse).records ≡ length_by (has_reverse reverse) (is_v4 forward)
+pub length-both : (forward : FlowRecord) (reverse : Option FlowRecord)
+    → length (encode_both forward reverse).records ≡ length_by (has_reverse reverse) (is_v4 forward)
 unfolding bi_record
 length-both forward None = length-data_record forward ∙ flow_length (is_v4 forward)
-length-both forward (Some reverse) = length-record_bytes (bi_field_value forward reverse) (bi_fields_of forward) ∙ bi_length (is_v4 forward)
+length-both forward (Some reverse) = length-record_bytes (bi_field_value forward reverse) (bi_fields_of forward)
+    ∙ bi_length (is_v4 forward)
 
-template-both : (forward : FlowRecord) (reverse : Option FlowRecord) → (encode_both forward reverse).template ≡ template_by (has_reverse reverse) (is_v4 forward)
+template-both : (forward : FlowRecord) (reverse : Option FlowRecord)
+    → (encode_both forward reverse).template ≡ template_by (has_reverse reverse) (is_v4 forward)
 unfolding template_of bi_template_of
 template-both forward None = refl
 template-both forward (Some reverse) = refl

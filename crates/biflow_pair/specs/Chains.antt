@@ -1,5 +1,6 @@
 -- The code's own: the records of each key as a chain of places, and the records that aren't taken yet.
-use Rattle.std.specs.Prelude.{◌≡◌, ℕ, ◌+◌, ◌<◌, ◌≤◌, List, [], ◌∷◌, length, drop, nat_le, Option, Some, None, unwrap_or, slice_index_or, if◌then◌else◌}
+use Rattle.std.specs.Prelude.{◌≡◌, ℕ, ◌+◌, ◌<◌, ◌≤◌, List, [], ◌∷◌, length, drop, nat_le, Option, Some, None, unwrap_or}
+use Rattle.std.specs.Prelude.{slice_index_or, if◌then◌else◌}
 use Rattle.std.specs.Map.{lookup}
 use Rattle.flow_key.specs.declared.key.FlowKey.{FlowKey}
 use Rattle.record_ledger.specs.declared.record.FlowRecord.{FlowRecord}
@@ -62,7 +63,8 @@ pub record TakesMate (idle : ℕ) (records : List FlowRecord) (from : ℕ) (forw
 
 -- The record at a place and its mate are taken out, or the record was taken already.
 abbrev pub TakesPair : ℕ → List FlowRecord → ℕ → (FlowKey → ℕ) → (FlowKey → ℕ) → Option Biflow → Type 0
-TakesPair idle records place old new None = untaken old place (drop place records) ≡ untaken new (place + 1) (drop (place + 1) records)
+TakesPair idle records place old new None =
+    untaken old place (drop place records) ≡ untaken new (place + 1) (drop (place + 1) records)
 TakesPair idle records place old new (Some pair) =
     IsFirstPair idle (untaken old place (drop place records)) pair (untaken new (place + 1) (drop (place + 1) records))
 

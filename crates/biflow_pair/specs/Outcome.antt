@@ -1,12 +1,14 @@
 -- What a run means, by what its words ask for and by its status.
 use Rattle.std.specs.Prelude.{ℕ, ◌≡◌, ◌⊎◌, ◌*◌, ◌≤◌, ◌^◌, List, length, Option, Some, None, Ok, Err, ⊤}
-use Rattle.meter_io.specs.Sides.{Side, HasFailed, IsUntouched, IsRead, IsTooLarge, IsBroken, IsWrong, HasTaken, HasBegun}
+use Rattle.meter_io.specs.Sides.{Side, HasFailed, IsUntouched, IsRead, IsTooLarge, IsBroken, IsWrong, HasTaken}
+use Rattle.meter_io.specs.Sides.{HasBegun}
 use Rattle.record_ledger.specs.declared.record.FlowRecord.{FlowRecord}
 use Rattle.ipfix_model.specs.declared.values.DataRecord.{DataRecord}
 use Rattle.ipfix_reader.specs.Messages.{decode}
 use Rattle.ipfix_reader.specs.Flows.{flows_of}
 use Rattle.biflow_pair.specs.declared.status.PairStatus.{PairStatus}
-use Rattle.biflow_pair.specs.declared.status.PairStatus.TheVariants.{Done, ReadFault, Usage, WriteFault, TooLarge, NoMemory, NotStream, NotFlows}
+use Rattle.biflow_pair.specs.declared.status.PairStatus.TheVariants.{Done, ReadFault, Usage, WriteFault, TooLarge}
+use Rattle.biflow_pair.specs.declared.status.PairStatus.TheVariants.{NoMemory, NotStream, NotFlows}
 use Rattle.biflow_pair.specs.Pairing.{IsPaired, IsFirstOther}
 use Rattle.biflow_pair.specs.Words.{Asked}
 

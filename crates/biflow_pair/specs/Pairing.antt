@@ -1,5 +1,6 @@
 -- What a stream of flow records becomes as a stream of biflows.
-use Rattle.std.specs.Prelude.{◌≡◌, ◌≢◌, ℕ, ◌<◌, ◌/◌, ◌%◌, ◌^◌, max, List, [], ◌∷◌, length, Some, None, Ok, Err, slice_index_or, IsPermutation}
+use Rattle.std.specs.Prelude.{◌≡◌, ◌≢◌, ℕ, ◌<◌, ◌/◌, ◌%◌, ◌^◌, max, List, [], ◌∷◌, length, Some, None, Ok, Err}
+use Rattle.std.specs.Prelude.{slice_index_or, IsPermutation}
 use Rattle.record_ledger.specs.declared.record.FlowRecord.{FlowRecord}
 use Rattle.ipfix_model.specs.declared.values.DataRecord.{DataRecord}
 use Rattle.ipfix_reader.specs.Messages.{decode}
@@ -43,9 +44,10 @@ IsOtherError records (NotFlows place) = IsFirstOther records place
 IsOtherError records NoMemory = Unit {0}
 IsOtherError records (NotStream fault) = ⊥
 
--- Why a stream isn't paired: it has this fault; or it has none, and the record at this place is the first that is no flow
--- record; or memory is out.
+-- Why a stream isn't paired: it has this fault; or it has none, and the record at this place is the first that is no
+-- flow record; or memory is out.
 abbrev pub PairingFails : List ℕ → PairError → Type 0
 PairingFails stream (NotStream fault) = decode stream ≡ Err fault
-PairingFails stream (NotFlows place) = (records : List DataRecord) × (decode stream ≡ Ok records) × IsFirstOther records place
+PairingFails stream (NotFlows place) = (records : List DataRecord) × (decode stream ≡ Ok records)
+    × IsFirstOther records place
 PairingFails stream NoMemory = Unit {0}

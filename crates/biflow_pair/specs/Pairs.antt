@@ -17,7 +17,8 @@ by_start one other =
 -- The first mate of a record among others.
 abbrev pub first_mate : ℕ → FlowRecord → List FlowRecord → Option FlowRecord
 first_mate idle forward [] = None
-first_mate idle forward (other ∷ others) = if are_mates idle forward other then Some other else first_mate idle forward others
+first_mate idle forward (other ∷ others) =
+    if are_mates idle forward other then Some other else first_mate idle forward others
 
 -- The others without that mate.
 abbrev pub without_mate : ℕ → FlowRecord → List FlowRecord → List FlowRecord
@@ -36,7 +37,8 @@ pub record IsFirstPair (idle : ℕ) (records : List FlowRecord) (pair : Biflow) 
 -- And so on with the rest, until no record is left.
 abbrev pub ArePaired : ℕ → List FlowRecord → List Biflow → Type 0
 ArePaired idle records [] = records ≡ []
-ArePaired idle records (pair ∷ pairs) = (rest : List FlowRecord) × IsFirstPair idle records pair rest × ArePaired idle rest pairs
+ArePaired idle records (pair ∷ pairs) = (rest : List FlowRecord) × IsFirstPair idle records pair rest
+    × ArePaired idle rest pairs
 
 -- The pairs of some records: those of the records in the order of first time, last time and key, where ties keep their
 -- order.

@@ -1,7 +1,8 @@
 -- The exit status of each way in which a run ends.
 use Rattle.std.specs.Prelude.{ℕ}
 use Rattle.biflow_pair.specs.declared.status.PairStatus.{PairStatus}
-use Rattle.biflow_pair.specs.declared.status.PairStatus.TheVariants.{Done, ReadFault, Usage, WriteFault, TooLarge, NoMemory, NotStream, NotFlows}
+use Rattle.biflow_pair.specs.declared.status.PairStatus.TheVariants.{Done, ReadFault, Usage, WriteFault, TooLarge}
+use Rattle.biflow_pair.specs.declared.status.PairStatus.TheVariants.{NoMemory, NotStream, NotFlows}
 
 abbrev pub exit_status : PairStatus → ℕ
 exit_status Done = 0

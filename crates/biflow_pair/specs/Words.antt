@@ -28,4 +28,5 @@ asked_with (idle ∷ (size ∷ (more ∷ values))) = None
 -- What words ask for: the first is `pair`, and the others are its options.
 abbrev pub asked_by : List (List ℕ) → Option Asked
 asked_by [] = None
-asked_by (name ∷ words) = if bytes_eq name (codes "pair") then option_and_then asked_with (values_of options words) else None
+asked_by (name ∷ words) = if bytes_eq name (codes "pair") then option_and_then asked_with (values_of options words)
+    else None

@@ -50,7 +50,8 @@ impl Heads {
 
     /// From here on the key has this place.
     pub fn set(&mut self, key: FlowKey, place: usize) -> Result<(), NoMemory>
-        ensures { OnOk result ((other : FlowKey) → place_of self.new other ≡ (if is_same other key then place else place_of self.old other)) }
+        ensures { OnOk result ((other : FlowKey)
+            → place_of self.new other ≡ (if is_same other key then place else place_of self.old other)) }
     {
         self.places.insert(key, place)?;
         Ok(())

@@ -2,7 +2,8 @@
 
 ghost use Rattle.biflow_pair.specs.BiLaws.{ReadsBack, IsOneBiLayout, HasTemplateSetLength, HasTemplateMessageLength};
 
-/// The layout of biflows is one list of bytes, and it decodes to these biflows where each reverse flow has the reverse key.
+/// The layout of biflows is one list of bytes, and it decodes to these biflows where each reverse flow has the reverse
+/// key.
 pub fn bi_layout_reads_back()
     ensures one { IsOneBiLayout }
     ensures back { ReadsBack }

@@ -1,11 +1,13 @@
 //! Flow records put together with their mates.
 
-ghost use Rattle.std.specs.Prelude.{◌≡◌, ◌+◌, ◌<◌, ◌≤◌, ◌++◌, IfOk, OnOk, length, IsPermutation, IsSorted, slice_index_or};
+ghost use Rattle.std.specs.Prelude.{◌≡◌, ◌+◌, ◌<◌, ◌≤◌, ◌++◌, IfOk, OnOk, length, IsPermutation, IsSorted};
+ghost use Rattle.std.specs.Prelude.{slice_index_or};
 ghost use Rattle.std.specs.List.Sorted.{IsStable};
 ghost use Rattle.flow_key.specs.declared.key.FlowKey.{FlowKey};
 ghost use Rattle.biflow_pair.specs.Mates.{is_same, is_reverse};
 ghost use Rattle.biflow_pair.specs.Pairs.{by_start, ArePaired, ArePairs, members};
-ghost use Rattle.biflow_pair.specs.Chains.{IsFirstPlace, ArePlaces, AreLinks, TakesMate, TakesPair, RisesFrom, pair_list, place_of};
+ghost use Rattle.biflow_pair.specs.Chains.{IsFirstPlace, ArePlaces, AreLinks, TakesMate, TakesPair, RisesFrom};
+ghost use Rattle.biflow_pair.specs.Chains.{pair_list, place_of};
 
 use crate::biflow::Biflow;
 use crate::heads::Heads;
@@ -15,11 +17,11 @@ use record_ledger::FlowRecord;
 use std::alloc::Global;
 use std::cmp::Ordering;
 
-/// The biflows of some flow records: the records stand in the order of first time, last time and key, and ties keep their
-/// order. The first is a forward record; its reverse is the first of the others that is its mate, if there is one: its key
-/// has both addresses and both ports exchanged and isn't the same, and the gap between their spans is at most `idle`
-/// milliseconds, up to 86,400,000. Both are taken out, and so on with the rest. So each record is the forward or the reverse
-/// one of exactly one biflow.
+/// The biflows of some flow records: the records stand in the order of first time, last time and key, and ties keep
+/// their order. The first is a forward record; its reverse is the first of the others that is its mate, if there is
+/// one: its key has both addresses and both ports exchanged and isn't the same, and the gap between their spans is at
+/// most `idle` milliseconds, up to 86,400,000. Both are taken out, and so on with the rest. So each record is the
+/// forward or the reverse one of exactly one biflow.
 ///
 /// `NoMemory` where the room for the records, the places of their keys or the biflows can't be had.
 pub fn pair(alloc: Global, records: &[FlowRecord], idle: u64) -> Result<Vec<Biflow>, NoMemory>
@@ -137,7 +139,8 @@ fn take_mate(
     requires places { ArePlaces records.now (place + 1) (place_of heads.old) }
     requires rises { RisesFrom records.now }
     ensures places { OnOk result (ArePlaces records.now (place + 1) (place_of heads.new)) }
-    ensures taken { IfOk result (TakesMate idle records.now (place + 1) forward.now (place_of heads.old) (place_of heads.new)) }
+    ensures taken { IfOk result
+        (TakesMate idle records.now (place + 1) forward.now (place_of heads.old) (place_of heads.new)) }
 {
     let key = reverse_key(&forward.part.key);
     let there = heads.get(&key);

@@ -28,7 +28,8 @@ fn pair_input<S: Source, K: Sink>(
     input: &mut S,
     output: &mut K,
 ) -> PairStatus
-    ensures { Ends (asked settings.now) (side S.left S.faults input.old input.new) (side K.held K.faults output.old output.new) result }
+    ensures { Ends (asked settings.now) (side S.left S.faults input.old input.new)
+        (side K.held K.faults output.old output.new) result }
 {
     let stream = match read_all(alloc, input, STREAM_LIMIT) {
         Ok(stream) => stream,
@@ -50,15 +51,16 @@ fn pair_input<S: Source, K: Sink>(
 }
 
 /// Reads a stream of flow records and writes the stream of their biflows (RFC 5103): each record is the forward or the
-/// reverse flow of exactly one. The words are `pair`, and behind it `--idle` with the longest gap between a flow and its
-/// reverse, in seconds from 1 to 86,400, by default 300, and `--size` with the most octets of a message, from 308 to 65,535,
-/// by default 1400; each at most once, in any order, as `--name value` or `--name=value`.
+/// reverse flow of exactly one. The words are `pair`, and behind it `--idle` with the longest gap between a flow and
+/// its reverse, in seconds from 1 to 86,400, by default 300, and `--size` with the most octets of a message, from 308
+/// to 65,535, by default 1400; each at most once, in any order, as `--name value` or `--name=value`.
 ///
-/// The input, at most 2^26 bytes, is read to its end, and all memory is taken before anything is written. At a refusal, any
-/// status but `Done` and `WriteFault`, nothing is written. They come in this order:
+/// The input, at most 2^26 bytes, is read to its end, and all memory is taken before anything is written. At a refusal,
+/// any status but `Done` and `WriteFault`, nothing is written. They come in this order:
 ///
 /// - `Usage`: exactly where the words are no command. Nothing is read.
-/// - `ReadFault`: only where a read failed and the input counted it. `TooLarge`: exactly where more bytes came than 2^26.
+/// - `ReadFault`: only where a read failed and the input counted it. `TooLarge`: exactly where more bytes came than
+///   2^26.
 /// - `NotStream`: exactly where the bytes read have that fault.
 /// - `NotFlows`: exactly where they have none, and the data record at that place is the first that is no flow record.
 /// - `WriteFault`: only where a write failed and the output counted it; it took a beginning of what it was to take.
@@ -70,7 +72,8 @@ pub fn run_pair<S: Source, K: Sink>(
     output: &mut K,
 ) -> PairStatus
     ensures usage { result ≡ PairStatus.Usage → asked_by (map string_bytes words.now) ≡ None }
-    ensures nothing { asked_by (map string_bytes words.now) ≡ None → (result ≡ PairStatus.Usage) ⊎ (result ≡ PairStatus.NoMemory) }
+    ensures nothing { asked_by (map string_bytes words.now) ≡ None
+        → (result ≡ PairStatus.Usage) ⊎ (result ≡ PairStatus.NoMemory) }
     ensures means { RunMeans (asked_by (map string_bytes words.now)) (side S.left S.faults input.old input.new)
         (side K.held K.faults output.old output.new) result }
     ensures complete { IsComplete (asked_by (map string_bytes words.now)) (side S.left S.faults input.old input.new)

@@ -68,12 +68,12 @@ fn greatest_last(flows: &[FlowRecord]) -> u64
     greatest
 }
 
-/// The stream of the biflows of the flow records that a stream has: they are paired with this idle time-out, in milliseconds
-/// up to 86,400,000, and laid out in messages of at most `size` octets, from 308 to 65,535. The export time is the greatest
-/// last time, in whole seconds and 32 bits.
+/// The stream of the biflows of the flow records that a stream has: they are paired with this idle time-out, in
+/// milliseconds up to 86,400,000, and laid out in messages of at most `size` octets, from 308 to 65,535. The export
+/// time is the greatest last time, in whole seconds and 32 bits.
 ///
-/// `NotStream` has the stream's first fault. `NotFlows` has the place of the first data record that is no flow record, where
-/// the stream has no fault.
+/// `NotStream` has the stream's first fault. `NotFlows` has the place of the first data record that is no flow record,
+/// where the stream has no fault.
 pub fn pair_stream(
     alloc: Global,
     stream: &[u8],

@@ -27,8 +27,10 @@ static OPTIONS: [OptionRule<'static>; 2] = [
 
 /// The settings that the options of the command give.
 fn settings(alloc: Global, words: &[String]) -> Result<PairSettings, OptionsError>
-    ensures asked { IfOk result (λ settings. option_and_then asked_with (values_of options (map string_bytes words.now)) ≡ Some (asked settings)) }
-    ensures refused { IfErr result (λ error. error ≡ OptionsError.NotOptions → option_and_then asked_with (values_of options (map string_bytes words.now)) ≡ None) }
+    ensures asked { IfOk result (λ settings. option_and_then asked_with (values_of options (map string_bytes words.now))
+        ≡ Some (asked settings)) }
+    ensures refused { IfErr result (λ error. error ≡ OptionsError.NotOptions
+        → option_and_then asked_with (values_of options (map string_bytes words.now)) ≡ None) }
 {
     let values = values_of(alloc, OPTIONS.as_slice(), words)?;
     let [idle, size] = values.as_slice() else {
@@ -46,7 +48,8 @@ fn settings(alloc: Global, words: &[String]) -> Result<PairSettings, OptionsErro
 /// - `NoMemory`: out of memory.
 pub(crate) fn settings_of(alloc: Global, words: &[String]) -> Result<PairSettings, OptionsError>
     ensures asked { IfOk result (λ settings. asked_by (map string_bytes words.now) ≡ Some (asked settings)) }
-    ensures refused { IfErr result (λ error. error ≡ OptionsError.NotOptions → asked_by (map string_bytes words.now) ≡ None) }
+    ensures refused { IfErr result (λ error. error ≡ OptionsError.NotOptions
+        → asked_by (map string_bytes words.now) ≡ None) }
 {
     match words.split_first() {
         Some((name, options)) if name.as_str() == "pair" => settings(alloc, options),

@@ -1,5 +1,6 @@
 -- Which of a set's entries takes a fragment in, and what becomes of the entry.
-use Rattle.std.specs.Prelude.{◌≡◌, ◌⊎◌, ℕ, ◌<◌, ◌≤◌, List, Option, None, Some, MatchOption, IsNone, ⊤, length, slice_index_or}
+use Rattle.std.specs.Prelude.{◌≡◌, ◌⊎◌, ℕ, ◌<◌, ◌≤◌, List, Option, None, Some, MatchOption, IsNone, ⊤, length}
+use Rattle.std.specs.Prelude.{slice_index_or}
 use Rattle.flow_key.specs.declared.key.FlowKey.{FlowKey}
 use Rattle.flow_parts.specs.declared.fragment.Fragment.{Fragment}
 use Rattle.flow_parts.specs.declared.timeouts.Timeouts.{Timeouts}
@@ -44,42 +45,48 @@ pub record IsOldest (entries : List (Option Fragment)) (place : ℕ) : Type 0 wh
       → entry_at entries lower ≡ Some fragment → oldest.last < fragment.last
 
 -- The four rules. First: the lowest entry with a fragment that can be one with this one takes it in.
-pub record Joins (limits : Timeouts) (entries : List (Option Fragment)) (own : Fragment) (place : ℕ) (out : Option Fragment) (kept : Fragment) : Type 0 where
+pub record Joins (limits : Timeouts) (entries : List (Option Fragment)) (own : Fragment) (place : ℕ)
+    (out : Option Fragment) (kept : Fragment) : Type 0 where
   pub lowest : IsLowest (CanJoin limits own) entries place
   pub joined : MatchOption (entry_at entries place) ⊥ (λ old. IsJoined old own kept)
   pub none_out : out ≡ None
 
 -- Second: else the lowest entry of the key is put out, and opened anew.
-pub record OpensAnew (limits : Timeouts) (entries : List (Option Fragment)) (own : Fragment) (place : ℕ) (out : Option Fragment) (kept : Fragment) : Type 0 where
+pub record OpensAnew (limits : Timeouts) (entries : List (Option Fragment)) (own : Fragment) (place : ℕ)
+    (out : Option Fragment) (kept : Fragment) : Type 0 where
   pub none_joins : HasNone (CanJoin limits own) entries
   pub lowest : IsLowest (HasKey own.key) entries place
   pub out_is : out ≡ entry_at entries place
   pub anew : kept ≡ own
 
 -- Third: else the lowest empty entry is opened.
-pub record OpensEmpty (limits : Timeouts) (entries : List (Option Fragment)) (own : Fragment) (place : ℕ) (out : Option Fragment) (kept : Fragment) : Type 0 where
+pub record OpensEmpty (limits : Timeouts) (entries : List (Option Fragment)) (own : Fragment) (place : ℕ)
+    (out : Option Fragment) (kept : Fragment) : Type 0 where
   pub none_of_key : HasNone (HasKey own.key) entries
   pub lowest : IsLowest IsNone entries place
   pub none_out : out ≡ None
   pub opened : kept ≡ own
 
 -- Fourth: else the entry with the least last time is put out, and opened anew.
-pub record PutsOut (limits : Timeouts) (entries : List (Option Fragment)) (own : Fragment) (place : ℕ) (out : Option Fragment) (kept : Fragment) : Type 0 where
+pub record PutsOut (limits : Timeouts) (entries : List (Option Fragment)) (own : Fragment) (place : ℕ)
+    (out : Option Fragment) (kept : Fragment) : Type 0 where
   pub none_of_key : HasNone (HasKey own.key) entries
   pub none_empty : HasNone IsNone entries
   pub oldest : IsOldest entries place
   pub out_is : out ≡ entry_at entries place
   pub anew : kept ≡ own
 
--- The choice: by which of the rules a fragment was put into these entries, at this place. `out` was put out, and the entry
--- is now `kept`.
+-- The choice: by which of the rules a fragment was put into these entries, at this place. `out` was put out, and the
+-- entry is now `kept`.
 abbrev pub IsChoice : Timeouts → List (Option Fragment) → Fragment → How → ℕ → Option Fragment → Fragment → Type 0
 IsChoice limits entries own Joined place out kept = Joins limits entries own place out kept
-IsChoice limits entries own Replaced place out kept = OpensAnew limits entries own place out kept ⊎ PutsOut limits entries own place out kept
+IsChoice limits entries own Replaced place out kept =
+    OpensAnew limits entries own place out kept ⊎ PutsOut limits entries own place out kept
 IsChoice limits entries own Opened place out kept = OpensEmpty limits entries own place out kept
 IsChoice limits entries own PassedBy place out kept = ⊥
 
--- What becomes of the one entry at that place: it took the fragment in, or was put out, if it had one, and opened by it.
+-- What becomes of the one entry at that place: it took the fragment in, or was put out, if it had one, and opened by
+-- it.
 abbrev pub Takes : Timeouts → Fragment → Option Fragment → Option Fragment → Fragment → Type 0
 Takes limits own entry out kept =
     (MatchOption entry ⊥ (λ old. IsJoinable limits old own × IsJoined old own kept) × (out ≡ None))

@@ -1,5 +1,6 @@
 -- What a cache keeps, whatever its threads do in turn: contents of ten words each, and the notes of its passes.
-use Rattle.std.specs.Prelude.{◌≡◌, ◌⊎◌, ℕ, ◌*◌, ◌<◌, ◌≤◌, ◌^◌, List, [], ◌∷◌, ◌++◌, length, sum_by, flat_map, All, Option, option_to_list, slice_index}
+use Rattle.std.specs.Prelude.{◌≡◌, ◌⊎◌, ℕ, ◌*◌, ◌<◌, ◌≤◌, ◌^◌, List, [], ◌∷◌, ◌++◌, length, sum_by, flat_map, All}
+use Rattle.std.specs.Prelude.{Option, option_to_list, slice_index}
 use Rattle.packet_accept.specs.declared.packet.Packet.{Packet}
 use Rattle.flow_parts.specs.declared.fragment.Fragment.{Fragment}
 use Rattle.flow_parts.specs.declared.timeouts.Timeouts.{Timeouts}
@@ -45,15 +46,16 @@ NumbersRise (packet ∷ later) = All (λ p. packet.number < p.number) later × N
 abbrev pub IsBounded : Packet → Type 0
 IsBounded packet = (packet.number < 2 ^ 32) × (packet.octets < 2 ^ 24)
 
--- A note is within bounds: it has at most 2^32 packets for each of its seats, and where it has one seat their numbers rise.
+-- A note is within bounds: it has at most 2^32 packets for each of its seats, and where it has one seat their numbers
+-- rise.
 pub record IsWithin (note : Note) : Type 0 where
   pub count : length note.packets ≤ note.seats * 2 ^ 32
   pub rises : note.seats ≡ 1 → NumbersRise note.packets
   pub each : All IsBounded note.packets
 
--- What a cache keeps. Each content is whole. The packets of all notes are shared out by the contents that aren't empty and
--- all fragments that were handed out. There are at most 64 seats, and each note is within bounds; so all have at most
--- 2^38 packets and fewer than 2^62 octets.
+-- What a cache keeps. Each content is whole. The packets of all notes are shared out by the contents that aren't empty
+-- and all fragments that were handed out. There are at most 64 seats, and each note is within bounds; so all have at
+-- most 2^38 packets and fewer than 2^62 octets.
 pub record Keeps (limits : Timeouts) (contents : List (List ℕ)) (notes : List Note) : Type 0 where
   pub whole : All IsWhole contents
   pub shared : SharesOut limits (packets_in notes) (parts_in contents ++ handed_in notes)

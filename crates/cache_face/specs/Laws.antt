@@ -9,7 +9,8 @@ use Rattle.flow_parts.specs.Parts.{part_words}
 use Rattle.flow_parts.specs.Sharing.{SharesOut}
 use Rattle.cache_face.specs.declared.metered.How.{How}
 use Rattle.cache_face.specs.Choice.{IsChoice, Takes, entry_at}
-use Rattle.cache_face.specs.Keeping.{Keeps, IsWhole, IsSmall, IsEmptyContent, IsBounded, NumbersRise, entry_of, parts_in}
+use Rattle.cache_face.specs.Keeping.{Keeps, IsWhole, IsSmall, IsEmptyContent, IsBounded, NumbersRise, entry_of}
+use Rattle.cache_face.specs.Keeping.{parts_in}
 use Rattle.cache_face.specs.Notes.{Note, unused, first_note, empty_note, merged, metering}
 
 -- A pass of one seat can meter these packets: they are bounded, their numbers rise, and stand above its own.
@@ -26,7 +27,8 @@ IsUnused note = (note.packets ≡ []) × (note.handed ≡ [])
 -- Empty contents and notes of at most 64 seats that have done nothing keep.
 abbrev pub KeepsOpening : Type 0
 KeepsOpening = (limits : Timeouts) (contents : List (List ℕ)) (notes : List Note)
-    → All IsEmptyContent contents → All IsUnused notes → sum_by (λ (note : Note). note.seats) notes ≤ 64 → Keeps limits contents notes
+    → All IsEmptyContent contents → All IsUnused notes → sum_by (λ (note : Note). note.seats) notes ≤ 64
+    → Keeps limits contents notes
 
 -- A seat of an unused note gets a note of its own.
 abbrev pub KeepsSplit : Type 0
@@ -42,7 +44,8 @@ KeepsMerged = (limits : Timeouts) (contents : List (List ℕ)) (notes : List Not
 
 -- A fragment of packets is put into a content: the words are its entry's afterwards, and the note grows.
 abbrev pub KeepsTaken : Type 0
-KeepsTaken = (limits : Timeouts) (contents : List (List ℕ)) (notes : List Note) (place i : ℕ) (content : List ℕ) (note : Note)
+KeepsTaken = (limits : Timeouts) (contents : List (List ℕ)) (notes : List Note) (place i : ℕ) (content : List ℕ)
+    (note : Note)
     (taken : List Packet) (own kept : Fragment) (out : Option Fragment)
     → Keeps limits contents notes → get_elem? contents place ≡ some content → get_elem? notes i ≡ some note
     → CanMeter note taken → SharesOut limits taken (own ∷ []) → Takes limits own (entry_of content) out kept
@@ -52,7 +55,8 @@ KeepsTaken = (limits : Timeouts) (contents : List (List ℕ)) (notes : List Note
 abbrev pub KeepsPassed : Type 0
 KeepsPassed = (limits : Timeouts) (contents : List (List ℕ)) (notes : List Note) (i : ℕ) (note : Note)
     (taken : List Packet) (own : Fragment)
-    → Keeps limits contents notes → get_elem? notes i ≡ some note → CanMeter note taken → SharesOut limits taken (own ∷ [])
+    → Keeps limits contents notes → get_elem? notes i ≡ some note → CanMeter note taken
+    → SharesOut limits taken (own ∷ [])
     → Keeps limits contents (slice_set notes i (metering note taken (Some own)))
 
 -- Where all other notes are unused, the contents and what one was handed share out its packets.
@@ -64,7 +68,8 @@ KeptAtEnd = (limits : Timeouts) (contents : List (List ℕ)) (notes : List Note)
 
 -- A whole content shows a small fragment, or none.
 abbrev pub WholeIsSmall : Type 0
-WholeIsSmall = (content : List ℕ) (fragment : Fragment) → IsWhole content → entry_of content ≡ Some fragment → IsSmall fragment
+WholeIsSmall = (content : List ℕ) (fragment : Fragment) → IsWhole content → entry_of content ≡ Some fragment
+    → IsSmall fragment
 
 -- The words of a fragment show it.
 abbrev pub WordsShow : Type 0
@@ -72,5 +77,6 @@ WordsShow = (fragment : Fragment) → entry_of (part_words fragment) ≡ Some fr
 
 -- A choice takes the fragment into the entry at its place.
 abbrev pub ChoiceTakes : Type 0
-ChoiceTakes = (limits : Timeouts) (entries : List (Option Fragment)) (own kept : Fragment) (how : How) (place : ℕ) (out : Option Fragment)
+ChoiceTakes = (limits : Timeouts) (entries : List (Option Fragment)) (own kept : Fragment) (how : How) (place : ℕ)
+    (out : Option Fragment)
     → IsChoice limits entries own how place out kept → Takes limits own (entry_at entries place) out kept

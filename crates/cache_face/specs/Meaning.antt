@@ -17,8 +17,8 @@ pub record CacheMeans : Type 0 where
   pub seats : ℕ
   pub limits : Timeouts
 
--- A pass: what it has done, the tries that it lost, newest first, the set that its last try read, and the four entries that
--- it read there.
+-- A pass: what it has done, the tries that it lost, newest first, the set that its last try read, and the four entries
+-- that it read there.
 pub record PassMeans : Type 0 where
   pub note : Note
   pub lost : List LostTry
@@ -38,16 +38,18 @@ abbrev pub HasLost : TriesOf → ℕ → PassMeans → PassMeans → List LostTr
 HasLost IsTryOf set old new tries = (new.lost ≡ tries ++ old.lost) × All (IsTryOf set) tries
 
 -- A fragment was put in by the choice over the four entries that the pass read last, in the set of its key.
-pub record IsChosen (cache : CacheMeans) (pass : PassMeans) (own : Fragment) (how : How) (out : Option Fragment) : Type 0 where
+pub record IsChosen (cache : CacheMeans) (pass : PassMeans) (own : Fragment) (how : How)
+    (out : Option Fragment) : Type 0 where
   pub set : pass.set ≡ set_number own.key cache.sets
   pub four : length pass.entries ≡ 4
   pub place : ℕ
   pub kept : Fragment
   pub chosen : IsChoice cache.limits pass.entries own how place out kept
 
--- A fragment was passed by: this call lost three tries at the set of its key, there is another seat, and the fragment itself is
--- handed out.
-pub record IsPassedBy (cache : CacheMeans) (IsTryOf : TriesOf) (old new : PassMeans) (own : Fragment) (out : Option Fragment) : Type 0 where
+-- A fragment was passed by: this call lost three tries at the set of its key, there is another seat, and the fragment
+-- itself is handed out.
+pub record IsPassedBy (cache : CacheMeans) (IsTryOf : TriesOf) (old new : PassMeans) (own : Fragment)
+    (out : Option Fragment) : Type 0 where
   pub tries : List LostTry
   pub lost : HasLost IsTryOf (set_number own.key cache.sets) old new tries
   pub three : length tries ≡ 3
@@ -55,7 +57,8 @@ pub record IsPassedBy (cache : CacheMeans) (IsTryOf : TriesOf) (old new : PassMe
   pub out_is : out ≡ Some own
 
 -- A fragment was put in, and fewer than three tries were lost at the set of its key.
-pub record IsPutIn (cache : CacheMeans) (IsTryOf : TriesOf) (old new : PassMeans) (own : Fragment) (how : How) (out : Option Fragment) : Type 0 where
+pub record IsPutIn (cache : CacheMeans) (IsTryOf : TriesOf) (old new : PassMeans) (own : Fragment) (how : How)
+    (out : Option Fragment) : Type 0 where
   pub chosen : IsChosen cache new own how out
   pub tries : List LostTry
   pub lost : HasLost IsTryOf (set_number own.key cache.sets) old new tries
@@ -70,7 +73,8 @@ IsAnswer cache IsTryOf old new own Replaced out = IsPutIn cache IsTryOf old new 
 
 -- A packet is metered as the fragment of it alone.
 abbrev pub IsMetered : CacheMeans → TriesOf → PassMeans → PassMeans → Packet → How → Option Fragment → Type 0
-IsMetered cache IsTryOf old new packet how out = (own : Fragment) × IsAlone packet own × IsAnswer cache IsTryOf old new own how out
+IsMetered cache IsTryOf old new packet how out =
+    (own : Fragment) × IsAlone packet own × IsAnswer cache IsTryOf old new own how out
 
 -- A pass stands for both of two.
 abbrev pub IsUnited : PassMeans → PassMeans → PassMeans → Type 0

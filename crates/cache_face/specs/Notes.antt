@@ -23,8 +23,15 @@ empty_note = unused 0
 
 -- Two passes as one.
 abbrev pub merged : Note → Note → Note
-merged one other = record { seats = one.seats + other.seats; packets = one.packets ++ other.packets; handed = one.handed ++ other.handed }
+merged one other =
+    record {
+      seats = one.seats + other.seats;
+      packets = one.packets ++ other.packets;
+      handed =
+          one.handed ++ other.handed;
+    }
 
 -- Packets are metered, and a fragment is handed out, or none.
 abbrev pub metering : Note → List Packet → Option Fragment → Note
-metering note taken out = record { seats = note.seats; packets = note.packets ++ taken; handed = note.handed ++ option_to_list out }
+metering note taken out =
+    record { seats = note.seats; packets = note.packets ++ taken; handed = note.handed ++ option_to_list out }

@@ -1,6 +1,7 @@
 //! A shared cache, and who opens and closes caches.
 
-ghost use Rattle.std.specs.Prelude.{◌≡◌, ◌<◌, ◌≤◌, ◌^◌, ◌∷◌, ◌++◌, ℕ, List, [], length, All, IfOk, IfErr, OnOk, OnErr, IsPermutation};
+ghost use Rattle.std.specs.Prelude.{◌≡◌, ◌<◌, ◌≤◌, ◌^◌, ◌∷◌, ◌++◌, ℕ, List, [], length, All, IfOk, IfErr, OnOk, OnErr};
+ghost use Rattle.std.specs.Prelude.{IsPermutation};
 ghost use Rattle.packet_accept.specs.declared.packet.Packet.{Packet};
 ghost use Rattle.flow_parts.specs.declared.fragment.Fragment.{Fragment};
 ghost use Rattle.flow_parts.specs.Sharing.{SharesOut};
@@ -31,8 +32,8 @@ pub trait FlowCache: Sync + Drop {
 
     /// Meters a packet whose number is above those that the pass metered. It waits for nobody and takes no memory.
     ///
-    /// The choice over the four entries of the packet's set decides what becomes of it; where other seats were in the way
-    /// three times, it is passed by. The pass lists each lost try, and each is one of the packet's set.
+    /// The choice over the four entries of the packet's set decides what becomes of it; where other seats were in the
+    /// way three times, it is passed by. The pass lists each lost try, and each is one of the packet's set.
     fn meter(&self, pass: &mut Self::Pass, packet: &Packet) -> Metered
         requires own { is_of self.now pass.old }
         requires single { (shown pass.old).note.seats ≡ 1 }
@@ -41,7 +42,8 @@ pub trait FlowCache: Sync + Drop {
         requires octets { packet.now.octets < 2 ^ 24 }
         ensures own { is_of self.now pass.new }
         ensures note { (shown pass.new).note ≡ metering (shown pass.old).note (packet.now ∷ []) result.out }
-        ensures answer { IsMetered (means self.now) is_try_of (shown pass.old) (shown pass.new) packet.now result.how result.out };
+        ensures answer { IsMetered (means self.now) is_try_of (shown pass.old)
+            (shown pass.new) packet.now result.how result.out };
 
     /// One pass for both, which only `unite` and `close` take where it stands for more than one seat.
     fn unite(&self, first: Self::Pass, second: Self::Pass) -> Self::Pass
@@ -55,7 +57,9 @@ pub trait FlowCache: Sync + Drop {
     fn close(self, alloc: Global, pass: Self::Pass) -> Result<Vec<Fragment>, NoMemory>
         requires own { is_of self pass }
         requires all { (shown pass).note.seats ≡ (means self).seats }
-        ensures { IfOk result (λ entries. SharesOut (means self).limits (shown pass).note.packets (entries.items ++ (shown pass).note.handed)) };
+        ensures { IfOk result
+            (λ entries. SharesOut (means self).limits (shown pass).note.packets
+            (entries.items ++ (shown pass).note.handed)) };
 }
 
 /// Who opens and closes caches. It keeps the fragments of the last cache that it closed.
@@ -74,12 +78,14 @@ pub trait Caches {
     ) -> Result<(Self::Cache, Vec<<Self::Cache as FlowCache>::Pass>), NoMemory>
         requires sets { (1 ≤ sets) × (sets ≤ 65536) }
         requires seats { (1 ≤ seats) × (seats ≤ 64) }
-        ensures cache { IfOk result (λ r. ((Self.Cache.means r.0).sets ≡ sets) × ((Self.Cache.means r.0).seats ≡ seats) × ((Self.Cache.means r.0).limits ≡ timeouts)) }
-        ensures passes { IfOk result (λ r. (length r.1.items ≡ seats) × All (λ pass. Self.Cache.is_of r.0 pass × IsFresh (Self.Cache.shown pass)) r.1.items) }
+        ensures cache { IfOk result (λ r. ((Self.Cache.means r.0).sets ≡ sets) × ((Self.Cache.means r.0).seats ≡ seats)
+            × ((Self.Cache.means r.0).limits ≡ timeouts)) }
+        ensures passes { IfOk result (λ r. (length r.1.items ≡ seats)
+            × All (λ pass. Self.Cache.is_of r.0 pass × IsFresh (Self.Cache.shown pass)) r.1.items) }
         ensures kept { metered self.new ≡ metered self.old };
 
-    /// Closes a cache with the pass for all its seats and the fragments that this was handed. Without memory these and the
-    /// entries are given up.
+    /// Closes a cache with the pass for all its seats and the fragments that this was handed. Without memory these and
+    /// the entries are given up.
     fn close(
         &mut self,
         alloc: Global,
@@ -90,9 +96,12 @@ pub trait Caches {
         requires own { Self.Cache.is_of cache pass }
         requires all { (Self.Cache.shown pass).note.seats ≡ (Self.Cache.means cache).seats }
         requires handed { IsPermutation handed.items (Self.Cache.shown pass).note.handed }
-        ensures entries { OnOk result ((entries : List Fragment) × IsPermutation (metered self.new) (handed.items ++ entries)
-            × SharesOut (Self.Cache.means cache).limits (Self.Cache.shown pass).note.packets (entries ++ (Self.Cache.shown pass).note.handed)) }
-        ensures shared { OnOk result (SharesOut (Self.Cache.means cache).limits (Self.Cache.shown pass).note.packets (metered self.new)) }
+        ensures entries { OnOk result ((entries : List Fragment)
+            × IsPermutation (metered self.new) (handed.items ++ entries)
+            × SharesOut (Self.Cache.means cache).limits (Self.Cache.shown pass).note.packets
+            (entries ++ (Self.Cache.shown pass).note.handed)) }
+        ensures shared { OnOk result
+            (SharesOut (Self.Cache.means cache).limits (Self.Cache.shown pass).note.packets (metered self.new)) }
         ensures kept { OnErr result (metered self.new ≡ metered self.old) };
 
     /// The fragments of the last cache that was closed: those that were handed out, and its entries.

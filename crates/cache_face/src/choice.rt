@@ -1,7 +1,9 @@
 //! The choice among the four entries of a set.
 
-ghost use Rattle.std.specs.Prelude.{◌≡◌, ◌↔◌, ◌<◌, ◌≤◌, ◌^◌, ℕ, IsTrue, IsNone, IfSome, IfNone, Some, MatchOption, All, length};
-ghost use Rattle.cache_face.specs.Choice.{CanJoin, HasKey, HasNone, IsLowest, IsOldest, IsChoice, entry_at, IsSmallEntry};
+ghost use Rattle.std.specs.Prelude.{◌≡◌, ◌↔◌, ◌<◌, ◌≤◌, ◌^◌, ℕ, IsTrue, IsNone, IfSome, IfNone, Some, MatchOption, All};
+ghost use Rattle.std.specs.Prelude.{length};
+ghost use Rattle.cache_face.specs.Choice.{CanJoin, HasKey, HasNone, IsLowest, IsOldest, IsChoice, entry_at};
+ghost use Rattle.cache_face.specs.Choice.{IsSmallEntry};
 ghost use Rattle.flow_parts.specs.Parts.{IsJoined};
 ghost use Rattle.cache_face.specs.Keeping.{IsSmall};
 ghost use Rattle.cache_face.specs.declared.metered.How.TheVariants.{Replaced};
@@ -136,9 +138,9 @@ fn joined(timeouts: &Timeouts, entry: &Option<Fragment>, own: &Fragment) -> Frag
     }
 }
 
-/// Puts a fragment into one of four entries: the lowest one that can be one with it takes it in; else the lowest one of its
-/// key is put out and opened anew; else the lowest empty one is opened; else the one with the least last time, the lowest
-/// among equals, is put out and opened anew.
+/// Puts a fragment into one of four entries: the lowest one that can be one with it takes it in; else the lowest one of
+/// its key is put out and opened anew; else the lowest empty one is opened; else the one with the least last time, the
+/// lowest among equals, is put out and opened anew.
 pub fn choose(timeouts: Timeouts, entries: &[Option<Fragment>; 4], own: Fragment) -> Choice
     requires entries { All IsSmallEntry entries.now }
     requires own { IsSmall own }

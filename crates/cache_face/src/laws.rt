@@ -1,5 +1,6 @@
 //! Laws about what a cache keeps. These functions do nothing; each contract is a law.
-ghost use Rattle.cache_face.specs.Laws.{KeepsOpening, KeepsSplit, KeepsMerged, KeepsTaken, KeepsPassed, KeptAtEnd, WholeIsSmall, WordsShow, ChoiceTakes};
+ghost use Rattle.cache_face.specs.Laws.{KeepsOpening, KeepsSplit, KeepsMerged, KeepsTaken, KeepsPassed, KeptAtEnd};
+ghost use Rattle.cache_face.specs.Laws.{WholeIsSmall, WordsShow, ChoiceTakes};
 
 /// Steps by which a cache keeps what it keeps.
 pub fn steps_keep()

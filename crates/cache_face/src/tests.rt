@@ -98,7 +98,8 @@ fn choices_of_four(rt: HostRuntime) {
     );
 }
 
-/// Among equals the lowest: of two entries of one key that take the fragment in, of two that don't, of two that end at once.
+/// Among equals the lowest: of two entries of one key that take the fragment in, of two that don't, of two that end at
+/// once.
 #[test]
 fn lowest_among_equals(rt: HostRuntime) {
     let old = part(1, 100, 100);

@@ -14,8 +14,8 @@ use std::thread::Threads;
 /// How many packets a thread takes at a time.
 const PIECE: usize = 256;
 
-/// What a thread meters through, which of the threads it is, the least number of its next packet, and how many packets the
-/// fragments have that it was handed. The unused words behind it keep the cache lines of two threads apart.
+/// What a thread meters through, which of the threads it is, the least number of its next packet, and how many packets
+/// the fragments have that it was handed. The unused words behind it keep the cache lines of two threads apart.
 #[derive(Drop)]
 #[repr(C)]
 pub(crate) struct Runner<C: FlowCache> {
@@ -34,7 +34,8 @@ pub(crate) fn runners_of<C: FlowCache>(
 ) -> Result<Vec<Runner<C>>, NoMemory>
     requires passes { All (λ p. C.is_of cache.now p × IsFresh (C.shown p)) passes.items }
     ensures many { IfOk result (λ runners. length runners.items ≡ length passes.items) }
-    ensures going { IfOk result (λ runners. All (λ r. C.is_of cache.now r.pass × IsGoing r.next (C.shown r.pass)) runners.items) }
+    ensures going { IfOk result
+        (λ runners. All (λ r. C.is_of cache.now r.pass × IsGoing r.next (C.shown r.pass)) runners.items) }
 {
     let _ = cache;
     let mut runners = Vec::new(alloc);

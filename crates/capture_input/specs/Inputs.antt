@@ -1,5 +1,6 @@
 -- What reading an input in windows does.
-use Rattle.std.specs.Prelude.{◌≡◌, ◌⊎◌, ℕ, ◌+◌, ◌-◌, ◌≤◌, List, [], ◌++◌, length, true, false, Some, Result, OnOk, IfErr}
+use Rattle.std.specs.Prelude.{◌≡◌, ◌⊎◌, ℕ, ◌+◌, ◌-◌, ◌≤◌, List, [], ◌++◌, length, true, false, Some, Result, OnOk}
+use Rattle.std.specs.Prelude.{IfErr}
 use Rattle.std.specs.declared.option.Option.{Option}
 use Rattle.std.specs.Io.KnownBytes.{Consumes, IsAtEnd}
 use Rattle.meter_io.specs.Sides.{Side, HasFailed}
@@ -12,12 +13,19 @@ use Rattle.pcap_reader.specs.declared.index.IndexError.{IndexError}
 use Rattle.pcap_reader.specs.declared.index.IndexError.TheVariants.{Damaged as DamagedPart, NoMemory as NoIndex}
 use Rattle.capture_input.specs.declared.input.CaptureInput.{CaptureInput}
 use Rattle.capture_input.specs.declared.fault.MeterFault.{MeterFault}
-use Rattle.capture_input.specs.declared.fault.MeterFault.TheVariants.{Failed, TooLarge, NotCapture, LinkUnknown, Damaged, NoMemory}
+use Rattle.capture_input.specs.declared.fault.MeterFault.TheVariants.{Failed, TooLarge, NotCapture, LinkUnknown}
+use Rattle.capture_input.specs.declared.fault.MeterFault.TheVariants.{Damaged, NoMemory}
 
 -- A source as it was seen from an earlier call on, when it had `first` left.
 abbrev pub began : Option (List ℕ) → Side → Side
 began first source =
-    record { before = first; after = source.after; faults_before = source.faults_before; faults_after = source.faults_after }
+    record {
+      before = first;
+      after = source.after;
+      faults_before = source.faults_before;
+      faults_after =
+          source.faults_after;
+    }
 
 -- The source's count of faults stayed.
 abbrev pub IsQuiet : Side → Type 0

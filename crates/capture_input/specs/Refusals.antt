@@ -5,15 +5,18 @@ use Rattle.meter_io.specs.Sides.{Side, HasFailed, IsTooLarge, IsBroken, IsWrong}
 use Rattle.pcap_reader.specs.File.{IsCaptureOf, capture_file, IsKnownLink}
 use Rattle.pcap_reader.specs.Records.{damage_of}
 use Rattle.capture_input.specs.declared.fault.MeterFault.{MeterFault}
-use Rattle.capture_input.specs.declared.fault.MeterFault.TheVariants.{Failed, TooLarge, NotCapture, LinkUnknown, Damaged, NoMemory}
+use Rattle.capture_input.specs.declared.fault.MeterFault.TheVariants.{Failed, TooLarge, NotCapture, LinkUnknown}
+use Rattle.capture_input.specs.declared.fault.MeterFault.TheVariants.{Damaged, NoMemory}
 
 -- Why an input is refused. Damage counts from the beginning of the input.
 abbrev pub IsRefused : Side → ℕ → MeterFault → Type 0
 IsRefused source limit Failed = IsBroken source limit
 IsRefused source limit TooLarge = IsTooLarge source limit
 IsRefused source limit NotCapture = IsWrong source limit (λ bytes. capture_file bytes ≡ None)
-IsRefused source limit (LinkUnknown link) = IsWrong source limit (IsCaptureOf (λ file. (file.link ≡ link) × ¬ IsKnownLink link))
-IsRefused source limit (Damaged at) = IsWrong source limit (IsCaptureOf (λ file. IsKnownLink file.link × (damage_of file ≡ Some at)))
+IsRefused source limit (LinkUnknown link) =
+    IsWrong source limit (IsCaptureOf (λ file. (file.link ≡ link) × ¬ IsKnownLink link))
+IsRefused source limit (Damaged at) = IsWrong source limit
+    (IsCaptureOf (λ file. IsKnownLink file.link × (damage_of file ≡ Some at)))
 IsRefused source limit NoMemory = TakesAtMost (limit + 1) source.before source.after
 
 -- The source's count of faults rose where the fault is that it failed, and else stayed.

@@ -4,8 +4,8 @@ ghost use Rattle.std.specs.Prelude.{◌≡◌};
 
 use no_memory::NoMemory;
 
-/// Why an input could not be metered. The first that applies is the answer, in this order; but `NoMemory` may come at any
-/// time.
+/// Why an input could not be metered. The first that applies is the answer, in this order; but `NoMemory` may come at
+/// any time.
 #[derive(Clone, Copy, Debug, PartialEq, Eq)]
 pub enum MeterFault {
     /// The source failed, and counted it.
@@ -16,7 +16,8 @@ pub enum MeterFault {
     NotCapture,
     /// It does, and the link type is this one, which isn't read.
     LinkUnknown(u32),
-    /// The record header at this offset, counted from the beginning of the input, claims more than 262,144 captured bytes.
+    /// The record header at this offset, counted from the beginning of the input, claims more than 262,144 captured
+    /// bytes.
     Damaged(u64),
     /// Out of memory.
     NoMemory,

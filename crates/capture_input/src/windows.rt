@@ -43,8 +43,8 @@ fn read_on<S: Source>(source: &mut S, input: CaptureInput, fault: MeterFault) ->
 }
 
 impl CaptureInput {
-    /// An input of which nothing was read, with a window of `window` bytes (262,184 to 2^27), whose memory is taken here. At
-    /// most `limit` bytes may come.
+    /// An input of which nothing was read, with a window of `window` bytes (262,184 to 2^27), whose memory is taken
+    /// here. At most `limit` bytes may come.
     pub fn open(alloc: Global, window: usize, limit: u64) -> Result<CaptureInput, NoMemory>
         requires window { (262184 ≤ window) × (window ≤ 2 ^ 27) }
         ensures empty { IfOk result (λ input. (input.window.bytes ≡ []) × (input.taken ≡ 0)) }
@@ -61,8 +61,8 @@ impl CaptureInput {
 
     /// Fills the window from the source, behind the bytes that it has, until it is full or the source is at its end.
     ///
-    /// `Failed`: the source failed, and counted it. `TooLarge`: one byte more came than the limit. The bytes read before are
-    /// in the window.
+    /// `Failed`: the source failed, and counted it. `TooLarge`: one byte more came than the limit. The bytes read
+    /// before are in the window.
     pub fn fill<S: Source>(&mut self, source: &mut S) -> Result<(), MeterFault>
         requires within { (self.old.taken ≤ self.old.limit) × (self.old.limit ≤ 2 ^ 30) }
         ensures { TookMore (side S.left S.faults source.old source.new) self.old self.new result }
@@ -87,14 +87,16 @@ impl CaptureInput {
 
     /// Reads the first window, and the file header that it begins with. The window keeps it.
     ///
-    /// `NotCapture`, `LinkUnknown`: the source was read to its end then, and has neither failed nor given too much; else
+    /// `NotCapture`, `LinkUnknown`: the source was read to its end then, and has neither failed nor given too much;
+    /// else
     /// `Failed` or `TooLarge`.
     pub fn begin<S: Source>(self, source: &mut S) -> Result<(CaptureInput, Head), MeterFault>
         requires empty { (self.window.bytes ≡ []) × (self.taken ≡ 0) }
         requires size { 24 ≤ self.window.size }
         requires limit { self.limit ≤ 2 ^ 30 }
         ensures begun { IfOk result (λ r. HasBegun (side S.left S.faults source.old source.new) self r.0 r.1) }
-        ensures refused { IfErr result (λ fault. IsRefused (side S.left S.faults source.old source.new) self.limit fault) }
+        ensures refused { IfErr result
+            (λ fault. IsRefused (side S.left S.faults source.old source.new) self.limit fault) }
         ensures faults { HasFaults (side S.left S.faults source.old source.new) result }
     {
         parts_law();
@@ -107,8 +109,8 @@ impl CaptureInput {
     }
 
     /// Why the input is refused whose last part, of so many bytes, has no index: out of memory, or damaged. Where it is
-    /// damaged, the source is read to its end first, and the place counts from the beginning of the input; reading may have a
-    /// fault of its own.
+    /// damaged, the source is read to its end first, and the place counts from the beginning of the input; reading may
+    /// have a fault of its own.
     pub fn refused<S: Source>(self, source: &mut S, count: usize, error: IndexError) -> MeterFault
         requires within { (count ≤ self.taken) × (self.taken ≤ self.limit) × (self.limit ≤ 2 ^ 30) }
         requires bounded { (at : ℕ) → error ≡ IndexError.Damaged at → at ≤ count }

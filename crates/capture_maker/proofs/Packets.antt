@@ -1,12 +1,14 @@
 -- Packets that are written one behind the other.
-use Rattle.std.proofs.Common.{◌≡◌, ◌≤◌, ◌<◌, ◌+◌, ◌-◌, ◌%◌, ℕ, suc, List, ◌++◌, refl, sym, ap, ◌∙◌, append_assoc, append-nil, arith}
+use Rattle.std.proofs.Common.{◌≡◌, ◌≤◌, ◌<◌, ◌+◌, ◌-◌, ◌%◌, ℕ, suc, List, ◌++◌, refl, sym, ap, ◌∙◌, append_assoc}
+use Rattle.std.proofs.Common.{append-nil, arith}
 use Rattle.capture_maker.specs.Draws.{state_behind, number_of}
 use Rattle.capture_maker.specs.Made.{packet_record, packets_from}
 
 -- the packets from a number on: the one of this number, then the others
 one : (keys state number left : ℕ)
     → packets_from keys state number (suc left)
-    ≡ packet_record number (number_of (state_behind state) % 1000) (number_of (state_behind (state_behind state)) % keys)
+    ≡ packet_record number (number_of (state_behind state) % 1000)
+    (number_of (state_behind (state_behind state)) % keys)
     ++ packets_from keys (state_behind (state_behind state)) (suc number) left
 unfolding packets_from
 one keys state number left = refl
@@ -18,14 +20,17 @@ pub written-next : (old new all : List ℕ) (keys packets state between behind n
     → new ≡ old ++ packet_record number (first % 1000) (second % keys)
     → old ++ packets_from keys state number (packets - number) ≡ all
     → new ++ packets_from keys behind (number + 1) (packets - (number + 1)) ≡ all
-written-next old new all keys packets state between behind number first second inside between-is first-is behind-is second-is is before =
+written-next old new all keys packets state between behind number first second inside between-is first-is behind-is
+    second-is is before =
     let left = packets - (number + 1) in
     let state-behind : behind ≡ state_behind (state_behind state) = behind-is ∙ ap state_behind between-is in
-    let key : second ≡ number_of (state_behind (state_behind state)) = second-is ∙ ap (λ s. number_of (state_behind s)) between-is in
+    let key : second ≡ number_of (state_behind (state_behind state)) =
+    second-is ∙ ap (λ s. number_of (state_behind s)) between-is in
     let next : number + 1 ≡ suc number = omega arith in
     let count : suc left ≡ packets - number = omega (arith, inside) in
     let rest = packets_from keys (state_behind (state_behind state)) (suc number) left in
-    let row = packet_record number (number_of (state_behind state) % 1000) (number_of (state_behind (state_behind state)) % keys) in
+    let row = packet_record number (number_of (state_behind state) % 1000)
+    (number_of (state_behind (state_behind state)) % keys) in
     ap (λ s. new ++ packets_from keys s (number + 1) left) state-behind
     ∙ ap (λ n. new ++ packets_from keys (state_behind (state_behind state)) n left) next
     ∙ ap (λ text. text ++ rest) is

@@ -1,4 +1,5 @@
--- The captures of the generator: UDP over IPv4 (RFC 791, RFC 768) as raw IP, one packet each millisecond from 1000 s on.
+-- The captures of the generator: UDP over IPv4 (RFC 791, RFC 768) as raw IP, one packet each millisecond from 1000 s
+-- on.
 use Rattle.std.specs.Prelude.{ℕ, zero, suc, ◌+◌, ◌*◌, ◌/◌, ◌%◌, List, [], ◌++◌}
 use Rattle.octets.specs.Numbers.{octets_of, ordered_octets}
 use Rattle.octets.specs.declared.endianness.Endianness.TheVariants.{Little}
@@ -9,7 +10,8 @@ use Rattle.capture_maker.specs.Draws.{state_behind, number_of}
 abbrev pub file_header : List ℕ
 file_header =
     ordered_octets Little 4 0xa1b2c3d4 ++ (ordered_octets Little 2 2 ++ (ordered_octets Little 2 4
-    ++ (ordered_octets Little 4 0 ++ (ordered_octets Little 4 0 ++ (ordered_octets Little 4 65535 ++ ordered_octets Little 4 101)))))
+    ++ (ordered_octets Little 4 0
+    ++ (ordered_octets Little 4 0 ++ (ordered_octets Little 4 65535 ++ ordered_octets Little 4 101)))))
 
 -- The record header of the packet of this number: its time, the 28 octets captured of it, and all its octets.
 abbrev pub record_header : ℕ → ℕ → List ℕ
@@ -17,8 +19,8 @@ record_header number payload =
     ordered_octets Little 4 (1000 + number / 1000) ++ (ordered_octets Little 4 (number % 1000 * 1000)
     ++ (ordered_octets Little 4 28 ++ ordered_octets Little 4 (28 + payload)))
 
--- The IPv4 header without options: time to live 64, UDP, no checksum, from the address 10.0.0.0 plus the key's number to
--- 192.0.2.1.
+-- The IPv4 header without options: time to live 64, UDP, no checksum, from the address 10.0.0.0 plus the key's number
+-- to 192.0.2.1.
 abbrev pub ip_header : ℕ → ℕ → List ℕ
 ip_header payload key =
     octets_of 2 0x4500 ++ (octets_of 2 (28 + payload) ++ (octets_of 4 0 ++ (octets_of 2 0x4011 ++ (octets_of 2 0

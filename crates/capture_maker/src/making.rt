@@ -2,7 +2,8 @@
 
 ghost use Rattle.std.specs.Prelude.{◌≡◌, ◌+◌, ◌*◌, ◌<◌, ◌≤◌, ◌++◌, length, IfOk};
 ghost use Rattle.std.specs.Vec.{vec_capacity};
-ghost use Rattle.capture_maker.specs.Made.{capture_of, file_header, ip_header, packet_record, record_header, udp_header};
+ghost use Rattle.capture_maker.specs.Made.{capture_of, file_header, ip_header, packet_record, record_header};
+ghost use Rattle.capture_maker.specs.Made.{udp_header};
 
 use crate::draws::Draws;
 use no_memory::NoMemory;
@@ -98,8 +99,8 @@ fn append_packet(bytes: &mut Vec<u8>, number: u32, payload: u16, key: u16)
     append_udp_header(bytes, payload, key);
 }
 
-/// A classic capture of so many packets, at most 1,000,000, of so many keys, from 1 to 4096, by a seed. It has 24 octets and
-/// 44 a packet.
+/// A classic capture of so many packets, at most 1,000,000, of so many keys, from 1 to 4096, by a seed. It has 24
+/// octets and 44 a packet.
 ///
 /// `NoMemory` where memory is out.
 pub fn capture(alloc: Global, seed: u64, packets: u32, keys: u16) -> Result<Vec<u8>, NoMemory>

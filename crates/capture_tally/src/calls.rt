@@ -86,8 +86,8 @@ impl Tally {
 
     /// Counts one more record by its answer.
     ///
-    /// No number of the tally is near the last value of its type ([`room_law`](crate::room_law)), and the time of a packet
-    /// has whole seconds of 32 bits, as that of each accepted packet.
+    /// No number of the tally is near the last value of its type ([`room_law`](crate::room_law)), and the time of a
+    /// packet has whole seconds of 32 bits, as that of each accepted packet.
     pub fn add(&mut self, answer: &Result<Packet, Ignored>)
         requires room { HasRoom self.old }
         requires early { IfOk answer.now (λ packet. packet.time < 1000 * 2 ^ 32) }

@@ -11,7 +11,8 @@ use packet_accept::{clock_law, packets_law};
 
 /// The tally of fewer than 2^38 records, whose packets have fewer than 2^24 octets each, has room.
 pub fn room_law()
-    ensures { (tally : Tally) (answers : List (Result Packet Ignored)) → IsTallyOf tally answers → length answers < 2 ^ 38
+    ensures { (tally : Tally) (answers : List (Result Packet Ignored)) → IsTallyOf tally answers
+        → length answers < 2 ^ 38
         → All (λ (p : Packet). p.octets < 2 ^ 24) (packets_in answers) → HasRoom tally }
 {}
 

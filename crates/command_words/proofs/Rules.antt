@@ -1,11 +1,13 @@
 -- The rules of a command of options as `clap` builds it, and which of them a name finds.
-use Rattle.std.proofs.Common.{◌≡◌, ◌&&◌, ◌||◌, ℕ, Bool, true, false, not, cond, refl, sym, ap, ◌∙◌, List, [], ◌∷◌, map, Option, Some, None, is_some, true≢false}
+use Rattle.std.proofs.Common.{◌≡◌, ◌&&◌, ◌||◌, ℕ, Bool, true, false, not, cond, refl, sym, ap, ◌∙◌, List, [], ◌∷◌, map}
+use Rattle.std.proofs.Common.{Option, Some, None, is_some, true≢false}
 use Rattle.std.specs.Prelude.{count_by}
 use Rattle.std.specs.List.{list_any, list_all}
 use Rattle.std.specs.Str.{bytes_eq}
 use Rattle.std.proofs.lemmas.Slice.Eq.{bytes_eq-Decides}
 use Rattle.clap.specs.Walk.{Rule, Text, arg_by_id, arg_by_long, arg_by_short, arg_by_index, is_early_multiple}
-use Rattle.clap.specs.Simple.{App, Shape, new_shape, filled_from, built, is_simple, is_buildable, is_ready, is_ready_leaf}
+use Rattle.clap.specs.Simple.{App, Shape, new_shape, filled_from, built, is_simple, is_buildable, is_ready}
+use Rattle.clap.specs.Simple.{is_ready_leaf}
 use Rattle.clap.specs.Faults.{is_simple_and_free, is_free_app}
 use Rattle.std.proofs.lemmas.Bool.{and_from}
 use Rattle.command_words.specs.Command.{given_rule, app_for}
@@ -36,7 +38,8 @@ filled-is [] i = refl
 filled-is (name ∷ names) i = ap (λ rest. built_rule name ∷ rest) (filled-is names i)
 
 pub built-is : (names : List Text) → built (app_for names) ≡ record { top = shape_for names; subs = [] }
-built-is names = ap (λ rules. record { top = record (shape_for names) { rules = rules }; subs = [] }) (filled-is names 1)
+built-is names = ap (λ rules. record { top = record (shape_for names) { rules = rules }; subs = [] })
+    (filled-is names 1)
 
 -- ---- which option a name finds
 
@@ -51,34 +54,43 @@ or-later false rest known none = known
 same-name : (n name : Text) → bytes_eq n name ≡ true → n ≡ name
 same-name n name same = (bytes_eq-Decides n name).0 same
 
-long-step : (b : Bool) (n name : Text) (rest : Option Rule) → (b ≡ true → n ≡ name) → (b ≡ false → rest ≡ Some (built_rule name))
+long-step : (b : Bool) (n name : Text) (rest : Option Rule) → (b ≡ true → n ≡ name)
+    → (b ≡ false → rest ≡ Some (built_rule name))
     → cond (b || false) (Some (built_rule n)) rest ≡ Some (built_rule name)
 long-step true n name rest here there = ap (λ x. Some (built_rule x)) (here refl)
 long-step false n name rest here there = there refl
 
-id-step : (b : Bool) (n name : Text) (rest : Option Rule) → (b ≡ true → n ≡ name) → (b ≡ false → rest ≡ Some (built_rule name))
+id-step : (b : Bool) (n name : Text) (rest : Option Rule) → (b ≡ true → n ≡ name)
+    → (b ≡ false → rest ≡ Some (built_rule name))
     → cond b (Some (built_rule n)) rest ≡ Some (built_rule name)
 id-step true n name rest here there = ap (λ x. Some (built_rule x)) (here refl)
 id-step false n name rest here there = there refl
 
-pub long-known : (names : List Text) (name : Text) → is_known names name ≡ true → arg_by_long (rules_for names) name ≡ Some (built_rule name)
+pub long-known : (names : List Text) (name : Text) → is_known names name ≡ true
+    → arg_by_long (rules_for names) name ≡ Some (built_rule name)
 long-known [] name known = absurd (true≢false (sym known))
 long-known (n ∷ names) name known =
-    long-step (bytes_eq n name) n name (arg_by_long (rules_for names) name) (same-name n name) (λ other. long-known names name (or-later _ _ known other))
+    long-step (bytes_eq n name) n name (arg_by_long (rules_for names) name) (same-name n name)
+    (λ other. long-known names name (or-later _ _ known other))
 
-pub id-known : (names : List Text) (name : Text) → is_known names name ≡ true → arg_by_id (rules_for names) name ≡ Some (built_rule name)
+pub id-known : (names : List Text) (name : Text) → is_known names name ≡ true
+    → arg_by_id (rules_for names) name ≡ Some (built_rule name)
 id-known [] name known = absurd (true≢false (sym known))
 id-known (n ∷ names) name known =
-    id-step (bytes_eq n name) n name (arg_by_id (rules_for names) name) (same-name n name) (λ other. id-known names name (or-later _ _ known other))
+    id-step (bytes_eq n name) n name (arg_by_id (rules_for names) name) (same-name n name)
+    (λ other. id-known names name (or-later _ _ known other))
 
-none-step : (b rest : Bool) (n : Text) (found : Option Rule) → (b || rest) ≡ false → (rest ≡ false → found ≡ None) → cond (b || false) (Some (built_rule n)) found ≡ None
+none-step : (b rest : Bool) (n : Text) (found : Option Rule) → (b || rest) ≡ false → (rest ≡ false → found ≡ None)
+    → cond (b || false) (Some (built_rule n)) found ≡ None
 none-step true rest n found unknown there = absurd (true≢false unknown)
 none-step false rest n found unknown there = there unknown
 
-pub long-unknown : (names : List Text) (name : Text) → is_known names name ≡ false → arg_by_long (rules_for names) name ≡ None
+pub long-unknown : (names : List Text) (name : Text) → is_known names name ≡ false
+    → arg_by_long (rules_for names) name ≡ None
 long-unknown [] name unknown = refl
 long-unknown (n ∷ names) name unknown =
-    none-step (bytes_eq n name) (is_known names name) n (arg_by_long (rules_for names) name) unknown (long-unknown names name)
+    none-step (bytes_eq n name) (is_known names name) n (arg_by_long (rules_for names) name) unknown
+    (long-unknown names name)
 
 pub short-none : (names : List Text) (x : ℕ) → arg_by_short (rules_for names) x ≡ None
 short-none [] x = refl
@@ -107,7 +119,8 @@ in-order [] n = refl
 in-order (name ∷ names) n = in-order names n
 
 ready : (names : List Text) → is_ready (shape_for names) ≡ true
-ready names = and_from _ _ (simple-built names) (ap not (in-order names (count_by (λ (a : Rule). is_some a.index) (rules_for names))))
+ready names = and_from _ _ (simple-built names)
+    (ap not (in-order names (count_by (λ (a : Rule). is_some a.index) (rules_for names))))
 
 pub is-simple : (names : List Text) → is_simple (app_for names) ≡ true
 is-simple names =

@@ -29,4 +29,5 @@ texts_of (Some text) = text ∷ []
 abbrev pub values_found : List Rule → (Text → Option Text) → Option (List ℕ)
 values_found [] found = Some []
 values_found (rule ∷ table) found =
-    option_and_then (λ value. option_map (λ values. value ∷ values) (values_found table found)) (value_by rule (texts_of (found rule.name)))
+    option_and_then (λ value. option_map (λ values. value ∷ values) (values_found table found))
+    (value_by rule (texts_of (found rule.name)))

@@ -1,13 +1,14 @@
 -- The words of one command as its options, by a table of these.
-use Rattle.std.specs.Prelude.{ℕ, Bool, true, ⊤, ◌≤◌, ◌==◌, ◌&&◌, nat_le, nat_lt, if◌then◌else◌, List, [], ◌∷◌, length, Option, Some, None, option_map, option_and_then}
+use Rattle.std.specs.Prelude.{ℕ, Bool, true, ⊤, ◌≤◌, ◌==◌, ◌&&◌, nat_le, nat_lt, if◌then◌else◌, List, [], ◌∷◌, length}
+use Rattle.std.specs.Prelude.{Option, Some, None, option_map, option_and_then}
 use Rattle.std.specs.Char.{is_ascii_digit}
 use Rattle.std.specs.List.{list_any, list_all, before_first, after_first}
 use Rattle.std.specs.Option.{option_map_or}
 use Rattle.std.specs.Str.{bytes_eq}
 use Rattle.std.specs.Str.Parse.{digits_value}
 
--- An option: its name, its least and its greatest value, and the value that stands where it isn't given. One without such
--- a value must be given.
+-- An option: its name, its least and its greatest value, and the value that stands where it isn't given. One without
+-- such a value must be given.
 pub record Rule : Type 0 where
   pub name : List ℕ
   pub low : ℕ
@@ -48,7 +49,8 @@ abbrev pub with_option : Given → Option (List Given) → Option (List Given)
 with_option given others = option_map (λ more. given ∷ more) others
 
 -- An option's word, before the words behind it, read by `behind`: where it has no value, the next word is its value.
-abbrev pub option_then : Option (List ℕ × Option (List ℕ)) → (Option (List ℕ) → Option (List Given)) → Option (List Given)
+abbrev pub option_then : Option (List ℕ × Option (List ℕ)) → (Option (List ℕ) → Option (List Given))
+    → Option (List Given)
 option_then None behind = None
 option_then (Some (name, Some value)) behind = with_option (name, value) (behind None)
 option_then (Some (name, None)) behind = behind (Some name)
@@ -95,7 +97,8 @@ are_known table given = list_all (λ one. list_any (λ rule. bytes_eq rule.name 
 abbrev pub values_by : List Rule → List Given → Option (List ℕ)
 values_by [] given = Some []
 values_by (rule ∷ table) given =
-    option_and_then (λ value. option_map (λ values. value ∷ values) (values_by table given)) (value_by rule (texts_for rule.name given))
+    option_and_then (λ value. option_map (λ values. value ∷ values) (values_by table given))
+    (value_by rule (texts_for rule.name given))
 
 -- The values of the options of a table, in its order, by the words of a command behind its name: the words are options,
 -- each of the table, at most once, and each with a value in its range; none where they aren't.

@@ -1,6 +1,7 @@
 //! Reading words by a table of options.
 
-ghost use Rattle.std.specs.Prelude.{◌≡◌, ◌++◌, ◌∷◌, [], Some, None, IsTrue, map, length, codes, IfOk, IfErr, OnOk, option_map};
+ghost use Rattle.std.specs.Prelude.{◌≡◌, ◌++◌, ◌∷◌, [], Some, None, IsTrue, map, length, codes, IfOk, IfErr, OnOk};
+ghost use Rattle.std.specs.Prelude.{option_map};
 ghost use Rattle.std.specs.List.{list_any};
 ghost use Rattle.std.specs.Str.{bytes_eq};
 ghost use Rattle.std.specs.String.{string_bytes};
@@ -77,8 +78,10 @@ fn values_found(
     table: &[OptionRule<'_>],
     matches: &ArgMatches<'_>,
 ) -> Result<Vec<u64>, OptionsError>
-    ensures values { IfOk result (λ values. values_found (rules_of table.now) (first_value (found_of matches.now)) ≡ Some values.items) }
-    ensures refused { IfErr result (λ error. error ≡ OptionsError.NotOptions → values_found (rules_of table.now) (first_value (found_of matches.now)) ≡ None) }
+    ensures values { IfOk result (λ values. values_found (rules_of table.now) (first_value (found_of matches.now))
+        ≡ Some values.items) }
+    ensures refused { IfErr result (λ error. error ≡ OptionsError.NotOptions
+        → values_found (rules_of table.now) (first_value (found_of matches.now)) ≡ None) }
 {
     let mut values = Vec::new(alloc);
     for rule in table {
@@ -97,8 +100,8 @@ fn values_found(
 ///
 /// The defaults are in the ranges of their options, so each value is in its range, and there is one for each option.
 ///
-/// - `NotOptions`: exactly where the words aren't such: another word or name, an option twice or without a value, a value
-///   of another form or out of its range, or an option left out that has no default.
+/// - `NotOptions`: exactly where the words aren't such: another word or name, an option twice or without a value, a
+///   value of another form or out of its range, or an option left out that has no default.
 /// - `NoMemory`: out of memory.
 pub fn values_of<'a>(
     alloc: Global,
@@ -106,8 +109,10 @@ pub fn values_of<'a>(
     words: &'a [String],
 ) -> Result<Vec<u64>, OptionsError>
     requires defaults { IsTrue (have_defaults_within (rules_of table.now)) }
-    ensures values { IfOk result (λ values. values_of (rules_of table.now) (map string_bytes words.now) ≡ Some values.items) }
-    ensures refused { IfErr result (λ error. error ≡ OptionsError.NotOptions → values_of (rules_of table.now) (map string_bytes words.now) ≡ None) }
+    ensures values { IfOk result (λ values. values_of (rules_of table.now) (map string_bytes words.now)
+        ≡ Some values.items) }
+    ensures refused { IfErr result (λ error. error ≡ OptionsError.NotOptions
+        → values_of (rules_of table.now) (map string_bytes words.now) ≡ None) }
     ensures within { IfOk result (λ values. AreWithin (rules_of table.now) values.items) }
     ensures count { IfOk result (λ values. length values.items ≡ length table.now) }
 {

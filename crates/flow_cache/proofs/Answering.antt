@@ -1,5 +1,6 @@
 -- What a pass is told of the packet that it metered.
-use Rattle.std.proofs.Common.{◌≡◌, ◌<◌, ◌^◌, List, [], ◌∷◌, ◌++◌, ℕ, length, map, Option, All, sym, ap, ◌∙◌, subst, arith, append_assoc}
+use Rattle.std.proofs.Common.{◌≡◌, ◌<◌, ◌^◌, List, [], ◌∷◌, ◌++◌, ℕ, length, map, Option, All, sym, ap, ◌∙◌, subst}
+use Rattle.std.proofs.Common.{arith, append_assoc}
 use Rattle.std.proofs.lemmas.List.{length-map, map-append}
 use Rattle.std.proofs.lemmas.List.Elements.{All-nil, All-cons, All-map, All-weaker}
 use Rattle.packet_accept.specs.declared.packet.Packet.{Packet}
@@ -22,27 +23,35 @@ use Rattle.flow_cache.specs.Shown.{try_of, IsTryOf}
 use Rattle.flow_cache.specs.Trying.{IsOwn, HasChosen}
 
 -- the fragment of one packet can be metered
-pub own_of : (limits : Timeouts) (note : Note) (packet : Packet) (own : Fragment) → note.seats ≡ 1 → packet.number < 2 ^ 32 → packet.octets < 2 ^ 24 → All (λ p. p.number < packet.number) note.packets
+pub own_of : (limits : Timeouts) (note : Note) (packet : Packet) (own : Fragment) → note.seats ≡ 1
+    → packet.number < 2 ^ 32 → packet.octets < 2 ^ 24 → All (λ p. p.number < packet.number) note.packets
     → IsAlone packet own → IsHeap limits (packet ∷ []) own → IsOwn limits note packet own
 own_of limits note packet own single number octets rises alone heap = record {
   can = record {
     single = single;
     bounded = All-cons IsBounded packet [] (number, octets) (All-nil IsBounded);
     rises = (All-nil (λ p. packet.number < p.number), tt);
-    above = All-weaker (λ p. p.number < packet.number) (λ p. All (λ q. p.number < q.number) (packet ∷ [])) (λ p low. All-cons (λ q. p.number < q.number) packet [] low (All-nil (λ q. p.number < q.number))) note.packets rises;
+    above = All-weaker (λ p. p.number < packet.number) (λ p. All (λ q. p.number < q.number) (packet ∷ []))
+        (λ p low. All-cons (λ q. p.number < q.number) packet [] low (All-nil (λ q. p.number < q.number))) note.packets
+        rises;
   };
   shares = (its_heap limits (packet ∷ []) own).0 heap;
   small = (let p = alone.packets in let o = alone.octets in (omega (arith, p), omega (arith, o, octets)));
 }
 
 -- the tries that a pass lost stand before those that it had lost
-pub lost_on : (tries lost lost' more more' : List Lost) → lost' ≡ tries ++ lost → more' ≡ more → map try_of (lost' ++ more') ≡ map try_of tries ++ map try_of (lost ++ more)
+pub lost_on : (tries lost lost' more more' : List Lost) → lost' ≡ tries ++ lost → more' ≡ more
+    → map try_of (lost' ++ more') ≡ map try_of tries ++ map try_of (lost ++ more)
 lost_on tries lost lost' more more' is same =
-    ap (λ l. map try_of (l ++ more')) is ∙ ap (λ l. map try_of ((tries ++ lost) ++ l)) same ∙ ap (map try_of) (append_assoc tries lost more) ∙ map-append try_of tries (lost ++ more)
+    ap (λ l. map try_of (l ++ more')) is ∙ ap (λ l. map try_of ((tries ++ lost) ++ l)) same
+    ∙ ap (map try_of) (append_assoc tries lost more) ∙ map-append try_of tries (lost ++ more)
 
-module _ (cache : CacheMeans) (old new : PassMeans) (past : History) (own : Fragment) (out : Option Fragment) (at count : ℕ) (tries : List Lost)
-    (set_is : at ≡ set_number own.key cache.sets) (set_shown : new.set ≡ set_read past.loads) (entries_shown : new.entries ≡ entries_read past (set_read past.loads))
-    (listed : new.lost ≡ map try_of tries ++ old.lost) (many : length tries ≡ count) (each : All (λ try. IsTryOf at (try_of try)) tries) where
+module _ (cache : CacheMeans) (old new : PassMeans) (past : History) (own : Fragment) (out : Option Fragment)
+    (at count : ℕ) (tries : List Lost)
+    (set_is : at ≡ set_number own.key cache.sets) (set_shown : new.set ≡ set_read past.loads)
+    (entries_shown : new.entries ≡ entries_read past (set_read past.loads))
+    (listed : new.lost ≡ map try_of tries ++ old.lost) (many : length tries ≡ count)
+    (each : All (λ try. IsTryOf at (try_of try)) tries) where
   lost : HasLost IsTryOf (set_number own.key cache.sets) old new (map try_of tries)
   lost = (listed, subst (λ n. All (IsTryOf n) (map try_of tries)) set_is (All-map (IsTryOf at) try_of tries each))
 
@@ -53,14 +62,16 @@ module _ (cache : CacheMeans) (old new : PassMeans) (past : History) (own : Frag
       four = ap length entries_shown;
       place = h.place;
       kept = h.kept;
-      chosen = subst (λ es. IsChoice cache.limits es own by h.place out h.kept) (sym (entries_shown ∙ ap (entries_read past) h.last)) h.chosen;
+      chosen = subst (λ es. IsChoice cache.limits es own by h.place out h.kept)
+          (sym (entries_shown ∙ ap (entries_read past) h.last)) h.chosen;
     };
     tries = map try_of tries;
     lost = lost;
     few = (let l = length-map tries try_of in omega (arith, l, many, few));
   }
 
-  pub answered : (by : How) → IsOutcome cache.limits cache.seats at past own count by out → IsAnswer cache IsTryOf old new own by out
+  pub answered : (by : How) → IsOutcome cache.limits cache.seats at past own count by out
+      → IsAnswer cache IsTryOf old new own by out
   answered how.Joined h = put_in how.Joined h.0 h.1
   answered how.Opened h = put_in how.Opened h.0 h.1
   answered how.Replaced h = put_in how.Replaced h.0 h.1

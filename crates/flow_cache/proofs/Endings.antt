@@ -15,7 +15,8 @@ in_all zero i a low = absurd (omega (arith, low))
 in_all (suc n) zero a low = refl
 in_all (suc n) (suc i) a low = in_all n i a (omega (arith, low))
 
-another : (n i j : ℕ) (note other : Note) → j ≢ i → get_elem? (set (replicate n empty_note) i note) j ≡ some other → IsUnused other
+another : (n i j : ℕ) (note other : Note) → j ≢ i → get_elem? (set (replicate n empty_note) i note) j ≡ some other
+    → IsUnused other
 another zero i j note other apart e = absurd (some-ne-none other (sym e))
 another (suc n) zero zero note other apart e = absurd (apart refl)
 another (suc n) zero (suc j) note other apart e = one n j other e
@@ -27,7 +28,10 @@ another (suc n) zero (suc j) note other apart e = one n j other e
 another (suc n) (suc i) zero note other apart e = subst IsUnused (some-injective empty_note other e) (refl, refl)
 another (suc n) (suc i) (suc j) note other apart e = another n i j note other (λ s. apart (ap suc s)) e
 
-pub ends : (limits : Timeouts) (contents : List (List ℕ)) (seats number : ℕ) (note : Note) → number < seats → Keeps limits contents (set (replicate seats empty_note) number note)
+pub ends : (limits : Timeouts) (contents : List (List ℕ)) (seats number : ℕ) (note : Note) → number < seats
+    → Keeps limits contents (set (replicate seats empty_note) number note)
     → SharesOut limits note.packets (parts_in contents ++ note.handed)
 ends limits contents seats number note low keeps =
-    kept_at_end limits contents (set (replicate seats empty_note) number note) number note keeps (here (replicate seats empty_note) number empty_note note (in_all seats number empty_note low)) (λ j other apart at. another seats number j note other apart at)
+    kept_at_end limits contents (set (replicate seats empty_note) number note) number note keeps
+    (here (replicate seats empty_note) number empty_note note (in_all seats number empty_note low))
+    (λ j other apart at. another seats number j note other apart at)

@@ -1,5 +1,6 @@
 -- What a history has after one more step.
-use Rattle.std.proofs.Common.{◌≡◌, ◌≢◌, ℕ, suc, Bool, true, false, List, [], ◌∷◌, Option, Some, refl, sym, ap, ◌∙◌, subst, arith}
+use Rattle.std.proofs.Common.{◌≡◌, ◌≢◌, ℕ, suc, Bool, true, false, List, [], ◌∷◌, Option, Some, refl, sym, ap, ◌∙◌}
+use Rattle.std.proofs.Common.{subst, arith}
 use Rattle.std.specs.Prelude.{◌==◌, if◌then◌else◌}
 use Rattle.std.proofs.lemmas.Grind.{common_steps}
 use mathlib.Core.Logic.{dite}
@@ -17,62 +18,94 @@ use Rattle.flow_cache.specs.Reading.{entries_read, set_read}
 use Rattle.flow_cache.specs.Trying.{HasMore, HasChosen}
 
 -- a word that was read or written, and any other
-pub word_here : (reads : List Read) (slot word value : ℕ) → written_at (record { slot = slot; word = word; value = value } ∷ reads) slot word ≡ Some value
+pub word_here : (reads : List Read) (slot word value : ℕ)
+    → written_at (record { slot = slot; word = word; value = value } ∷ reads) slot word ≡ Some value
 word_here reads slot word value = grind (arith, common_steps)
 
-pub word_else : (reads : List Read) (slot word value other : ℕ) → word ≢ other → written_at (record { slot = slot; word = word; value = value } ∷ reads) slot other ≡ written_at reads slot other
+pub word_else : (reads : List Read) (slot word value other : ℕ) → word ≢ other
+    → written_at (record { slot = slot; word = word; value = value } ∷ reads) slot other ≡ written_at reads slot other
 word_else reads slot word value other apart = grind (arith, common_steps)
 
-slot_else : (reads : List Read) (slot word value other which : ℕ) → slot ≢ other → written_at (record { slot = slot; word = word; value = value } ∷ reads) other which ≡ written_at reads other which
+slot_else : (reads : List Read) (slot word value other which : ℕ) → slot ≢ other
+    → written_at (record { slot = slot; word = word; value = value } ∷ reads) other which ≡ written_at reads other which
 slot_else reads slot word value other which apart = grind (arith, common_steps)
 
 -- what was last read of a word was read
-pub found_read : (reads : List Read) (slot word value : ℕ) → written_at reads slot word ≡ Some value → (read : Read) × IsIn read reads × (read.slot ≡ slot) × (read.word ≡ word) × (read.value ≡ value)
+pub found_read : (reads : List Read) (slot word value : ℕ) → written_at reads slot word ≡ Some value
+    → (read : Read) × IsIn read reads × (read.slot ≡ slot) × (read.word ≡ word) × (read.value ≡ value)
 found_read [] slot word value e = absurd cc
 found_read (r ∷ reads) slot word value e = dite (ℕ_discrete r.slot slot)
     (λ (same : r.slot ≡ slot). dite (ℕ_discrete r.word word)
-    (λ (here : r.word ≡ word). (r, (0, refl), same, here, (let f : written_at (r ∷ reads) slot word ≡ Some r.value = grind (arith, common_steps) in let g : Some r.value ≡ Some value = sym f ∙ e in cc)))
-    (λ (apart : r.word ≢ word). later (found_read reads slot word value (let f : written_at (r ∷ reads) slot word ≡ written_at reads slot word = grind (arith, common_steps) in sym f ∙ e))))
-    (λ (apart : r.slot ≢ slot). later (found_read reads slot word value (let f : written_at (r ∷ reads) slot word ≡ written_at reads slot word = grind (arith, common_steps) in sym f ∙ e)))
+    (λ (here : r.word ≡ word). (
+      r,
+      (0, refl),
+      same,
+      here,
+      (let f : written_at (r ∷ reads) slot word ≡ Some r.value = grind (arith, common_steps) in
+          let g : Some r.value ≡ Some value = sym f ∙ e in cc),
+    ))
+    (λ (apart : r.word ≢ word). later
+    (found_read reads slot word value (let f : written_at (r ∷ reads) slot word ≡ written_at reads slot word =
+    grind (arith, common_steps) in sym f ∙ e))))
+    (λ (apart : r.slot ≢ slot). later
+    (found_read reads slot word value (let f : written_at (r ∷ reads) slot word ≡ written_at reads slot word =
+    grind (arith, common_steps) in sym f ∙ e)))
   where
-    later : (read : Read) × IsIn read reads × (read.slot ≡ slot) × (read.word ≡ word) × (read.value ≡ value) → (read : Read) × IsIn read (r ∷ reads) × (read.slot ≡ slot) × (read.word ≡ word) × (read.value ≡ value)
+    later : (read : Read) × IsIn read reads × (read.slot ≡ slot) × (read.word ≡ word) × (read.value ≡ value)
+        → (read : Read) × IsIn read (r ∷ reads) × (read.slot ≡ slot) × (read.word ≡ word) × (read.value ≡ value)
     later f = (f.0, (suc f.1.0, f.1.1), f.2, f.3, f.4)
 
 -- a word that is read again has the same value
-pub read_more : (reads : List Read) (slot word value : ℕ) → ((read : Read) → IsIn read reads → read.slot ≡ slot → read.word ≡ word → value ≡ read.value) → HasMore reads (record { slot = slot; word = word; value = value } ∷ reads)
+pub read_more : (reads : List Read) (slot word value : ℕ)
+    → ((read : Read) → IsIn read reads → read.slot ≡ slot → read.word ≡ word → value ≡ read.value)
+    → HasMore reads (record { slot = slot; word = word; value = value } ∷ reads)
 read_more reads slot word value again s w v e = dite (ℕ_discrete slot s)
     (λ (same : slot ≡ s). dite (ℕ_discrete word w)
     (λ (here : word ≡ w). (let f = found_read reads s w v e in
     let is : value ≡ v = again f.0 f.1 (f.2 ∙ sym same) (f.3 ∙ sym here) ∙ f.4 in
-    let g : written_at (record { slot = slot; word = word; value = value } ∷ reads) s w ≡ Some value = grind (arith, common_steps) in g ∙ ap (λ n. Some n) is))
-    (λ (apart : word ≢ w). (let g : written_at (record { slot = slot; word = word; value = value } ∷ reads) s w ≡ written_at reads s w = grind (arith, common_steps) in g ∙ e)))
+    let g : written_at (record { slot = slot; word = word; value = value } ∷ reads) s w ≡ Some value =
+    grind (arith, common_steps) in g ∙ ap (λ n. Some n) is))
+    (λ (apart : word ≢ w). (let g : written_at (record { slot = slot; word = word; value = value } ∷ reads) s w
+    ≡ written_at reads s w = grind (arith, common_steps) in g ∙ e)))
     (λ (apart : slot ≢ s). slot_else reads slot word value s w apart ∙ e)
 
 pub more_more : (one two three : List Read) → HasMore one two → HasMore two three → HasMore one three
 more_more one two three a b slot word value e = b slot word value (a slot word value e)
 
 -- a replacement that found another slot is a lost try
-pub lost_here : (i root old new : ℕ) (known : Seat) (past : History) → shown_at past.shown root ≡ Some old → past.has_lost ≡ false
+pub lost_here : (i root old new : ℕ) (known : Seat) (past : History) → shown_at past.shown root ≡ Some old
+    → past.has_lost ≡ false
     → (past_after (step.Replace i root old new) answer.Other known past).lost ≡ found_other root ∷ past.lost
 lost_here i root old new known past shown unlost =
     let same : (old == old) ≡ true = grind (arith, common_steps) in
     let is : is_shown (shown_at past.shown root) old ≡ true = ap (λ o. is_shown o old) shown ∙ same in
-    let lost : History = if past.has_lost then past else record past { lost = found_other root ∷ past.lost; has_lost = true } in
-    ap (λ (b : Bool). (if b then lost else past).lost) is ∙ ap (λ (b : Bool). (if b then past else record past { lost = found_other root ∷ past.lost; has_lost = true }).lost) unlost
+    let lost : History = if past.has_lost then past
+    else record past { lost = found_other root ∷ past.lost; has_lost = true } in
+    ap (λ (b : Bool). (if b then lost else past).lost) is
+    ∙ ap (λ (b : Bool). (if b then past else record past { lost = found_other root ∷ past.lost; has_lost = true }).lost)
+    unlost
 
 -- the entries that were read are the same while nothing is loaded and read
-entries_same : (old new : History) (set : ℕ) → new.loads ≡ old.loads → new.reads ≡ old.reads → entries_read new set ≡ entries_read old set
-entries_same old new set loads reads = ap (λ ls. entries_read (record new { loads = ls }) set) loads ∙ ap (λ rs. entries_read (record old { reads = rs }) set) reads
+entries_same : (old new : History) (set : ℕ) → new.loads ≡ old.loads → new.reads ≡ old.reads
+    → entries_read new set ≡ entries_read old set
+entries_same old new set loads reads = ap (λ ls. entries_read (record new { loads = ls }) set) loads
+    ∙ ap (λ rs. entries_read (record old { reads = rs }) set) reads
 
-pub chosen_of : (limits : Timeouts) (set : ℕ) (old new : History) (own kept : Fragment) (how : How) (place : ℕ) (out : Option Fragment) (entries : List (Option Fragment)) → set_read old.loads ≡ set → entries ≡ entries_read old set
-    → IsChoice limits entries own how place out kept → new.loads ≡ old.loads → new.reads ≡ old.reads → HasChosen limits set new own how out
+pub chosen_of : (limits : Timeouts) (set : ℕ) (old new : History) (own kept : Fragment) (how : How) (place : ℕ)
+    (out : Option Fragment) (entries : List (Option Fragment)) → set_read old.loads ≡ set
+    → entries ≡ entries_read old set
+    → IsChoice limits entries own how place out kept → new.loads ≡ old.loads → new.reads ≡ old.reads
+    → HasChosen limits set new own how out
 chosen_of limits set old new own kept how place out entries last is chosen loads reads = record {
   last = ap set_read loads ∙ last;
   place = place;
   kept = kept;
-  chosen = subst (λ es. IsChoice limits es own how place out kept) (is ∙ sym (entries_same old new set loads reads)) chosen;
+  chosen = subst (λ es. IsChoice limits es own how place out kept)
+      (is ∙ sym (entries_same old new set loads reads)) chosen;
 }
 
-pub chosen_still : (limits : Timeouts) (set : ℕ) (old new : History) (own : Fragment) (how : How) (out : Option Fragment) → HasChosen limits set old own how out → new.loads ≡ old.loads → new.reads ≡ old.reads
+pub chosen_still : (limits : Timeouts) (set : ℕ) (old new : History) (own : Fragment) (how : How)
+    (out : Option Fragment) → HasChosen limits set old own how out → new.loads ≡ old.loads → new.reads ≡ old.reads
     → HasChosen limits set new own how out
-chosen_still limits set old new own how out h loads reads = chosen_of limits set old new own h.kept how h.place out (entries_read old set) h.last refl h.chosen loads reads
+chosen_still limits set old new own how out h loads reads =
+    chosen_of limits set old new own h.kept how h.place out (entries_read old set) h.last refl h.chosen loads reads

@@ -15,7 +15,8 @@ pub record HaveLost (set count : ℕ) (old new : History) : Type 0 where
   pub many : length tries ≡ count
   pub each : All (λ try. IsTryOf set (try_of try)) tries
 
--- The fragment was put in after fewer than three lost tries, or it is handed out after three, and there is another seat.
+-- The fragment was put in after fewer than three lost tries, or it is handed out after three, and there is another
+-- seat.
 abbrev pub IsOutcome : Timeouts → ℕ → ℕ → History → Fragment → ℕ → How → Option Fragment → Type 0
 IsOutcome limits seats set past own count Joined out = (count < 3) × HasChosen limits set past own Joined out
 IsOutcome limits seats set past own count Opened out = (count < 3) × HasChosen limits set past own Opened out

@@ -21,7 +21,8 @@ use Rattle.flow_cache.specs.declared.cache.PebrPass.{PebrPass}
 use Rattle.flow_cache.specs.Places.{root_of}
 use Rattle.flow_cache.specs.Reading.{entries_read, set_read}
 
--- The roots of a cache of open flows, and a seat at them: their contents are entries, and their notes say what a pass has done.
+-- The roots of a cache of open flows, and a seat at them: their contents are entries, and their notes say what a pass
+-- has done.
 abbrev pub CacheRoots : Type 0
 CacheRoots = Roots CacheRule Note (Packet × Option Fragment) Timeouts
 
@@ -66,7 +67,8 @@ slots_of cache = 32 + 4 * (means_of cache).seats
 
 -- A lost try at a set is that the pass was found ejected, or that one of the set's roots had another slot.
 abbrev pub IsTryOf : ℕ → LostTry → Type 0
-IsTryOf set try = (try ≡ tries.was_ejected) ⊎ ((place : ℕ) × (place < 4) × (try ≡ tries.found_other (root_of set place)))
+IsTryOf set try = (try ≡ tries.was_ejected)
+    ⊎ ((place : ℕ) × (place < 4) × (try ≡ tries.found_other (root_of set place)))
 
 -- A pass of this cache, whose note counts its seats.
 pub record IsOf (cache : PebrCache) (pass : PebrPass) : Type 0 where

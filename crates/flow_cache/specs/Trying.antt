@@ -25,16 +25,19 @@ pub record IsOwn (limits : Timeouts) (note : Note) (packet : Packet) (own : Frag
 -- The slot under a shield is the one that the set's root of this place had when it was loaded, and since.
 abbrev pub HasRoot : ℕ → ℕ → Seat → History → Type 0
 HasRoot set place known past =
-    (shown_at past.loads (root_of set place) ≡ Some (slot_at known place)) × (shown_at past.shown (root_of set place) ≡ Some (slot_at known place))
+    (shown_at past.loads (root_of set place) ≡ Some (slot_at known place))
+    × (shown_at past.shown (root_of set place) ≡ Some (slot_at known place))
 
 -- The first roots of a set were loaded, so many: a shield is set on the slot of each.
 abbrev pub AreLoaded : ℕ → ℕ → Seat → History → Type 0
 AreLoaded set count known past =
-    (place : ℕ) → place < count → (shield_at known place ≡ shield.Set (slot_at known place)) × (has known.seen (slot_at known place) ≡ true) × HasRoot set place known past
+    (place : ℕ) → place < count → (shield_at known place ≡ shield.Set (slot_at known place))
+    × (has known.seen (slot_at known place) ≡ true) × HasRoot set place known past
 
 -- The four roots of a set were loaded, and the shields on their slots are valid.
 pub record AreProtected (set : ℕ) (known : Seat) (past : History) : Type 0 where
-  pub each : (place : ℕ) → place < 4 → (shield_at known place ≡ shield.Valid (slot_at known place)) × HasRoot set place known past
+  pub each : (place : ℕ) → place < 4 → (shield_at known place ≡ shield.Valid (slot_at known place))
+      × HasRoot set place known past
   pub last : set_read past.loads ≡ set
 
 -- No try was lost since the pass entered.
@@ -50,7 +53,8 @@ abbrev pub HasTen : List Read → ℕ → Type 0
 HasTen reads slot = (word : ℕ) → word < 10 → (value : ℕ) × (written_at reads slot word ≡ Some value)
 
 -- The fragment was put in by the choice over the entries read of the set.
-pub record HasChosen (limits : Timeouts) (set : ℕ) (past : History) (own : Fragment) (how : How) (out : Option Fragment) : Type 0 where
+pub record HasChosen (limits : Timeouts) (set : ℕ) (past : History) (own : Fragment) (how : How)
+    (out : Option Fragment) : Type 0 where
   pub last : set_read past.loads ≡ set
   pub place : ℕ
   pub kept : Fragment

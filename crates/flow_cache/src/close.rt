@@ -81,7 +81,9 @@ impl PebrCache {
     pub(crate) fn entries(self, alloc: Global, pass: PebrPass) -> Result<Vec<Fragment>, NoMemory>
         requires own { IsOf self pass }
         requires all { (shown_of pass).note.seats ≡ (means_of self).seats }
-        ensures { IfOk result (λ entries. SharesOut (means_of self).limits (shown_of pass).note.packets (entries.items ++ (shown_of pass).note.handed)) }
+        ensures { IfOk result
+            (λ entries. SharesOut (means_of self).limits (shown_of pass).note.packets
+            (entries.items ++ (shown_of pass).note.handed)) }
     {
         let PebrPass { inner, lost: _ } = pass;
         let PebrCache {

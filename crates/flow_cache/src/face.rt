@@ -33,7 +33,8 @@ impl FlowCache for PebrCache {
         requires octets { packet.now.octets < 2 ^ 24 }
         ensures own { IsOf self.now pass.new }
         ensures note { (shown_of pass.new).note ≡ metering (shown_of pass.old).note (packet.now ∷ []) result.out }
-        ensures answer { IsMetered (means_of self.now) IsTryOf (shown_of pass.old) (shown_of pass.new) packet.now result.how result.out }
+        ensures answer { IsMetered (means_of self.now) IsTryOf (shown_of pass.old)
+            (shown_of pass.new) packet.now result.how result.out }
         ensures retired { retired_of pass.new ≤ slots_of self.now }
     {
         self.meter_stopping(pass, packet, &mut Never)

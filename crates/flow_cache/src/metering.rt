@@ -55,7 +55,8 @@ impl PebrCache {
         ensures down { IsTrue (list_all is_down (known_by pass.new).shields) }
         ensures note { note_by first_note pass.new ≡ note_by first_note pass.old }
         ensures lost { (past_by pass.new).lost ≡ (past_by pass.old).lost }
-        ensures ejections { 0 < fresh_count (known_by pass.old) → (past_by pass.new).ejections ≡ (past_by pass.old).ejections }
+        ensures ejections { 0 < fresh_count (known_by pass.old)
+            → (past_by pass.new).ejections ≡ (past_by pass.old).ejections }
         ensures fresh { 0 < fresh_count (known_by pass.new) }
     {
         if pass.fresh() == 0 {
@@ -73,15 +74,16 @@ impl PebrCache {
         ensures down { IsTrue (list_all is_down (known_by pass.new).shields) }
         ensures note { note_by first_note pass.new ≡ note_by first_note pass.old }
         ensures lost { (past_by pass.new).lost ≡ (past_by pass.old).lost }
-        ensures ejections { retired_count (known_by pass.old) ≢ 32 + 4 * (shape_at self.now.roots).seats → (past_by pass.new).ejections ≡ (past_by pass.old).ejections }
+        ensures ejections { retired_count (known_by pass.old) ≢ 32 + 4 * (shape_at self.now.roots).seats
+            → (past_by pass.new).ejections ≡ (past_by pass.old).ejections }
         ensures fresh { 0 < fresh_count (known_by pass.new) }
     {
         self.collect_batch(pass);
         self.collect_if_none(pass);
     }
 
-    /// Tries to put the packet's fragment into its set, and passes the packet by after the third lost try. How many tries were
-    /// lost; what became of the packet goes into `metered`.
+    /// Tries to put the packet's fragment into its set, and passes the packet by after the third lost try. How many
+    /// tries were lost; what became of the packet goes into `metered`.
     fn put_in<T: Stop>(
         &self,
         pass: &mut RootPass<CacheRule>,
@@ -102,9 +104,11 @@ impl PebrCache {
         ensures out { IsTrue (is_out (known_by pass.new).status) }
         ensures down { IsTrue (list_all is_down (known_by pass.new).shields) }
         ensures ejections { (past_by pass.new).ejections ≡ (past_by pass.old).ejections }
-        ensures note { note_by first_note pass.new ≡ metering (note_by first_note pass.old) (packet.now ∷ []) metered.new.out }
+        ensures note { note_by first_note pass.new
+            ≡ metering (note_by first_note pass.old) (packet.now ∷ []) metered.new.out }
         ensures lost { HaveLost set result (past_by pass.old) (past_by pass.new) }
-        ensures outcome { IsOutcome self.now.timeouts (shape_at self.now.roots).seats set (past_by pass.new) own.now result metered.new.how metered.new.out }
+        ensures outcome { IsOutcome self.now.timeouts (shape_at self.now.roots).seats set
+            (past_by pass.new) own.now result metered.new.how metered.new.out }
     {
         for lost in 0..TRIES {
             let last = lost + 1 == TRIES;
@@ -119,8 +123,8 @@ impl PebrCache {
         TRIES
     }
 
-    /// Meters a packet whose number is above those that the pass metered, and calls `stop` at each point of each try. It waits
-    /// for nobody and takes no memory.
+    /// Meters a packet whose number is above those that the pass metered, and calls `stop` at each point of each try.
+    /// It waits for nobody and takes no memory.
     ///
     /// Another seat is ejected only where the pass had all its slots retired when the call began.
     pub fn meter_stopping<T: Stop>(
@@ -136,7 +140,8 @@ impl PebrCache {
         requires octets { packet.now.octets < 2 ^ 24 }
         ensures own { shown.IsOf self.now pass.new }
         ensures note { (shown_of pass.new).note ≡ metering (shown_of pass.old).note (packet.now ∷ []) result.out }
-        ensures answer { IsMetered (means_of self.now) IsTryOf (shown_of pass.old) (shown_of pass.new) packet.now result.how result.out }
+        ensures answer { IsMetered (means_of self.now) IsTryOf (shown_of pass.old)
+            (shown_of pass.new) packet.now result.how result.out }
         ensures retired { retired_of pass.new ≤ slots_of self.now }
         ensures ejections { retired_of pass.old ≢ slots_of self.now → ejections_of pass.new ≡ ejections_of pass.old }
     {

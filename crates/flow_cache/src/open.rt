@@ -43,7 +43,8 @@ impl PebrCache {
         mut inner: Vec<RootPass<CacheRule>>,
     ) -> Result<Vec<PebrPass>, NoMemory>
         requires { AreOpenedPasses self.now.roots first_note inner.items }
-        ensures { IfOk result (λ passes. (length passes.items ≡ (shape_at self.now.roots).seats) × All (λ pass. IsOf self.now pass × IsFresh (shown_of pass)) passes.items) }
+        ensures { IfOk result (λ passes. (length passes.items ≡ (shape_at self.now.roots).seats)
+            × All (λ pass. IsOf self.now pass × IsFresh (shown_of pass)) passes.items) }
     {
         let mut passes = Vec::new(alloc);
         for _turn in 0..inner.len() {
@@ -69,8 +70,10 @@ impl PebrCache {
     ) -> Result<(PebrCache, Vec<PebrPass>), NoMemory>
         requires sets { (1 ≤ sets) × (sets ≤ 65536) }
         requires seats { (1 ≤ seats) × (seats ≤ 64) }
-        ensures cache { IfOk result (λ r. ((means_of r.0).sets ≡ sets) × ((means_of r.0).seats ≡ seats) × ((means_of r.0).limits ≡ timeouts)) }
-        ensures passes { IfOk result (λ r. (length r.1.items ≡ seats) × All (λ pass. IsOf r.0 pass × IsFresh (shown_of pass)) r.1.items) }
+        ensures cache { IfOk result (λ r. ((means_of r.0).sets ≡ sets) × ((means_of r.0).seats ≡ seats)
+            × ((means_of r.0).limits ≡ timeouts)) }
+        ensures passes { IfOk result (λ r. (length r.1.items ≡ seats)
+            × All (λ pass. IsOf r.0 pass × IsFresh (shown_of pass)) r.1.items) }
     {
         let words = zeros(alloc, 40 * sets as usize)?;
         let shape = Shape {

@@ -20,8 +20,8 @@ impl Model for SeatNote {
     ghost view = { λ _. empty_note };
 }
 
-/// The contents of the roots are entries of a cache. With all fragments that were handed out they share out the packets of
-/// all passes, whatever the threads do in turn.
+/// The contents of the roots are entries of a cache. With all fragments that were handed out they share out the packets
+/// of all passes, whatever the threads do in turn.
 pub struct CacheRule;
 
 impl RootProtocol for CacheRule {
@@ -48,5 +48,6 @@ impl RootProtocol for CacheRule {
 
     ghost after = { λ note act. metering note (act.0 ∷ []) act.1 };
 
-    ghost unites = { λ fixed contents notes i j a b kept apart at at'. keeps_merged fixed contents notes i j a b kept apart at at' };
+    ghost unites = { λ fixed contents notes i j a b kept apart at at'. keeps_merged fixed contents notes i j a b kept
+        apart at at' };
 }

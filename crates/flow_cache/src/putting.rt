@@ -1,6 +1,7 @@
 //! A fragment is put into an entry, or passed by.
 
-ghost use Rattle.std.specs.Prelude.{◌≡◌, ◌≢◌, ℕ, ◌<◌, ◌∷◌, [], IsTrue, Option, Some, None, true, false, if◌then◌else◌, slice_index};
+ghost use Rattle.std.specs.Prelude.{◌≡◌, ◌≢◌, ℕ, ◌<◌, ◌∷◌, [], IsTrue, Option, Some, None, true, false, if◌then◌else◌};
+ghost use Rattle.std.specs.Prelude.{slice_index};
 ghost use Rattle.std.specs.List.{list_all};
 ghost use Rattle.cache_face.specs.Notes.{first_note, metering};
 ghost use Rattle.cache_face.specs.Keeping.{IsWhole};
@@ -32,8 +33,8 @@ fn is_passed_by(last: bool, done: bool) -> bool
     last && !done
 }
 
-/// What is done to the note of a pass that leaves: where its packet is passed by, it is metered, and its own fragment handed
-/// out.
+/// What is done to the note of a pass that leaves: where its packet is passed by, it is metered, and its own fragment
+/// handed out.
 #[inline]
 fn passing(packet: &Packet, own: &Fragment, passes_by: bool) -> Option<(Packet, Option<Fragment>)>
     ensures { result ≡ (if passes_by then Some (packet.now, Some own.now) else None) }
@@ -67,17 +68,24 @@ impl PebrCache {
         ensures same { IsSame self.now.roots pass.old pass.new }
         ensures note { note_by first_note pass.new ≡ note_by first_note pass.old }
         ensures known { known_by pass.new ≡ known_by pass.old }
-        ensures past { past_by pass.new ≡ record (past_by pass.old) { last = (past_by pass.new).last; steps = (past_by pass.new).steps; written = (past_by pass.new).written } }
-        ensures written { (word : ℕ) → word < 10 → written_at (past_by pass.new).written (least (known_by pass.old).fresh) word ≡ Some (slice_index words.now word) }
+        ensures past { past_by pass.new ≡ record (past_by pass.old) {
+          last = (past_by pass.new).last;
+          steps =
+              (past_by pass.new).steps;
+          written = (past_by pass.new).written;
+        } }
+        ensures written { (word : ℕ) → word < 10
+            → written_at (past_by pass.new).written (least (known_by pass.old).fresh) word
+            ≡ Some (slice_index words.now word) }
     {
         for word in 0..10 {
             self.roots.write_fresh(pass, word, words[word]);
         }
     }
 
-    /// Puts the packet's fragment into the set whose roots are protected: reads the entries, writes the new one, and replaces
-    /// one root. `false` where that root had another slot. What is answered goes into `metered`, so that it is written once;
-    /// nothing was handed out before.
+    /// Puts the packet's fragment into the set whose roots are protected: reads the entries, writes the new one, and
+    /// replaces one root. `false` where that root had another slot. What is answered goes into `metered`, so that it is
+    /// written once; nothing was handed out before.
     fn put<T: Stop>(
         &self,
         pass: &mut RootPass<CacheRule>,
@@ -98,9 +106,12 @@ impl PebrCache {
         ensures same { IsSame self.now.roots pass.old pass.new }
         ensures entered { is_out (known_by pass.new).status ≡ false }
         ensures ejections { (past_by pass.new).ejections ≡ (past_by pass.old).ejections }
-        ensures done { IsTrue result → (note_by first_note pass.new ≡ metering (note_by first_note pass.old) (packet.now ∷ []) metered.new.out)
-            × ((past_by pass.new).lost ≡ (past_by pass.old).lost) × HasChosen self.now.timeouts set (past_by pass.new) own.now metered.new.how metered.new.out }
-        ensures undone { result ≡ false → (note_by first_note pass.new ≡ note_by first_note pass.old) × ((known_by pass.new).fresh ≡ (known_by pass.old).fresh)
+        ensures done { IsTrue result
+            → (note_by first_note pass.new ≡ metering (note_by first_note pass.old) (packet.now ∷ []) metered.new.out)
+            × ((past_by pass.new).lost ≡ (past_by pass.old).lost)
+            × HasChosen self.now.timeouts set (past_by pass.new) own.now metered.new.how metered.new.out }
+        ensures undone { result ≡ false → (note_by first_note pass.new ≡ note_by first_note pass.old)
+            × ((known_by pass.new).fresh ≡ (known_by pass.old).fresh)
             × ((try : Lost) × ((past_by pass.new).lost ≡ try ∷ (past_by pass.old).lost) × IsTryOf set (try_of try)) }
         ensures untouched { result ≡ false → metered.new.out ≡ None }
     {
@@ -142,9 +153,12 @@ impl PebrCache {
         ensures same { IsSame self.now.roots pass.old pass.new }
         ensures entered { is_out (known_by pass.new).status ≡ false }
         ensures ejections { (past_by pass.new).ejections ≡ (past_by pass.old).ejections }
-        ensures done { IsTrue result → (note_by first_note pass.new ≡ metering (note_by first_note pass.old) (packet.now ∷ []) metered.new.out)
-            × ((past_by pass.new).lost ≡ (past_by pass.old).lost) × HasChosen self.now.timeouts set (past_by pass.new) own.now metered.new.how metered.new.out }
-        ensures undone { result ≡ false → (note_by first_note pass.new ≡ note_by first_note pass.old) × ((known_by pass.new).fresh ≡ (known_by pass.old).fresh)
+        ensures done { IsTrue result
+            → (note_by first_note pass.new ≡ metering (note_by first_note pass.old) (packet.now ∷ []) metered.new.out)
+            × ((past_by pass.new).lost ≡ (past_by pass.old).lost)
+            × HasChosen self.now.timeouts set (past_by pass.new) own.now metered.new.how metered.new.out }
+        ensures undone { result ≡ false → (note_by first_note pass.new ≡ note_by first_note pass.old)
+            × ((known_by pass.new).fresh ≡ (known_by pass.old).fresh)
             × ((try : Lost) × ((past_by pass.new).lost ≡ try ∷ (past_by pass.old).lost) × IsTryOf set (try_of try)) }
         ensures untouched { result ≡ false → metered.new.out ≡ None }
     {
@@ -161,7 +175,11 @@ impl PebrCache {
         ensures note { note_by first_note pass.new ≡ note_by first_note pass.old }
         ensures known { known_by pass.new ≡ record (known_by pass.old) { shields = (known_by pass.new).shields } }
         ensures down { IsTrue (list_all is_down (known_by pass.new).shields) }
-        ensures past { past_by pass.new ≡ record (past_by pass.old) { last = (past_by pass.new).last; steps = (past_by pass.new).steps } }
+        ensures past { past_by pass.new ≡ record (past_by pass.old) {
+          last = (past_by pass.new).last;
+          steps =
+              (past_by pass.new).steps;
+        } }
     {
         stop.at(Point::Clear);
         self.roots.clear(pass);
@@ -183,8 +201,14 @@ impl PebrCache {
         ensures out { IsTrue (is_out (known_by pass.new).status) }
         ensures down { IsTrue (list_all is_down (known_by pass.new).shields) }
         ensures fresh { (known_by pass.new).fresh ≡ (known_by pass.old).fresh }
-        ensures note { note_by first_note pass.new ≡ (if passes_by then metering (note_by first_note pass.old) (packet.now ∷ []) (Some own.now) else note_by first_note pass.old) }
-        ensures past { past_by pass.new ≡ record (past_by pass.old) { last = (past_by pass.new).last; steps = (past_by pass.new).steps } }
+        ensures note { note_by first_note pass.new
+            ≡ (if passes_by then metering (note_by first_note pass.old) (packet.now ∷ []) (Some own.now)
+            else note_by first_note pass.old) }
+        ensures past { past_by pass.new ≡ record (past_by pass.old) {
+          last = (past_by pass.new).last;
+          steps =
+              (past_by pass.new).steps;
+        } }
         ensures sure { IsSure IsWhole (shape_at self.now.roots) (known_by pass.new) (past_by pass.new) }
     {
         self.take_down(pass, stop);
@@ -194,8 +218,8 @@ impl PebrCache {
 
     /// One try. `false` where it is lost; where it is the last one the packet is passed by then.
     ///
-    /// A call of its own, so that what goes into `metered` is written to memory once. Inlined, it would be kept in pieces
-    /// until the shields are down, and be copied from piece to piece.
+    /// A call of its own, so that what goes into `metered` is written to memory once. Inlined, it would be kept in
+    /// pieces until the shields are down, and be copied from piece to piece.
     #[inline(never)]
     pub(crate) fn attempt<T: Stop>(
         &self,
@@ -217,9 +241,14 @@ impl PebrCache {
         ensures out { IsTrue (is_out (known_by pass.new).status) }
         ensures down { IsTrue (list_all is_down (known_by pass.new).shields) }
         ensures ejections { (past_by pass.new).ejections ≡ (past_by pass.old).ejections }
-        ensures done { IsTrue result → (note_by first_note pass.new ≡ metering (note_by first_note pass.old) (packet.now ∷ []) metered.new.out)
-            × ((past_by pass.new).lost ≡ (past_by pass.old).lost) × HasChosen self.now.timeouts set (past_by pass.new) own.now metered.new.how metered.new.out }
-        ensures undone { result ≡ false → (note_by first_note pass.new ≡ (if last then metering (note_by first_note pass.old) (packet.now ∷ []) (Some own.now) else note_by first_note pass.old))
+        ensures done { IsTrue result
+            → (note_by first_note pass.new ≡ metering (note_by first_note pass.old) (packet.now ∷ []) metered.new.out)
+            × ((past_by pass.new).lost ≡ (past_by pass.old).lost)
+            × HasChosen self.now.timeouts set (past_by pass.new) own.now metered.new.how metered.new.out }
+        ensures undone { result ≡ false
+            → (note_by first_note pass.new ≡ (if last
+            then metering (note_by first_note pass.old) (packet.now ∷ []) (Some own.now)
+            else note_by first_note pass.old))
             × ((known_by pass.new).fresh ≡ (known_by pass.old).fresh) × ((shape_at self.now.roots).seats ≢ 1)
             × ((try : Lost) × ((past_by pass.new).lost ≡ try ∷ (past_by pass.old).lost) × IsTryOf set (try_of try)) }
         ensures untouched { result ≡ false → metered.new.out ≡ None }

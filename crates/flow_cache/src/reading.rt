@@ -37,8 +37,19 @@ impl PebrCache {
         requires entered { is_out (known_by pass.old).status ≡ false }
         ensures same { IsSame self.now.roots pass.old pass.new }
         ensures note { note_by first_note pass.new ≡ note_by first_note pass.old }
-        ensures known { known_by pass.new ≡ record (known_by pass.old) { seen = (known_by pass.new).seen; shields = (known_by pass.new).shields } }
-        ensures past { past_by pass.new ≡ record (past_by pass.old) { last = (past_by pass.new).last; steps = (past_by pass.new).steps; loads = (past_by pass.new).loads; reads = (past_by pass.new).reads; shown = (past_by pass.new).shown } }
+        ensures known { known_by pass.new ≡ record (known_by pass.old) {
+          seen = (known_by pass.new).seen;
+          shields =
+              (known_by pass.new).shields;
+        } }
+        ensures past { past_by pass.new ≡ record (past_by pass.old) {
+          last = (past_by pass.new).last;
+          steps =
+              (past_by pass.new).steps;
+          loads = (past_by pass.new).loads;
+          reads = (past_by pass.new).reads;
+          shown = (past_by pass.new).shown;
+        } }
         ensures loaded { AreLoaded set 4 (known_by pass.new) (past_by pass.new) }
         ensures last { set_read (past_by pass.new).loads ≡ set }
     {
@@ -63,7 +74,8 @@ impl PebrCache {
         ensures entered { is_out (known_by pass.new).status ≡ false }
         ensures pins { (past_by pass.new).pins ≡ (past_by pass.old).pins + 1 }
         ensures ejections { (past_by pass.new).ejections ≡ (past_by pass.old).ejections }
-        ensures valid { result ≡ checked.Valid → AreProtected set (known_by pass.new) (past_by pass.new) × IsUnlost (past_by pass.old) (past_by pass.new) }
+        ensures valid { result ≡ checked.Valid → AreProtected set (known_by pass.new) (past_by pass.new)
+            × IsUnlost (past_by pass.old) (past_by pass.new) }
         ensures ejected { result ≡ checked.Ejected → (past_by pass.new).lost ≡ was_ejected ∷ (past_by pass.old).lost }
     {
         stop.at(Point::Enter);
@@ -74,8 +86,8 @@ impl PebrCache {
         self.roots.check(pass)
     }
 
-    /// Reads the entry under a valid shield: the ten words of its slot. It is the same at each read until the shield is taken
-    /// down or the pass enters anew.
+    /// Reads the entry under a valid shield: the ten words of its slot. It is the same at each read until the shield is
+    /// taken down or the pass enters anew.
     pub fn read_entry(&self, pass: &mut RootPass<CacheRule>, place: usize) -> Option<Fragment>
         requires of { IsOf (roots_of self.now) pass.old }
         requires place { place < 4 }
@@ -83,7 +95,12 @@ impl PebrCache {
         ensures same { IsSame (roots_of self.now) pass.old pass.new }
         ensures note { note_by first_note pass.new ≡ note_by first_note pass.old }
         ensures known { known_by pass.new ≡ known_by pass.old }
-        ensures past { past_by pass.new ≡ record (past_by pass.old) { last = (past_by pass.new).last; steps = (past_by pass.new).steps; reads = (past_by pass.new).reads } }
+        ensures past { past_by pass.new ≡ record (past_by pass.old) {
+          last = (past_by pass.new).last;
+          steps =
+              (past_by pass.new).steps;
+          reads = (past_by pass.new).reads;
+        } }
         ensures count { length (past_by pass.new).reads ≡ 10 + length (past_by pass.old).reads }
         ensures more { HasMore (past_by pass.old).reads (past_by pass.new).reads }
         ensures ten { HasTen (past_by pass.new).reads (slot_at (known_by pass.old) place) }
@@ -104,10 +121,16 @@ impl PebrCache {
         ensures same { IsSame self.now.roots pass.old pass.new }
         ensures note { note_by first_note pass.new ≡ note_by first_note pass.old }
         ensures known { known_by pass.new ≡ known_by pass.old }
-        ensures past { past_by pass.new ≡ record (past_by pass.old) { last = (past_by pass.new).last; steps = (past_by pass.new).steps; reads = (past_by pass.new).reads } }
+        ensures past { past_by pass.new ≡ record (past_by pass.old) {
+          last = (past_by pass.new).last;
+          steps =
+              (past_by pass.new).steps;
+          reads = (past_by pass.new).reads;
+        } }
         ensures count { length (past_by pass.new).reads ≡ 10 + length (past_by pass.old).reads }
         ensures more { HasMore (past_by pass.old).reads (past_by pass.new).reads }
-        ensures read { (word : ℕ) → word < 10 → written_at (past_by pass.new).reads (slot_at (known_by pass.old) place) word ≡ Some (slice_index words.new word) }
+        ensures read { (word : ℕ) → word < 10 → written_at (past_by pass.new).reads
+            (slot_at (known_by pass.old) place) word ≡ Some (slice_index words.new word) }
         ensures long { length words.new ≡ 10 }
         ensures whole { IsWhole words.new }
     {
@@ -127,9 +150,15 @@ impl PebrCache {
         ensures same { IsSame self.now.roots pass.old pass.new }
         ensures note { note_by first_note pass.new ≡ note_by first_note pass.old }
         ensures known { known_by pass.new ≡ known_by pass.old }
-        ensures past { past_by pass.new ≡ record (past_by pass.old) { last = (past_by pass.new).last; steps = (past_by pass.new).steps; reads = (past_by pass.new).reads } }
+        ensures past { past_by pass.new ≡ record (past_by pass.old) {
+          last = (past_by pass.new).last;
+          steps =
+              (past_by pass.new).steps;
+          reads = (past_by pass.new).reads;
+        } }
         ensures ten { (place : ℕ) → place < 4 → HasTen (past_by pass.new).reads (slot_at (known_by pass.old) place) }
-        ensures entries { (set : ℕ) → AreProtected set (known_by pass.old) (past_by pass.old) → map entry_of contents.new ≡ entries_read (past_by pass.new) set }
+        ensures entries { (set : ℕ) → AreProtected set (known_by pass.old) (past_by pass.old)
+            → map entry_of contents.new ≡ entries_read (past_by pass.new) set }
         ensures whole { All IsWhole contents.new }
     {
         self.read_words(pass, 0, &mut contents[0]);
@@ -145,9 +174,15 @@ impl PebrCache {
         ensures same { IsSame (roots_of self.now) pass.old pass.new }
         ensures note { note_by first_note pass.new ≡ note_by first_note pass.old }
         ensures known { known_by pass.new ≡ known_by pass.old }
-        ensures past { past_by pass.new ≡ record (past_by pass.old) { last = (past_by pass.new).last; steps = (past_by pass.new).steps; reads = (past_by pass.new).reads } }
+        ensures past { past_by pass.new ≡ record (past_by pass.old) {
+          last = (past_by pass.new).last;
+          steps =
+              (past_by pass.new).steps;
+          reads = (past_by pass.new).reads;
+        } }
         ensures ten { (place : ℕ) → place < 4 → HasTen (past_by pass.new).reads (slot_at (known_by pass.old) place) }
-        ensures entries { (set : ℕ) → AreProtected set (known_by pass.old) (past_by pass.old) → result ≡ entries_read (past_by pass.new) set }
+        ensures entries { (set : ℕ) → AreProtected set (known_by pass.old) (past_by pass.old)
+            → result ≡ entries_read (past_by pass.new) set }
         ensures small { All IsSmallEntry result }
     {
         let mut contents = [[0; 10]; 4];

@@ -31,8 +31,8 @@ impl PebrCache {
         self.sets
     }
 
-    /// Enters, loads and shields the four roots of a set, and checks. At `Valid` the slots under the four shields stay as they
-    /// are until these are taken down, also once the pass has left.
+    /// Enters, loads and shields the four roots of a set, and checks. At `Valid` the slots under the four shields stay
+    /// as they are until these are taken down, also once the pass has left.
     pub fn protect(&self, pass: &mut RootPass<CacheRule>, set: u64) -> Checked
         requires of { IsOf (roots_of self.now) pass.old }
         requires set { set < (means_of self.now).sets }
@@ -42,7 +42,8 @@ impl PebrCache {
         ensures entered { is_out (known_by pass.new).status ≡ false }
         ensures pins { (past_by pass.new).pins ≡ (past_by pass.old).pins + 1 }
         ensures ejections { (past_by pass.new).ejections ≡ (past_by pass.old).ejections }
-        ensures valid { result ≡ checked.Valid → AreProtected set (known_by pass.new) (past_by pass.new) × IsUnlost (past_by pass.old) (past_by pass.new) }
+        ensures valid { result ≡ checked.Valid → AreProtected set (known_by pass.new) (past_by pass.new)
+            × IsUnlost (past_by pass.old) (past_by pass.new) }
         ensures ejected { result ≡ checked.Ejected → (past_by pass.new).lost ≡ was_ejected ∷ (past_by pass.old).lost }
     {
         self.reach(pass, set, &mut Never)

@@ -26,7 +26,8 @@ unfolding key_with
 key_with-is fields = key_where-is fields (fit_or_not fields)
 
 -- there is one such answer
-pub one_answer : (fields : KeyFields) (one other : Option FlowKey) → IsKeyOf fields one → IsKeyOf fields other → one ≡ other
+pub one_answer : (fields : KeyFields) (one other : Option FlowKey) → IsKeyOf fields one → IsKeyOf fields other
+    → one ≡ other
 one_answer fields None None p q = refl
 one_answer fields None (Some key) p q = absurd (p (subst AreFit q (fields_fit key)))
 one_answer fields (Some key) None p q = absurd (q (subst AreFit p (fields_fit key)))

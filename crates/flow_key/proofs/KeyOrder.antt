@@ -14,11 +14,13 @@ key_order_total =
     (then_total (on_total (λ (k : FlowKey). k.source) nat_cmp_total)
     (then_total (on_total (λ (k : FlowKey). k.destination) nat_cmp_total)
     (then_total (on_total (λ (k : FlowKey). k.protocol) nat_cmp_total)
-    (then_total (on_total (λ (k : FlowKey). k.source_port) nat_cmp_total) (on_total (λ (k : FlowKey). k.destination_port) nat_cmp_total)))))
+    (then_total (on_total (λ (k : FlowKey). k.source_port) nat_cmp_total)
+    (on_total (λ (k : FlowKey). k.destination_port) nat_cmp_total)))))
 
 -- numbers that tie are equal
 pub tied_numbers : (x y : ℕ) → nat_cmp x y ≡ Equal → x ≡ y
-tied_numbers x y e = let P : Ordering → Type 0 = λ o. MatchOrdering o (x < y) (x ≡ y) (y < x) in subst P e (ranked x y (nat_cmp x y) refl)
+tied_numbers x y e = let P : Ordering → Type 0 = λ o. MatchOrdering o (x < y) (x ≡ y) (y < x) in
+    subst P e (ranked x y (nat_cmp x y) refl)
 
 -- where two comparisons in turn tie, each of them does
 pub tied_first : (o p : Ordering) → ordering_then o p ≡ Equal → o ≡ Equal

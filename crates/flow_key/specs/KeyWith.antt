@@ -23,7 +23,8 @@ all_five (no a) b c d e = no (λ facts. a facts.0)
 -- Whether numbers fit, where each of the three facts is decided.
 unfoldable pub all_fit : (f : KeyFields) → Dec (f.version ≢ 4 → f.version ≡ 6)
     → Dec (f.version ≡ 4 → (f.source < 2 ^ 32) × (f.destination < 2 ^ 32))
-    → Dec ((f.source < 2 ^ 128) × (f.destination < 2 ^ 128) × (f.protocol < 2 ^ 8) × (f.source_port < 2 ^ 16) × (f.destination_port < 2 ^ 16))
+    → Dec ((f.source < 2 ^ 128) × (f.destination < 2 ^ 128) × (f.protocol < 2 ^ 8) × (f.source_port < 2 ^ 16)
+    × (f.destination_port < 2 ^ 16))
     → Dec (AreFit f)
 all_fit f (yes known) (yes narrow) (yes sized) = yes (record { known = known; narrow = narrow; sized = sized })
 all_fit f (yes known) (yes narrow) (no sized) = no (λ fit. sized fit.sized)
@@ -36,7 +37,8 @@ fit_or_not f =
     all_fit f
     (implies (not (ℕ_discrete f.version 4)) (ℕ_discrete f.version 6))
     (implies (ℕ_discrete f.version 4) (and (dec_lt f.source (2 ^ 32)) (dec_lt f.destination (2 ^ 32))))
-    (all_five (dec_lt f.source (2 ^ 128)) (dec_lt f.destination (2 ^ 128)) (dec_lt f.protocol (2 ^ 8)) (dec_lt f.source_port (2 ^ 16)) (dec_lt f.destination_port (2 ^ 16)))
+    (all_five (dec_lt f.source (2 ^ 128)) (dec_lt f.destination (2 ^ 128)) (dec_lt f.protocol (2 ^ 8))
+    (dec_lt f.source_port (2 ^ 16)) (dec_lt f.destination_port (2 ^ 16)))
 
 -- The key with these fields, where they fit or don't.
 unfoldable pub key_where : (f : KeyFields) → Dec (AreFit f) → Option FlowKey

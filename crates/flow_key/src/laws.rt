@@ -1,5 +1,6 @@
 //! Laws about keys. These functions do nothing; each contract is a law.
-ghost use Rattle.flow_key.specs.Laws.{OrdersTotally, TiesOnlyItself, WordsTell, FieldsTell, KeysFit, AnswersOnce, KeyOfItsFields, NoneWhereUnfit};
+ghost use Rattle.flow_key.specs.Laws.{OrdersTotally, TiesOnlyItself, WordsTell, FieldsTell, KeysFit, AnswersOnce};
+ghost use Rattle.flow_key.specs.Laws.{KeyOfItsFields, NoneWhereUnfit};
 
 /// The order of keys is total, and a key ties with itself alone.
 pub fn keys_are_ordered()

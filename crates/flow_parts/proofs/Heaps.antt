@@ -1,5 +1,6 @@
 -- One packet is a heap; absorbing and joining keep heaps; a heap may be permuted.
-use Rattle.std.proofs.Common.{◌≡◌, ℕ, ◌+◌, List, [], ◌∷◌, ◌++◌, sym, ap, ◌∙◌, subst, length, arith, length-append, Contains, IsPermutation}
+use Rattle.std.proofs.Common.{◌≡◌, ℕ, ◌+◌, List, [], ◌∷◌, ◌++◌, sym, ap, ◌∙◌, subst, length, arith, length-append}
+use Rattle.std.proofs.Common.{Contains, IsPermutation}
 use Rattle.std.proofs.lemmas.List.{nil_from_length}
 use Rattle.std.proofs.lemmas.List.Elements.{All-append, All-contains, All-contains_itself, All-weaker}
 use Rattle.std.proofs.lemmas.List.Sums.{sum_by-append}
@@ -14,7 +15,9 @@ use Rattle.flow_parts.proofs.Endings.{ender_closes}
 use Rattle.flow_parts.specs.Heap.{IsHeap}
 use Rattle.flow_parts.specs.Joining.{TakesIn, IsJoinable}
 use Rattle.flow_parts.specs.Parts.{IsAlone, IsAbsorbed, IsJoined}
-use Rattle.flow_parts.proofs.Members.{among, All-one, IsLeast-append, IsGreatest-append, IsUnion-append, IsLeast-permutation, IsGreatest-permutation, IsUnion-permutation, IsLeast-one, IsGreatest-one, IsUnion-one}
+use Rattle.flow_parts.proofs.Members.{among, All-one, IsLeast-append, IsGreatest-append, IsUnion-append}
+use Rattle.flow_parts.proofs.Members.{IsLeast-permutation, IsGreatest-permutation, IsUnion-permutation, IsLeast-one}
+use Rattle.flow_parts.proofs.Members.{IsGreatest-one, IsUnion-one}
 use Rattle.flow_parts.proofs.Walks.{time_of, IsLinked-append, IsLinked-permutation, IsLinked-one}
 
 abbrev octets_of : Packet → ℕ
@@ -24,7 +27,8 @@ abbrev flags_of : Packet → ℕ
 flags_of p = p.flags
 
 module _ (limits : Timeouts) where
-  pub IsHeap-permutation : (P Q : List Packet) (f : Fragment) → IsPermutation P Q → IsHeap limits P f → IsHeap limits Q f
+  pub IsHeap-permutation : (P Q : List Packet) (f : Fragment) → IsPermutation P Q → IsHeap limits P f
+      → IsHeap limits Q f
   IsHeap-permutation P Q f s h = record {
     some = λ e. h.some (nil_from_length P (sym (length_permutation P Q s) ∙ ap length e));
     one_key = All-permutation (λ p. p.key ≡ f.key) P Q s h.one_key;
@@ -52,7 +56,8 @@ module _ (limits : Timeouts) where
     ended = All-one (λ q. Ends q → q.time ≡ f.last) p (λ ends. sym a.last);
   }
 
-  pub IsHeap-joined : (P Q : List Packet) (f g w : Fragment) → IsJoinable limits f g → IsJoined f g w → IsHeap limits P f → IsHeap limits Q g → IsHeap limits (P ++ Q) w
+  pub IsHeap-joined : (P Q : List Packet) (f g w : Fragment) → IsJoinable limits f g → IsJoined f g w
+      → IsHeap limits P f → IsHeap limits Q g → IsHeap limits (P ++ Q) w
   IsHeap-joined P Q f g w j u a b =
       let near = j.near in
       let short = j.short in
@@ -62,11 +67,16 @@ module _ (limits : Timeouts) where
             (All-weaker (λ p. p.key ≡ f.key) (λ p. p.key ≡ w.key) (λ p e. e ∙ sym u.key) P a.one_key)
             (All-weaker (λ p. p.key ≡ g.key) (λ p. p.key ≡ w.key) (λ p e. e ∙ sym j.one_key ∙ sym u.key) Q b.one_key);
         count = (let e = u.packets in let x = a.count in let y = b.count in omega (arith, length-append P Q));
-        octets = (let e = u.octets in let x = a.octets in let y = b.octets in omega (arith, sum_by-append octets_of P Q));
-        flags = subst (λ n. IsUnion flags_of (P ++ Q) n) (sym u.flags) (IsUnion-append flags_of P Q f.flags g.flags a.flags b.flags);
-        first = subst (λ n. IsLeast time_of (P ++ Q) n) (sym u.first) (IsLeast-append time_of P Q f.first g.first a.first b.first);
-        last = subst (λ n. IsGreatest time_of (P ++ Q) n) (sym u.last) (IsGreatest-append time_of P Q f.last g.last a.last b.last);
-        linked = IsLinked-append limits.idle P Q f.first f.last g.first g.last a.linked b.linked a.first a.last b.first b.last (omega arith) (omega arith);
+        octets = (let e = u.octets in let x = a.octets in let y = b.octets in
+            omega (arith, sum_by-append octets_of P Q));
+        flags = subst (λ n. IsUnion flags_of (P ++ Q) n) (sym u.flags)
+            (IsUnion-append flags_of P Q f.flags g.flags a.flags b.flags);
+        first = subst (λ n. IsLeast time_of (P ++ Q) n) (sym u.first)
+            (IsLeast-append time_of P Q f.first g.first a.first b.first);
+        last = subst (λ n. IsGreatest time_of (P ++ Q) n) (sym u.last)
+            (IsGreatest-append time_of P Q f.last g.last a.last b.last);
+        linked = IsLinked-append limits.idle P Q f.first f.last g.first g.last a.linked b.linked a.first a.last b.first
+            b.last (omega arith) (omega arith);
         short = (let first = u.first in let last = u.last in rw (first, last) short);
         ended = All-append (λ p. Ends p → p.time ≡ w.last) P Q
             (All-weaker (Contains P) (λ p. Ends p → p.time ≡ w.last) (λ p c ends.
@@ -79,7 +89,8 @@ module _ (limits : Timeouts) where
             let last = u.last in omega arith) Q (All-contains_itself Q));
       }
 
-  pub IsHeap-absorbed : (P : List Packet) (f : Fragment) (p : Packet) (w : Fragment) → TakesIn limits f p → IsAbsorbed f p w → IsHeap limits P f → IsHeap limits (P ++ p ∷ []) w
+  pub IsHeap-absorbed : (P : List Packet) (f : Fragment) (p : Packet) (w : Fragment) → TakesIn limits f p
+      → IsAbsorbed f p w → IsHeap limits P f → IsHeap limits (P ++ p ∷ []) w
   IsHeap-absorbed P f p w t u a =
       let Q : List Packet = p ∷ [] in
       let early = t.not_early in
@@ -91,15 +102,21 @@ module _ (limits : Timeouts) where
             (All-one (λ q. q.key ≡ w.key) p (sym t.one_key ∙ sym u.key));
         count = (let e = u.packets in let x = a.count in omega (arith, length-append P Q));
         octets = (let e = u.octets in let x = a.octets in omega (arith, sum_by-append octets_of P Q));
-        flags = subst (λ n. IsUnion flags_of (P ++ Q) n) (sym u.flags) (IsUnion-append flags_of P Q f.flags p.flags a.flags (IsUnion-one flags_of p));
-        first = subst (λ n. IsLeast time_of (P ++ Q) n) (sym u.first) (IsLeast-append time_of P Q f.first p.time a.first (IsLeast-one time_of p));
-        last = subst (λ n. IsGreatest time_of (P ++ Q) n) (sym u.last) (IsGreatest-append time_of P Q f.last p.time a.last (IsGreatest-one time_of p));
-        linked = IsLinked-append limits.idle P Q f.first f.last p.time p.time a.linked (IsLinked-one limits.idle p) a.first a.last (IsLeast-one time_of p) (IsGreatest-one time_of p) (omega arith) (omega arith);
+        flags = subst (λ n. IsUnion flags_of (P ++ Q) n) (sym u.flags)
+            (IsUnion-append flags_of P Q f.flags p.flags a.flags (IsUnion-one flags_of p));
+        first = subst (λ n. IsLeast time_of (P ++ Q) n) (sym u.first)
+            (IsLeast-append time_of P Q f.first p.time a.first (IsLeast-one time_of p));
+        last = subst (λ n. IsGreatest time_of (P ++ Q) n) (sym u.last)
+            (IsGreatest-append time_of P Q f.last p.time a.last (IsGreatest-one time_of p));
+        linked = IsLinked-append limits.idle P Q f.first f.last p.time p.time a.linked
+            (IsLinked-one limits.idle p) a.first a.last (IsLeast-one time_of p) (IsGreatest-one time_of p) (omega arith)
+            (omega arith);
         short = (let first = u.first in let last = u.last in rw (first, last) t.short);
         ended = All-append (λ q. Ends q → q.time ≡ w.last) P Q
             (All-weaker (Contains P) (λ q. Ends q → q.time ≡ w.last) (λ q c ends.
             let at = All-contains (λ z. Ends z → z.time ≡ f.last) P q a.ended c ends in
             let high = t.closed (ender_closes P f a.one_key a.flags (among Ends P q c ends)) in
             let last = u.last in omega arith) P (All-contains_itself P))
-            (All-one (λ q. Ends q → q.time ≡ w.last) p (λ ends. let high = t.ending ends in let last = u.last in omega arith));
+            (All-one (λ q. Ends q → q.time ≡ w.last) p
+            (λ ends. let high = t.ending ends in let last = u.last in omega arith));
       }

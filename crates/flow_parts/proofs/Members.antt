@@ -1,7 +1,9 @@
 -- What holds of some element of a list, and of numbers that a list's elements have.
-use Rattle.std.proofs.Common.{◌≡◌, ℕ, ◌≤◌, ◌⊎◌, inl, inr, min, max, bit_or, List, [], ◌∷◌, ◌++◌, refl, subst, arith, All, Any, Contains, IsPermutation}
+use Rattle.std.proofs.Common.{◌≡◌, ℕ, ◌≤◌, ◌⊎◌, inl, inr, min, max, bit_or, List, [], ◌∷◌, ◌++◌, refl, subst, arith}
+use Rattle.std.proofs.Common.{All, Any, Contains, IsPermutation}
 use Rattle.std.specs.Int.{bit_at}
-use Rattle.std.proofs.lemmas.List.Elements.{All-append, All-cons, All-nil, All-contains, Contains-append_left, Contains-append_right, Contains-append_cases, All-weaker}
+use Rattle.std.proofs.lemmas.List.Elements.{All-append, All-cons, All-nil, All-contains, Contains-append_left}
+use Rattle.std.proofs.lemmas.List.Elements.{Contains-append_right, Contains-append_cases, All-weaker}
 use Rattle.std.proofs.lemmas.List.Sorted.{All-permutation, Contains-permutation, IsPermutation-sym}
 use Rattle.std.proofs.lemmas.Nat.Bits.{bit_at_or, bit_at-lt}
 use Rattle.std.proofs.lemmas.Bool.{cases_lt}
@@ -25,7 +27,8 @@ module _ {X : Type 0} where
   pub Any-append_cases : (P : X → Type 0) (xs ys : List X) → Any P (xs ++ ys) → Any P xs ⊎ Any P ys
   Any-append_cases P xs ys a =
       let f = found P (xs ++ ys) a in
-      elim (Contains-append_cases xs ys f.0 f.1) [ inl c ↦ inl (among P xs f.0 c f.2) | inr c ↦ inr (among P ys f.0 c f.2) ]
+      elim (Contains-append_cases xs ys f.0 f.1)
+      [ inl c ↦ inl (among P xs f.0 c f.2) | inr c ↦ inr (among P ys f.0 c f.2) ]
 
   pub Any-permutation : (P : X → Type 0) (xs ys : List X) → IsPermutation xs ys → Any P xs → Any P ys
   Any-permutation P xs ys s a = let f = found P xs a in among P ys f.0 (Contains-permutation xs ys f.0 s f.1) f.2
@@ -50,26 +53,30 @@ module _ {X : Type 0} where
         let Q : X → Type 0 = λ x. f x ≡ min m n in
         let R : X → Type 0 = λ x. min m n ≤ f x in
         record {
-          bound = All-append R xs ys (All-weaker (λ x. m ≤ f x) R (λ x h. omega arith) xs a.bound) (All-weaker (λ x. n ≤ f x) R (λ x h. omega arith) ys b.bound);
+          bound = All-append R xs ys (All-weaker (λ x. m ≤ f x) R (λ x h. omega arith) xs a.bound)
+              (All-weaker (λ x. n ≤ f x) R (λ x h. omega arith) ys b.bound);
           reached = elim (cases_lt n m) [
             | inl l ↦ Any-append_right Q xs ys (Any-weaker (λ x. f x ≡ n) Q (λ x e. omega arith) ys b.reached)
             | inr l ↦ Any-append_left Q xs ys (Any-weaker (λ x. f x ≡ m) Q (λ x e. omega arith) xs a.reached)
           ];
         }
 
-    pub IsGreatest-append : (xs ys : List X) (m n : ℕ) → IsGreatest f xs m → IsGreatest f ys n → IsGreatest f (xs ++ ys) (max m n)
+    pub IsGreatest-append : (xs ys : List X) (m n : ℕ) → IsGreatest f xs m → IsGreatest f ys n
+        → IsGreatest f (xs ++ ys) (max m n)
     IsGreatest-append xs ys m n a b =
         let Q : X → Type 0 = λ x. f x ≡ max m n in
         let R : X → Type 0 = λ x. f x ≤ max m n in
         record {
-          bound = All-append R xs ys (All-weaker (λ x. f x ≤ m) R (λ x h. omega arith) xs a.bound) (All-weaker (λ x. f x ≤ n) R (λ x h. omega arith) ys b.bound);
+          bound = All-append R xs ys (All-weaker (λ x. f x ≤ m) R (λ x h. omega arith) xs a.bound)
+              (All-weaker (λ x. f x ≤ n) R (λ x h. omega arith) ys b.bound);
           reached = elim (cases_lt m n) [
             | inl l ↦ Any-append_right Q xs ys (Any-weaker (λ x. f x ≡ n) Q (λ x e. omega arith) ys b.reached)
             | inr l ↦ Any-append_left Q xs ys (Any-weaker (λ x. f x ≡ m) Q (λ x e. omega arith) xs a.reached)
           ];
         }
 
-    pub IsUnion-append : (xs ys : List X) (m n : ℕ) → IsUnion f xs m → IsUnion f ys n → IsUnion f (xs ++ ys) (bit_or m n)
+    pub IsUnion-append : (xs ys : List X) (m n : ℕ) → IsUnion f xs m → IsUnion f ys n
+        → IsUnion f (xs ++ ys) (bit_or m n)
     IsUnion-append xs ys m n a b = record {
       bits = λ bit.
           let Q : X → Type 0 = λ x. bit_at (f x) bit ≡ 1 in
@@ -102,15 +109,24 @@ module _ {X : Type 0} where
     pub IsUnion-permutation : (xs ys : List X) (n : ℕ) → IsPermutation xs ys → IsUnion f xs n → IsUnion f ys n
     IsUnion-permutation xs ys n s a = record {
       bits = λ bit.
-          let Q : X → Type 0 = λ x. bit_at (f x) bit ≡ 1 in
-          (λ e. Any-permutation Q xs ys s ((a.bits bit).0 e), λ h. (a.bits bit).1 (Any-permutation Q ys xs (IsPermutation-sym xs ys s) h));
+          let Q : X → Type 0 = λ x. bit_at (f x) bit ≡ 1 in (
+            λ e. Any-permutation Q xs ys s ((a.bits bit).0 e),
+            λ h. (a.bits bit).1
+                (Any-permutation Q ys xs (IsPermutation-sym xs ys s) h),
+          );
     }
 
     pub IsLeast-one : (x : X) → IsLeast f (x ∷ []) (f x)
-    IsLeast-one x = record { bound = All-one (λ y. f x ≤ f y) x (omega arith); reached = Any-one (λ y. f y ≡ f x) x refl }
+    IsLeast-one x =
+        record { bound = All-one (λ y. f x ≤ f y) x (omega arith); reached = Any-one (λ y. f y ≡ f x) x refl }
 
     pub IsGreatest-one : (x : X) → IsGreatest f (x ∷ []) (f x)
-    IsGreatest-one x = record { bound = All-one (λ y. f y ≤ f x) x (omega arith); reached = Any-one (λ y. f y ≡ f x) x refl }
+    IsGreatest-one x =
+        record { bound = All-one (λ y. f y ≤ f x) x (omega arith); reached = Any-one (λ y. f y ≡ f x) x refl }
 
     pub IsUnion-one : (x : X) → IsUnion f (x ∷ []) (f x)
-    IsUnion-one x = record { bits = λ bit. (λ e. Any-one (λ y. bit_at (f y) bit ≡ 1) x e, λ a. one-Any (λ y. bit_at (f y) bit ≡ 1) x a) }
+    IsUnion-one x =
+        record {
+          bits =
+              λ bit. (λ e. Any-one (λ y. bit_at (f y) bit ≡ 1) x e, λ a. one-Any (λ y. bit_at (f y) bit ≡ 1) x a);
+        }

@@ -13,7 +13,8 @@ use Rattle.flow_parts.proofs.PartWords.{part_same}
 -- fragments with the same fields are one fragment
 pub same_part_fields : (one other : Fragment) → part_fields one ≡ part_fields other → one ≡ other
 same_part_fields one other e =
-    part_same one other (same_fields one.key other.key (ap (λ f. f.key) e)) (ap (λ f. f.packets) e) (ap (λ f. f.octets) e)
+    part_same one other (same_fields one.key other.key (ap (λ f. f.key) e)) (ap (λ f. f.packets) e)
+    (ap (λ f. f.octets) e)
     (ap (λ f. f.first) e) (ap (λ f. f.last) e) (ap (λ f. f.flags) e)
 
 -- the fields of a fragment fit
@@ -21,7 +22,8 @@ pub part_fields_fit : (f : Fragment) → AreFit (part_fields f).key × AreCounts
 part_fields_fit f = (fields_fit f.key, record { counted = f.counted; spanned = f.spanned; sized = f.sized })
 
 -- the function gives the answer that the fields have
-part_where-is : (fields : PartFields) (answer : Option FlowKey) → IsKeyOf fields.key answer → (decided : Dec (AreCounts fields))
+part_where-is : (fields : PartFields) (answer : Option FlowKey) → IsKeyOf fields.key answer
+    → (decided : Dec (AreCounts fields))
     → IsPartOf fields (option_and_then (part_where fields decided) answer)
 unfolding part_where
 part_where-is fields None unfit decided = λ fit. unfit fit.0
@@ -33,7 +35,8 @@ unfolding part_with
 part_with-is fields = part_where-is fields (key_with fields.key) (key_with-is fields.key) (counts_or_not fields)
 
 -- there is one such answer
-pub one_part : (fields : PartFields) (one other : Option Fragment) → IsPartOf fields one → IsPartOf fields other → one ≡ other
+pub one_part : (fields : PartFields) (one other : Option Fragment) → IsPartOf fields one → IsPartOf fields other
+    → one ≡ other
 one_part fields None None p q = refl
 one_part fields None (Some f) p q = absurd (p (subst (λ x. AreFit x.key × AreCounts x) q (part_fields_fit f)))
 one_part fields (Some f) None p q = absurd (q (subst (λ x. AreFit x.key × AreCounts x) p (part_fields_fit f)))

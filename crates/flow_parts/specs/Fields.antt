@@ -23,14 +23,15 @@ part_fields f = record {
   flags = f.flags;
 }
 
--- The numbers behind the key fit a fragment: it has a packet, its first time isn't after its last, counts and times have
--- 64 bits and flags 16.
+-- The numbers behind the key fit a fragment: it has a packet, its first time isn't after its last, counts and times
+-- have 64 bits and flags 16.
 pub record AreCounts (fields : PartFields) : Type 0 where
   pub counted : 1 ≤ fields.packets
   pub spanned : fields.first ≤ fields.last
   pub sized : (fields.packets < 2 ^ 64) × (fields.octets < 2 ^ 64) × (fields.last < 2 ^ 64) × (fields.flags < 2 ^ 16)
 
--- The answer to such numbers: the fragment that has them as its fields, and none where the key's or the others don't fit.
+-- The answer to such numbers: the fragment that has them as its fields, and none where the key's or the others don't
+-- fit.
 abbrev pub IsPartOf : PartFields → Option Fragment → Type 0
 IsPartOf fields answer = MatchOption answer (¬ (AreFit fields.key × AreCounts fields)) (λ f. part_fields f ≡ fields)
 

@@ -13,9 +13,9 @@ abbrev pub IsLinked : ℕ → List Packet → Type 0
 IsLinked idle packets = All (λ p. Any (λ later. p.time < later.time) packets
     → Any (λ next. (p.time < next.time) × (next.time ≤ p.time + idle)) packets) packets
 
--- The packets are a heap of the fragment: there is one at least, all have its key, it has their number, their octets, the
--- union of their flags, their least and their greatest time, they are linked, its span is at most the active time-out, and
--- each packet that ends its flow has its last time.
+-- The packets are a heap of the fragment: there is one at least, all have its key, it has their number, their octets,
+-- the union of their flags, their least and their greatest time, they are linked, its span is at most the active
+-- time-out, and each packet that ends its flow has its last time.
 pub record IsHeap (limits : Timeouts) (packets : List Packet) (fragment : Fragment) : Type 0 where
   pub some : packets ≢ []
   pub one_key : All (λ p. p.key ≡ fragment.key) packets

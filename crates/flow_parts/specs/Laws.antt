@@ -1,5 +1,6 @@
 -- Laws of fragments, and of sharing out for any lists.
-use Rattle.std.specs.Prelude.{◌≡◌, ◌≤◌, ◌↔◌, List, [], ◌∷◌, ◌++◌, length, sum_by, All, Any, Option, Some, None, IsPermutation}
+use Rattle.std.specs.Prelude.{◌≡◌, ◌≤◌, ◌↔◌, List, [], ◌∷◌, ◌++◌, length, sum_by, All, Any, Option, Some, None}
+use Rattle.std.specs.Prelude.{IsPermutation}
 use Rattle.flow_key.specs.Fields.{AreFit}
 use Rattle.flow_parts.specs.Ending.{Ends}
 use Rattle.packet_accept.specs.declared.packet.Packet.{Packet}
@@ -51,21 +52,24 @@ CoversTimes = (limits : Timeouts) (packets : List Packet) (parts : List Fragment
 
 -- Opening keeps sharing out: where the packets are a packet more, and the fragments that packet's own one more.
 abbrev pub StandsOpened : Type 0
-StandsOpened = (limits : Timeouts) (packets more : List Packet) (parts others : List Fragment) (packet : Packet) (own : Fragment)
+StandsOpened = (limits : Timeouts) (packets more : List Packet) (parts others : List Fragment) (packet : Packet)
+    (own : Fragment)
     → IsAlone packet own → SharesOut limits packets parts
     → IsPermutation more (packet ∷ packets) → IsPermutation others (own ∷ parts) → SharesOut limits more others
 
--- Absorbing keeps sharing out: where the packets are a packet more, and a fragment that takes it in is replaced by the one
--- with it taken in.
+-- Absorbing keeps sharing out: where the packets are a packet more, and a fragment that takes it in is replaced by the
+-- one with it taken in.
 abbrev pub StandsAbsorbed : Type 0
 StandsAbsorbed = (limits : Timeouts) (packets more : List Packet) (parts others rest : List Fragment)
-    (packet : Packet) (old new : Fragment) → TakesIn limits old packet → IsAbsorbed old packet new → SharesOut limits packets parts
+    (packet : Packet) (old new : Fragment) → TakesIn limits old packet → IsAbsorbed old packet new
+    → SharesOut limits packets parts
     → IsPermutation more (packet ∷ packets) → IsPermutation parts (old ∷ rest) → IsPermutation others (new ∷ rest)
     → SharesOut limits more others
 
 -- Joining keeps sharing out: where two joinable fragments are replaced by the two as one.
 abbrev pub StandsJoined : Type 0
-StandsJoined = (limits : Timeouts) (packets : List Packet) (parts others rest : List Fragment) (one other whole : Fragment)
+StandsJoined = (limits : Timeouts) (packets : List Packet) (parts others rest : List Fragment)
+    (one other whole : Fragment)
     → IsJoinable limits one other → IsJoined one other whole → SharesOut limits packets parts
     → IsPermutation parts (one ∷ other ∷ rest) → IsPermutation others (whole ∷ rest) → SharesOut limits packets others
 

@@ -1,5 +1,5 @@
--- The fragment with some fields as a function: the one answer that `IsPartOf` allows, as the law `fragments_have_fields`
--- says.
+-- The fragment with some fields as a function: the one answer that `IsPartOf` allows, as the law
+-- `fragments_have_fields` says.
 use Rattle.std.specs.Prelude.{◌<◌, ◌≤◌, ◌^◌, Option, Some, None, option_and_then}
 use native.Mathlib.Decide.{dec_lt, dec_le}
 use Rattle.flow_key.specs.declared.key.FlowKey.{FlowKey}
@@ -18,7 +18,8 @@ all_four (no a) b c d = no (λ facts. a facts.0)
 -- Whether numbers fit, where each of the three facts is decided.
 unfoldable pub all_counts : (f : PartFields) → Dec (1 ≤ f.packets) → Dec (f.first ≤ f.last)
     → Dec ((f.packets < 2 ^ 64) × (f.octets < 2 ^ 64) × (f.last < 2 ^ 64) × (f.flags < 2 ^ 16)) → Dec (AreCounts f)
-all_counts f (yes counted) (yes spanned) (yes sized) = yes (record { counted = counted; spanned = spanned; sized = sized })
+all_counts f (yes counted) (yes spanned) (yes sized) =
+    yes (record { counted = counted; spanned = spanned; sized = sized })
 all_counts f (yes counted) (yes spanned) (no sized) = no (λ fit. sized fit.sized)
 all_counts f (yes counted) (no spanned) sized = no (λ fit. spanned fit.spanned)
 all_counts f (no counted) spanned sized = no (λ fit. counted fit.counted)

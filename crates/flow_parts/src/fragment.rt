@@ -1,6 +1,7 @@
 //! A fragment: what is known of some packets of one flow, and its words.
 
-ghost use Rattle.std.specs.Prelude.{◌≡◌, ◌≢◌, ℕ, ◌+◌, ◌<◌, ◌≤◌, ◌^◌, List, [], ◌∷◌, ◌++◌, Some, None, IfSome, IsNone, IsTrue, ◌↔◌, slice_index};
+ghost use Rattle.std.specs.Prelude.{◌≡◌, ◌≢◌, ℕ, ◌+◌, ◌<◌, ◌≤◌, ◌^◌, List, [], ◌∷◌, ◌++◌, Some, None, IfSome, IsNone};
+ghost use Rattle.std.specs.Prelude.{IsTrue, ◌↔◌, slice_index};
 
 use flow_key::FlowKey;
 use packet_accept::Packet;
@@ -48,7 +49,8 @@ impl Fragment {
     pub fn of(packet: &Packet) -> Fragment
         ensures alone { IsAlone packet.now result }
         ensures heap { (limits : Timeouts) → IsHeap limits (packet.now ∷ []) result }
-        ensures shared { (limits : Timeouts) (others : List Packet) (rest : List Fragment) → SharesOut limits others rest
+        ensures shared { (limits : Timeouts) (others : List Packet) (rest : List Fragment)
+            → SharesOut limits others rest
             → SharesOut limits (others ++ packet.now ∷ []) (result ∷ rest) }
     {
         alone(packet.key, packet.time, packet.octets, packet.flags)

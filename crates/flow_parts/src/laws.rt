@@ -1,6 +1,9 @@
 //! Laws of fragments, and of sharing out for any lists of packets and fragments. These functions do nothing; each
 //! contract is a law.
-ghost use Rattle.flow_parts.specs.Laws.{NothingIsShared, StandsTogether, StandsPermuted, SharesItsHeap, CountsAll, CoversTimes, StandsOpened, StandsAbsorbed, StandsJoined, OwnIsOne, FitsAsJoinable, AbsorbsAsJoins, JoinsEitherWay, ClosedByPackets, WordsTell, FieldsTell, PartsFit, AnswersOnce, PartOfItsFields, NoneWhereUnfit};
+ghost use Rattle.flow_parts.specs.Laws.{NothingIsShared, StandsTogether, StandsPermuted, SharesItsHeap, CountsAll};
+ghost use Rattle.flow_parts.specs.Laws.{CoversTimes, StandsOpened, StandsAbsorbed, StandsJoined, OwnIsOne};
+ghost use Rattle.flow_parts.specs.Laws.{FitsAsJoinable, AbsorbsAsJoins, JoinsEitherWay, ClosedByPackets, WordsTell};
+ghost use Rattle.flow_parts.specs.Laws.{FieldsTell, PartsFit, AnswersOnce, PartOfItsFields, NoneWhereUnfit};
 
 /// Sharing out stands when two lists are put together, and when the packets or the fragments are permuted.
 /// No fragments share out no packets, and nothing else; one fragment shares out its heaps.

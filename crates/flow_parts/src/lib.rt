@@ -2,8 +2,8 @@
 //!
 //! A [`Fragment`] holds a key, two counts, the flags seen and the times of the first and the last packet.
 //! [`Timeouts`] hold the idle and the active time-out; by them a fragment takes in a packet
-//! ([`Timeouts::fits`], [`Timeouts::absorb`]) or another fragment ([`Timeouts::joinable`], [`Timeouts::join`]). A fragment
-//! of which a packet ends its flow is closed ([`Fragment::closed`]): nothing later goes into it.
+//! ([`Timeouts::fits`], [`Timeouts::absorb`]) or another fragment ([`Timeouts::joinable`], [`Timeouts::join`]). A
+//! fragment of which a packet ends its flow is closed ([`Fragment::closed`]): nothing later goes into it.
 //!
 //! The packets that a fragment stands for are its *heap*, and fragments *share out* a list of packets where
 //! each packet lies in the heap of exactly one of them. These two are kept by every call here. The functions

@@ -30,8 +30,8 @@ fn fragment(source_port: u16, first: u64, length: u32) -> Fragment
     }
 }
 
-/// The first eight words of a fragment of one packet of UDP: its key, and what is counted; behind them the last time and the
-/// flags.
+/// The first eight words of a fragment of one packet of UDP: its key, and what is counted; behind them the last time
+/// and the flags.
 macro_rules! words_with {
     ($head:expr, $packets:expr, $first:expr, $flags:expr) => {
         [
@@ -52,8 +52,8 @@ macro_rules! words_with {
 /// The words of [`packet`] at 1000 s as a fragment.
 static WORDS: [u64; 10] = words_with!(0x411_0FA0_0035, 1, 1_000_000, 16);
 
-/// Words of no fragment: without a version, without a packet, first seen after the last time, with too many flags, and of
-/// version 5.
+/// Words of no fragment: without a version, without a packet, first seen after the last time, with too many flags, and
+/// of version 5.
 static WRONG_WORDS: [[u64; 10]; 5] = [
     [0; 10],
     words_with!(0x411_0FA0_0035, 0, 1_000_000, 16),
@@ -137,7 +137,8 @@ fn second(protocol: u8, flags: u16) -> Fragment {
 #[test]
 fn ends_of_flows(rt: HostRuntime) {
     let timeouts = Timeouts::new(300, 1800);
-    // Protocol and flags of a fragment from 1 s to 2 s, whether it is closed, time and flags of a packet, and whether that fits.
+    // Protocol and flags of a fragment from 1 s to 2 s, whether it is closed, time and flags of a packet, and whether
+    // that fits.
     for (protocol, flags, closed, time, more, fits) in [
         // A closed fragment takes no later packet, by FIN or by RST.
         (6, 0x011, true, 2001, 0x010, false),

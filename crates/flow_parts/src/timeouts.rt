@@ -130,7 +130,8 @@ impl Timeouts {
         ensures joined { IsJoined one other result }
         ensures heap { (packets others : List Packet) → IsHeap self.now packets one → IsHeap self.now others other
             → IsHeap self.now (packets ++ others) result }
-        ensures shared { (packets : List Packet) (rest : List Fragment) → SharesOut self.now packets (one ∷ other ∷ rest)
+        ensures shared { (packets : List Packet) (rest : List Fragment)
+            → SharesOut self.now packets (one ∷ other ∷ rest)
             → SharesOut self.now packets (result ∷ rest) }
     {
         Fragment {

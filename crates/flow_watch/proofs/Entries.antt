@@ -17,34 +17,44 @@ slot_still : (old new : Seat) (place : ℕ) → new.shields ≡ old.shields → 
 slot_still old new place same = ap (λ shields. slot_at (record old { shields = shields }) place) same
 
 -- a fragment that was found among the entries read is under its shield
-pub holds : (set place : ℕ) (fragment : Fragment) (known known' : Seat) (past old past' : History) (entries : List (Option Fragment)) → place < 4 → AreProtected set known old → entries ≡ entries_read past set
-    → entry_at entries place ≡ Some fragment → past.loads ≡ old.loads → HasTen past.reads (slot_at known place) → known'.shields ≡ known.shields → past'.reads ≡ past.reads
+pub holds : (set place : ℕ) (fragment : Fragment) (known known' : Seat) (past old past' : History)
+    (entries : List (Option Fragment)) → place < 4 → AreProtected set known old → entries ≡ entries_read past set
+    → entry_at entries place ≡ Some fragment → past.loads ≡ old.loads → HasTen past.reads (slot_at known place)
+    → known'.shields ≡ known.shields → past'.reads ≡ past.reads
     → IsHolding place fragment known' past'
 holds set place fragment known known' past old past' entries low protected is found loads ten shields reads =
     let p = protected.each place low in
     let slot : slot_at known' place ≡ slot_at known place = slot_still known known' place shields in
-    let shown : shown_by past ≡ Some (slot_at known place) = ap (λ ls. shown_by (record old { loads = ls })) loads ∙ p.1.0 in
+    let shown : shown_by past ≡ Some (slot_at known place) =
+    ap (λ ls. shown_by (record old { loads = ls })) loads ∙ p.1.0 in
     let entry : entry_of (words_read past.reads (slot_at known place)) ≡ Some fragment =
-    sym (entry_is past (root_of set place) (slot_at known place) shown) ∙ sym (at_place past set place low) ∙ ap (λ es. entry_at es place) (sym is) ∙ found in
+    sym (entry_is past (root_of set place) (slot_at known place) shown) ∙ sym (at_place past set place low)
+    ∙ ap (λ es. entry_at es place) (sym is) ∙ found in
     record {
       within = low;
       valid = ap (λ shields. is_valid_at (record known { shields = shields }) place) shields ∙ ap is_valid p.0;
       ten = subst (λ rs. HasTen rs (slot_at known' place)) (sym reads) (subst (HasTen past.reads) (sym slot) ten);
-      entry = ap (λ rs. entry_of (words_read rs (slot_at known' place))) reads ∙ ap (λ s. entry_of (words_read past.reads s)) slot ∙ entry;
+      entry = ap (λ rs. entry_of (words_read rs (slot_at known' place))) reads
+          ∙ ap (λ s. entry_of (words_read past.reads s)) slot ∙ entry;
     }
   where
     shown_by : History → Option ℕ
     shown_by p = shown_at p.loads (root_of set place)
 
 -- what is held is read again
-pub again : (place : ℕ) (fragment : Fragment) (known : Seat) (old new : History) (result : Option Fragment) → IsHolding place fragment known old → HasMore old.reads new.reads
+pub again : (place : ℕ) (fragment : Fragment) (known : Seat) (old new : History) (result : Option Fragment)
+    → IsHolding place fragment known old → HasMore old.reads new.reads
     → result ≡ entry_of (words_read new.reads (slot_at known place)) → result ≡ Some fragment
-again place fragment known old new result h more is = is ∙ ap entry_of (sym (words_stay old.reads new.reads (slot_at known place) more h.ten)) ∙ h.entry
+again place fragment known old new result h more is =
+    is ∙ ap entry_of (sym (words_stay old.reads new.reads (slot_at known place) more h.ten)) ∙ h.entry
 
-pub still_holding : (place : ℕ) (fragment : Fragment) (known known' : Seat) (old new : History) → IsHolding place fragment known old → known' ≡ known → HasMore old.reads new.reads → IsHolding place fragment known' new
-still_holding place fragment known known' old new h same more = subst (λ k. IsHolding place fragment k new) (sym same) (record {
-  within = h.within;
-  valid = h.valid;
-  ten = ten_stay old.reads new.reads (slot_at known place) more h.ten;
-  entry = ap entry_of (sym (words_stay old.reads new.reads (slot_at known place) more h.ten)) ∙ h.entry;
-})
+pub still_holding : (place : ℕ) (fragment : Fragment) (known known' : Seat) (old new : History)
+    → IsHolding place fragment known old → known' ≡ known → HasMore old.reads new.reads
+    → IsHolding place fragment known' new
+still_holding place fragment known known' old new h same more =
+    subst (λ k. IsHolding place fragment k new) (sym same) (record {
+      within = h.within;
+      valid = h.valid;
+      ten = ten_stay old.reads new.reads (slot_at known place) more h.ten;
+      entry = ap entry_of (sym (words_stay old.reads new.reads (slot_at known place) more h.ten)) ∙ h.entry;
+    })

@@ -10,5 +10,6 @@ set_self (x ∷ xs) zero a e = ap (λ y. y ∷ xs) (sym (some-injective x a e))
 set_self (x ∷ xs) (suc i) a e = ap (λ l. x ∷ l) (set_self xs i a e)
 
 -- a note may stay as it is
-pub can_stay : {N : Type 0} (keeps : List (List ℕ) → List N → Type 0) (number : ℕ) (note : N) → CanNote keeps number note note
+pub can_stay : {N : Type 0} (keeps : List (List ℕ) → List N → Type 0) (number : ℕ) (note : N)
+    → CanNote keeps number note note
 can_stay keeps number note contents notes kept at = subst (keeps contents) (sym (set_self notes number note at)) kept

@@ -1,5 +1,6 @@
 -- A watcher after a call.
-use Rattle.std.proofs.Common.{◌≡◌, ◌≢◌, ◌≤◌, ◌<◌, ◌+◌, ◌∷◌, ℕ, suc, List, Option, Some, None, replicate, refl, sym, ap, ◌∙◌, subst, arith}
+use Rattle.std.proofs.Common.{◌≡◌, ◌≢◌, ◌≤◌, ◌<◌, ◌+◌, ◌∷◌, ℕ, suc, List, Option, Some, None, replicate, refl, sym, ap}
+use Rattle.std.proofs.Common.{◌∙◌, subst, arith}
 use Rattle.std.specs.Prelude.{IfSome}
 use mathlib.Core.Option.{some}
 use lib.ListN.{get_elem?}
@@ -17,7 +18,8 @@ use Rattle.flow_watch.specs.Holding.{IsHolding}
 use Rattle.flow_watch.specs.Watching.{IsOf, IsWatched, note_of, past_of}
 
 -- it is a watcher of the same cache
-pub goes_on : (cache : PebrCache) (old new : Watcher) → IsOf cache old → IsSame (roots_of cache) old.seat new.seat → note_of new ≡ note_of old
+pub goes_on : (cache : PebrCache) (old new : Watcher) → IsOf cache old → IsSame (roots_of cache) old.seat new.seat
+    → note_of new ≡ note_of old
     → IfSome new.held (λ hold. IsHolding hold.place hold.fragment (known_by new.seat) (past_of new)) → IsOf cache new
 goes_on cache old new o same note holds = record {
   of = same.of;
@@ -27,7 +29,8 @@ goes_on cache old new o same note holds = record {
 }
 
 -- what came of a later try came of the call
-pub watched_since : (cache : CacheMeans) (key : FlowKey) (w : Watch) (first old new : Watcher) → (past_of first).pins ≤ (past_of old).pins → w ≢ watch.Lost
+pub watched_since : (cache : CacheMeans) (key : FlowKey) (w : Watch) (first old new : Watcher)
+    → (past_of first).pins ≤ (past_of old).pins → w ≢ watch.Lost
     → IsWatched cache key w old new → IsWatched cache key w first new
 watched_since cache key watch.Held first old new low apart is = (let a = is.0 in omega (arith, low, a), is.1)
 watched_since cache key watch.Absent first old new low apart is = (let a = is.0 in omega (arith, low, a), is.1, is.2)

@@ -15,6 +15,8 @@ HasEntered old new = (new.pins ≡ old.pins + 1) × (new.lost ≡ old.lost)
 abbrev pub IsTried : ℕ → FlowKey → ℕ → Tried → Seat → History → History → Type 0
 IsTried set key seats (Held hold) known old new =
     HasEntered old new × IsHolding hold.place hold.fragment known new × IsHeld set key new hold.fragment
-IsTried set key seats Absent known old new = HasEntered old new × IsTrue (list_all is_down known.shields) × IsAbsent set key new
+IsTried set key seats Absent known old new =
+    HasEntered old new × IsTrue (list_all is_down known.shields) × IsAbsent set key new
 IsTried set key seats Ejected known old new =
-    (new.pins ≡ old.pins + 1) × IsTrue (list_all is_down known.shields) × (new.lost ≡ was_ejected ∷ old.lost) × (seats ≢ 1)
+    (new.pins ≡ old.pins + 1) × IsTrue (list_all is_down known.shields) × (new.lost ≡ was_ejected ∷ old.lost)
+    × (seats ≢ 1)

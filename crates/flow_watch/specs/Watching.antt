@@ -37,12 +37,14 @@ pub record IsOf (cache : PebrCache) (watcher : Watcher) : Type 0 where
   pub united : IsUnitedPass empty_note watcher.seat
   pub holds : IfSome watcher.held (λ hold. IsHolding hold.place hold.fragment (known_by watcher.seat) (past_of watcher))
 
--- What came of asking for a key, and why. Held and Absent: the four entries of the key's set were read in this call, since the
--- watcher entered in it. Lost: in this call it was ejected three times, and there is another seat.
+-- What came of asking for a key, and why. Held and Absent: the four entries of the key's set were read in this call,
+-- since the watcher entered in it. Lost: in this call it was ejected three times, and there is another seat.
 abbrev pub IsWatched : CacheMeans → FlowKey → Watch → Watcher → Watcher → Type 0
 IsWatched cache key Held old new =
-    ((past_of old).pins < (past_of new).pins) × MatchOption (held_by new) ⊥ (λ fragment. IsHeld (set_number key cache.sets) key (past_of new) fragment)
+    ((past_of old).pins < (past_of new).pins)
+    × MatchOption (held_by new) ⊥ (λ fragment. IsHeld (set_number key cache.sets) key (past_of new) fragment)
 IsWatched cache key Absent old new =
-    ((past_of old).pins < (past_of new).pins) × (held_by new ≡ None) × IsAbsent (set_number key cache.sets) key (past_of new)
+    ((past_of old).pins < (past_of new).pins) × (held_by new ≡ None)
+    × IsAbsent (set_number key cache.sets) key (past_of new)
 IsWatched cache key Lost old new =
     (held_by new ≡ None) × (lost_of new ≡ replicate 3 was_ejected ++ lost_of old) × (cache.seats ≢ 1)

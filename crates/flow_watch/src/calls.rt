@@ -42,9 +42,11 @@ impl Watcher {
         requires idle { held_by self.old ≡ None }
         ensures of { IsOf cache.now self.new }
         ensures note { note_of self.new ≡ note_of self.old }
-        ensures some { IfSome result (λ watch. IsWatched (means_of cache.now) key.now watch self.old self.new × (watch ≢ Watch.Lost)) }
+        ensures some { IfSome result (λ watch. IsWatched (means_of cache.now) key.now watch self.old self.new
+            × (watch ≢ Watch.Lost)) }
         ensures pins { (past_of self.old).pins < (past_of self.new).pins }
-        ensures none { IsNone result → (held_by self.new ≡ None) × (lost_of self.new ≡ was_ejected ∷ lost_of self.old) × ((means_of cache.now).seats ≢ 1) }
+        ensures none { IsNone result → (held_by self.new ≡ None) × (lost_of self.new ≡ was_ejected ∷ lost_of self.old)
+            × ((means_of cache.now).seats ≢ 1) }
     {
         match attempt(cache, &mut self.seat, set, key) {
             Tried::Held(hold) => {
@@ -59,10 +61,12 @@ impl Watcher {
         }
     }
 
-    /// Holds the flow of a key: the lowest of the four entries of its set that has the key, as it was read in this call.
+    /// Holds the flow of a key: the lowest of the four entries of its set that has the key, as it was read in this
+    /// call.
     ///
-    /// `Absent`: none of the four entries that were read has the key. `Lost`: in this call the watcher was ejected three times
-    /// before its shields were valid; it never comes where the cache has one seat. It waits for nobody and takes no memory.
+    /// `Absent`: none of the four entries that were read has the key. `Lost`: in this call the watcher was ejected
+    /// three times before its shields were valid; it never comes where the cache has one seat. It waits for nobody and
+    /// takes no memory.
     pub fn hold(&mut self, cache: &PebrCache, key: &FlowKey) -> Watch
         requires of { IsOf cache.now self.old }
         requires idle { held_by self.old ≡ None }
@@ -79,8 +83,8 @@ impl Watcher {
         Watch::Lost
     }
 
-    /// The flow that is held, read anew from its slot: ten words, the same at each call until it is released, whatever other
-    /// seats do meanwhile.
+    /// The flow that is held, read anew from its slot: ten words, the same at each call until it is released, whatever
+    /// other seats do meanwhile.
     pub fn read(&mut self, cache: &PebrCache) -> Fragment
         requires of { IsOf cache.now self.old }
         requires holding { held_by self.old ≢ None }

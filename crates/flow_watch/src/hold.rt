@@ -22,7 +22,8 @@ use pebr_roots::{Checked, RootPass};
 
 /// The lowest entry of the key, and where it is.
 fn lowest_of(entries: &[Option<Fragment>; 4], key: &FlowKey) -> Option<Hold>
-    ensures some { IfSome result (λ hold. IsLowest (HasKey key.now) entries.now hold.place × (entry_at entries.now hold.place ≡ Some hold.fragment)) }
+    ensures some { IfSome result (λ hold. IsLowest (HasKey key.now) entries.now hold.place
+        × (entry_at entries.now hold.place ≡ Some hold.fragment)) }
     ensures none { IsNone result → HasNone (HasKey key.now) entries.now }
 {
     for place in 0..4 {
@@ -44,7 +45,11 @@ fn leave(cache: &PebrCache, seat: &mut RootPass<CacheRule>, holds: bool)
     ensures out { IsTrue (is_out (known_by seat.new).status) }
     ensures held { IsTrue holds → (known_by seat.new).shields ≡ (known_by seat.old).shields }
     ensures down { holds ≡ false → IsTrue (list_all is_down (known_by seat.new).shields) }
-    ensures past { past_by seat.new ≡ record (past_by seat.old) { last = (past_by seat.new).last; steps = (past_by seat.new).steps } }
+    ensures past { past_by seat.new ≡ record (past_by seat.old) {
+      last = (past_by seat.new).last;
+      steps =
+          (past_by seat.new).steps;
+    } }
     ensures sure { IsSure IsWhole (shape_at (roots_of cache.now)) (known_by seat.new) (past_by seat.new) }
 {
     if !holds {
@@ -73,8 +78,10 @@ fn keep(cache: &PebrCache, seat: &mut RootPass<CacheRule>, set: u64, key: &FlowK
     ensures out { IsTrue (is_out (known_by seat.new).status) }
     ensures pins { (past_by seat.new).pins ≡ (past_by seat.old).pins }
     ensures lost { (past_by seat.new).lost ≡ (past_by seat.old).lost }
-    ensures held { IfSome result (λ hold. IsHolding hold.place hold.fragment (known_by seat.new) (past_by seat.new) × IsHeld set key.now (past_by seat.new) hold.fragment) }
-    ensures absent { IsNone result → IsTrue (list_all is_down (known_by seat.new).shields) × IsAbsent set key.now (past_by seat.new) }
+    ensures held { IfSome result (λ hold. IsHolding hold.place hold.fragment (known_by seat.new) (past_by seat.new)
+        × IsHeld set key.now (past_by seat.new) hold.fragment) }
+    ensures absent { IsNone result → IsTrue (list_all is_down (known_by seat.new).shields)
+        × IsAbsent set key.now (past_by seat.new) }
 {
     let entries = cache.read_set(seat);
     let hold = lowest_of(&entries, key);
@@ -95,7 +102,8 @@ pub(crate) fn attempt(
     ensures same { IsSame (roots_of cache.now) seat.old seat.new }
     ensures note { note_by first_note seat.new ≡ note_by first_note seat.old }
     ensures out { IsTrue (is_out (known_by seat.new).status) }
-    ensures tried { IsTried set key.now (means_of cache.now).seats result (known_by seat.new) (past_by seat.old) (past_by seat.new) }
+    ensures tried { IsTried set key.now (means_of cache.now).seats result (known_by seat.new) (past_by seat.old)
+        (past_by seat.new) }
 {
     match cache.protect(seat, set) {
         Checked::Valid => match keep(cache, seat, set, key) {

@@ -49,8 +49,8 @@ fn meter_crowd(cache: &PebrCache, pass: &mut PebrPass) -> usize
     most
 }
 
-/// What came of holding a flow: the answers before and behind the crowd, the most slots that the crowd had retired, and the flow as
-/// it was read behind it.
+/// What came of holding a flow: the answers before and behind the crowd, the most slots that the crowd had retired, and
+/// the flow as it was read behind it.
 #[derive(Drop)]
 struct Came {
     before: Watch,
@@ -87,8 +87,8 @@ fn watched(cache: &PebrCache, mut pass: PebrPass, other: PebrPass) -> Came
     }
 }
 
-/// The flow is read as it was when it was held, the other pass never has more than 40 slots retired, and behind it the flow is
-/// gone.
+/// The flow is read as it was when it was held, the other pass never has more than 40 slots retired, and behind it the
+/// flow is gone.
 #[test]
 fn held_while_it_is_put_out(rt: HostRuntime) {
     let (cache, mut passes) = PebrCache::open(rt.alloc(), 1, 2, Timeouts::new(300, 1800)).expect(

@@ -1,5 +1,6 @@
 -- The values of fields.
-use Rattle.std.proofs.Common.{◌≡◌, ◌≤◌, ◌&&◌, ◌==◌, suc, Bool, true, false, List, [], ◌∷◌, length, IsTrue, nat_le, refl, ap, arith, eqb-true}
+use Rattle.std.proofs.Common.{◌≡◌, ◌≤◌, ◌&&◌, ◌==◌, suc, Bool, true, false, List, [], ◌∷◌, length, IsTrue, nat_le, refl}
+use Rattle.std.proofs.Common.{ap, arith, eqb-true}
 use Rattle.std.specs.List.{list_all}
 use Rattle.std.proofs.lemmas.Bool.{leb-true}
 use Rattle.std.proofs.lemmas.List.Elements.{All-cons}
@@ -8,7 +9,8 @@ use Rattle.ipfix_model.specs.declared.values.FieldValue.{FieldValue}
 use Rattle.ipfix_model.specs.Values.{is_of_element, is_value_of, are_values_of, AreNumbers}
 
 -- values that are fewer or more than the fields are of others
-pub are_values_of-unequal : (fields : List FieldSpec) (values : List FieldValue) → (length fields ≡ length values → ⊥) → are_values_of fields values ≡ false
+pub are_values_of-unequal : (fields : List FieldSpec) (values : List FieldValue) → (length fields ≡ length values → ⊥)
+    → are_values_of fields values ≡ false
 are_values_of-unequal [] [] unequal = absurd (unequal refl)
 are_values_of-unequal [] (value ∷ values) unequal = refl
 are_values_of-unequal (field ∷ fields) [] unequal = refl
@@ -35,8 +37,10 @@ are_numbers (field ∷ fields) (value ∷ values) short are =
     let lengths = both_true (nat_le 1 field.length && nat_le field.length 16) _ short in
     let range = both_true (nat_le 1 field.length) (nat_le field.length 16) lengths.0 in
     let tests = both_true (is_value_of field value) (are_values_of fields values) are in
-    let own = both_true (is_of_element field.enterprise field.element value) (length value.value == field.length) tests.0 in
+    let own = both_true (is_of_element field.enterprise field.element value)
+    (length value.value == field.length) tests.0 in
     let size : length value.value ≡ field.length = eqb-true (length value.value) field.length own.1 in
     let low = leb-true 1 field.length range.0 in
     let high = leb-true field.length 16 range.1 in
-    All-cons (λ (v : FieldValue). (1 ≤ length v.value) × (length v.value ≤ 16)) value values (omega arith, omega arith) (are_numbers fields values lengths.1 tests.1)
+    All-cons (λ (v : FieldValue). (1 ≤ length v.value) × (length v.value ≤ 16)) value values (omega arith, omega arith)
+    (are_numbers fields values lengths.1 tests.1)

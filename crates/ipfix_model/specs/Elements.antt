@@ -3,7 +3,8 @@
 use Rattle.std.specs.Prelude.{ℕ, ◌==◌, List, [], ◌∷◌, Option}
 use Rattle.std.specs.Map.{lookup}
 use Rattle.ipfix_model.specs.declared.elements.AbstractType.{AbstractType}
-use Rattle.ipfix_model.specs.declared.elements.AbstractType.TheVariants.{Unsigned8, Unsigned16, Unsigned64, Ipv4Address, Ipv6Address, DateTimeMilliseconds}
+use Rattle.ipfix_model.specs.declared.elements.AbstractType.TheVariants.{Unsigned8, Unsigned16, Unsigned64, Ipv4Address}
+use Rattle.ipfix_model.specs.declared.elements.AbstractType.TheVariants.{Ipv6Address, DateTimeMilliseconds}
 
 -- octetDeltaCount
 abbrev pub octet_delta_count : ℕ
@@ -57,8 +58,8 @@ flow_start_milliseconds = 152
 abbrev pub flow_end_milliseconds : ℕ
 flow_end_milliseconds = 153
 
--- The enterprise of reverse elements: its element with the number of one of IANA's is the reverse of that one (RFC 5103,
--- section 6.1).
+-- The enterprise of reverse elements: its element with the number of one of IANA's is the reverse of that one (RFC
+-- 5103, section 6.1).
 abbrev pub reverse_enterprise : ℕ
 reverse_enterprise = 29305
 

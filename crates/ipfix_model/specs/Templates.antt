@@ -3,7 +3,11 @@
 use Rattle.std.specs.Prelude.{ℕ, ◌==◌, List, [], ◌∷◌, ◌++◌, Some, None, if◌then◌else◌}
 use Rattle.record_ledger.specs.declared.record.FlowRecord.{FlowRecord}
 use Rattle.ipfix_model.specs.declared.fields.FieldSpec.{FieldSpec}
-use Rattle.ipfix_model.specs.Elements.{octet_delta_count, packet_delta_count, protocol_identifier, tcp_control_bits, source_transport_port, source_ipv4_address, destination_transport_port, destination_ipv4_address, source_ipv6_address, destination_ipv6_address, flow_end_reason, flow_start_milliseconds, flow_end_milliseconds, reverse_enterprise}
+use Rattle.ipfix_model.specs.Elements.{octet_delta_count, packet_delta_count, protocol_identifier, tcp_control_bits}
+use Rattle.ipfix_model.specs.Elements.{source_transport_port, source_ipv4_address, destination_transport_port}
+use Rattle.ipfix_model.specs.Elements.{destination_ipv4_address, source_ipv6_address, destination_ipv6_address}
+use Rattle.ipfix_model.specs.Elements.{flow_end_reason, flow_start_milliseconds, flow_end_milliseconds}
+use Rattle.ipfix_model.specs.Elements.{reverse_enterprise}
 
 -- A field of an element of IANA's.
 abbrev pub iana_field : ℕ → ℕ → FieldSpec

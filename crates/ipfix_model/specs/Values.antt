@@ -1,11 +1,15 @@
 -- The values of the fields of a record.
-use Rattle.std.specs.Prelude.{ℕ, ◌≤◌, ◌==◌, All, List, [], ◌∷◌, length, Option, Some, None, is_none, unwrap_or, flat_map, ◌&&◌, Bool, true, false, if◌then◌else◌}
+use Rattle.std.specs.Prelude.{ℕ, ◌≤◌, ◌==◌, All, List, [], ◌∷◌, length, Option, Some, None, is_none, unwrap_or}
+use Rattle.std.specs.Prelude.{flat_map, ◌&&◌, Bool, true, false, if◌then◌else◌}
 use Rattle.std.specs.Map.{lookup}
 use Rattle.octets.specs.Numbers.{octets_of, number_at}
 use Rattle.record_ledger.specs.declared.record.FlowRecord.{FlowRecord}
 use Rattle.ipfix_model.specs.declared.fields.FieldSpec.{FieldSpec}
 use Rattle.ipfix_model.specs.declared.values.FieldValue.{FieldValue}
-use Rattle.ipfix_model.specs.Elements.{octet_delta_count, packet_delta_count, protocol_identifier, tcp_control_bits, source_transport_port, source_ipv4_address, destination_transport_port, destination_ipv4_address, source_ipv6_address, destination_ipv6_address, flow_end_reason, flow_start_milliseconds, flow_end_milliseconds}
+use Rattle.ipfix_model.specs.Elements.{octet_delta_count, packet_delta_count, protocol_identifier, tcp_control_bits}
+use Rattle.ipfix_model.specs.Elements.{source_transport_port, source_ipv4_address, destination_transport_port}
+use Rattle.ipfix_model.specs.Elements.{destination_ipv4_address, source_ipv6_address, destination_ipv6_address}
+use Rattle.ipfix_model.specs.Elements.{flow_end_reason, flow_start_milliseconds, flow_end_milliseconds}
 
 -- The values of a flow record, each with its element. Octets are those of the IP headers and the IP payload.
 abbrev pub flow_values : FlowRecord → List (ℕ × ℕ)
@@ -33,8 +37,8 @@ flow_value flow element = unwrap_or (lookup (λ other. element == other) (flow_v
 abbrev pub field_value : FlowRecord → FieldSpec → ℕ
 field_value flow field = flow_value flow field.element
 
--- The value of a field in a biflow, of a forward and a reverse flow record: a field of an element of IANA's has it of the
--- forward one, and one of a reverse element has it of the reverse one.
+-- The value of a field in a biflow, of a forward and a reverse flow record: a field of an element of IANA's has it of
+-- the forward one, and one of a reverse element has it of the reverse one.
 abbrev pub bi_field_value : FlowRecord → FlowRecord → FieldSpec → ℕ
 bi_field_value forward reverse field = flow_value (if is_none field.enterprise then forward else reverse) field.element
 

@@ -2,9 +2,14 @@
 
 ghost use Rattle.std.specs.Prelude.{◌≡◌, sum_by};
 ghost use Rattle.ipfix_model.specs.declared.fields.FieldSpec.{FieldSpec};
-ghost use Rattle.ipfix_model.specs.Elements.{octet_delta_count, packet_delta_count, protocol_identifier, tcp_control_bits, source_transport_port, source_ipv4_address, destination_transport_port, destination_ipv4_address, source_ipv6_address, destination_ipv6_address, flow_end_reason, flow_start_milliseconds, flow_end_milliseconds, reverse_enterprise};
+ghost use Rattle.ipfix_model.specs.Elements.{octet_delta_count, packet_delta_count, protocol_identifier};
+ghost use Rattle.ipfix_model.specs.Elements.{tcp_control_bits, source_transport_port, source_ipv4_address};
+ghost use Rattle.ipfix_model.specs.Elements.{destination_transport_port, destination_ipv4_address, source_ipv6_address};
+ghost use Rattle.ipfix_model.specs.Elements.{destination_ipv6_address, flow_end_reason, flow_start_milliseconds};
+ghost use Rattle.ipfix_model.specs.Elements.{flow_end_milliseconds, reverse_enterprise};
 ghost use Rattle.ipfix_model.specs.Fields.{record_length};
-ghost use Rattle.ipfix_model.specs.Templates.{v4_template, v4_fields, v6_template, v6_fields, v4_bi_template, v4_bi_fields, v6_bi_template, v6_bi_fields};
+ghost use Rattle.ipfix_model.specs.Templates.{v4_template, v4_fields, v6_template, v6_fields, v4_bi_template};
+ghost use Rattle.ipfix_model.specs.Templates.{v4_bi_fields, v6_bi_template, v6_bi_fields};
 
 use crate::elements::*;
 use crate::templates::{

@@ -1,7 +1,8 @@
 //! Values of a data record, found by their elements.
 
 ghost use Rattle.std.specs.Prelude.{◌≡◌, ◌≤◌, ◌<◌, ◌^◌, length};
-ghost use Rattle.ipfix_model.specs.Values.{is_same_enterprise, is_of_element, is_value_of, are_values_of, number_in, number_of, AreNumbers};
+ghost use Rattle.ipfix_model.specs.Values.{is_same_enterprise, is_of_element, is_value_of, are_values_of, number_in};
+ghost use Rattle.ipfix_model.specs.Values.{number_of, AreNumbers};
 
 use crate::fields::FieldSpec;
 use crate::values::FieldValue;

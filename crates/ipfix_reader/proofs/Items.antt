@@ -1,5 +1,6 @@
 -- Reading all items is reading one, and then all those behind it.
-use Rattle.std.proofs.Common.{◌≡◌, ◌<◌, ℕ, zero, suc, Bool, true, false, length, Result, Ok, Err, if◌then◌else◌, refl, ap, arith}
+use Rattle.std.proofs.Common.{◌≡◌, ◌<◌, ℕ, zero, suc, Bool, true, false, length, Result, Ok, Err, if◌then◌else◌, refl}
+use Rattle.std.proofs.Common.{ap, arith}
 use Rattle.ipfix_reader.specs.declared.fault.StreamFault.{StreamFault}
 use Rattle.ipfix_reader.specs.declared.fault.StreamError.{StreamError}
 use Rattle.ipfix_reader.specs.declared.fault.StreamError.TheVariants.{Fault, NoMemory}
@@ -24,7 +25,8 @@ at_most-enough item takes (suc n) (suc m) before part n_room m_room =
     takes (at_most n item) (at_most m item) before part
     (λ s p shorter. at_most-enough item takes n m s p (omega arith) (omega arith))
 
-pub goes_on : {S : Type 0} (item : Reading S → Reading S) → TakesBytes item → (before : S) (part : Part) → GoesOn item before part
+pub goes_on : {S : Type 0} (item : Reading S → Reading S) → TakesBytes item → (before : S) (part : Part)
+    → GoesOn item before part
 unfolding at_most all_items
 goes_on item takes before part =
     takes (at_most (length part.bytes) item) (all_items item) before part
@@ -68,5 +70,6 @@ fault_behind read rule (Fault fault) is = ap (λ r. r >>= rule) is
 fault_behind read rule NoMemory is = tt
 
 -- the same fault of what is the same
-pub fault_of-same : {A : Type 0} (read other : Result A StreamFault) (error : StreamError) → read ≡ other → IsFaultOf other error → IsFaultOf read error
+pub fault_of-same : {A : Type 0} (read other : Result A StreamFault) (error : StreamError) → read ≡ other
+    → IsFaultOf other error → IsFaultOf read error
 fault_of-same read other error same is = rw same is

@@ -1,5 +1,6 @@
 -- Looking up and putting in, seen without all but the fields.
-use Rattle.std.proofs.Common.{◌≡◌, ℕ, Bool, true, false, cond, List, [], ◌∷◌, Option, None, Some, option_map, refl, ap, ◌∙◌}
+use Rattle.std.proofs.Common.{◌≡◌, ℕ, Bool, true, false, cond, List, [], ◌∷◌, Option, None, Some, option_map, refl, ap}
+use Rattle.std.proofs.Common.{◌∙◌}
 use Rattle.std.specs.Option.{option_copied}
 use Rattle.std.specs.Borrow.{Bor}
 use Rattle.std.specs.Map.{lookup}
@@ -12,15 +13,18 @@ lookup-templates_shown : (test : ℕ × ℕ → Bool) (entries : List ((ℕ × �
     → option_map (λ (k : Known). k.template.fields) (lookup test entries) ≡ lookup test (templates_shown entries)
 lookup-templates_shown test [] = refl
 lookup-templates_shown test (e ∷ es) =
-    elim (test e.0) as (λ b. option_map (λ (k : Known). k.template.fields) (cond b (Some e.1) (lookup test es)) ≡ cond b (Some (e.1).template.fields) (lookup test (templates_shown es)))
+    elim (test e.0) as (λ b. option_map (λ (k : Known). k.template.fields) (cond b (Some e.1) (lookup test es))
+    ≡ cond b (Some (e.1).template.fields) (lookup test (templates_shown es)))
     [ true ↦ refl | false ↦ lookup-templates_shown test es ]
 
 insert_entry-templates_shown : (entries : List ((ℕ × ℕ) × Known)) (key : ℕ × ℕ) (k : Known)
-    → templates_shown (insert_entry is_same entries key k) ≡ insert_entry is_same (templates_shown entries) key k.template.fields
+    → templates_shown (insert_entry is_same entries key k)
+    ≡ insert_entry is_same (templates_shown entries) key k.template.fields
 insert_entry-templates_shown [] key k = refl
 insert_entry-templates_shown (e ∷ es) key k =
     elim (is_same key e.0) as (λ b. templates_shown (cond b ((e.0, k) ∷ es) (e ∷ insert_entry is_same es key k))
-    ≡ cond b ((e.0, k.template.fields) ∷ templates_shown es) (entry_shown e ∷ insert_entry is_same (templates_shown es) key k.template.fields))
+    ≡ cond b ((e.0, k.template.fields) ∷ templates_shown es)
+    (entry_shown e ∷ insert_entry is_same (templates_shown es) key k.template.fields))
     [ true ↦ refl | false ↦ ap (λ more. entry_shown e ∷ more) (insert_entry-templates_shown es key k) ]
 
 copied_fields : (found : Option (Bor Known)) (r : Option Known) → option_copied found ≡ r

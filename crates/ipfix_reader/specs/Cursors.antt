@@ -37,4 +37,5 @@ progress_of table records sequences = record { contents = contents_of table reco
 -- What the check of the padding says.
 pub record IsPaddingChecked (part : Part) (result : Result (Unit {0}) StreamError) : Type 0 where
   pub ok : OnOk result (are_zeros part.bytes ≡ true)
-  pub fault : IfErr result (λ (error : StreamError). (are_zeros part.bytes ≡ false) × (error ≡ Fault (BadPadding part.at)))
+  pub fault : IfErr result (λ (error : StreamError). (are_zeros part.bytes ≡ false)
+      × (error ≡ Fault (BadPadding part.at)))

@@ -4,7 +4,9 @@ use Rattle.flow_key.specs.Fields.{AreFit}
 use Rattle.flow_parts.specs.Fields.{PartFields, part_fields, AreCounts}
 use Rattle.record_ledger.specs.declared.record.FlowRecord.{FlowRecord}
 use Rattle.ipfix_model.specs.declared.values.FieldValue.{FieldValue}
-use Rattle.ipfix_model.specs.Elements.{octet_delta_count, packet_delta_count, protocol_identifier, tcp_control_bits, source_transport_port, destination_transport_port, flow_end_reason, flow_start_milliseconds, flow_end_milliseconds}
+use Rattle.ipfix_model.specs.Elements.{octet_delta_count, packet_delta_count, protocol_identifier, tcp_control_bits}
+use Rattle.ipfix_model.specs.Elements.{source_transport_port, destination_transport_port, flow_end_reason}
+use Rattle.ipfix_model.specs.Elements.{flow_start_milliseconds, flow_end_milliseconds}
 use Rattle.ipfix_model.specs.Values.{number_of}
 
 -- Numbers in the places of a flow record's fields.

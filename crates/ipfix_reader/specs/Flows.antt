@@ -4,7 +4,8 @@ use Rattle.std.specs.Result.{result_ok}
 use Rattle.record_ledger.specs.declared.record.FlowRecord.{FlowRecord}
 use Rattle.ipfix_model.specs.declared.values.FieldValue.{FieldValue}
 use Rattle.ipfix_model.specs.declared.values.DataRecord.{DataRecord}
-use Rattle.ipfix_model.specs.Elements.{source_ipv4_address, destination_ipv4_address, source_ipv6_address, destination_ipv6_address}
+use Rattle.ipfix_model.specs.Elements.{source_ipv4_address, destination_ipv4_address, source_ipv6_address}
+use Rattle.ipfix_model.specs.Elements.{destination_ipv6_address}
 use Rattle.ipfix_model.specs.Templates.{v4_fields, v6_fields}
 use Rattle.ipfix_model.specs.Values.{are_values_of}
 use Rattle.ipfix_reader.specs.FlowFields.{fields_in}
@@ -18,8 +19,8 @@ v4_flow values = flow_with (fields_in 4 source_ipv4_address destination_ipv4_add
 abbrev pub v6_flow : List FieldValue → Option FlowRecord
 v6_flow values = flow_with (fields_in 6 source_ipv6_address destination_ipv6_address values)
 
--- The flow record that a data record is: its values are those of the fields of the template for version 4 or for version
--- 6, in order, and the numbers in them are those of a flow record. Else none.
+-- The flow record that a data record is: its values are those of the fields of the template for version 4 or for
+-- version 6, in order, and the numbers in them are those of a flow record. Else none.
 unfoldable pub flow : DataRecord → Option FlowRecord
 flow data_record =
     if are_values_of v4_fields data_record.fields then v4_flow data_record.fields

@@ -1,5 +1,6 @@
 -- The messages of a stream (RFC 7011, section 3.1).
-use Rattle.std.specs.Prelude.{ℕ, ◌+◌, ◌-◌, ◌%◌, ◌^◌, ◌==◌, Bool, true, List, [], length, Option, Some, None, Result, Ok, Err, nat_lt, not, if◌then◌else◌}
+use Rattle.std.specs.Prelude.{ℕ, ◌+◌, ◌-◌, ◌%◌, ◌^◌, ◌==◌, Bool, true, List, [], length, Option, Some, None, Result, Ok}
+use Rattle.std.specs.Prelude.{Err, nat_lt, not, if◌then◌else◌}
 use Rattle.ipfix_model.specs.declared.values.DataRecord.{DataRecord}
 use Rattle.ipfix_reader.specs.declared.fault.StreamFault.{StreamFault}
 use Rattle.ipfix_reader.specs.declared.fault.StreamFault.TheVariants.{Cut, BadVersion, BadLength, BadSequence}
@@ -41,7 +42,8 @@ checked_length sequences part =
     else if not (message_version part == 10) then Err (BadVersion part.at)
     else if nat_lt (message_length part) 16 then Err (BadLength part.at)
     else if nat_lt (length part.bytes) (message_length part) then Err (Cut part.at)
-    else if not (is_next (message_sequence part) (expected_in sequences (message_domain part))) then Err (BadSequence part.at)
+    else if not (is_next (message_sequence part) (expected_in sequences (message_domain part)))
+    then Err (BadSequence part.at)
     else Ok (message_length part)
 
 -- The sequence number counts the data records of a domain, modulo 2^32.

@@ -1,5 +1,6 @@
 -- The sets of a message (RFC 7011, section 3.3).
-use Rattle.std.specs.Prelude.{ℕ, ◌==◌, ◌||◌, Bool, true, false, List, length, Option, Some, None, Ok, Err, nat_lt, if◌then◌else◌}
+use Rattle.std.specs.Prelude.{ℕ, ◌==◌, ◌||◌, Bool, true, false, List, length, Option, Some, None, Ok, Err, nat_lt}
+use Rattle.std.specs.Prelude.{if◌then◌else◌}
 use Rattle.ipfix_model.specs.declared.fields.FieldSpec.{FieldSpec}
 use Rattle.ipfix_model.specs.declared.values.DataRecord.{DataRecord}
 use Rattle.ipfix_reader.specs.declared.fault.StreamFault.TheVariants.{BadLength, NoTemplate}
@@ -43,7 +44,8 @@ set_length part = number_at 2 2 part.bytes
 
 -- The header isn't whole, or the length isn't one of a header up to what is left of the message.
 abbrev pub is_bad_length : Part → Bool
-is_bad_length part = nat_lt (length part.bytes) 4 || nat_lt (set_length part) 4 || nat_lt (length part.bytes) (set_length part)
+is_bad_length part = nat_lt (length part.bytes) 4 || nat_lt (set_length part) 4 || nat_lt (length part.bytes)
+    (set_length part)
 
 -- A set, or the message's end.
 abbrev pub message_set : ℕ → Reading Contents → Reading Contents

@@ -1,5 +1,6 @@
 -- Field specifiers (RFC 7011, section 3.2) and the template records that list them (sections 3.4.1 and 3.4.2).
-use Rattle.std.specs.Prelude.{ℕ, zero, suc, ◌%◌, ◌==◌, ◌&&◌, ◌||◌, Bool, List, [], ◌∷◌, ◌++◌, length, Some, None, Result, Ok, Err, nat_lt, nat_le, if◌then◌else◌}
+use Rattle.std.specs.Prelude.{ℕ, zero, suc, ◌%◌, ◌==◌, ◌&&◌, ◌||◌, Bool, List, [], ◌∷◌, ◌++◌, length, Some, None}
+use Rattle.std.specs.Prelude.{Result, Ok, Err, nat_lt, nat_le, if◌then◌else◌}
 use Rattle.ipfix_model.specs.declared.fields.FieldSpec.{FieldSpec}
 use Rattle.ipfix_model.specs.Fields.{least_length}
 use Rattle.ipfix_reader.specs.declared.fault.StreamFault.{StreamFault}

@@ -1,5 +1,6 @@
 -- The values of a data record (RFC 7011, sections 3.4.3 and 7).
-use Rattle.std.specs.Prelude.{ℕ, ◌+◌, ◌==◌, List, [], ◌∷◌, ◌++◌, length, take, drop, Result, Ok, Err, nat_lt, if◌then◌else◌}
+use Rattle.std.specs.Prelude.{ℕ, ◌+◌, ◌==◌, List, [], ◌∷◌, ◌++◌, length, take, drop, Result, Ok, Err, nat_lt}
+use Rattle.std.specs.Prelude.{if◌then◌else◌}
 use Rattle.ipfix_model.specs.declared.fields.FieldSpec.{FieldSpec}
 use Rattle.ipfix_model.specs.declared.values.FieldValue.{FieldValue}
 use Rattle.ipfix_model.specs.Fields.{is_variable}
@@ -41,4 +42,5 @@ abbrev pub values_of : StreamFault → List FieldSpec → List FieldValue → Pa
 values_of beyond [] before part = Ok (record { values = before; rest = part })
 values_of beyond (field ∷ fields) before part =
     if nat_lt (length part.bytes) (coded_length field part.bytes) then Err beyond
-    else values_of beyond fields (before ++ value_of field part.bytes ∷ []) (behind (coded_length field part.bytes) part)
+    else values_of beyond fields (before ++ value_of field part.bytes ∷ [])
+    (behind (coded_length field part.bytes) part)

@@ -2,7 +2,8 @@
 
 ghost use Rattle.std.specs.Prelude.{◌≡◌, ◌+◌, ◌<◌, ◌≤◌, ◌^◌, ◌%◌, IfOk, IfErr, OnOk, Ok, length, vec_len};
 ghost use Rattle.ipfix_reader.specs.Outcome.{IsFaultOf};
-ghost use Rattle.ipfix_reader.specs.Messages.{checked_length, is_next, message_sequence, message_domain, message_length, stream_messages, decode};
+ghost use Rattle.ipfix_reader.specs.Messages.{checked_length, is_next, message_sequence, message_domain};
+ghost use Rattle.ipfix_reader.specs.Messages.{message_length, stream_messages, decode};
 ghost use Rattle.ipfix_reader.specs.Cursors.{part_of, progress_of};
 
 use crate::cursor::Cursor;
@@ -72,7 +73,8 @@ fn read_message<'a>(
     part: Cursor<'a>,
 ) -> Result<Cursor<'a>, StreamError>
     requires { 0 < length part.bytes.now }
-    ensures ok { IfOk result (λ rest. stream_messages (progress_of table.old records.old sequences.old) (part_of part.entry)
+    ensures ok { IfOk result
+        (λ rest. stream_messages (progress_of table.old records.old sequences.old) (part_of part.entry)
         ≡ stream_messages (progress_of table.new records.new sequences.new) (part_of rest)) }
     ensures shorter { IfOk result (λ rest. length rest.bytes.now < length part.entry.bytes.now) }
     ensures fault { IfErr result (IsFaultOf

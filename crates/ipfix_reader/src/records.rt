@@ -94,7 +94,8 @@ fn read_record<'a>(
     part: Cursor<'a>,
 ) -> Result<Cursor<'a>, StreamError>
     requires { least_length known.now.template.fields ≤ length part.bytes.now }
-    ensures ok { IfOk result (λ rest. data_records domain number known.now.template.fields records.old.items (part_of part.entry)
+    ensures ok { IfOk result
+        (λ rest. data_records domain number known.now.template.fields records.old.items (part_of part.entry)
         ≡ data_records domain number known.now.template.fields records.new.items (part_of rest)) }
     ensures more { vec_len records.old ≤ vec_len records.new }
     ensures shorter { IfOk result (λ rest. length rest.bytes.now < length part.entry.bytes.now) }

@@ -37,7 +37,8 @@ pub fn read_sets(
     ensures ok { OnOk result (message_sets domain (contents_of table.old records.old) (part_of sets.entry)
         ≡ Ok (contents_of table.new records.new)) }
     ensures more { vec_len records.old ≤ vec_len records.new }
-    ensures fault { IfErr result (IsFaultOf (message_sets domain (contents_of table.old records.old) (part_of sets.entry))) }
+    ensures fault { IfErr result
+        (IsFaultOf (message_sets domain (contents_of table.old records.old) (part_of sets.entry))) }
 {
     let mut rest = sets;
     'sets: while rest.len() > 0 {
@@ -62,7 +63,8 @@ fn read_set<'a>(
         ≡ message_sets domain (contents_of table.new records.new) (part_of rest)) }
     ensures more { vec_len records.old ≤ vec_len records.new }
     ensures shorter { IfOk result (λ rest. length rest.bytes.now < length part.entry.bytes.now) }
-    ensures fault { IfErr result (IsFaultOf (message_sets domain (contents_of table.old records.old) (part_of part.entry))) }
+    ensures fault { IfErr result
+        (IsFaultOf (message_sets domain (contents_of table.old records.old) (part_of part.entry))) }
 {
     if is_bad_length(part) {
         return Err(StreamError::Fault(StreamFault::BadLength { at: part.at }));

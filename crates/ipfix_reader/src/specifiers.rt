@@ -1,6 +1,7 @@
 //! Template records and the field specifiers in them.
 
-ghost use Rattle.std.specs.Prelude.{◌≡◌, ◌+◌, ◌<◌, ◌≤◌, ◌&&◌, ◌||◌, [], IfOk, IfErr, IfSome, IsNone, Ok, length, vec_len};
+ghost use Rattle.std.specs.Prelude.{◌≡◌, ◌+◌, ◌<◌, ◌≤◌, ◌&&◌, ◌||◌, [], IfOk, IfErr, IfSome, IsNone, Ok, length};
+ghost use Rattle.std.specs.Prelude.{vec_len};
 ghost use Rattle.ipfix_model.specs.Fields.{least_length};
 ghost use Rattle.ipfix_reader.specs.Outcome.{IsFaultOf};
 ghost use Rattle.ipfix_reader.specs.Part.{behind};

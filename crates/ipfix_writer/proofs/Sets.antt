@@ -1,5 +1,7 @@
 -- Records and sets of a list of flows, from the front.
-use Rattle.std.proofs.Common.{◌≡◌, ◌≤◌, ◌<◌, ◌+◌, ◌*◌, ◌==◌, ℕ, suc, Bool, true, false, cond, List, [], ◌∷◌, ◌++◌, length, flat_map, take, drop, take_while, if◌then◌else◌, refl, sym, ap, ◌∙◌, subst, arith, length-append, append_assoc, append-nil, get_or, add-one, inl, inr, ◌⊎◌}
+use Rattle.std.proofs.Common.{◌≡◌, ◌≤◌, ◌<◌, ◌+◌, ◌*◌, ◌==◌, ℕ, suc, Bool, true, false, cond, List, [], ◌∷◌, ◌++◌}
+use Rattle.std.proofs.Common.{length, flat_map, take, drop, take_while, if◌then◌else◌, refl, sym, ap, ◌∙◌, subst, arith}
+use Rattle.std.proofs.Common.{length-append, append_assoc, append-nil, get_or, add-one, inl, inr, ◌⊎◌}
 use Rattle.std.proofs.Math.Seq.{drop-cons}
 use Rattle.std.proofs.lemmas.Bool.{eq-eqb}
 use Rattle.std.proofs.lemmas.Bool.Decides.{eqb_tells}
@@ -13,7 +15,8 @@ use Rattle.ipfix_writer.specs.DataSizes.{length-octets}
 use Rattle.ipfix_writer.proofs.Sizes.{length-set}
 
 -- the record at a place stands in front of the records behind it
-pub records_next : {A : Type 0} (encode : A → RecordSet) (flows : List A) (i : ℕ) (flow : A) → i < length flows → flow ≡ get_or flows i flow
+pub records_next : {A : Type 0} (encode : A → RecordSet) (flows : List A) (i : ℕ) (flow : A) → i < length flows
+    → flow ≡ get_or flows i flow
     → records_in encode (drop i flows) ≡ (encode flow).records ++ records_in encode (drop (i + 1) flows)
 records_next encode flows i flow inside is =
     ap (records_in encode) (drop-cons flows i flow inside ∙ ap (λ f. f ∷ drop (suc i) flows) (sym is))
@@ -24,7 +27,8 @@ pub room_for_next : (items next rest start all : List ℕ) (room : ℕ) → item
     → length start + length all ≤ room → length items + length next ≤ room
 room_for_next items next rest start all room is fits =
     let lengths : length items + (length next + length rest) ≡ length start + length all =
-    ap (λ n. length items + n) (sym (length-append next rest)) ∙ sym (length-append items (next ++ rest)) ∙ ap length is ∙ length-append start all in
+    ap (λ n. length items + n) (sym (length-append next rest)) ∙ sym (length-append items (next ++ rest)) ∙ ap length is
+    ∙ length-append start all in
     omega arith
 
 differ : true ≡ false → ⊥
@@ -42,18 +46,22 @@ abbrev set_with : ℕ → List ℕ → RecordSet
 set_with template bytes = record { template = template; records = bytes }
 
 -- a record in front of a set of its template goes into it
-put_before-same : (template : ℕ) (bytes : List ℕ) (first : RecordSet) (sets : List RecordSet) → (template == first.template) ≡ true
+put_before-same : (template : ℕ) (bytes : List ℕ) (first : RecordSet) (sets : List RecordSet)
+    → (template == first.template) ≡ true
     → put_before template bytes (first ∷ sets) ≡ set_with template (bytes ++ first.records) ∷ sets
 unfolding put_before
 put_before-same template bytes first sets same =
-    ap (λ (b : Bool). if b then set_with template (bytes ++ first.records) ∷ sets else set_with template bytes ∷ (first ∷ sets)) same
+    ap (λ (b : Bool). if b then set_with template (bytes ++ first.records) ∷ sets
+    else set_with template bytes ∷ (first ∷ sets)) same
 
 -- a record in front of a set of another template has a set of its own
-put_before-other : (template : ℕ) (bytes : List ℕ) (first : RecordSet) (sets : List RecordSet) → (template == first.template) ≡ false
+put_before-other : (template : ℕ) (bytes : List ℕ) (first : RecordSet) (sets : List RecordSet)
+    → (template == first.template) ≡ false
     → put_before template bytes (first ∷ sets) ≡ set_with template bytes ∷ (first ∷ sets)
 unfolding put_before
 put_before-other template bytes first sets other =
-    ap (λ (b : Bool). if b then set_with template (bytes ++ first.records) ∷ sets else set_with template bytes ∷ (first ∷ sets)) other
+    ap (λ (b : Bool). if b then set_with template (bytes ++ first.records) ∷ sets
+    else set_with template bytes ∷ (first ∷ sets)) other
 
 -- the first set behind a record that was put before is of its template
 put_before-front : (template : ℕ) (bytes : List ℕ) (sets : List RecordSet)
@@ -62,7 +70,8 @@ unfolding put_before
 put_before-front template bytes [] = ([], bytes, refl)
 put_before-front template bytes (first ∷ sets) =
     elim (template == first.template) as (λ b. (rest : List RecordSet) × (records : List ℕ)
-    × ((if b then set_with template (bytes ++ first.records) ∷ sets else set_with template bytes ∷ (first ∷ sets)) ≡ set_with template records ∷ rest))
+    × ((if b then set_with template (bytes ++ first.records) ∷ sets else set_with template bytes ∷ (first ∷ sets))
+    ≡ set_with template records ∷ rest))
     [ true ↦ (sets, bytes ++ first.records, refl) | false ↦ (first ∷ sets, bytes, refl) ]
 
 -- whether a record has this template
@@ -74,62 +83,81 @@ abbrev pub leading : {A : Type 0} → (A → RecordSet) → ℕ → List A → �
 leading encode template [] = 0
 leading encode template (flow ∷ flows) = cond (of_template encode template flow) (suc (leading encode template flows)) 0
 
-pub length-take_while : {A : Type 0} (encode : A → RecordSet) (template : ℕ) (flows : List A) → length (take_while (of_template encode template) flows) ≡ leading encode template flows
+pub length-take_while : {A : Type 0} (encode : A → RecordSet) (template : ℕ) (flows : List A)
+    → length (take_while (of_template encode template) flows) ≡ leading encode template flows
 length-take_while encode template [] = refl
 length-take_while encode template (flow ∷ flows) =
     let shorter = length-take_while encode template flows in
     let n = prefix_len (of_template encode template) flows in
     let one_more : 1 + n ≡ suc n = omega arith in
-    elim (of_template encode template flow) as (λ b. length (take (cond b (1 + n) 0) (flow ∷ flows)) ≡ cond b (suc (leading encode template flows)) 0)
+    elim (of_template encode template flow) as
+    (λ b. length (take (cond b (1 + n) 0) (flow ∷ flows)) ≡ cond b (suc (leading encode template flows)) 0)
     [ true ↦ rw one_more (ap suc shorter) | false ↦ refl ]
 
 -- the first set has the records of the first record's template, and the other sets those behind them
 abbrev pub HasFirstSet : {A : Type 0} → (A → RecordSet) → ℕ → List A → Type 0
 HasFirstSet encode template flows =
-    sets_in encode flows ≡ set_with template (records_in encode (take (leading encode template flows) flows)) ∷ sets_in encode (drop (leading encode template flows) flows)
+    sets_in encode flows ≡ set_with template (records_in encode (take (leading encode template flows) flows))
+    ∷ sets_in encode (drop (leading encode template flows) flows)
 
 -- a lone record has a set of its own
-alone : {A : Type 0} (encode : A → RecordSet) (template : ℕ) (flow : A) → (encode flow).template ≡ template → sets_in encode (flow ∷ []) ≡ set_with template ((encode flow).records ++ []) ∷ []
+alone : {A : Type 0} (encode : A → RecordSet) (template : ℕ) (flow : A) → (encode flow).template ≡ template
+    → sets_in encode (flow ∷ []) ≡ set_with template ((encode flow).records ++ []) ∷ []
 unfolding sets_in put_before
-alone encode template flow is = ap (λ n. set_with n (encode flow).records ∷ []) is ∙ ap (λ bs. set_with template bs ∷ []) (sym (append-nil (encode flow).records))
+alone encode template flow is = ap (λ n. set_with n (encode flow).records ∷ []) is
+    ∙ ap (λ bs. set_with template bs ∷ []) (sym (append-nil (encode flow).records))
 
 -- the first record, and then one of its template
-in_first : {A : Type 0} (encode : A → RecordSet) (template : ℕ) (flow next : A) (flows : List A) → (encode flow).template ≡ template
+in_first : {A : Type 0} (encode : A → RecordSet) (template : ℕ) (flow next : A) (flows : List A)
+    → (encode flow).template ≡ template
     → HasFirstSet encode template (next ∷ flows)
     → sets_in encode (flow ∷ (next ∷ flows))
-    ≡ set_with template ((encode flow).records ++ records_in encode (take (leading encode template (next ∷ flows)) (next ∷ flows))) ∷ sets_in encode (drop (leading encode template (next ∷ flows)) (next ∷ flows))
+    ≡ set_with template ((encode flow).records
+    ++ records_in encode (take (leading encode template (next ∷ flows)) (next ∷ flows)))
+    ∷ sets_in encode (drop (leading encode template (next ∷ flows)) (next ∷ flows))
 unfolding sets_in
 in_first encode template flow next flows is rest =
-    let set_of_rest = set_with template (records_in encode (take (leading encode template (next ∷ flows)) (next ∷ flows))) in
+    let set_of_rest =
+    set_with template (records_in encode (take (leading encode template (next ∷ flows)) (next ∷ flows))) in
     let sets = sets_in encode (drop (leading encode template (next ∷ flows)) (next ∷ flows)) in
     ap (put_before (encode flow).template (encode flow).records) rest
-    ∙ put_before-same (encode flow).template (encode flow).records set_of_rest sets (eq-eqb (encode flow).template template is)
+    ∙ put_before-same (encode flow).template (encode flow).records set_of_rest sets
+    (eq-eqb (encode flow).template template is)
     ∙ ap (λ n. set_with n ((encode flow).records ++ set_of_rest.records) ∷ sets) is
 
 -- the first record, and then one of another template
-before_other : {A : Type 0} (encode : A → RecordSet) (template : ℕ) (flow next : A) (flows : List A) → (encode flow).template ≡ template
+before_other : {A : Type 0} (encode : A → RecordSet) (template : ℕ) (flow next : A) (flows : List A)
+    → (encode flow).template ≡ template
     → ((encode next).template == template) ≡ false
-    → sets_in encode (flow ∷ (next ∷ flows)) ≡ set_with template ((encode flow).records ++ []) ∷ sets_in encode (next ∷ flows)
+    → sets_in encode (flow ∷ (next ∷ flows)) ≡ set_with template ((encode flow).records ++ [])
+    ∷ sets_in encode (next ∷ flows)
 unfolding sets_in
 before_other encode template flow next flows is other =
     let front = put_before-front (encode next).template (encode next).records (sets_in encode flows) in
-    let apart : ((encode flow).template == (encode next).template) ≡ false = eqb-swapped (encode flow).template (encode next).template template is other in
+    let apart : ((encode flow).template == (encode next).template) ≡ false =
+    eqb-swapped (encode flow).template (encode next).template template is other in
     ap (put_before (encode flow).template (encode flow).records) front.2
-    ∙ put_before-other (encode flow).template (encode flow).records (set_with (encode next).template front.1) front.0 apart
+    ∙ put_before-other (encode flow).template (encode flow).records
+    (set_with (encode next).template front.1) front.0 apart
     ∙ ap (λ n. set_with n (encode flow).records ∷ (set_with (encode next).template front.1 ∷ front.0)) is
     ∙ ap (λ sets. set_with template (encode flow).records ∷ sets) (sym front.2)
-    ∙ ap (λ bs. set_with template bs ∷ put_before (encode next).template (encode next).records (sets_in encode flows)) (sym (append-nil (encode flow).records))
+    ∙ ap (λ bs. set_with template bs ∷ put_before (encode next).template (encode next).records (sets_in encode flows))
+    (sym (append-nil (encode flow).records))
 
 -- where the next record has the template, the run goes on, else it ends
-first_set-cases : {A : Type 0} (encode : A → RecordSet) (template : ℕ) (flow next : A) (flows : List A) (b : Bool) → (encode flow).template ≡ template
-    → of_template encode template next ≡ b → HasFirstSet encode template (next ∷ flows) ⊎ (b ≡ false) → HasFirstSet encode template (flow ∷ (next ∷ flows))
+first_set-cases : {A : Type 0} (encode : A → RecordSet) (template : ℕ) (flow next : A) (flows : List A) (b : Bool)
+    → (encode flow).template ≡ template
+    → of_template encode template next ≡ b → HasFirstSet encode template (next ∷ flows) ⊎ (b ≡ false)
+    → HasFirstSet encode template (flow ∷ (next ∷ flows))
 first_set-cases encode template flow next flows b is test (inl rest) =
     rw (eq-eqb (encode flow).template template is) (in_first encode template flow next flows is rest)
 first_set-cases encode template flow next flows b is test (inr other) =
-    rw (eq-eqb (encode flow).template template is, test ∙ other) (before_other encode template flow next flows is (test ∙ other))
+    rw (eq-eqb (encode flow).template template is, test ∙ other)
+    (before_other encode template flow next flows is (test ∙ other))
 
 -- every list of records that begins with one of a template has that first set
-pub first_set : {A : Type 0} (encode : A → RecordSet) (template : ℕ) (flow : A) (flows : List A) → (encode flow).template ≡ template → HasFirstSet encode template (flow ∷ flows)
+pub first_set : {A : Type 0} (encode : A → RecordSet) (template : ℕ) (flow : A) (flows : List A)
+    → (encode flow).template ≡ template → HasFirstSet encode template (flow ∷ flows)
 unfolding sets_in
 first_set encode template flow [] is = rw (eq-eqb (encode flow).template template is) (alone encode template flow is)
 first_set encode template flow (next ∷ flows) is =
@@ -140,15 +168,18 @@ first_set encode template flow (next ∷ flows) is =
     ])
 
 -- a list that isn't empty is its first element and the others
-first_and_rest : {A : Type 0} (flows : List A) (flow : A) → 0 < length flows → flow ≡ get_or flows 0 flow → (rest : List A) × (flows ≡ flow ∷ rest)
+first_and_rest : {A : Type 0} (flows : List A) (flow : A) → 0 < length flows → flow ≡ get_or flows 0 flow
+    → (rest : List A) × (flows ≡ flow ∷ rest)
 first_and_rest [] flow some is = absurd (omega (arith, some))
 first_and_rest (first ∷ rest) flow some is = (rest, ap (λ f. f ∷ rest) (sym is))
 
-leading-bound : {A : Type 0} (encode : A → RecordSet) (template : ℕ) (flows : List A) → leading encode template flows ≤ length flows
+leading-bound : {A : Type 0} (encode : A → RecordSet) (template : ℕ) (flows : List A)
+    → leading encode template flows ≤ length flows
 leading-bound encode template [] = omega arith
 leading-bound encode template (flow ∷ flows) =
     let below = leading-bound encode template flows in
-    elim (of_template encode template flow) as (λ b. cond b (suc (leading encode template flows)) 0 ≤ suc (length flows))
+    elim (of_template encode template flow) as
+    (λ b. cond b (suc (leading encode template flows)) 0 ≤ suc (length flows))
     [ true ↦ omega arith | false ↦ omega arith ]
 
 one_more_times : (n m : ℕ) → m + n * m ≡ suc n * m
@@ -171,17 +202,20 @@ leading-size encode template size (flow ∷ flows) sized =
 
 -- records of one template are of one length
 abbrev pub AreSized : (A : Type 0) → (A → RecordSet) → Type 0
-AreSized A encode = (one other : A) → (encode one).template ≡ (encode other).template → length (encode one).records ≡ length (encode other).records
+AreSized A encode = (one other : A) → (encode one).template ≡ (encode other).template
+    → length (encode one).records ≡ length (encode other).records
 
 -- what append_set writes in front of the sets that are left
 pub record IsFirstSet {A : Type 0} (encode : A → RecordSet) (template count size : ℕ) (flows : List A) : Type 0 where
   pub some : 0 < count
   pub within : count ≤ length flows
   pub size_is : 4 + count * size ≡ 4 + length (records_in encode (take count flows))
-  pub body : body_in encode flows ≡ set template (records_in encode (take count flows)) ++ body_in encode (drop count flows)
+  pub body : body_in encode flows ≡ set template (records_in encode (take count flows))
+      ++ body_in encode (drop count flows)
 
 first_set-of-list : {A : Type 0} (encode : A → RecordSet) (flow : A) (flows : List A) → AreSized A encode
-    → IsFirstSet encode (encode flow).template (leading encode (encode flow).template (flow ∷ flows)) (length (encode flow).records) (flow ∷ flows)
+    → IsFirstSet encode (encode flow).template (leading encode (encode flow).template (flow ∷ flows))
+    (length (encode flow).records) (flow ∷ flows)
 unfolding body_in
 first_set-of-list encode flow flows sized =
     let template = (encode flow).template in
@@ -189,70 +223,89 @@ first_set-of-list encode flow flows sized =
     record {
       some = rw here (omega arith);
       within = leading-bound encode template (flow ∷ flows);
-      size_is = ap (λ n. 4 + n) (sym (leading-size encode template (length (encode flow).records) (flow ∷ flows) (λ x is. sized x flow is)));
+      size_is =
+          ap (λ n. 4 + n)
+          (sym (leading-size encode template (length (encode flow).records) (flow ∷ flows) (λ x is. sized x flow is)));
       body = ap bytes_of_sets (first_set encode template flow flows refl);
     }
 
-pub first_set-of : {A : Type 0} (encode : A → RecordSet) (flows : List A) (flow : A) (template count : ℕ) → AreSized A encode
+pub first_set-of : {A : Type 0} (encode : A → RecordSet) (flows : List A) (flow : A) (template count : ℕ)
+    → AreSized A encode
     → 0 < length flows → flow ≡ get_or flows 0 flow → template ≡ (encode flow).template
-    → count ≡ length (take_while (of_template encode template) flows) → IsFirstSet encode template count (length (encode flow).records) flows
+    → count ≡ length (take_while (of_template encode template) flows)
+    → IsFirstSet encode template count (length (encode flow).records) flows
 first_set-of encode flows flow template count sized some is kind counted =
     let parts = first_and_rest flows flow some is in
     let all = flow ∷ parts.0 in
     let size = length (encode flow).records in
     let counts : count ≡ leading encode (encode flow).template all =
-    counted ∙ length-take_while encode template flows ∙ ap (leading encode template) parts.1 ∙ ap (λ t. leading encode t all) kind in
+    counted ∙ length-take_while encode template flows ∙ ap (leading encode template) parts.1
+    ∙ ap (λ t. leading encode t all) kind in
     subst (λ list. IsFirstSet encode template count size list) (sym parts.1)
     (subst (λ t. IsFirstSet encode t count size all) (sym kind)
-    (subst (λ n. IsFirstSet encode (encode flow).template n size all) (sym counts) (first_set-of-list encode flow parts.0 sized)))
+    (subst (λ n. IsFirstSet encode (encode flow).template n size all) (sym counts)
+    (first_set-of-list encode flow parts.0 sized)))
 
 -- a number at the end makes a list longer by its bytes
 pub longer_by : (n x : ℕ) (old new : List ℕ) → new ≡ old ++ octets_of n x → length new ≡ length old + n
-longer_by n x old new is = ap length is ∙ length-append old (octets_of n x) ∙ ap (λ k. length old + k) (length-octets n x)
+longer_by n x old new is = ap length is ∙ length-append old (octets_of n x)
+    ∙ ap (λ k. length old + k) (length-octets n x)
 
 -- the lengths of the first set and of what is left
-pub first_set-lengths : {A : Type 0} (encode : A → RecordSet) (template count size : ℕ) (flows : List A) → IsFirstSet encode template count size flows
+pub first_set-lengths : {A : Type 0} (encode : A → RecordSet) (template count size : ℕ) (flows : List A)
+    → IsFirstSet encode template count size flows
     → length (body_in encode flows) ≡ 4 + count * size + length (body_in encode (drop count flows))
 first_set-lengths encode template count size flows first =
     ap length first.body
     ∙ length-append (set template (records_in encode (take count flows))) (body_in encode (drop count flows))
-    ∙ ap (λ n. n + length (body_in encode (drop count flows))) (length-set template (records_in encode (take count flows)) ∙ sym first.size_is)
+    ∙ ap (λ n. n + length (body_in encode (drop count flows)))
+    (length-set template (records_in encode (take count flows)) ∙ sym first.size_is)
 
 -- a set's header and its records in front of what is left are the whole
-pub first_set-written : {A : Type 0} (encode : A → RecordSet) (template count size : ℕ) (flows : List A) (start kind long all : List ℕ) → IsFirstSet encode template count size flows
-    → kind ≡ start ++ octets_of 2 template → long ≡ kind ++ octets_of 2 (4 + count * size) → all ≡ long ++ records_in encode (take count flows)
+pub first_set-written : {A : Type 0} (encode : A → RecordSet) (template count size : ℕ) (flows : List A)
+    (start kind long all : List ℕ) → IsFirstSet encode template count size flows
+    → kind ≡ start ++ octets_of 2 template → long ≡ kind ++ octets_of 2 (4 + count * size)
+    → all ≡ long ++ records_in encode (take count flows)
     → all ++ body_in encode (drop count flows) ≡ start ++ body_in encode flows
 unfolding set
 first_set-written encode template count size flows start kind long all first kind_is long_is all_is =
     rw (all_is, long_is, kind_is, first.size_is, first.body) (simp append_assoc)
 
 -- two lists that are put together alike have the same length together
-pub put_together : (items rest start all : List ℕ) → items ++ rest ≡ start ++ all → length items + length rest ≡ length start + length all
+pub put_together : (items rest start all : List ℕ) → items ++ rest ≡ start ++ all
+    → length items + length rest ≡ length start + length all
 put_together items rest start all is = sym (length-append items rest) ∙ ap length is ∙ length-append start all
 
 -- after one more set
-pub body_in-after : {A : Type 0} (encode : A → RecordSet) (flows rest : List A) (done count : ℕ) (items new start : List ℕ) → rest ≡ drop done flows
-    → new ++ body_in encode (drop count rest) ≡ items ++ body_in encode rest → items ++ body_in encode (drop done flows) ≡ start ++ body_in encode flows
+pub body_in-after : {A : Type 0} (encode : A → RecordSet) (flows rest : List A) (done count : ℕ)
+    (items new start : List ℕ) → rest ≡ drop done flows
+    → new ++ body_in encode (drop count rest) ≡ items ++ body_in encode rest
+    → items ++ body_in encode (drop done flows) ≡ start ++ body_in encode flows
     → new ++ body_in encode (drop (done + count) flows) ≡ start ++ body_in encode flows
 body_in-after encode flows rest done count items new start is next before =
-    ap (λ fs. new ++ body_in encode fs) (sym (drop-drop count done flows) ∙ ap (drop count) (sym is)) ∙ next ∙ ap (λ fs. items ++ body_in encode fs) is ∙ before
+    ap (λ fs. new ++ body_in encode fs) (sym (drop-drop count done flows) ∙ ap (drop count) (sym is)) ∙ next
+    ∙ ap (λ fs. items ++ body_in encode fs) is ∙ before
 
 -- behind the last record no set is left
-pub body_in-rest : {A : Type 0} (encode : A → RecordSet) (flows : List A) (done : ℕ) (items start : List ℕ) → length flows ≤ done
+pub body_in-rest : {A : Type 0} (encode : A → RecordSet) (flows : List A) (done : ℕ) (items start : List ℕ)
+    → length flows ≤ done
     → items ++ body_in encode (drop done flows) ≡ start ++ body_in encode flows → items ≡ start ++ body_in encode flows
 unfolding body_in sets_in
-body_in-rest encode flows done items start past is = sym (append-nil items) ∙ ap (λ fs. items ++ body_in encode fs) (sym (drop_all done flows past)) ∙ is
+body_in-rest encode flows done items start past is =
+    sym (append-nil items) ∙ ap (λ fs. items ++ body_in encode fs) (sym (drop_all done flows past)) ∙ is
 
 -- the field specifier at a place stands in front of those behind it
 pub fields_next : (fields : List FieldSpec) (i : ℕ) (d : FieldSpec) → i < length fields
-    → flat_map field_specifier (drop i fields) ≡ field_specifier (get_or fields i d) ++ flat_map field_specifier (drop (i + 1) fields)
+    → flat_map field_specifier (drop i fields) ≡ field_specifier (get_or fields i d)
+    ++ flat_map field_specifier (drop (i + 1) fields)
 fields_next fields i d inside =
     ap (flat_map field_specifier) (drop-cons fields i d inside)
     ∙ ap (λ n. field_specifier (get_or fields i d) ++ flat_map field_specifier (drop n fields)) (sym (add-one i))
 
 -- one more field specifier was appended
 pub fields-more : (fields : List FieldSpec) (i : ℕ) (d : FieldSpec) (old new start : List ℕ) → i < length fields
-    → new ≡ old ++ field_specifier (get_or fields i d) → old ++ flat_map field_specifier (drop i fields) ≡ start ++ flat_map field_specifier fields
+    → new ≡ old ++ field_specifier (get_or fields i d)
+    → old ++ flat_map field_specifier (drop i fields) ≡ start ++ flat_map field_specifier fields
     → new ++ flat_map field_specifier (drop (i + 1) fields) ≡ start ++ flat_map field_specifier fields
 fields-more fields i d old new start inside is before =
     ap (λ bs. bs ++ flat_map field_specifier (drop (i + 1) fields)) is

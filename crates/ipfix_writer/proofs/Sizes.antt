@@ -1,5 +1,6 @@
 -- The lengths of records, sets and messages.
-use Rattle.std.proofs.Common.{◌≡◌, ◌≤◌, ◌+◌, ◌*◌, ◌==◌, ℕ, Bool, true, false, List, ◌++◌, length, if◌then◌else◌, refl, ap, ◌∙◌, arith, length-append, append_assoc, append-nil}
+use Rattle.std.proofs.Common.{◌≡◌, ◌≤◌, ◌+◌, ◌*◌, ◌==◌, ℕ, Bool, true, false, List, ◌++◌, length, if◌then◌else◌, refl}
+use Rattle.std.proofs.Common.{ap, ◌∙◌, arith, length-append, append_assoc, append-nil}
 use Rattle.byteorder.specs.Numbers.{length-bytes_high_first}
 use Rattle.record_ledger.specs.declared.record.FlowRecord.{FlowRecord}
 use Rattle.ipfix_model.specs.Fields.{record_length}
@@ -27,15 +28,18 @@ record_size-bounds flow =
     (omega (arith, long, range), omega (arith, long, range))
 
 -- a data record is the values of its key and then those behind it
-parts-v4 : (flow : FlowRecord) → (flow.part.key.version == 4) ≡ true → data_record flow ≡ key_part flow ++ counts_part flow
+parts-v4 : (flow : FlowRecord) → (flow.part.key.version == 4) ≡ true
+    → data_record flow ≡ key_part flow ++ counts_part flow
 unfolding data_record key_part counts_part
 parts-v4 flow v4 = rw v4 (simp (append_assoc, append-nil))
 
-parts-v6 : (flow : FlowRecord) → (flow.part.key.version == 4) ≡ false → data_record flow ≡ key_part flow ++ counts_part flow
+parts-v6 : (flow : FlowRecord) → (flow.part.key.version == 4) ≡ false
+    → data_record flow ≡ key_part flow ++ counts_part flow
 unfolding data_record key_part counts_part
 parts-v6 flow v6 = rw v6 (simp (append_assoc, append-nil))
 
-parts-if : (flow : FlowRecord) (b : Bool) → (flow.part.key.version == 4) ≡ b → data_record flow ≡ key_part flow ++ counts_part flow
+parts-if : (flow : FlowRecord) (b : Bool) → (flow.part.key.version == 4) ≡ b
+    → data_record flow ≡ key_part flow ++ counts_part flow
 parts-if flow true is = parts-v4 flow is
 parts-if flow false is = parts-v6 flow is
 

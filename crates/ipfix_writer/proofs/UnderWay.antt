@@ -1,5 +1,8 @@
 -- An emitter from call to call.
-use Rattle.std.proofs.Common.{◌≡◌, ◌≤◌, ◌<◌, ◌+◌, ◌-◌, ◌*◌, ◌/◌, ◌%◌, ◌^◌, min, ℕ, List, [], ◌∷◌, ◌++◌, length, take, drop, refl, sym, ap, ◌∙◌, subst, arith, append-nil, append_assoc, length-append, take-append-drop, Option, Some, None, true, false, ◌==◌, eqb-true, suc, get_or, add-one, Result, Ok, Err}
+use Rattle.std.proofs.Common.{◌≡◌, ◌≤◌, ◌<◌, ◌+◌, ◌-◌, ◌*◌, ◌/◌, ◌%◌, ◌^◌, min, ℕ, List, [], ◌∷◌, ◌++◌, length, take}
+use Rattle.std.proofs.Common.{drop, refl, sym, ap, ◌∙◌, subst, arith, append-nil, append_assoc, length-append}
+use Rattle.std.proofs.Common.{take-append-drop, Option, Some, None, true, false, ◌==◌, eqb-true, suc, get_or, add-one}
+use Rattle.std.proofs.Common.{Result, Ok, Err}
 use Rattle.std.specs.Prelude.{IfOk, OnErr}
 use Rattle.std.proofs.Math.Seq.{drop-cons, take-suc}
 use Rattle.std.proofs.lemmas.List.{take_all}
@@ -10,10 +13,13 @@ use Rattle.ipfix_writer.specs.declared.emitter.Phase.{Phase}
 use Rattle.ipfix_writer.specs.declared.emitter.Phase.TheVariants.{Fresh, Started}
 use Rattle.ipfix_model.specs.Templates.{template_of}
 use Rattle.ipfix_writer.specs.Encoding.{message, template_message, data_record}
-use Rattle.ipfix_writer.specs.Layout.{body_of, message_length, AreFilledBy, AreFilled, messages_in, data_messages, together, encode_flow, IsLayoutOf, BeginsLayout}
-use Rattle.ipfix_writer.specs.Emitting.{EmitterState, EmitterKeeps, IsUnderWay, waiting_part, last_template, header_before}
+use Rattle.ipfix_writer.specs.Layout.{body_of, message_length, AreFilledBy, AreFilled, messages_in, data_messages}
+use Rattle.ipfix_writer.specs.Layout.{together, encode_flow, IsLayoutOf, BeginsLayout}
+use Rattle.ipfix_writer.specs.Emitting.{EmitterState, EmitterKeeps, IsUnderWay, waiting_part, last_template}
+use Rattle.ipfix_writer.specs.Emitting.{header_before}
 use Rattle.ipfix_writer.proofs.Lengths.{length_in-nil, length_in-snoc, message_length-bound, last_template-snoc}
-use Rattle.ipfix_writer.proofs.Filling.{begins-start, begins-parts, filled-more, filled-next, alone-fits, data_messages-last, together-last}
+use Rattle.ipfix_writer.proofs.Filling.{begins-start, begins-parts, filled-more, filled-next, alone-fits}
+use Rattle.ipfix_writer.proofs.Filling.{data_messages-last, together-last}
 
 differ : true ≡ false → ⊥
 differ e = cc
@@ -35,7 +41,10 @@ keeps-fresh size bytes records least most room places = record {
   fresh = λ _. (refl, refl, refl);
 }
 
-under_way-empty : (size export_time : ℕ) → IsUnderWay (record { size = size; export_time = export_time; phase = Started; waiting = []; sequence = 0; messages = 1 }) [] (template_message export_time)
+under_way-empty : (size export_time : ℕ)
+    → IsUnderWay
+    (record { size = size; export_time = export_time; phase = Started; waiting = []; sequence = 0; messages = 1 }) []
+    (template_message export_time)
 unfolding AreFilledBy messages_in
 under_way-empty size export_time = record {
   parts = [];
@@ -50,9 +59,27 @@ under_way-empty size export_time = record {
 
 -- behind the template message
 pub under_way-start : (size export_time : ℕ) (waiting : List FlowRecord) (sequence : ℕ) → waiting ≡ [] → sequence ≡ 0
-    → IsUnderWay (record { size = size; export_time = export_time; phase = Started; waiting = waiting; sequence = sequence; messages = 1 }) [] (template_message export_time)
+    → IsUnderWay
+    (record {
+      size = size;
+      export_time = export_time;
+      phase = Started;
+      waiting = waiting;
+      sequence =
+          sequence;
+      messages = 1;
+    }) [] (template_message export_time)
 under_way-start size export_time waiting sequence none zero =
-    let E : List FlowRecord → ℕ → EmitterState = λ flows n. record { size = size; export_time = export_time; phase = Started; waiting = flows; sequence = n; messages = 1 } in
+    let E : List FlowRecord → ℕ → EmitterState =
+    λ flows n. record {
+      size = size;
+      export_time = export_time;
+      phase = Started;
+      waiting = flows;
+      sequence =
+          n;
+      messages = 1;
+    } in
     subst (λ flows. IsUnderWay (E flows sequence) [] (template_message export_time)) (sym none)
     (subst (λ n. IsUnderWay (E [] n) [] (template_message export_time)) (sym zero) (under_way-empty size export_time))
 
@@ -60,19 +87,23 @@ under_way-start size export_time waiting sequence none zero =
 pub begins-template : (size export_time : ℕ) (flows : List FlowRecord) (piece : List ℕ) (count : ℕ) → 116 ≤ size
     → piece ≡ template_message export_time → BeginsLayout size export_time flows (take count piece)
 begins-template size export_time flows piece count room is =
-    begins-start size export_time flows (take count piece) (drop count piece) (omega arith) (sym is ∙ sym (take-append-drop count piece))
+    begins-start size export_time flows (take count piece) (drop count piece) (omega arith)
+    (sym is ∙ sym (take-append-drop count piece))
 
 -- the length of the message with one more record
 pub length-with : (length_now header size : ℕ) (waiting : List FlowRecord) (last : Option ℕ) (flow : FlowRecord)
-    → length_now ≡ message_length waiting → last ≡ last_template encode_flow waiting → header ≡ header_before last (template_of flow) → size ≡ length (data_record flow)
+    → length_now ≡ message_length waiting → last ≡ last_template encode_flow waiting
+    → header ≡ header_before last (template_of flow) → size ≡ length (data_record flow)
     → length_now + header + size ≡ message_length (waiting ++ flow ∷ [])
 length-with length_now header size waiting last flow exact last_is header_is size_is =
     let grown = length_in-snoc encode_flow waiting flow in
-    let header_of : header ≡ header_before (last_template encode_flow waiting) (template_of flow) = header_is ∙ ap (λ t. header_before t (template_of flow)) last_is in
+    let header_of : header ≡ header_before (last_template encode_flow waiting) (template_of flow) =
+    header_is ∙ ap (λ t. header_before t (template_of flow)) last_is in
     omega arith
 
 -- a message that fits has fewer records than there are places
-pub places-left : (size places length_now : ℕ) (waiting : List FlowRecord) (flow : FlowRecord) → length_now ≡ message_length (waiting ++ flow ∷ [])
+pub places-left : (size places length_now : ℕ) (waiting : List FlowRecord) (flow : FlowRecord)
+    → length_now ≡ message_length (waiting ++ flow ∷ [])
     → length_now ≤ size → size / 48 ≤ places → length waiting < places
 places-left size places length_now waiting flow exact fits room =
     let bound = message_length-bound (waiting ++ flow ∷ []) in
@@ -80,50 +111,68 @@ places-left size places length_now waiting flow exact fits room =
     omega arith
 
 -- one more record is kept
-pub keeps-more : (size : ℕ) (phase : Phase) (waiting all : List FlowRecord) (sequence messages old new template : ℕ) (last : Option ℕ) (bytes places room : ℕ) (flow : FlowRecord)
+pub keeps-more : (size : ℕ) (phase : Phase) (waiting all : List FlowRecord) (sequence messages old new template : ℕ)
+    (last : Option ℕ) (bytes places room : ℕ) (flow : FlowRecord)
     → EmitterKeeps size phase waiting sequence messages old last bytes places → phase ≡ Started
-    → all ≡ waiting ++ flow ∷ [] → new ≡ message_length (waiting ++ flow ∷ []) → new ≤ size → template ≡ template_of flow → places ≤ room
+    → all ≡ waiting ++ flow ∷ [] → new ≡ message_length (waiting ++ flow ∷ []) → new ≤ size
+    → template ≡ template_of flow → places ≤ room
     → EmitterKeeps size phase all sequence messages new (Some template) bytes room
-keeps-more size phase waiting all sequence messages old new template last bytes places room flow keeps started all_is exact fits kind more = record {
-  least = keeps.least;
-  most = keeps.most;
-  exact = exact ∙ ap message_length (sym all_is);
-  within = fits;
-  last = ap Some kind ∙ sym (last_template-snoc encode_flow waiting flow) ∙ ap (last_template encode_flow) (sym all_is);
-  bytes = keeps.bytes;
-  records = omega (arith, keeps.records);
-  fresh = λ e. absurd (not_fresh (sym e ∙ started));
-}
+keeps-more size phase waiting all sequence messages old new template last bytes places room flow keeps started all_is
+    exact fits kind more = record {
+      least = keeps.least;
+      most = keeps.most;
+      exact = exact ∙ ap message_length (sym all_is);
+      within = fits;
+      last = ap Some kind ∙ sym (last_template-snoc encode_flow waiting flow)
+          ∙ ap (last_template encode_flow) (sym all_is);
+      bytes = keeps.bytes;
+      records = omega (arith, keeps.records);
+      fresh = λ e. absurd (not_fresh (sym e ∙ started));
+    }
 
 -- the message was written
-pub keeps-flushed : (size : ℕ) (phase : Phase) (waiting none : List FlowRecord) (sequence messages old sequence_now messages_now : ℕ) (last : Option ℕ) (bytes places room_of_bytes room : ℕ)
-    → EmitterKeeps size phase waiting sequence messages old last bytes places → phase ≡ Started → none ≡ [] → bytes ≤ room_of_bytes → places ≤ room
+pub keeps-flushed : (size : ℕ) (phase : Phase) (waiting none : List FlowRecord)
+    (sequence messages old sequence_now messages_now : ℕ) (last : Option ℕ) (bytes places room_of_bytes room : ℕ)
+    → EmitterKeeps size phase waiting sequence messages old last bytes places → phase ≡ Started → none ≡ []
+    → bytes ≤ room_of_bytes → places ≤ room
     → EmitterKeeps size phase none sequence_now messages_now 16 None room_of_bytes room
-keeps-flushed size phase waiting none sequence messages old sequence_now messages_now last bytes places room_of_bytes room keeps started none_is more_bytes more = record {
-  least = keeps.least;
-  most = keeps.most;
-  exact = sym (ap message_length none_is ∙ length_in-nil encode_flow);
-  within = omega (arith, keeps.least);
-  last = ap (last_template encode_flow) (sym none_is);
-  bytes = omega (arith, keeps.bytes);
-  records = omega (arith, keeps.records);
-  fresh = λ e. absurd (not_fresh (sym e ∙ started));
-}
+keeps-flushed size phase waiting none sequence messages old sequence_now messages_now last bytes places room_of_bytes
+    room keeps started none_is more_bytes more = record {
+      least = keeps.least;
+      most = keeps.most;
+      exact = sym (ap message_length none_is ∙ length_in-nil encode_flow);
+      within = omega (arith, keeps.least);
+      last = ap (last_template encode_flow) (sym none_is);
+      bytes = omega (arith, keeps.bytes);
+      records = omega (arith, keeps.records);
+      fresh = λ e. absurd (not_fresh (sym e ∙ started));
+    }
 
 -- an emitter of these fields
 abbrev state_of : ℕ → ℕ → List FlowRecord → ℕ → ℕ → EmitterState
 state_of size export_time waiting sequence messages =
-    record { size = size; export_time = export_time; phase = Started; waiting = waiting; sequence = sequence; messages = messages }
+    record {
+      size = size;
+      export_time = export_time;
+      phase = Started;
+      waiting = waiting;
+      sequence = sequence;
+      messages =
+          messages;
+    }
 
 not_empty : (flows : List FlowRecord) (flow : FlowRecord) → flows ++ flow ∷ [] ≡ [] → ⊥
 not_empty [] flow e = cc
 not_empty (first ∷ flows) flow e = cc
 
-filled_after : (size : ℕ) (parts : List (List FlowRecord)) (waiting : List FlowRecord) (flow : FlowRecord) → AreFilled size (parts ++ waiting_part waiting)
-    → (waiting ≡ [] → parts ≡ []) → message_length (waiting ++ flow ∷ []) ≤ size → AreFilled size (parts ++ waiting_part (waiting ++ flow ∷ []))
+filled_after : (size : ℕ) (parts : List (List FlowRecord)) (waiting : List FlowRecord) (flow : FlowRecord)
+    → AreFilled size (parts ++ waiting_part waiting)
+    → (waiting ≡ [] → parts ≡ []) → message_length (waiting ++ flow ∷ []) ≤ size
+    → AreFilled size (parts ++ waiting_part (waiting ++ flow ∷ []))
 unfolding AreFilledBy
 filled_after size parts [] flow filled begun fits = rw (begun refl) (omega arith, fits)
-filled_after size parts (first ∷ flows) flow filled begun fits = filled-more encode_flow size parts first flows flow filled fits
+filled_after size parts (first ∷ flows) flow filled begun fits =
+    filled-more encode_flow size parts first flows flow filled fits
 
 -- one more record that fits its message
 pub under_way-more : (emitter : EmitterState) (flows : List FlowRecord) (written : List ℕ) (flow : FlowRecord)
@@ -141,12 +190,14 @@ under_way-more emitter flows written flow way fits = record {
 }
 
 -- What stands where the message of the records that wait is written behind the others.
-pub record IsClosed (emitter : EmitterState) (flows : List FlowRecord) (written : List ℕ) (parts : List (List FlowRecord)) : Type 0 where
+pub record IsClosed (emitter : EmitterState) (flows : List FlowRecord) (written : List ℕ)
+    (parts : List (List FlowRecord)) : Type 0 where
   pub whole : together (parts ++ emitter.waiting ∷ []) ≡ flows
   pub bytes : written ++ message emitter.export_time emitter.sequence (body_of emitter.waiting)
       ≡ template_message emitter.export_time ++ data_messages emitter.export_time 0 (parts ++ emitter.waiting ∷ [])
 
-pub closed : (emitter : EmitterState) (flows : List FlowRecord) (written : List ℕ) (way : IsUnderWay emitter flows written) → IsClosed emitter flows written way.parts
+pub closed : (emitter : EmitterState) (flows : List FlowRecord) (written : List ℕ)
+    (way : IsUnderWay emitter flows written) → IsClosed emitter flows written way.parts
 closed emitter flows written way =
     let last = message emitter.export_time emitter.sequence (body_of emitter.waiting) in
     record {
@@ -154,18 +205,23 @@ closed emitter flows written way =
       bytes =
           ap (λ bs. bs ++ last) way.bytes
           ∙ append_assoc (template_message emitter.export_time) (data_messages emitter.export_time 0 way.parts) last
-          ∙ ap (λ n. template_message emitter.export_time ++ (data_messages emitter.export_time 0 way.parts ++ message emitter.export_time n (body_of emitter.waiting))) way.sequence
-          ∙ ap (λ bs. template_message emitter.export_time ++ bs) (sym (data_messages-last encode_flow emitter.export_time way.parts emitter.waiting));
+          ∙ ap (λ n. template_message emitter.export_time
+          ++ (data_messages emitter.export_time 0 way.parts ++ message emitter.export_time n (body_of emitter.waiting)))
+          way.sequence
+          ∙ ap (λ bs. template_message emitter.export_time ++ bs)
+          (sym (data_messages-last encode_flow emitter.export_time way.parts emitter.waiting));
     }
 
 -- the records that wait fill their message
-waiting-filled : (size : ℕ) (parts : List (List FlowRecord)) (waiting : List FlowRecord) → 0 < length waiting → AreFilled size (parts ++ waiting_part waiting)
+waiting-filled : (size : ℕ) (parts : List (List FlowRecord)) (waiting : List FlowRecord) → 0 < length waiting
+    → AreFilled size (parts ++ waiting_part waiting)
     → AreFilled size (parts ++ waiting ∷ [])
 waiting-filled size parts [] some filled = absurd (omega (arith, some))
 waiting-filled size parts (first ∷ flows) some filled = filled
 
 -- where a record doesn't fit, some records wait
-some-wait : (size : ℕ) (waiting : List FlowRecord) (flow : FlowRecord) → 92 ≤ size → size < message_length (waiting ++ flow ∷ []) → 0 < length waiting
+some-wait : (size : ℕ) (waiting : List FlowRecord) (flow : FlowRecord) → 92 ≤ size
+    → size < message_length (waiting ++ flow ∷ []) → 0 < length waiting
 some-wait size [] flow room full = let alone = alone-fits size flow room in absurd (omega arith)
 some-wait size (first ∷ flows) flow room full = omega arith
 
@@ -175,22 +231,32 @@ mod_sum n k m is =
     sym (ap (λ x. x % 4294967296) e ∙ add-mul-mod_self_right (n + k) (m / 4294967296) 4294967296)
 
 -- one more record behind a message that was written
-pub under_way-next : (emitter after : EmitterState) (flows : List FlowRecord) (written : List ℕ) (flow : FlowRecord) → 116 ≤ emitter.size
+pub under_way-next : (emitter after : EmitterState) (flows : List FlowRecord) (written : List ℕ) (flow : FlowRecord)
+    → 116 ≤ emitter.size
     → IsUnderWay emitter flows written → emitter.size < message_length (emitter.waiting ++ flow ∷ [])
-    → after ≡ record emitter { waiting = flow ∷ []; sequence = (emitter.sequence + length emitter.waiting) % 2 ^ 32; messages = min (emitter.messages + 1) (2 ^ 64 - 1) }
-    → IsUnderWay after (flows ++ flow ∷ []) (written ++ message emitter.export_time emitter.sequence (body_of emitter.waiting))
+    → after ≡ record emitter {
+      waiting = flow ∷ [];
+      sequence =
+          (emitter.sequence + length emitter.waiting) % 2 ^ 32;
+      messages = min (emitter.messages + 1) (2 ^ 64 - 1);
+    }
+    → IsUnderWay after (flows ++ flow ∷ []) (written
+    ++ message emitter.export_time emitter.sequence (body_of emitter.waiting))
 under_way-next emitter after flows written flow room way full is =
     let shut = closed emitter flows written way in
     let some = some-wait emitter.size emitter.waiting flow (omega arith) full in
     let parts = way.parts ++ emitter.waiting ∷ [] in
     let count = length-append (together way.parts) emitter.waiting in
-    subst (λ e. IsUnderWay e (flows ++ flow ∷ []) (written ++ message emitter.export_time emitter.sequence (body_of emitter.waiting))) (sym is)
+    subst (λ e. IsUnderWay e (flows ++ flow ∷ [])
+    (written ++ message emitter.export_time emitter.sequence (body_of emitter.waiting))) (sym is)
     (record {
       parts = parts;
       started = way.started;
       whole = ap (λ fs. fs ++ flow ∷ []) shut.whole;
       begun = λ e. absurd (not_empty [] flow e);
-      filled = filled-next encode_flow emitter.size way.parts emitter.waiting flow (waiting-filled emitter.size way.parts emitter.waiting some way.filled) full (alone-fits emitter.size flow (omega arith));
+      filled = filled-next encode_flow emitter.size way.parts emitter.waiting flow
+          (waiting-filled emitter.size way.parts emitter.waiting some way.filled) full
+          (alone-fits emitter.size flow (omega arith));
       bytes = shut.bytes;
       sequence = mod_sum emitter.sequence (length emitter.waiting) (length (together way.parts)) way.sequence
           ∙ ap (λ n. n % 4294967296) (sym count ∙ ap length (sym (together-last way.parts emitter.waiting)));
@@ -198,7 +264,8 @@ under_way-next emitter after flows written flow room way full is =
     })
 
 -- a part of the message that was to be written begins every layout that goes on with the record
-pub begins-next : (emitter : EmitterState) (flows : List FlowRecord) (written : List ℕ) (flow : FlowRecord) (rest : List FlowRecord) (count : ℕ) → 116 ≤ emitter.size
+pub begins-next : (emitter : EmitterState) (flows : List FlowRecord) (written : List ℕ) (flow : FlowRecord)
+    (rest : List FlowRecord) (count : ℕ) → 116 ≤ emitter.size
     → IsUnderWay emitter flows written → emitter.size < message_length (emitter.waiting ++ flow ∷ [])
     → BeginsLayout emitter.size emitter.export_time (flows ++ flow ∷ rest)
     (written ++ take count (message emitter.export_time emitter.sequence (body_of emitter.waiting)))
@@ -206,28 +273,37 @@ begins-next emitter flows written flow rest count room way full =
     let shut = closed emitter flows written way in
     let some = some-wait emitter.size emitter.waiting flow (omega arith) full in
     let last = message emitter.export_time emitter.sequence (body_of emitter.waiting) in
-    subst (λ fs. BeginsLayout emitter.size emitter.export_time (fs ++ flow ∷ rest) (written ++ take count last)) shut.whole
-    (begins-parts emitter.size emitter.export_time (way.parts ++ emitter.waiting ∷ []) flow [] rest (written ++ take count last) (drop count last) (omega arith)
-    (filled-next encode_flow emitter.size way.parts emitter.waiting flow (waiting-filled emitter.size way.parts emitter.waiting some way.filled) full (alone-fits emitter.size flow (omega arith)))
-    (sym shut.bytes ∙ ap (λ bs. written ++ bs) (sym (take-append-drop count last)) ∙ sym (append_assoc written (take count last) (drop count last))))
+    subst (λ fs. BeginsLayout emitter.size emitter.export_time (fs ++ flow ∷ rest) (written ++ take count last))
+    shut.whole
+    (begins-parts emitter.size emitter.export_time (way.parts ++ emitter.waiting ∷ []) flow [] rest
+    (written ++ take count last) (drop count last) (omega arith)
+    (filled-next encode_flow emitter.size way.parts emitter.waiting flow
+    (waiting-filled emitter.size way.parts emitter.waiting some way.filled) full
+    (alone-fits emitter.size flow (omega arith)))
+    (sym shut.bytes ∙ ap (λ bs. written ++ bs) (sym (take-append-drop count last))
+    ∙ sym (append_assoc written (take count last) (drop count last))))
 
 -- the layout where no record waits
-pub finished-empty : (emitter : EmitterState) (flows : List FlowRecord) (written : List ℕ) → emitter.waiting ≡ [] → IsUnderWay emitter flows written
+pub finished-empty : (emitter : EmitterState) (flows : List FlowRecord) (written : List ℕ) → emitter.waiting ≡ []
+    → IsUnderWay emitter flows written
     → IsLayoutOf emitter.size emitter.export_time flows (written ++ []) emitter.messages
 finished-empty emitter flows written none way = record {
   layout = record {
     parts = way.parts;
     whole = sym (append-nil (together way.parts)) ∙ ap (λ fs. together way.parts ++ fs) (sym none) ∙ way.whole;
-    filled = subst (AreFilled emitter.size) (ap (λ fs. way.parts ++ waiting_part fs) none ∙ append-nil way.parts) way.filled;
+    filled = subst (AreFilled emitter.size) (ap (λ fs. way.parts ++ waiting_part fs) none ∙ append-nil way.parts)
+        way.filled;
     written = append-nil written ∙ way.bytes;
   };
   count = way.messages;
 }
 
 -- the layout behind the last message
-pub finished-last : (emitter : EmitterState) (flows : List FlowRecord) (written : List ℕ) (messages : ℕ) → 0 < length emitter.waiting → IsUnderWay emitter flows written
+pub finished-last : (emitter : EmitterState) (flows : List FlowRecord) (written : List ℕ) (messages : ℕ)
+    → 0 < length emitter.waiting → IsUnderWay emitter flows written
     → messages ≡ min (emitter.messages + 1) (2 ^ 64 - 1)
-    → IsLayoutOf emitter.size emitter.export_time flows (written ++ message emitter.export_time emitter.sequence (body_of emitter.waiting)) messages
+    → IsLayoutOf emitter.size emitter.export_time flows
+    (written ++ message emitter.export_time emitter.sequence (body_of emitter.waiting)) messages
 finished-last emitter flows written messages some way counted =
     let shut = closed emitter flows written way in
     record {
@@ -241,8 +317,10 @@ finished-last emitter flows written messages some way counted =
     }
 
 -- a part of the last message begins the layout
-pub begins-last : (emitter : EmitterState) (flows : List FlowRecord) (written : List ℕ) (count : ℕ) → 0 < length emitter.waiting → IsUnderWay emitter flows written
-    → BeginsLayout emitter.size emitter.export_time flows (written ++ take count (message emitter.export_time emitter.sequence (body_of emitter.waiting)))
+pub begins-last : (emitter : EmitterState) (flows : List FlowRecord) (written : List ℕ) (count : ℕ)
+    → 0 < length emitter.waiting → IsUnderWay emitter flows written
+    → BeginsLayout emitter.size emitter.export_time flows
+    (written ++ take count (message emitter.export_time emitter.sequence (body_of emitter.waiting)))
 begins-last emitter flows written count some way =
     let shut = closed emitter flows written way in
     let last = message emitter.export_time emitter.sequence (body_of emitter.waiting) in
@@ -255,7 +333,8 @@ begins-last emitter flows written count some way =
         filled = waiting-filled emitter.size way.parts emitter.waiting some way.filled;
         written = shut.bytes;
       };
-      begins = ap (λ bs. written ++ bs) (sym (take-append-drop count last)) ∙ sym (append_assoc written (take count last) (drop count last));
+      begins = ap (λ bs. written ++ bs) (sym (take-append-drop count last))
+          ∙ sym (append_assoc written (take count last) (drop count last));
     }
 
 -- a list whose length tests as 0 is empty
@@ -264,20 +343,25 @@ is_nil [] count counted test = refl
 is_nil (flow ∷ flows) count counted test = absurd (omega (arith, counted, eqb-true count 0 test))
 
 -- a list whose length doesn't test as 0 has an element
-pub some-left : (flows waiting : List FlowRecord) (count : ℕ) → length flows ≡ count → (count == 0) ≡ false → flows ≡ waiting → 0 < length waiting
+pub some-left : (flows waiting : List FlowRecord) (count : ℕ) → length flows ≡ count → (count == 0) ≡ false
+    → flows ≡ waiting → 0 < length waiting
 some-left [] waiting count counted test is = absurd (differ (sym (eq-eqb count 0 (sym counted)) ∙ test))
 some-left (flow ∷ flows) waiting count counted test is = omega (arith, ap length is)
 
 -- records up to a place, the one there, and those behind it
-pub taken-one : (records : List FlowRecord) (i : ℕ) (flow : FlowRecord) → i < length records → flow ≡ get_or records i flow
+pub taken-one : (records : List FlowRecord) (i : ℕ) (flow : FlowRecord) → i < length records
+    → flow ≡ get_or records i flow
     → take i records ++ flow ∷ [] ≡ take (i + 1) records
 taken-one records i flow inside is =
-    ap (λ f. take i records ++ f ∷ []) is ∙ sym (take-suc records i flow inside) ∙ ap (λ n. take n records) (sym (add-one i))
+    ap (λ f. take i records ++ f ∷ []) is ∙ sym (take-suc records i flow inside)
+    ∙ ap (λ n. take n records) (sym (add-one i))
 
-pub records-split : (records : List FlowRecord) (i : ℕ) (flow : FlowRecord) → i < length records → flow ≡ get_or records i flow
+pub records-split : (records : List FlowRecord) (i : ℕ) (flow : FlowRecord) → i < length records
+    → flow ≡ get_or records i flow
     → take i records ++ flow ∷ drop (i + 1) records ≡ records
 records-split records i flow inside is =
-    ap (λ fs. take i records ++ fs) (ap (λ n. flow ∷ drop n records) (add-one i) ∙ ap (λ f. f ∷ drop (suc i) records) is ∙ sym (drop-cons records i flow inside))
+    ap (λ fs. take i records ++ fs) (ap (λ n. flow ∷ drop n records) (add-one i) ∙ ap (λ f. f ∷ drop (suc i) records) is
+    ∙ sym (drop-cons records i flow inside))
     ∙ take-append-drop i records
 
 pub all-taken : (records : List FlowRecord) (i : ℕ) → length records ≤ i → take i records ≡ records

@@ -1,5 +1,6 @@
 -- What contracts see of an emitter between its calls; and, the code's own, what it keeps of its fields.
-use Rattle.std.specs.Prelude.{◌≡◌, ℕ, ◌<◌, ◌≤◌, ◌/◌, ◌+◌, ◌-◌, ◌%◌, ◌^◌, ◌==◌, if◌then◌else◌, min, List, [], ◌∷◌, ◌++◌, length, Option, Some, None}
+use Rattle.std.specs.Prelude.{◌≡◌, ℕ, ◌<◌, ◌≤◌, ◌/◌, ◌+◌, ◌-◌, ◌%◌, ◌^◌, ◌==◌, if◌then◌else◌, min, List, [], ◌∷◌, ◌++◌}
+use Rattle.std.specs.Prelude.{length, Option, Some, None}
 use Rattle.record_ledger.specs.declared.record.FlowRecord.{FlowRecord}
 use Rattle.ipfix_writer.specs.declared.emitter.Phase.{Phase}
 use Rattle.ipfix_writer.specs.declared.emitter.Phase.TheVariants.{Fresh, Started}
@@ -27,8 +28,8 @@ last_template encode [] = None
 last_template encode (x ∷ []) = Some (encode x).template
 last_template encode (x ∷ (next ∷ xs)) = last_template encode (next ∷ xs)
 
--- The code's own: the length of a set header in front of a record of this template, where the record before has that one, or there is
--- none.
+-- The code's own: the length of a set header in front of a record of this template, where the record before has that
+-- one, or there is none.
 abbrev pub header_before : Option ℕ → ℕ → ℕ
 header_before None template = 4
 header_before (Some last) template = if last == template then 0 else 4
@@ -44,9 +45,10 @@ pub record IsUnderWay (emitter : EmitterState) (flows : List FlowRecord) (writte
   pub sequence : emitter.sequence ≡ length (together parts) % 2 ^ 32
   pub messages : emitter.messages ≡ min (1 + length parts) (2 ^ 64 - 1)
 
--- The code's own: what an emitter keeps of its fields: the room for a message and its records, the length of the message that waits,
--- and the template of its last record.
-pub record EmitterKeeps (size : ℕ) (phase : Phase) (waiting : List FlowRecord) (sequence messages length_of_message : ℕ) (template : Option ℕ)
+-- The code's own: what an emitter keeps of its fields: the room for a message and its records, the length of the
+-- message that waits, and the template of its last record.
+pub record EmitterKeeps (size : ℕ) (phase : Phase) (waiting : List FlowRecord) (sequence messages length_of_message : ℕ)
+    (template : Option ℕ)
     (room_of_bytes room_of_records : ℕ) : Type 0 where
   pub least : 116 ≤ size
   pub most : size < 2 ^ 16

@@ -22,11 +22,12 @@ message export_time sequence sets =
 unfoldable pub set : ℕ → List ℕ → List ℕ
 set number records = octets_of 2 number ++ (octets_of 2 (4 + length records) ++ records)
 
--- A field specifier: the element and the length of its values. That of an enterprise's element has its upper bit set, and
--- the enterprise number behind it (section 3.2).
+-- A field specifier: the element and the length of its values. That of an enterprise's element has its upper bit set,
+-- and the enterprise number behind it (section 3.2).
 abbrev pub specifier_in : Option ℕ → ℕ → ℕ → List ℕ
 specifier_in None element size = octets_of 2 element ++ octets_of 2 size
-specifier_in (Some enterprise) element size = octets_of 2 (32768 + element) ++ (octets_of 2 size ++ octets_of 4 enterprise)
+specifier_in (Some enterprise) element size =
+    octets_of 2 (32768 + element) ++ (octets_of 2 size ++ octets_of 4 enterprise)
 
 unfoldable pub field_specifier : FieldSpec → List ℕ
 field_specifier field = specifier_in field.enterprise field.element field.length

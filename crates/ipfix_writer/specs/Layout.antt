@@ -1,6 +1,7 @@
--- The layout of records as a stream of messages. It is said for anything that is written as data records: `encode` tells
--- the template and the bytes of one; `encode_flow` is that of flow records.
-use Rattle.std.specs.Prelude.{◌≡◌, ℕ, ◌+◌, ◌%◌, ◌^◌, ◌-◌, min, ◌<◌, ◌≤◌, ◌==◌, if◌then◌else◌, List, [], ◌∷◌, ◌++◌, length, take, flat_map}
+-- The layout of records as a stream of messages. It is said for anything that is written as data records: `encode`
+-- tells the template and the bytes of one; `encode_flow` is that of flow records.
+use Rattle.std.specs.Prelude.{◌≡◌, ℕ, ◌+◌, ◌%◌, ◌^◌, ◌-◌, min, ◌<◌, ◌≤◌, ◌==◌, if◌then◌else◌, List, [], ◌∷◌, ◌++◌}
+use Rattle.std.specs.Prelude.{length, take, flat_map}
 use Rattle.record_ledger.specs.declared.record.FlowRecord.{FlowRecord}
 use Rattle.ipfix_model.specs.Templates.{template_of}
 use Rattle.ipfix_writer.specs.Encoding.{message, set, template_message, data_record}
@@ -52,7 +53,8 @@ AreFilledBy encode size (xs ∷ (next ∷ rest)) =
 unfoldable pub messages_in : {A : Type 0} → (A → RecordSet) → ℕ → ℕ → List (List A) → List ℕ
 messages_in encode export_time before [] = []
 messages_in encode export_time before (xs ∷ rest) =
-    message export_time (before % 2 ^ 32) (body_in encode xs) ++ messages_in encode export_time (before + length xs) rest
+    message export_time (before % 2 ^ 32) (body_in encode xs)
+    ++ messages_in encode export_time (before + length xs) rest
 
 -- Lists put together.
 abbrev pub together : {A : Type 0} → List (List A) → List A
@@ -60,7 +62,8 @@ together parts = flat_map (λ part. part) parts
 
 -- The bytes are the stream of these records behind a first message: data messages, each with the longest prefix of the
 -- records still left whose message is at most `size` bytes long.
-pub record IsStream {A : Type 0} (encode : A → RecordSet) (size export_time : ℕ) (first : List ℕ) (xs : List A) (bytes : List ℕ) : Type 0 where
+pub record IsStream {A : Type 0} (encode : A → RecordSet) (size export_time : ℕ) (first : List ℕ) (xs : List A)
+    (bytes : List ℕ) : Type 0 where
   pub parts : List (List A)
   pub whole : together parts ≡ xs
   pub filled : AreFilledBy encode size parts

@@ -60,7 +60,8 @@ fn append_set<R: Encode>(buffer: &mut Vec<u8>, records: &[R]) -> usize
     requires room { length buffer.old.items + length (body_in R.encode records.now) ≤ vec_capacity buffer.old }
     requires small { length (body_in R.encode records.now) < 2 ^ 16 }
     ensures count { (0 < result) × (result ≤ length records.now) }
-    ensures items { buffer.new.items ++ body_in R.encode (drop result records.now) ≡ buffer.old.items ++ body_in R.encode records.now }
+    ensures items { buffer.new.items ++ body_in R.encode (drop result records.now) ≡ buffer.old.items
+        ++ body_in R.encode records.now }
     ensures longer { length buffer.old.items ≤ length buffer.new.items }
     ensures room { vec_capacity buffer.old ≤ vec_capacity buffer.new }
 {

@@ -1,6 +1,7 @@
 //! The emitter, which writes messages as the records come.
 
-ghost use Rattle.std.specs.Prelude.{◌≡◌, ◌≢◌, ◌+◌, ◌-◌, ◌≤◌, ◌<◌, ◌^◌, ◌%◌, ◌*◌, ◌/◌, min, [], ◌∷◌, ◌++◌, List, ℕ, length, take, IfOk, OnOk, OnErr};
+ghost use Rattle.std.specs.Prelude.{◌≡◌, ◌≢◌, ◌+◌, ◌-◌, ◌≤◌, ◌<◌, ◌^◌, ◌%◌, ◌*◌, ◌/◌, min, [], ◌∷◌, ◌++◌, List, ℕ};
+ghost use Rattle.std.specs.Prelude.{length, take, IfOk, OnOk, OnErr};
 ghost use Rattle.std.specs.Io.KnownBytes.{Appends};
 ghost use Rattle.std.specs.Vec.{vec_capacity};
 ghost use Rattle.meter_io.specs.Causes.{HasCause};
@@ -76,7 +77,8 @@ impl Model for Emitter {
       messages = e.messages;
     } };
 
-    ghost invariant = { λ e. EmitterKeeps e.size e.phase e.waiting.items e.sequence e.messages e.length e.template (vec_capacity e.buffer) (vec_capacity e.waiting) };
+    ghost invariant = { λ e. EmitterKeeps e.size e.phase e.waiting.items e.sequence e.messages e.length e.template
+        (vec_capacity e.buffer) (vec_capacity e.waiting) };
 }
 
 impl Emitter {
@@ -90,7 +92,14 @@ impl Emitter {
     /// `NoMemory` where the room for one message can't be had.
     pub fn open(alloc: Global, size: usize, export_time: u32) -> Result<Emitter, NoMemory>
         requires { (116 ≤ size) × (size < 2 ^ 16) }
-        ensures { IfOk result (λ emitter. emitter ≡ record { size = size; export_time = export_time; phase = Phase.Fresh; waiting = []; sequence = 0; messages = 0 }) }
+        ensures { IfOk result (λ emitter. emitter ≡ record {
+          size = size;
+          export_time = export_time;
+          phase = Phase.Fresh;
+          waiting = [];
+          sequence = 0;
+          messages = 0;
+        }) }
     {
         let buffer = Vec::with_capacity(alloc, size)?;
         let waiting = Vec::with_capacity(alloc, size / LEAST_RECORD)?;
@@ -110,7 +119,8 @@ impl Emitter {
     /// Writes the message with the templates.
     pub fn start<K: Sink>(&mut self, sink: &mut K) -> Result<(), Failed>
         requires { self.old.phase ≡ Phase.Fresh }
-        ensures started { OnOk result ((bytes : List ℕ) × Appends (K.held sink.old) (K.held sink.new) bytes × IsUnderWay self.new [] bytes) }
+        ensures started { OnOk result ((bytes : List ℕ) × Appends (K.held sink.old) (K.held sink.new) bytes
+            × IsUnderWay self.new [] bytes) }
         ensures broken { OnErr result ((bytes : List ℕ) × Appends (K.held sink.old) (K.held sink.new) bytes
             × ((flows : List FlowRecord) → BeginsLayout self.old.size self.old.export_time flows bytes)) }
         ensures settings { (self.new.size ≡ self.old.size) × (self.new.export_time ≡ self.old.export_time) }
@@ -153,7 +163,9 @@ impl Emitter {
     /// Writes the message of the records that wait.
     fn flush<K: Sink>(&mut self, sink: &mut K) -> Result<(), Failed>
         requires { self.old.phase ≡ Phase.Started }
-        ensures written { OnOk result (Appends (K.held sink.old) (K.held sink.new) (message self.old.export_time self.old.sequence (body_of self.old.waiting))) }
+        ensures written { OnOk result
+            (Appends (K.held sink.old) (K.held sink.new)
+            (message self.old.export_time self.old.sequence (body_of self.old.waiting))) }
         ensures after { OnOk result (self.new ≡ record self.old {
           waiting = [];
           sequence = (self.old.sequence + length self.old.waiting) % 2 ^ 32;
@@ -192,10 +204,12 @@ impl Emitter {
     pub fn record<K: Sink>(&mut self, flow: &FlowRecord, sink: &mut K) -> Result<(), Failed>
         requires { self.old.phase ≡ Phase.Started }
         ensures taken { OnOk result ((flows : List FlowRecord) (written : List ℕ) → IsUnderWay self.old flows written
-            → (bytes : List ℕ) × Appends (K.held sink.old) (K.held sink.new) bytes × IsUnderWay self.new (flows ++ flow.now ∷ []) (written ++ bytes)) }
+            → (bytes : List ℕ) × Appends (K.held sink.old) (K.held sink.new) bytes
+            × IsUnderWay self.new (flows ++ flow.now ∷ []) (written ++ bytes)) }
         ensures broken { OnErr result ((flows : List FlowRecord) (written : List ℕ) → IsUnderWay self.old flows written
             → (bytes : List ℕ) × Appends (K.held sink.old) (K.held sink.new) bytes
-            × ((rest : List FlowRecord) → BeginsLayout self.old.size self.old.export_time (flows ++ flow.now ∷ rest) (written ++ bytes))) }
+            × ((rest : List FlowRecord) → BeginsLayout self.old.size self.old.export_time (flows ++ flow.now ∷ rest)
+            (written ++ bytes))) }
         ensures settings { (self.new.size ≡ self.old.size) × (self.new.export_time ≡ self.old.export_time) }
         ensures started { OnOk result (self.new.phase ≡ Phase.Started) }
         ensures phase { OnErr result (self.new.phase ≡ Phase.Broken) }
@@ -219,11 +233,13 @@ impl Emitter {
     /// Writes the records that wait, and tells how many messages were written, the one with the templates among them.
     pub fn finish<K: Sink>(mut self, sink: &mut K) -> Result<u64, Failed>
         requires { self.phase ≡ Phase.Started }
-        ensures finished { IfOk result (λ messages. (flows : List FlowRecord) (written : List ℕ) → IsUnderWay self flows written
+        ensures finished { IfOk result (λ messages. (flows : List FlowRecord) (written : List ℕ)
+            → IsUnderWay self flows written
             → (bytes : List ℕ) × Appends (K.held sink.old) (K.held sink.new) bytes
             × IsLayoutOf self.size self.export_time flows (written ++ bytes) messages) }
         ensures broken { OnErr result ((flows : List FlowRecord) (written : List ℕ) → IsUnderWay self flows written
-            → (bytes : List ℕ) × Appends (K.held sink.old) (K.held sink.new) bytes × BeginsLayout self.size self.export_time flows (written ++ bytes)) }
+            → (bytes : List ℕ) × Appends (K.held sink.old) (K.held sink.new) bytes
+            × BeginsLayout self.size self.export_time flows (written ++ bytes)) }
         ensures cause { HasCause (K.faults sink.old) (K.faults sink.new) result }
     {
         if self.waiting.is_empty() {

@@ -57,8 +57,10 @@ fn append_message<R: Encode>(
     requires alone { (one : R) → length_in R.encode (one ∷ []) ≤ size }
     ensures some { IfOk result (λ count. (0 < count) × (count ≤ length records.now)) }
     ensures fits { IfOk result (λ count. length_in R.encode (take count records.now) ≤ size) }
-    ensures full { IfOk result (λ count. count < length records.now → size < length_in R.encode (take (count + 1) records.now)) }
-    ensures items { IfOk result (λ count. stream.new.items ≡ stream.old.items ++ message export_time sequence (body_in R.encode (take count records.now))) }
+    ensures full { IfOk result (λ count. count < length records.now
+        → size < length_in R.encode (take (count + 1) records.now)) }
+    ensures items { IfOk result (λ count. stream.new.items ≡ stream.old.items
+        ++ message export_time sequence (body_in R.encode (take count records.now))) }
     ensures room { vec_capacity buffer.old ≤ vec_capacity buffer.new }
 {
     let (count, filled) = first_message(records, size);

@@ -65,7 +65,8 @@ impl Sink for Growing {
     }
 }
 
-/// The stream of these records: messages of at most `size` octets, from 116 to 65,535, with this export time in seconds.
+/// The stream of these records: messages of at most `size` octets, from 116 to 65,535, with this export time in
+/// seconds.
 ///
 /// `NoMemory` where the room for it can't be had.
 pub fn layout(

@@ -11,12 +11,16 @@ use Rattle.meter_program.specs.Outcome.{IsTested}
 
 -- Nothing cuts a session of a made capture, where the active time-out is 1000 s at least.
 abbrev pub NothingCuts : Type 0
-NothingCuts = (seed packets keys : ℕ) (file : CaptureFile) (limits : Timeouts) (sessions : List (List Packet)) → packets ≤ 1000000
-    → capture_file (capture_of seed packets keys) ≡ Some file → 1000000 ≤ limits.active → IsSessions limits.idle (packets_of file) sessions
+NothingCuts = (seed packets keys : ℕ) (file : CaptureFile) (limits : Timeouts) (sessions : List (List Packet))
+    → packets ≤ 1000000
+    → capture_file (capture_of seed packets keys) ≡ Some file → 1000000 ≤ limits.active
+    → IsSessions limits.idle (packets_of file) sessions
     → All (IsUncut limits) sessions
 
 -- The records that a self test sums up are those of the sessions of its capture.
 abbrev pub TestsAreOne : Type 0
-TestsAreOne = (seed packets keys : ℕ) (metered : List Fragment) (written noted : List ℕ) (tested : IsTested seed packets keys metered written noted)
-    (sessions : List (List Packet)) → packets ≤ 1000000 → IsSessions tested.is_metered.limits.idle (packets_of tested.is_metered.file) sessions
+TestsAreOne = (seed packets keys : ℕ) (metered : List Fragment) (written noted : List ℕ)
+    (tested : IsTested seed packets keys metered written noted)
+    (sessions : List (List Packet)) → packets ≤ 1000000
+    → IsSessions tested.is_metered.limits.idle (packets_of tested.is_metered.file) sessions
     → AreRecordsOf tested.is_metered.limits (packets_of tested.is_metered.file) sessions tested.is_metered.records

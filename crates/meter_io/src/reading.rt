@@ -28,12 +28,15 @@ const CHUNK: usize = 65_536;
 /// - `TooLarge`: exactly where more than `limit` bytes came, after `limit + 1` were taken.
 /// - `NoMemory`: out of memory, after at most `limit + 1` bytes were taken.
 pub fn read_all<S: Source>(alloc: Global, source: &mut S, limit: u64) -> Result<Vec<u8>, ReadError>
-    ensures all { IfOk result (λ bytes. Consumes (S.left source.old) (S.left source.new) bytes.items × IsAtEnd (S.left source.new)) }
+    ensures all { IfOk result (λ bytes. Consumes (S.left source.old) (S.left source.new) bytes.items
+        × IsAtEnd (S.left source.new)) }
     ensures within { IfOk result (λ bytes. length bytes.items ≤ limit) }
     ensures failed { IsErrOf result ReadError.Failed → Rose (S.faults source.old) (S.faults source.new) }
-    ensures failed_within { IsErrOf result ReadError.Failed → TakesAtMost limit (S.left source.old) (S.left source.new) }
+    ensures failed_within { IsErrOf result ReadError.Failed
+        → TakesAtMost limit (S.left source.old) (S.left source.new) }
     ensures large { IsErrOf result ReadError.TooLarge → Takes (limit + 1) (S.left source.old) (S.left source.new) }
-    ensures memory_within { IsErrOf result ReadError.NoMemory → TakesAtMost (limit + 1) (S.left source.old) (S.left source.new) }
+    ensures memory_within { IsErrOf result ReadError.NoMemory
+        → TakesAtMost (limit + 1) (S.left source.old) (S.left source.new) }
     ensures quiet { IsErrOf result ReadError.Failed ⊎ (S.faults source.new ≡ S.faults source.old) }
     ensures later { S.faults source.old ≤ S.faults source.new }
 {

@@ -71,7 +71,14 @@ impl<'a> MemSink<'a> {
         fails: &'a [u64],
     ) -> Result<MemSink<'a>, NoMemory>
         requires { 0 < piece }
-        ensures { IfOk result (λ sink. sink ≡ record { held = []; room = room; piece = piece; fails = fails.now; calls = 0; faults = 0 }) }
+        ensures { IfOk result (λ sink. sink ≡ record {
+          held = [];
+          room = room;
+          piece = piece;
+          fails = fails.now;
+          calls = 0;
+          faults = 0;
+        }) }
     {
         let held = Vec::with_capacity(alloc, room)?;
         Ok(MemSink {
@@ -104,10 +111,12 @@ impl<'a> Sink for MemSink<'a> {
         ensures bytes { WriteAppends (Some self.old.held) (Some self.new.held) result piece.now }
         ensures cause { HasCause self.old.faults self.new.faults result }
         ensures counted { CountsCall self.old.faults self.new.faults result }
-        ensures fails { IsErr result ↔ (Contains self.old.fails (next_call self.old.calls) ⊎ (length self.old.held ≡ self.old.room)) }
+        ensures fails { IsErr result
+            ↔ (Contains self.old.fails (next_call self.old.calls) ⊎ (length self.old.held ≡ self.old.room)) }
         ensures taken { IfOk result (λ count. count ≡ taken self.old (length piece.now)) }
         ensures calls { self.new.calls ≡ next_call self.old.calls }
-        ensures settings { (self.new.room ≡ self.old.room) × (self.new.piece ≡ self.old.piece) × (self.new.fails ≡ self.old.fails) }
+        ensures settings { (self.new.room ≡ self.old.room) × (self.new.piece ≡ self.old.piece)
+            × (self.new.fails ≡ self.old.fails) }
     {
         self.calls = self.calls.saturating_add(1);
         let call = self.calls;

@@ -32,8 +32,8 @@ pub trait Source {
 
 /// Bytes in memory as a source, for tests and for runs in memory.
 ///
-/// A call gives at most `piece` bytes. The k-th call, counted from 1, fails where `fails` holds k. The count of faults is
-/// the number of failed calls.
+/// A call gives at most `piece` bytes. The k-th call, counted from 1, fails where `fails` holds k. The count of faults
+/// is the number of failed calls.
 #[derive(Drop)]
 pub struct MemSource<'a> {
     bytes: &'a [u8],
@@ -46,7 +46,14 @@ pub struct MemSource<'a> {
 impl<'a> Model for MemSource<'a> {
     ghost Value = { SourceState };
 
-    ghost view = { λ s. record { left = s.bytes.now; piece = s.piece; fails = s.fails.now; calls = s.calls; faults = s.faults } };
+    ghost view = { λ s. record {
+      left = s.bytes.now;
+      piece = s.piece;
+      fails = s.fails.now;
+      calls = s.calls;
+      faults =
+          s.faults;
+    } };
 
     ghost invariant = { λ s. 0 < s.piece };
 }

@@ -11,7 +11,8 @@ use crate::{Failed, Sink};
 /// `Failed` comes only where the sink's count of faults rose; the sink then took a prefix of the piece.
 pub fn write_all<K: Sink>(sink: &mut K, piece: &[u8]) -> Result<(), Failed>
     ensures whole { OnOk result (Appends (K.held sink.old) (K.held sink.new) piece.now) }
-    ensures prefix { OnErr result ((count : ℕ) × (count ≤ length piece.now) × Appends (K.held sink.old) (K.held sink.new) (take count piece.now)) }
+    ensures prefix { OnErr result ((count : ℕ) × (count ≤ length piece.now)
+        × Appends (K.held sink.old) (K.held sink.new) (take count piece.now)) }
     ensures cause { HasCause (K.faults sink.old) (K.faults sink.new) result }
 {
     let mut done = 0;

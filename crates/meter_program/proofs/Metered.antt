@@ -13,13 +13,16 @@ use Rattle.meter_io.specs.Sides.{Side}
 use Rattle.capture_input.specs.Refusals.{IsRefused}
 use Rattle.meter_workers.specs.Windows.{IsMeteredWhole}
 use Rattle.capture_input.specs.declared.fault.MeterFault.{MeterFault}
-use Rattle.capture_input.specs.declared.fault.MeterFault.TheVariants.{Failed as SourceFailed, TooLarge as MoreBytes, NotCapture as NoHeader, LinkUnknown as OtherLink, Damaged as DamagedAt, NoMemory as NoRoom}
+use Rattle.capture_input.specs.declared.fault.MeterFault.TheVariants.{Failed as SourceFailed, TooLarge as MoreBytes}
+use Rattle.capture_input.specs.declared.fault.MeterFault.TheVariants.{NotCapture as NoHeader, LinkUnknown as OtherLink}
+use Rattle.capture_input.specs.declared.fault.MeterFault.TheVariants.{Damaged as DamagedAt, NoMemory as NoRoom}
 use Rattle.meter_program.specs.declared.status.Status.{Status}
 use Rattle.meter_program.specs.Metering.{AreGathered, IsKept, IsReadAndKept, IsGathered, status_for}
 use Rattle.meter_program.specs.Outcome.{MeterRefuses}
 
 -- the fragments that a cache kept share out the packets of the file, in whatever order these were metered
-pub read-and-kept : (input : Side) (means limits : Timeouts) (packets : List Packet) (metered : List Fragment) (tally : Tally) (tail : ℕ) → StandsPermuted
+pub read-and-kept : (input : Side) (means limits : Timeouts) (packets : List Packet) (metered : List Fragment)
+    (tally : Tally) (tail : ℕ) → StandsPermuted
     → means ≡ limits → IsMeteredWhole input (2 ^ 30) packets tally tail → SharesOut means packets metered
     → IsReadAndKept input limits metered tally tail
 read-and-kept input means limits packets metered tally tail permuted same whole shared = record {
@@ -30,7 +33,8 @@ read-and-kept input means limits packets metered tally tail permuted same whole 
     is_file = whole.is_file;
     known = whole.known;
     undamaged = whole.undamaged;
-    shared = permuted limits packets (packets_of whole.file) metered metered (IsPermutation-sym (packets_of whole.file) packets whole.packets)
+    shared = permuted limits packets (packets_of whole.file) metered metered
+        (IsPermutation-sym (packets_of whole.file) packets whole.packets)
         (IsPermutation-refl metered) (subst (λ (t : Timeouts). SharesOut t packets metered) same shared);
     tally_is = whole.tallied;
     tail_is = whole.tail_is;
@@ -38,7 +42,8 @@ read-and-kept input means limits packets metered tally tail permuted same whole 
 }
 
 -- each fault of metering is its status
-pub refused-for : (input : Side) (fault : MeterFault) (status : Status) → status ≡ status_for fault → IsRefused input (2 ^ 30) fault → MeterRefuses input status
+pub refused-for : (input : Side) (fault : MeterFault) (status : Status) → status ≡ status_for fault
+    → IsRefused input (2 ^ 30) fault → MeterRefuses input status
 refused-for input SourceFailed status is h = subst (MeterRefuses input) (sym is) h
 refused-for input MoreBytes status is h = subst (MeterRefuses input) (sym is) h
 refused-for input NoHeader status is h = subst (MeterRefuses input) (sym is) h
@@ -49,13 +54,15 @@ refused-for input NoRoom status is h = subst (MeterRefuses input) (sym is) tt
 -- the fragments have as many packets and octets as the tally
 pub counts-are : (limits : Timeouts) (capture : List ℕ) (metered : List Fragment) (tally : Tally) (tail : ℕ) → CountsAll
     → IsKept limits capture metered tally tail
-    → (sum_by (λ (f : Fragment). f.packets) metered ≡ tally.accepted) × (sum_by (λ (f : Fragment). f.octets) metered ≡ tally.octets)
+    → (sum_by (λ (f : Fragment). f.packets) metered ≡ tally.accepted)
+    × (sum_by (λ (f : Fragment). f.octets) metered ≡ tally.octets)
 counts-are limits capture metered tally tail counts kept =
     let all = counts limits (packets_of kept.file) metered kept.shared in
     (all.0 ∙ sym kept.tally_is.accepted, all.1 ∙ sym kept.tally_is.octets)
 
 -- the records that were gathered of them
-pub gathered : (idle active : ℕ) (limits : Timeouts) (capture : List ℕ) (metered : List Fragment) (records : List FlowRecord) (tally : Tally) (tail : ℕ)
+pub gathered : (idle active : ℕ) (limits : Timeouts) (capture : List ℕ) (metered : List Fragment)
+    (records : List FlowRecord) (tally : Tally) (tail : ℕ)
     → limits.idle ≡ 1000 * idle → limits.active ≡ 1000 * active → IsKept limits capture metered tally tail
     → AreGathered limits metered tally.clock records → IsGathered idle active capture metered records tally tail
 gathered idle active limits capture metered records tally tail idle_is active_is kept are = record {

@@ -1,12 +1,14 @@
 -- The place of the first step that isn't enabled is one of the steps.
-use Rattle.std.proofs.Common.{◌≡◌, ◌<◌, ℕ, suc, Bool, true, false, cond, refl, arith, List, [], ◌∷◌, length, Option, Some, None}
+use Rattle.std.proofs.Common.{◌≡◌, ◌<◌, ℕ, suc, Bool, true, false, cond, refl, arith, List, [], ◌∷◌, length, Option}
+use Rattle.std.proofs.Common.{Some, None}
 use Rattle.std.specs.Prelude.{option_map}
 use Rattle.pebr_core.specs.State.{State}
 use Rattle.pebr_core.specs.Steps.{is_enabled, after}
 use Rattle.pebr_core.specs.Runs.{first_refused}
 use Rattle.pebr_core.specs.declared.kinds.Step.{Step}
 
-later-place : (found : Option ℕ) (place : ℕ) → option_map (λ p. suc p) found ≡ Some place → (p : ℕ) × (found ≡ Some p) × (place ≡ suc p)
+later-place : (found : Option ℕ) (place : ℕ) → option_map (λ p. suc p) found ≡ Some place
+    → (p : ℕ) × (found ≡ Some p) × (place ≡ suc p)
 later-place None place is = absurd (cc)
 later-place (Some p) place is = (p, refl, cc)
 
@@ -19,7 +21,9 @@ place-step true found count place within is =
 place-step false found count place within is =
     let same : 0 ≡ place = cc in omega (arith, same)
 
-pub refused-within : (state : State) (steps : List Step) (place : ℕ) → first_refused state steps ≡ Some place → place < length steps
+pub refused-within : (state : State) (steps : List Step) (place : ℕ) → first_refused state steps ≡ Some place
+    → place < length steps
 refused-within state [] place is = absurd (cc)
 refused-within state (step ∷ steps) place is =
-    place-step (is_enabled state step) (first_refused (after state step) steps) (length steps) place (refused-within (after state step) steps) is
+    place-step (is_enabled state step) (first_refused (after state step) steps) (length steps) place
+    (refused-within (after state step) steps) is

@@ -17,12 +17,15 @@ use Rattle.ipfix_model.specs.declared.values.DataRecord.{DataRecord}
 use Rattle.ipfix_reader.specs.Messages.{decode}
 use Rattle.ipfix_reader.specs.Flows.{flows_of}
 use Rattle.meter_program.specs.declared.status.Status.{Status}
-use Rattle.meter_program.specs.declared.status.Status.TheVariants.{Done, ReadFault, WriteFault, NotCapture, LinkUnknown, Damaged, TooLarge, NoMemory, Usage, NotStream, BadSchedule}
+use Rattle.meter_program.specs.declared.status.Status.TheVariants.{Done, ReadFault, WriteFault, NotCapture, LinkUnknown}
+use Rattle.meter_program.specs.declared.status.Status.TheVariants.{Damaged, TooLarge, NoMemory, Usage, NotStream}
+use Rattle.meter_program.specs.declared.status.Status.TheVariants.{BadSchedule}
 use Rattle.meter_program.specs.Gathering.{export_time}
 use Rattle.meter_program.specs.Shows.{text_of}
 use Rattle.meter_program.specs.Summary.{count_line, summary}
 use Rattle.meter_program.specs.Statuses.{fault_line}
-use Rattle.meter_io.specs.Sides.{Side, IsRead, IsTooLarge, IsBroken, IsWrong, IsUntouched, HasTaken, HasBegun, HasTakenOrFailed, HasFailed}
+use Rattle.meter_io.specs.Sides.{Side, IsRead, IsTooLarge, IsBroken, IsWrong, IsUntouched, HasTaken, HasBegun}
+use Rattle.meter_io.specs.Sides.{HasTakenOrFailed, HasFailed}
 use Rattle.meter_program.specs.Seen.{Seen}
 use Rattle.meter_program.specs.Words.{Asked, meter, show, make, schedule, selftest}
 use Rattle.meter_program.specs.Replays.{bad_line, replay_text}
@@ -33,8 +36,8 @@ use Rattle.schedule_text.specs.Grammar.{schedule_of}
 
 -- ---- what a command reads
 
--- The input was read to its end, at most 2^30 bytes of a capture, 2^26 of a stream, 2^20 of a schedule. `make` and `selftest`
--- read nothing.
+-- The input was read to its end, at most 2^30 bytes of a capture, 2^26 of a stream, 2^20 of a schedule. `make` and
+-- `selftest` read nothing.
 abbrev pub HasRead : Asked → Side → List ℕ → Type 0
 HasRead (meter idle active workers sets piece size) input bytes = IsRead input (2 ^ 30) bytes
 HasRead show input bytes = IsRead input (2 ^ 26) bytes
@@ -46,9 +49,11 @@ HasRead (selftest seed packets keys) input bytes = IsUntouched input × (bytes �
 
 -- The bytes are an undamaged capture, of which these records are lawful: they partition its accepted packets, by these
 -- time-outs. They regroup the fragments that the cache kept and handed out, and where nothing cuts the sessions of the
--- packets, they are the records of the sessions. What is written is their layout, in messages of at most so many octets, and it
--- decodes to them; the export time is the time of the latest packet in whole seconds. What is noted is the summary.
-pub record IsMetered (idle_seconds active_seconds size : ℕ) (metered : List Fragment) (capture written noted : List ℕ) : Type 0 where
+-- packets, they are the records of the sessions. What is written is their layout, in messages of at most so many
+-- octets, and it decodes to them; the export time is the time of the latest packet in whole seconds. What is noted is
+-- the summary.
+pub record IsMetered (idle_seconds active_seconds size : ℕ) (metered : List Fragment)
+    (capture written noted : List ℕ) : Type 0 where
   pub file : CaptureFile
   pub is_file : capture_file capture ≡ Some file
   pub known : IsKnownLink file.link
@@ -59,7 +64,8 @@ pub record IsMetered (idle_seconds active_seconds size : ℕ) (metered : List Fr
   pub records : List FlowRecord
   pub lawful : IsLawful limits (packets_of file) records
   pub regroups : Regroups metered records
-  pub sessions : (sessions : List (List Packet)) → IsSessions limits.idle (packets_of file) sessions → All (IsUncut limits) sessions
+  pub sessions : (sessions : List (List Packet)) → IsSessions limits.idle (packets_of file) sessions
+      → All (IsUncut limits) sessions
       → AreRecordsOf limits (packets_of file) sessions records
   pub tally : Tally
   pub tally_is : IsTallyOf tally (answers_of file)
@@ -89,17 +95,18 @@ pub record IsReplayed (text written noted : List ℕ) : Type 0 where
   pub lines : written ≡ replay_text shape steps
   pub count : noted ≡ count_line (codes "steps") (length steps)
 
--- What is written is the summary of metering the capture of the seed with idle and active time-outs of 300 and 1800 seconds
--- and messages of at most 1400 octets, whose stream stays in memory. Nothing is noted.
+-- What is written is the summary of metering the capture of the seed with idle and active time-outs of 300 and 1800
+-- seconds and messages of at most 1400 octets, whose stream stays in memory. Nothing is noted.
 pub record IsTested (seed packets keys : ℕ) (metered : List Fragment) (written noted : List ℕ) : Type 0 where
   pub stream : List ℕ
   pub is_metered : IsMetered 300 1800 1400 metered (capture_of seed packets keys) stream written
   pub nothing : noted ≡ []
 
--- What the command writes to the output and to the notes for this input. The fragments are those of the last cache that was
--- closed.
+-- What the command writes to the output and to the notes for this input. The fragments are those of the last cache that
+-- was closed.
 abbrev pub IsAnswer : Asked → List Fragment → List ℕ → List ℕ → List ℕ → Type 0
-IsAnswer (meter idle active workers sets piece size) metered input written noted = IsMetered idle active size metered input written noted
+IsAnswer (meter idle active workers sets piece size) metered input written noted =
+    IsMetered idle active size metered input written noted
 IsAnswer show metered input written noted = IsShown input written noted
 IsAnswer (make seed packets keys) metered input written noted = IsMade seed packets keys written noted
 IsAnswer schedule metered input written noted = IsReplayed input written noted
@@ -134,8 +141,10 @@ abbrev pub MeterRefuses : Side → Status → Type 0
 MeterRefuses input ReadFault = IsBroken input (2 ^ 30)
 MeterRefuses input TooLarge = IsTooLarge input (2 ^ 30)
 MeterRefuses input NotCapture = IsWrong input (2 ^ 30) (λ bytes. capture_file bytes ≡ None)
-MeterRefuses input (LinkUnknown link) = IsWrong input (2 ^ 30) (IsCaptureOf (λ file. (file.link ≡ link) × ¬ IsKnownLink link))
-MeterRefuses input (Damaged at) = IsWrong input (2 ^ 30) (IsCaptureOf (λ file. IsKnownLink file.link × (damage_of file ≡ Some at)))
+MeterRefuses input (LinkUnknown link) = IsWrong input (2 ^ 30)
+    (IsCaptureOf (λ file. (file.link ≡ link) × ¬ IsKnownLink link))
+MeterRefuses input (Damaged at) = IsWrong input (2 ^ 30)
+    (IsCaptureOf (λ file. IsKnownLink file.link × (damage_of file ≡ Some at)))
 MeterRefuses input NoMemory = ⊤
 MeterRefuses input Done = ⊥
 MeterRefuses input WriteFault = ⊥
@@ -214,8 +223,8 @@ Ends asked seen told (BadSchedule line) = IsRefused asked seen told (BadSchedule
 
 -- ---- a run
 
--- The words ask for nothing, or memory was out before they were read: nothing is read, nothing is written, and the notes
--- say so.
+-- The words ask for nothing, or memory was out before they were read: nothing is read, nothing is written, and the
+-- notes say so.
 pub record IsUsage (seen : Seen) (status : Status) : Type 0 where
   pub usage : (status ≡ Usage) ⊎ (status ≡ NoMemory)
   pub input : IsUntouched seen.input
@@ -232,11 +241,14 @@ RunMeans (Some asked) seen status = Ends asked seen (HasTakenOrFailed seen.notes
 -- The input is one that the command takes; `make` and `selftest` take any.
 abbrev pub IsValid : Asked → Side → Type 0
 IsValid (meter idle active workers sets piece size) input =
-    (bytes : List ℕ) × (input.before ≡ Some bytes) × (length bytes ≤ 2 ^ 30) × IsCaptureOf (λ file. IsKnownLink file.link × (damage_of file ≡ None)) bytes
+    (bytes : List ℕ) × (input.before ≡ Some bytes) × (length bytes ≤ 2 ^ 30)
+    × IsCaptureOf (λ file. IsKnownLink file.link × (damage_of file ≡ None)) bytes
 IsValid show input =
-    (bytes : List ℕ) × (input.before ≡ Some bytes) × (length bytes ≤ 2 ^ 26) × (records : List DataRecord) × (decode bytes ≡ Ok records)
+    (bytes : List ℕ) × (input.before ≡ Some bytes) × (length bytes ≤ 2 ^ 26) × (records : List DataRecord)
+    × (decode bytes ≡ Ok records)
 IsValid (make seed packets keys) input = ⊤
-IsValid schedule input = (bytes : List ℕ) × (input.before ≡ Some bytes) × (length bytes ≤ 2 ^ 20) × (bad_line bytes ≡ None)
+IsValid schedule input = (bytes : List ℕ) × (input.before ≡ Some bytes) × (length bytes ≤ 2 ^ 20)
+    × (bad_line bytes ≡ None)
 IsValid (selftest seed packets keys) input = ⊤
 
 -- No call of an object failed.
@@ -248,4 +260,5 @@ pub record IsQuiet (seen : Seen) : Type 0 where
 -- For a command and an input that it takes, where no call failed, the run is done, or memory is out.
 abbrev pub IsComplete : Option Asked → Seen → Status → Type 0
 IsComplete words seen status =
-    (asked : Asked) → words ≡ Some asked → IsValid asked seen.input → IsQuiet seen → (status ≡ Done) ⊎ (status ≡ NoMemory)
+    (asked : Asked) → words ≡ Some asked → IsValid asked seen.input → IsQuiet seen
+    → (status ≡ Done) ⊎ (status ≡ NoMemory)

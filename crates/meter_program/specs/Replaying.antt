@@ -1,7 +1,9 @@
 -- The code's own: why a text isn't replayed.
 use Rattle.std.specs.Prelude.{◌≡◌, ℕ, List, Some, ⊤}
 use Rattle.meter_program.specs.declared.status.Status.{Status}
-use Rattle.meter_program.specs.declared.status.Status.TheVariants.{Done, ReadFault, WriteFault, NotCapture, LinkUnknown, Damaged, TooLarge, NoMemory, Usage, NotStream, BadSchedule}
+use Rattle.meter_program.specs.declared.status.Status.TheVariants.{Done, ReadFault, WriteFault, NotCapture, LinkUnknown}
+use Rattle.meter_program.specs.declared.status.Status.TheVariants.{Damaged, TooLarge, NoMemory, Usage, NotStream}
+use Rattle.meter_program.specs.declared.status.Status.TheVariants.{BadSchedule}
 use Rattle.meter_program.specs.Replays.{bad_line}
 
 abbrev pub TextRefuses : List ℕ → Status → Type 0

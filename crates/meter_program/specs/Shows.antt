@@ -1,18 +1,21 @@
 -- Data records as text: a line for each, with its template and then its fields.
-use Rattle.std.specs.Prelude.{ℕ, ◌==◌, ◌&&◌, nat_le, if◌then◌else◌, List, ◌++◌, length, map, flat_map, Option, Some, None, is_none, codes, decimal}
+use Rattle.std.specs.Prelude.{ℕ, ◌==◌, ◌&&◌, nat_le, if◌then◌else◌, List, ◌++◌, length, map, flat_map, Option, Some}
+use Rattle.std.specs.Prelude.{None, is_none, codes, decimal}
 use Rattle.octets.specs.Numbers.{number_at}
 use Rattle.hex.specs.Hex.{encode_lower}
 use Rattle.std.specs.List.{join_with_byte}
 use Rattle.ipfix_model.specs.Elements.{abstract_type}
 use Rattle.ipfix_model.specs.declared.elements.AbstractType.{AbstractType}
-use Rattle.ipfix_model.specs.declared.elements.AbstractType.TheVariants.{Unsigned8, Unsigned16, Unsigned64, Ipv4Address, Ipv6Address, DateTimeMilliseconds}
+use Rattle.ipfix_model.specs.declared.elements.AbstractType.TheVariants.{Unsigned8, Unsigned16, Unsigned64, Ipv4Address}
+use Rattle.ipfix_model.specs.declared.elements.AbstractType.TheVariants.{Ipv6Address, DateTimeMilliseconds}
 use Rattle.ipfix_model.specs.declared.values.DataRecord.{DataRecord}
 use Rattle.ipfix_model.specs.declared.values.FieldValue.{FieldValue}
 
 -- A number of one to eight octets in decimal; any other value in hexadecimal.
 abbrev pub number_text : List ℕ → List ℕ
 number_text value =
-    if nat_le 1 (length value) && nat_le (length value) 8 then decimal (number_at 0 (length value) value) else encode_lower value
+    if nat_le 1 (length value) && nat_le (length value) 8 then decimal (number_at 0 (length value) value)
+    else encode_lower value
 
 -- An address of four octets as four decimal numbers joined by points; any other value in hexadecimal.
 abbrev pub address_text : List ℕ → List ℕ

@@ -1,9 +1,12 @@
 -- The exit status and the line of each way in which a run ends.
 use Rattle.std.specs.Prelude.{ℕ, Bool, true, false, List, [], ◌++◌, codes, decimal}
 use Rattle.ipfix_reader.specs.declared.fault.StreamFault.{StreamFault}
-use Rattle.ipfix_reader.specs.declared.fault.StreamFault.TheVariants.{Cut, BadVersion, BadLength, NoTemplate, BadTemplate, BadPadding, BadSequence, Withdrawal}
+use Rattle.ipfix_reader.specs.declared.fault.StreamFault.TheVariants.{Cut, BadVersion, BadLength, NoTemplate}
+use Rattle.ipfix_reader.specs.declared.fault.StreamFault.TheVariants.{BadTemplate, BadPadding, BadSequence, Withdrawal}
 use Rattle.meter_program.specs.declared.status.Status.{Status}
-use Rattle.meter_program.specs.declared.status.Status.TheVariants.{Done, ReadFault, Usage, WriteFault, NotCapture, LinkUnknown, Damaged, TooLarge, NoMemory, NotStream, BadSchedule}
+use Rattle.meter_program.specs.declared.status.Status.TheVariants.{Done, ReadFault, Usage, WriteFault, NotCapture}
+use Rattle.meter_program.specs.declared.status.Status.TheVariants.{LinkUnknown, Damaged, TooLarge, NoMemory, NotStream}
+use Rattle.meter_program.specs.declared.status.Status.TheVariants.{BadSchedule}
 
 -- The exit status.
 abbrev pub exit_status : Status → ℕ

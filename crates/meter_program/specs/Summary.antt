@@ -10,7 +10,8 @@ count_line name count = name ++ (codes " " ++ (decimal count ++ codes "\n"))
 unfoldable pub ignored_lines : List ℕ → List ℕ
 ignored_lines ignored =
     count_line (codes "not-ip") (slice_index ignored 0) ++ (count_line (codes "short") (slice_index ignored 1)
-    ++ (count_line (codes "bad-header") (slice_index ignored 2) ++ (count_line (codes "short-transport") (slice_index ignored 3)
+    ++ (count_line (codes "bad-header") (slice_index ignored 2)
+    ++ (count_line (codes "short-transport") (slice_index ignored 3)
     ++ count_line (codes "bad-time") (slice_index ignored 4))))
 
 -- The summary of a metered capture, eleven lines: the numbers of its tally, how many records of flows were written, in

@@ -26,9 +26,10 @@ make_options =
     ∷ (option (codes "keys") 1 4096 (Some 64)
     ∷ []))
 
--- What a command line asks for: to meter with an idle time-out and an active time-out in seconds, by so many workers, with
--- so many sets of the cache and so many records a piece, and a message size in octets; to show a stream; to make a capture of
--- so many packets of so many keys by a seed; to replay a schedule; to meter such a capture without reading it.
+-- What a command line asks for: to meter with an idle time-out and an active time-out in seconds, by so many workers,
+-- with so many sets of the cache and so many records a piece, and a message size in octets; to show a stream; to make a
+-- capture of so many packets of so many keys by a seed; to replay a schedule; to meter such a capture without reading
+-- it.
 pub data Asked : Type 0 where
   meter : (idle active workers sets piece size : ℕ) → Asked
   show : Asked
@@ -38,7 +39,8 @@ pub data Asked : Type 0 where
 
 abbrev pub meter_with : List ℕ → Asked
 meter_with values =
-    meter (slice_index values 0) (slice_index values 1) (slice_index values 2) (slice_index values 3) (slice_index values 4) (slice_index values 5)
+    meter (slice_index values 0) (slice_index values 1) (slice_index values 2) (slice_index values 3)
+    (slice_index values 4) (slice_index values 5)
 
 abbrev pub make_with : List ℕ → Asked
 make_with values = make (slice_index values 0) (slice_index values 1) (slice_index values 2)

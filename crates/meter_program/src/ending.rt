@@ -23,7 +23,8 @@ pub fn write_and_count<K: Sink, N: Sink>(
     ensures noted { OnOk result (HasTaken (side N.held N.faults notes.old notes.new) (count_line name.now number)) }
     ensures taken { OnErr result (HasTakenOrFailed (side K.held K.faults output.old output.new) text.now) }
     ensures begun { OnErr result (HasBegun (side N.held N.faults notes.old notes.new) (count_line name.now number)) }
-    ensures cause { OnErr result (HasFailed (side K.held K.faults output.old output.new) ⊎ HasFailed (side N.held N.faults notes.old notes.new)) }
+    ensures cause { OnErr result (HasFailed (side K.held K.faults output.old output.new)
+        ⊎ HasFailed (side N.held N.faults notes.old notes.new)) }
 {
     match write_all(output, text) {
         Ok(()) => count(notes, name, number),

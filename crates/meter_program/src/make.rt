@@ -21,7 +21,8 @@ pub fn make<K: Sink, N: Sink>(
     output: &mut K,
     notes: &mut N,
 ) -> Status
-    ensures { (input : Side) (metered : List Fragment) → IsUntouched input → let seen = seen_of input (side K.held K.faults output.old output.new)
+    ensures { (input : Side) (metered : List Fragment) → IsUntouched input → let seen =
+        seen_of input (side K.held K.faults output.old output.new)
         (side N.held N.faults notes.old notes.new) metered
         in Ends (make settings.now.seed settings.now.packets settings.now.keys) seen (IsUntouched seen.notes) result }
 {

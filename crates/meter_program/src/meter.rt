@@ -49,7 +49,8 @@ fn export_time_of(clock: Option<u64>) -> u32
 /// The stream of these records, in messages of at most `size` octets, laid out in memory.
 pub fn stream_of<'a>(alloc: Global, gathered: &Gathered, size: u32) -> Result<Stream<'a>, NoMemory>
     requires { (116 ≤ size) × (size ≤ 65535) }
-    ensures { IfOk result (λ stream. IsWritten size gathered.now.records.items gathered.now.tally stream.octets.held stream.messages) }
+    ensures { IfOk result
+        (λ stream. IsWritten size gathered.now.records.items gathered.now.tally stream.octets.held stream.messages) }
 {
     layout_law();
     let records = gathered.records.as_slice();
@@ -77,7 +78,8 @@ pub fn written<K: Sink, N: Sink>(
     notes: &mut N,
 ) -> Status
     requires { (116 ≤ size) × (size ≤ 65535) }
-    ensures { WriteMeans size gathered.now.records.items gathered.now.tally gathered.now.tail (side K.held K.faults output.old output.new)
+    ensures { WriteMeans size gathered.now.records.items gathered.now.tally gathered.now.tail
+        (side K.held K.faults output.old output.new)
         (side N.held N.faults notes.old notes.new) result }
 {
     let Ok(stream) = stream_of(alloc, gathered, size) else {
@@ -100,8 +102,8 @@ pub fn written<K: Sink, N: Sink>(
     }
 }
 
-/// Reads a capture from the input to its end, meters it through a cache of `caches`, writes the records of its flows to the
-/// output and notes the summary.
+/// Reads a capture from the input to its end, meters it through a cache of `caches`, writes the records of its flows to
+/// the output and notes the summary.
 pub fn meter<R: Threads + Sync, S: Source, K: Sink, N: Sink, M: Caches, G: Gate>(
     rt: &R,
     alloc: Global,
@@ -114,7 +116,8 @@ pub fn meter<R: Threads + Sync, S: Source, K: Sink, N: Sink, M: Caches, G: Gate>
 ) -> Status
     ensures { let seen = seen_of (side S.left S.faults input.old input.new) (side K.held K.faults output.old output.new)
         (side N.held N.faults notes.old notes.new) (M.metered caches.new)
-        in Ends (meter settings.now.idle settings.now.active settings.now.workers settings.now.sets settings.now.piece settings.now.size)
+        in Ends (meter settings.now.idle settings.now.active settings.now.workers settings.now.sets settings.now.piece
+        settings.now.size)
         seen (IsUntouched seen.notes) result }
 {
     match gathered_from(rt, alloc, settings, input, caches, gate) {

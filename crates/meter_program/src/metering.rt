@@ -4,7 +4,8 @@ ghost use Rattle.std.specs.Prelude.{◌≡◌, ◌*◌, List, ℕ, IfOk, IfErr, 
 ghost use Rattle.flow_parts.specs.declared.timeouts.Timeouts.{Timeouts};
 ghost use Rattle.meter_io.specs.Sides.{Side, side};
 ghost use Rattle.flow_parts.specs.declared.fragment.Fragment.{Fragment};
-ghost use Rattle.meter_program.specs.Metering.{AreGathered, IsKept, IsReadAndKept, IsGathered, IsReadAndGathered, status_for};
+ghost use Rattle.meter_program.specs.Metering.{AreGathered, IsKept, IsReadAndKept, IsGathered, IsReadAndGathered};
+ghost use Rattle.meter_program.specs.Metering.{status_for};
 ghost use Rattle.meter_program.specs.Outcome.{MeterRefuses};
 
 use crate::settings::Settings;
@@ -66,7 +67,8 @@ fn metered<R: Threads + Sync, S: Source, M: Caches, G: Gate>(
     caches: &mut M,
     gate: &G,
 ) -> Result<Counted, Status>
-    ensures kept { IfOk result (λ r. IsReadAndKept (side S.left S.faults input.old input.new) limits (M.metered caches.new) r.tally r.tail) }
+    ensures kept { IfOk result
+        (λ r. IsReadAndKept (side S.left S.faults input.old input.new) limits (M.metered caches.new) r.tally r.tail) }
     ensures refused { IfErr result (λ status. MeterRefuses (side S.left S.faults input.old input.new) status) }
 {
     sharing_out_stands();
@@ -119,7 +121,8 @@ pub fn gathered_of<M: Caches>(
     counted: Counted,
 ) -> Result<Gathered, NoMemory>
     requires { (capture : List ℕ) × IsKept limits capture (M.metered caches.now) counted.tally counted.tail }
-    ensures { IfOk result (λ g. (idle active : ℕ) (capture : List ℕ) → limits.idle ≡ 1000 * idle → limits.active ≡ 1000 * active
+    ensures { IfOk result (λ g. (idle active : ℕ) (capture : List ℕ) → limits.idle ≡ 1000 * idle
+        → limits.active ≡ 1000 * active
         → IsKept limits capture (M.metered caches.now) counted.tally counted.tail
         → IsGathered idle active capture (M.metered caches.now) g.records.items g.tally g.tail) }
 {
@@ -149,7 +152,8 @@ pub fn gathered_from<R: Threads + Sync, S: Source, M: Caches, G: Gate>(
     caches: &mut M,
     gate: &G,
 ) -> Result<Gathered, Status>
-    ensures records { IfOk result (λ g. IsReadAndGathered (side S.left S.faults input.old input.new) settings.now.idle settings.now.active
+    ensures records { IfOk result
+        (λ g. IsReadAndGathered (side S.left S.faults input.old input.new) settings.now.idle settings.now.active
         (M.metered caches.new) g.records.items g.tally g.tail) }
     ensures refused { IfErr result (λ status. MeterRefuses (side S.left S.faults input.old input.new) status) }
 {

@@ -71,8 +71,10 @@ pub fn summary<N: Sink>(
     messages: u64,
     tail: u64,
 ) -> Result<(), Failed>
-    ensures whole { OnOk result (HasTaken (side N.held N.faults notes.old notes.new) (summary tally.now flows messages tail)) }
-    ensures begun { OnErr result (HasBegun (side N.held N.faults notes.old notes.new) (summary tally.now flows messages tail)) }
+    ensures whole { OnOk result
+        (HasTaken (side N.held N.faults notes.old notes.new) (summary tally.now flows messages tail)) }
+    ensures begun { OnErr result
+        (HasBegun (side N.held N.faults notes.old notes.new) (summary tally.now flows messages tail)) }
     ensures cause { HasCause (N.faults notes.old) (N.faults notes.new) result }
 {
     let mut text = Text::new();

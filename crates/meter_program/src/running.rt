@@ -57,8 +57,9 @@ fn command<R: Threads + Sync, S: Source, K: Sink, N: Sink, M: Caches, G: Gate>(
 /// | `schedule` | a schedule, at most 2^20 bytes | its replay | how many steps |
 /// | `selftest` | nothing | the summary of metering the capture of a seed by four workers | nothing |
 ///
-/// `meter` opens one cache of `caches` with a pass for each worker, meters through it, and closes it; the records that it
-/// writes regroup the fragments that `caches` then tells. The gate is told of each piece of records before a worker meters it.
+/// `meter` opens one cache of `caches` with a pass for each worker, meters through it, and closes it; the records that
+/// it writes regroup the fragments that `caches` then tells. The gate is told of each piece of records before a worker
+/// meters it.
 ///
 /// The input is read to its end before anything is written. At a refusal, any status but `Done` and `WriteFault`,
 /// nothing is written to `output`, and one line that names the refusal goes to `notes`; where that write fails, the
@@ -72,8 +73,8 @@ fn command<R: Threads + Sync, S: Source, K: Sink, N: Sink, M: Caches, G: Gate>(
 /// - `NotCapture`, `LinkUnknown`, `Damaged`: `meter`, exactly where the bytes read are no capture, have another link
 ///   type than 1, 101 and 113, or a record that claims too much.
 /// - `NotStream`: `show`, exactly where the bytes read have that fault.
-/// - `BadSchedule`: `schedule`, exactly where the text read is out of the grammar, with the first such line, or is in it and
-///   a step isn't enabled, with the line of the first.
+/// - `BadSchedule`: `schedule`, exactly where the text read is out of the grammar, with the first such line, or is in
+///   it and a step isn't enabled, with the line of the first.
 /// - `TooLarge`: exactly where more bytes came than the command's limit.
 /// - `NoMemory`: out of memory, at any point before the first write.
 pub fn run<R: Threads + Sync, S: Source, K: Sink, N: Sink, M: Caches, G: Gate>(
@@ -87,11 +88,15 @@ pub fn run<R: Threads + Sync, S: Source, K: Sink, N: Sink, M: Caches, G: Gate>(
     gate: &G,
 ) -> Status
     ensures usage { result ≡ Status.Usage → asked_by (map string_bytes words.now) ≡ None }
-    ensures nothing { asked_by (map string_bytes words.now) ≡ None → (result ≡ Status.Usage) ⊎ (result ≡ Status.NoMemory) }
+    ensures nothing { asked_by (map string_bytes words.now) ≡ None
+        → (result ≡ Status.Usage) ⊎ (result ≡ Status.NoMemory) }
     ensures means { RunMeans (asked_by (map string_bytes words.now)) (seen_of (side S.left S.faults input.old input.new)
-        (side K.held K.faults output.old output.new) (side N.held N.faults notes.old notes.new) (M.metered caches.new)) result }
-    ensures complete { IsComplete (asked_by (map string_bytes words.now)) (seen_of (side S.left S.faults input.old input.new)
-        (side K.held K.faults output.old output.new) (side N.held N.faults notes.old notes.new) (M.metered caches.new)) result }
+        (side K.held K.faults output.old output.new) (side N.held N.faults notes.old notes.new) (M.metered caches.new))
+        result }
+    ensures complete { IsComplete (asked_by (map string_bytes words.now))
+        (seen_of (side S.left S.faults input.old input.new)
+        (side K.held K.faults output.old output.new) (side N.held N.faults notes.old notes.new) (M.metered caches.new))
+        result }
     ensures read_fault { result ≡ Status.ReadFault → Rose (S.faults input.old) (S.faults input.new) }
     ensures write_fault { result ≡ Status.WriteFault
         → Rose (K.faults output.old) (K.faults output.new) ⊎ Rose (N.faults notes.old) (N.faults notes.new) }

@@ -28,7 +28,8 @@ struct Replay {
 
 /// The replay of the schedule that these bytes are, or why they are none.
 fn replay_of(alloc: Global, bytes: &[u8]) -> Result<Replay, Status>
-    ensures replayed { IfOk result (λ replay. IsReplayed bytes.now replay.text.items (count_line (codes "steps") replay.steps)) }
+    ensures replayed { IfOk result
+        (λ replay. IsReplayed bytes.now replay.text.items (count_line (codes "steps") replay.steps)) }
     ensures refused { IfErr result (λ status. TextRefuses bytes.now status) }
 {
     let schedule = match read_schedule(alloc, bytes) {
@@ -49,15 +50,16 @@ fn replay_of(alloc: Global, bytes: &[u8]) -> Result<Replay, Status>
     })
 }
 
-/// Reads a schedule from the input to its end, replays it from the start, writes the answers and the state behind them to
-/// the output, and notes how many steps it has.
+/// Reads a schedule from the input to its end, replays it from the start, writes the answers and the state behind them
+/// to the output, and notes how many steps it has.
 pub fn schedule<S: Source, K: Sink, N: Sink>(
     alloc: Global,
     input: &mut S,
     output: &mut K,
     notes: &mut N,
 ) -> Status
-    ensures { (metered : List Fragment) → let seen = seen_of (side S.left S.faults input.old input.new) (side K.held K.faults output.old output.new)
+    ensures { (metered : List Fragment) → let seen =
+        seen_of (side S.left S.faults input.old input.new) (side K.held K.faults output.old output.new)
         (side N.held N.faults notes.old notes.new) metered
         in Ends schedule seen (IsUntouched seen.notes) result }
 {

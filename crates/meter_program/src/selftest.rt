@@ -64,7 +64,8 @@ pub fn selftest<R: Threads + Sync, K: Sink, M: Caches, G: Gate>(
     caches: &mut M,
     gate: &G,
 ) -> Status
-    ensures { (input notes : Side) → IsUntouched input → IsUntouched notes → let seen = seen_of input (side K.held K.faults output.old output.new)
+    ensures { (input notes : Side) → IsUntouched input → IsUntouched notes → let seen =
+        seen_of input (side K.held K.faults output.old output.new)
         notes (M.metered caches.new)
         in Ends (selftest settings.now.seed settings.now.packets settings.now.keys) seen (IsUntouched notes) result }
 {

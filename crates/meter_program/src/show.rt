@@ -25,7 +25,8 @@ pub fn show<S: Source, K: Sink, N: Sink>(
     output: &mut K,
     notes: &mut N,
 ) -> Status
-    ensures { (metered : List Fragment) → let seen = seen_of (side S.left S.faults input.old input.new) (side K.held K.faults output.old output.new)
+    ensures { (metered : List Fragment) → let seen =
+        seen_of (side S.left S.faults input.old input.new) (side K.held K.faults output.old output.new)
         (side N.held N.faults notes.old notes.new) metered
         in Ends show seen (IsUntouched seen.notes) result }
 {

@@ -3,7 +3,8 @@
 ghost use Rattle.std.specs.Prelude.{◌≡◌, [], None, Some, map, IfOk, IfErr};
 ghost use Rattle.std.specs.String.{string_bytes};
 ghost use Rattle.command_words.specs.Options.{values_of};
-ghost use Rattle.meter_program.specs.Words.{meter_options, make_options, meter_with, make_with, selftest_with, asked_with, asked_to_make, asked_by, asked, meter, make, selftest};
+ghost use Rattle.meter_program.specs.Words.{meter_options, make_options, meter_with, make_with, selftest_with};
+ghost use Rattle.meter_program.specs.Words.{asked_with, asked_to_make, asked_by, asked, meter, make, selftest};
 
 use crate::settings::{Making, Settings};
 use command_words::{OptionRule, OptionsError, values_of};
@@ -94,8 +95,10 @@ static NONE: [OptionRule<'static>; 0] = [];
 
 /// The settings that the options of `meter` give.
 fn settings(alloc: Global, options: &[String]) -> Result<Settings, OptionsError>
-    ensures settings { IfOk result (λ s. asked_with meter_options meter_with (map string_bytes options.now) ≡ Some (meter s.idle s.active s.workers s.sets s.piece s.size)) }
-    ensures refused { IfErr result (λ error. error ≡ OptionsError.NotOptions → asked_with meter_options meter_with (map string_bytes options.now) ≡ None) }
+    ensures settings { IfOk result (λ s. asked_with meter_options meter_with (map string_bytes options.now)
+        ≡ Some (meter s.idle s.active s.workers s.sets s.piece s.size)) }
+    ensures refused { IfErr result (λ error. error ≡ OptionsError.NotOptions
+        → asked_with meter_options meter_with (map string_bytes options.now) ≡ None) }
 {
     let values = values_of(alloc, METER.as_slice(), options)?;
     let [idle, active, workers, sets, piece, size] = values.as_slice() else {
@@ -113,10 +116,14 @@ fn settings(alloc: Global, options: &[String]) -> Result<Settings, OptionsError>
 
 /// The settings that the options of `make` and of `selftest` give.
 fn making(alloc: Global, options: &[String]) -> Result<Making, OptionsError>
-    ensures settings { IfOk result (λ s. asked_with make_options make_with (map string_bytes options.now) ≡ Some (make s.seed s.packets s.keys)) }
-    ensures tested { IfOk result (λ s. asked_with make_options selftest_with (map string_bytes options.now) ≡ Some (selftest s.seed s.packets s.keys)) }
-    ensures refused { IfErr result (λ error. error ≡ OptionsError.NotOptions → asked_with make_options make_with (map string_bytes options.now) ≡ None) }
-    ensures refused_test { IfErr result (λ error. error ≡ OptionsError.NotOptions → asked_with make_options selftest_with (map string_bytes options.now) ≡ None) }
+    ensures settings { IfOk result (λ s. asked_with make_options make_with (map string_bytes options.now)
+        ≡ Some (make s.seed s.packets s.keys)) }
+    ensures tested { IfOk result (λ s. asked_with make_options selftest_with (map string_bytes options.now)
+        ≡ Some (selftest s.seed s.packets s.keys)) }
+    ensures refused { IfErr result (λ error. error ≡ OptionsError.NotOptions
+        → asked_with make_options make_with (map string_bytes options.now) ≡ None) }
+    ensures refused_test { IfErr result (λ error. error ≡ OptionsError.NotOptions
+        → asked_with make_options selftest_with (map string_bytes options.now) ≡ None) }
 {
     let values = values_of(alloc, MAKE.as_slice(), options)?;
     let [seed, packets, keys] = values.as_slice() else {
@@ -132,7 +139,8 @@ fn making(alloc: Global, options: &[String]) -> Result<Making, OptionsError>
 /// Reads the words of a command without options.
 fn nothing(alloc: Global, options: &[String]) -> Result<(), OptionsError>
     ensures none { IfOk result (λ _. values_of [] (map string_bytes options.now) ≡ Some []) }
-    ensures refused { IfErr result (λ error. error ≡ OptionsError.NotOptions → values_of [] (map string_bytes options.now) ≡ None) }
+    ensures refused { IfErr result (λ error. error ≡ OptionsError.NotOptions
+        → values_of [] (map string_bytes options.now) ≡ None) }
 {
     let _values = values_of(alloc, NONE.as_slice(), options)?;
     Ok(())
@@ -140,8 +148,10 @@ fn nothing(alloc: Global, options: &[String]) -> Result<(), OptionsError>
 
 /// The command of this name that makes a capture.
 fn making_command(alloc: Global, name: &str, options: &[String]) -> Result<Command, OptionsError>
-    ensures command { IfOk result (λ command. asked_to_make name.now (map string_bytes options.now) ≡ Some (asked command)) }
-    ensures refused { IfErr result (λ error. error ≡ OptionsError.NotOptions → asked_to_make name.now (map string_bytes options.now) ≡ None) }
+    ensures command { IfOk result (λ command. asked_to_make name.now (map string_bytes options.now)
+        ≡ Some (asked command)) }
+    ensures refused { IfErr result (λ error. error ≡ OptionsError.NotOptions
+        → asked_to_make name.now (map string_bytes options.now) ≡ None) }
 {
     if name == "make" {
         Ok(Command::Make(making(alloc, options)?))
@@ -164,7 +174,8 @@ fn making_command(alloc: Global, name: &str, options: &[String]) -> Result<Comma
 /// - `NoMemory`: out of memory.
 pub fn command_of(alloc: Global, words: &[String]) -> Result<Command, OptionsError>
     ensures command { IfOk result (λ command. asked_by (map string_bytes words.now) ≡ Some (asked command)) }
-    ensures refused { IfErr result (λ error. error ≡ OptionsError.NotOptions → asked_by (map string_bytes words.now) ≡ None) }
+    ensures refused { IfErr result (λ error. error ≡ OptionsError.NotOptions
+        → asked_by (map string_bytes words.now) ≡ None) }
 {
     let Some((name, options)) = words.split_first() else {
         return Err(OptionsError::NotOptions);

@@ -1,5 +1,7 @@
 -- Records one after the other, and pieces.
-use Rattle.std.proofs.Common.{◌≡◌, ℕ, ◌+◌, ◌-◌, ◌*◌, ◌<◌, ◌≤◌, ◌^◌, List, [], ◌∷◌, ◌++◌, length, get_or, take, drop, Some, sym, refl, ap, ◌∙◌, subst, arith, append_assoc, append-nil, length-drop, mul-le-mul_right, min}
+use Rattle.std.proofs.Common.{◌≡◌, ℕ, ◌+◌, ◌-◌, ◌*◌, ◌<◌, ◌≤◌, ◌^◌, List, [], ◌∷◌, ◌++◌, length, get_or, take, drop}
+use Rattle.std.proofs.Common.{Some, sym, refl, ap, ◌∙◌, subst, arith, append_assoc, append-nil, length-drop}
+use Rattle.std.proofs.Common.{mul-le-mul_right, min}
 use Rattle.std.specs.Prelude.{slice_range, slice_get, Result, Ok, Err, OnErr}
 use Rattle.std.proofs.lemmas.List.{take_more, get_or-drop}
 use Rattle.std.proofs.lemmas.Option.{slice_get_within, get_or_from_slice_get}
@@ -25,11 +27,13 @@ pub did-both : (a b c : PassMeans) (out out' out'' : List Fragment) (t u v : Tal
 did-both a b c out out' out'' t u v xs ys together d e = record {
   seats = e.seats ∙ d.seats;
   more = d.more ++ e.more;
-  metered = e.metered ∙ ap (λ l. l ++ packets_in ys) d.metered ∙ append_assoc a.note.packets (packets_in xs) (packets_in ys)
+  metered = e.metered ∙ ap (λ l. l ++ packets_in ys) d.metered
+      ∙ append_assoc a.note.packets (packets_in xs) (packets_in ys)
       ∙ ap (λ l. a.note.packets ++ l) (sym (together xs ys));
   handed = e.handed ∙ ap (λ l. l ++ e.more) d.handed ∙ append_assoc a.note.handed d.more e.more;
   kept = e.kept ∙ ap (λ l. l ++ e.more) d.kept ∙ append_assoc out d.more e.more;
-  tallied = λ earlier is. subst (IsTallyOf v) (append_assoc earlier xs ys) (e.tallied (earlier ++ xs) (d.tallied earlier is));
+  tallied = λ earlier is. subst (IsTallyOf v) (append_assoc earlier xs ys)
+      (e.tallied (earlier ++ xs) (d.tallied earlier is));
 }
 
 pub did-none : (a : PassMeans) (out : List Fragment) (t : Tally) → Did a out t [] a out t
@@ -55,7 +59,8 @@ range-next xs a i x low found =
     let is : a + n ≡ i = omega arith in
     let inside : i < length xs = slice_get_within xs i x found in
     ap (λ k. take k (drop a xs)) up ∙ take_more (drop a xs) n x (rw length-drop (omega arith))
-    ∙ ap (λ y. take n (drop a xs) ++ y ∷ []) (get_or-drop a xs n x ∙ ap (λ k. get_or xs k x) is ∙ get_or_from_slice_get xs i x x found)
+    ∙ ap (λ y. take n (drop a xs) ++ y ∷ [])
+    (get_or-drop a xs n x ∙ ap (λ k. get_or xs k x) is ∙ get_or_from_slice_get xs i x x found)
 
 -- what holds, holds where something failed
 pub on-err : {T E P : Type 0} (result : Result T E) → P → OnErr result P
@@ -64,14 +69,17 @@ on-err (Err e) holds = holds
 
 -- a tally of fewer than 2^38 records has room
 pub room-of : (tally : Tally)
-    → ((tally : Tally) (answers : List Answer) → IsTallyOf tally answers → length answers < 2 ^ 38 → AreSmall (packets_in answers) → HasRoom tally)
+    → ((tally : Tally) (answers : List Answer) → IsTallyOf tally answers → length answers < 2 ^ 38
+    → AreSmall (packets_in answers) → HasRoom tally)
     → tally.captured < 2 ^ 38 → IsTallied tally → HasRoom tally
-room-of tally law few tallied = law tally tallied.answers tallied.is (omega (arith, few, tallied.is.captured)) tallied.small
+room-of tally law few tallied = law tally tallied.answers tallied.is
+    (omega (arith, few, tallied.is.captured)) tallied.small
 
 pub range-none : (xs : List Answer) (a : ℕ) → slice_range xs a a ≡ []
 range-none xs a = let none : a - a ≡ 0 = omega arith in ap (λ k. take k (drop a xs)) none
 
-pieces_of-append : (size : ℕ) (answers : List Answer) (xs ys : List ℕ) → pieces_of size answers (xs ++ ys) ≡ pieces_of size answers xs ++ pieces_of size answers ys
+pieces_of-append : (size : ℕ) (answers : List Answer) (xs ys : List ℕ)
+    → pieces_of size answers (xs ++ ys) ≡ pieces_of size answers xs ++ pieces_of size answers ys
 pieces_of-append size answers [] ys = refl
 pieces_of-append size answers (x ∷ xs) ys =
     ap (λ l. piece_of size answers x ++ l) (pieces_of-append size answers xs ys)
@@ -80,13 +88,16 @@ pieces_of-append size answers (x ∷ xs) ys =
 pub pieces_of-last : (size : ℕ) (answers : List Answer) (drawn : List ℕ) (n : ℕ)
     → pieces_of size answers (drawn ++ n ∷ []) ≡ pieces_of size answers drawn ++ piece_of size answers n
 pieces_of-last size answers drawn n =
-    pieces_of-append size answers drawn (n ∷ []) ∙ ap (λ l. pieces_of size answers drawn ++ l) (append-nil (piece_of size answers n))
+    pieces_of-append size answers drawn (n ∷ [])
+    ∙ ap (λ l. pieces_of size answers drawn ++ l) (append-nil (piece_of size answers n))
 
-pub pieces-together : (size : ℕ) (answers : List Answer) (xs ys : List ℕ) → pieces_of size answers (xs ++ ys) ≡ pieces_of size answers xs ++ pieces_of size answers ys
+pub pieces-together : (size : ℕ) (answers : List Answer) (xs ys : List ℕ)
+    → pieces_of size answers (xs ++ ys) ≡ pieces_of size answers xs ++ pieces_of size answers ys
 pieces-together = pieces_of-append
 
 -- one more piece
-pub did-piece : (a b c : PassMeans) (out out' out'' : List Fragment) (t u v : Tally) (size start stop n : ℕ) (answers : List Answer) (drawn : List ℕ)
+pub did-piece : (a b c : PassMeans) (out out' out'' : List Fragment) (t u v : Tally) (size start stop n : ℕ)
+    (answers : List Answer) (drawn : List ℕ)
     → ((one two : List Answer) → packets_in (one ++ two) ≡ packets_in one ++ packets_in two)
     → start ≡ n * size → stop ≡ min ((n + 1) * size) (length answers)
     → Did a out t (pieces_of size answers drawn) b out' u → Did b out' u (slice_range answers start stop) c out'' v
@@ -102,7 +113,8 @@ times_last n [] = grind (arith, common_steps)
 times_last n (x ∷ xs) = let h = times_last n xs in omega (arith, h)
 
 -- nothing was metered, and nothing is drawn before the first piece
-pub behind-none : (size base counted : ℕ) (drawn : List ℕ) (packets : List Packet) → AreBelow base packets → IsBehind size base counted drawn packets counted
+pub behind-none : (size base counted : ℕ) (drawn : List ℕ) (packets : List Packet) → AreBelow base packets
+    → IsBehind size base counted drawn packets counted
 behind-none size base counted drawn packets below = record {
   place = 0;
   below = (let none : base ≡ base + 0 * size = omega arith in subst (λ k. AreBelow k packets) none below);
@@ -111,7 +123,8 @@ behind-none size base counted drawn packets below = record {
 }
 
 -- a piece that comes after all that were drawn lies behind what was metered
-pub behind-next : (size base counted n captured : ℕ) (drawn : List ℕ) (packets : List Packet) → IsBehind size base counted drawn packets captured
+pub behind-next : (size base counted n captured : ℕ) (drawn : List ℕ) (packets : List Packet)
+    → IsBehind size base counted drawn packets captured
     → ((x : ℕ) → 0 < times x drawn → x < n) → AreBelow (base + n * size) packets × (captured ≤ counted + n * size)
 behind-next size base counted n captured drawn packets behind rises =
     let le : behind.place * size ≤ n * size = mul-le-mul_right size (behind.next n rises) in (
@@ -120,7 +133,8 @@ behind-next size base counted n captured drawn packets behind rises =
     )
 
 -- and once it was metered, all that can be drawn lie behind it
-pub behind-more : (size base counted n stop captured captured' : ℕ) (drawn : List ℕ) (packets : List Packet) → AreBelow (base + stop) packets
+pub behind-more : (size base counted n stop captured captured' : ℕ) (drawn : List ℕ) (packets : List Packet)
+    → AreBelow (base + stop) packets
     → stop ≤ (n + 1) * size → captured ≤ counted + n * size → captured' + n * size ≡ captured + stop
     → IsBehind size base counted (drawn ++ n ∷ []) packets captured'
 behind-more size base counted n stop captured captured' drawn packets below within few grown = record {

@@ -8,8 +8,8 @@ use Rattle.packet_accept.specs.Packets.{answers_of, packets_of}
 use Rattle.capture_tally.specs.declared.tally.Tally.{Tally}
 use Rattle.capture_tally.specs.Tallies.{IsTallyOf}
 
--- The source gave an undamaged capture and has nothing left; just the packets of the capture were metered, each once, and
--- tallied with all its records, and so many bytes are left behind its last record.
+-- The source gave an undamaged capture and has nothing left; just the packets of the capture were metered, each once,
+-- and tallied with all its records, and so many bytes are left behind its last record.
 pub record IsMeteredWhole (source : Side) (limit : ℕ) (metered : List Packet) (tally : Tally) (tail : ℕ) : Type 0 where
   pub bytes : List ℕ
   pub read : IsRead source limit bytes

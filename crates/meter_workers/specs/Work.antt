@@ -34,7 +34,8 @@ pub record Did (before : PassMeans) (out_before : List Fragment) (tally_before :
   pub kept : out_after ≡ out_before ++ more
   pub tallied : (earlier : List Answer) → IsTallyOf tally_before earlier → IsTallyOf tally_after (earlier ++ answers)
 
--- The code's own: all pieces that can still be drawn lie behind what was metered. `place` is the number of the first such.
+-- The code's own: all pieces that can still be drawn lie behind what was metered. `place` is the number of the first
+-- such.
 pub record IsBehind (size base counted : ℕ) (drawn : List ℕ) (packets : List Packet) (captured : ℕ) : Type 0 where
   pub place : ℕ
   pub below : AreBelow (base + place * size) packets

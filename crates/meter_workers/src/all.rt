@@ -1,6 +1,7 @@
 //! A whole capture, and what all workers have in the end.
 
-ghost use Rattle.std.specs.Prelude.{◌≡◌, ◌+◌, ◌^◌, ◌<◌, ◌≤◌, ◌++◌, [], length, flat_map, All, IfOk, OnOk, IsPermutation};
+ghost use Rattle.std.specs.Prelude.{◌≡◌, ◌+◌, ◌^◌, ◌<◌, ◌≤◌, ◌++◌, [], length, flat_map, All, IfOk, OnOk};
+ghost use Rattle.std.specs.Prelude.{IsPermutation};
 ghost use Rattle.pcap_reader.specs.Views.{file_of};
 ghost use Rattle.pcap_reader.specs.Index.{IsIndexOf};
 ghost use Rattle.packet_accept.specs.Packets.{answers_of, packets_of};
@@ -35,7 +36,8 @@ pub(crate) fn held_of<C: FlowCache>(
 ) -> Result<Vec<Held<C>>, NoMemory>
     requires passes { All (λ p. C.is_of cache.now p × IsFresh (C.shown p)) passes.items }
     ensures many { IfOk result (λ helds. length helds.items ≡ length passes.items) }
-    ensures held { IfOk result (λ helds. All (λ h. C.is_of cache.now h.pass × IsHeld 0 (C.shown h.pass) h.out.items) helds.items) }
+    ensures held { IfOk result
+        (λ helds. All (λ h. C.is_of cache.now h.pass × IsHeld 0 (C.shown h.pass) h.out.items) helds.items) }
     ensures none { IfOk result (λ helds. flat_map (λ h. (C.shown h.pass).note.packets) helds.items ≡ []) }
 {
     let _ = cache;
@@ -65,7 +67,8 @@ pub(crate) fn united<C: FlowCache>(
     requires held { All (λ h. C.is_of cache.now h.pass × IsHeld base (C.shown h.pass) h.out.items) helds.items }
     requires some { 0 < length helds.items }
     ensures own { IfOk result (λ r. C.is_of cache.now r.0 × ((C.shown r.0).note.seats ≡ length helds.items)) }
-    ensures packets { IfOk result (λ r. IsPermutation (flat_map (λ h. (C.shown h.pass).note.packets) helds.items) (C.shown r.0).note.packets) }
+    ensures packets { IfOk result
+        (λ r. IsPermutation (flat_map (λ h. (C.shown h.pass).note.packets) helds.items) (C.shown r.0).note.packets) }
     ensures parts { IfOk result (λ r. r.1.items ≡ (C.shown r.0).note.handed) }
 {
     let _ = base;
@@ -89,8 +92,8 @@ pub(crate) fn united<C: FlowCache>(
 ///
 /// `index` is the index of `capture`, of fewer than 2^32 records. The records are cut into pieces of `piece` records
 /// (1 to 65,536). Each worker draws pieces and meters their packets through its pass; the gate is told of each piece.
-/// The united pass has metered just the packets of the capture, each once; `parts` are the fragments that it was handed,
-/// in the order of its note; the tally is that of all records.
+/// The united pass has metered just the packets of the capture, each once; `parts` are the fragments that it was
+/// handed, in the order of its note; the tally is that of all records.
 ///
 /// `NoMemory`: out of memory. Nothing of the capture is said then.
 pub fn meter_all<C: FlowCache, G: Gate, R: Threads + Sync>(
@@ -106,9 +109,11 @@ pub fn meter_all<C: FlowCache, G: Gate, R: Threads + Sync>(
     requires index { IsIndexOf index.now (file_of capture.now) }
     requires few { length index.now.offsets < 2 ^ 32 }
     requires piece { (0 < piece) × (piece ≤ 65536) }
-    requires passes { (0 < length passes.items) × (length passes.items ≤ 64) × All (λ p. C.is_of cache.now p × IsFresh (C.shown p)) passes.items }
+    requires passes { (0 < length passes.items) × (length passes.items ≤ 64)
+        × All (λ p. C.is_of cache.now p × IsFresh (C.shown p)) passes.items }
     ensures own { IfOk result (λ r. C.is_of cache.now r.pass × ((C.shown r.pass).note.seats ≡ length passes.items)) }
-    ensures packets { IfOk result (λ r. IsPermutation (packets_of (file_of capture.now)) (C.shown r.pass).note.packets) }
+    ensures packets { IfOk result
+        (λ r. IsPermutation (packets_of (file_of capture.now)) (C.shown r.pass).note.packets) }
     ensures parts { IfOk result (λ r. r.parts.items ≡ (C.shown r.pass).note.handed) }
     ensures tally { IfOk result (λ r. IsTallyOf r.tally (answers_of (file_of capture.now))) }
 {

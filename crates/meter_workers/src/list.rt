@@ -18,9 +18,9 @@ use work_pieces::Piece;
 
 /// Meters all records of a part of a capture by one pass, in order, and tallies them.
 ///
-/// `index` is the index of `capture`. Its records are numbered from `base` on, and every packet of the pass has a smaller
-/// number. The pass's packets grow by the accepted packets of all records, `out` by just what the pass was handed, and the
-/// tally by these records.
+/// `index` is the index of `capture`. Its records are numbered from `base` on, and every packet of the pass has a
+/// smaller number. The pass's packets grow by the accepted packets of all records, `out` by just what the pass was
+/// handed, and the tally by these records.
 ///
 /// `NoMemory`: `out` finds no room. The pass's packets grew by those of the first records, maybe not of all.
 pub fn meter_list<C: FlowCache>(
@@ -34,13 +34,16 @@ pub fn meter_list<C: FlowCache>(
     tally: &mut Tally,
 ) -> Result<(), NoMemory>
     requires index { IsIndexOf index.now (file_of capture.now) }
-    requires few { (base + length index.now.offsets < 2 ^ 32) × (tally.old.captured + length index.now.offsets < 2 ^ 38) }
+    requires few { (base + length index.now.offsets < 2 ^ 32)
+        × (tally.old.captured + length index.now.offsets < 2 ^ 38) }
     requires own { C.is_of cache.now pass.old }
     requires single { (C.shown pass.old).note.seats ≡ 1 }
     requires below { AreBelow base (C.shown pass.old).note.packets }
     requires tallied { IsTallied tally.old }
     ensures own { C.is_of cache.now pass.new }
-    ensures did { OnOk result (Did (C.shown pass.old) out.old.items tally.old (answers_from base (file_of capture.now)) (C.shown pass.new) out.new.items tally.new) }
+    ensures did { OnOk result
+        (Did (C.shown pass.old) out.old.items tally.old (answers_from base (file_of capture.now))
+        (C.shown pass.new) out.new.items tally.new) }
     ensures below { OnOk result (AreBelow (base + length index.now.offsets) (C.shown pass.new).note.packets) }
     ensures tallied { OnOk result (IsTallied tally.new) }
     ensures captured { OnOk result (tally.new.captured ≡ tally.old.captured + length index.now.offsets) }

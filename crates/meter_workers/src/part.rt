@@ -1,6 +1,7 @@
 //! All workers on one part of a capture, at once.
 
-ghost use Rattle.std.specs.Prelude.{◌≡◌, ◌+◌, ◌*◌, ◌^◌, ◌<◌, ◌≤◌, ◌++◌, List, [], length, flat_map, All, IfOk, IsTrue, IsPermutation};
+ghost use Rattle.std.specs.Prelude.{◌≡◌, ◌+◌, ◌*◌, ◌^◌, ◌<◌, ◌≤◌, ◌++◌, List, [], length, flat_map, All, IfOk, IsTrue};
+ghost use Rattle.std.specs.Prelude.{IsPermutation};
 ghost use Rattle.std.specs.List.{AllZip};
 ghost use Rattle.pcap_reader.specs.Views.{file_of};
 ghost use Rattle.pcap_reader.specs.Index.{IsIndexOf};
@@ -37,7 +38,10 @@ fn seated<C: FlowCache>(
     requires held { All (λ h. C.is_of cache.now h.pass × IsHeld base (C.shown h.pass) h.out.items) helds.items }
     requires draws { All (λ d. IsPassOf pieces.now d × IsFresh d) draws.items }
     ensures many { IfOk result (λ workers. length workers.items ≡ length helds.items) }
-    ensures ready { IfOk result (λ workers. All (λ w. IsReady (C.is_of cache.now) C.shown pieces.now base w.pass w.draw w.out.items w.tally w.state) workers.items) }
+    ensures ready { IfOk result
+        (λ workers. All
+        (λ w. IsReady (C.is_of cache.now) C.shown pieces.now base w.pass w.draw w.out.items w.tally w.state)
+        workers.items) }
     ensures packets { IfOk result (λ workers. IsPermutation (flat_map (λ h. (C.shown h.pass).note.packets) helds.items)
         (flat_map (λ w. (C.shown w.pass).note.packets) workers.items)) }
 {
@@ -78,11 +82,16 @@ fn work_all<C: FlowCache, G: Gate, R: Threads + Sync>(
     gate: &G,
 )
     requires index { IsIndexOf index.now (file_of capture.now) }
-    requires whole { (count_of pieces.now ≡ length index.now.offsets) × (base + length index.now.offsets < 2 ^ 32) × (0 < length workers.old) }
-    requires ready { All (λ w. IsReady (C.is_of cache.now) C.shown pieces.now base w.pass w.draw w.out.items w.tally w.state) workers.old }
-    ensures worked { All (λ w. HasWorked (C.is_of cache.now) C.shown pieces.now base (answers_from base (file_of capture.now))
+    requires whole { (count_of pieces.now ≡ length index.now.offsets) × (base + length index.now.offsets < 2 ^ 32)
+        × (0 < length workers.old) }
+    requires ready { All
+        (λ w. IsReady (C.is_of cache.now) C.shown pieces.now base w.pass w.draw w.out.items w.tally w.state)
+        workers.old }
+    ensures worked { All
+        (λ w. HasWorked (C.is_of cache.now) C.shown pieces.now base (answers_from base (file_of capture.now))
         w.pass w.draw w.out.items w.tally w.state) workers.new }
-    ensures metered { AllZip (λ o w. w.state ≡ WorkState.Finished → HasMetered pieces.now (answers_from base (file_of capture.now))
+    ensures metered { AllZip (λ o w. w.state ≡ WorkState.Finished
+        → HasMetered pieces.now (answers_from base (file_of capture.now))
         (C.shown o.pass) (C.shown w.pass) w.draw) workers.old workers.new }
 {
     let count = workers.len();
@@ -92,11 +101,15 @@ fn work_all<C: FlowCache, G: Gate, R: Threads + Sync>(
         count,
         &|_, w: &mut Worker<C>|
             requires index { IsIndexOf index.now (file_of capture.now) }
-            requires whole { (count_of pieces.now ≡ length index.now.offsets) × (base + length index.now.offsets < 2 ^ 32) }
-            requires ready { IsReady (C.is_of cache.now) C.shown pieces.now base w.old.pass w.old.draw w.old.out.items w.old.tally w.old.state }
-            ensures worked { HasWorked (C.is_of cache.entry.now) C.shown pieces.entry.now base (answers_from base (file_of capture.entry.now))
+            requires whole { (count_of pieces.now ≡ length index.now.offsets)
+                × (base + length index.now.offsets < 2 ^ 32) }
+            requires ready { IsReady (C.is_of cache.now) C.shown pieces.now base w.old.pass w.old.draw w.old.out.items
+                w.old.tally w.old.state }
+            ensures worked { HasWorked (C.is_of cache.entry.now) C.shown pieces.entry.now base
+                (answers_from base (file_of capture.entry.now))
                 w.new.pass w.new.draw w.new.out.items w.new.tally w.new.state }
-            ensures metered { w.new.state ≡ WorkState.Finished → HasMetered pieces.entry.now (answers_from base (file_of capture.entry.now))
+            ensures metered { w.new.state ≡ WorkState.Finished
+                → HasMetered pieces.entry.now (answers_from base (file_of capture.entry.now))
                 (C.shown w.old.pass) (C.shown w.new.pass) w.new.draw }
         { work(alloc, capture, index, base, cache, pieces, w, gate) },
     );
@@ -115,12 +128,17 @@ fn worked<C: FlowCache, G: Gate, R: Threads + Sync>(
     gate: &G,
 ) -> Vec<Worker<C>>
     requires index { IsIndexOf index.now (file_of capture.now) }
-    requires whole { (count_of pieces.now ≡ length index.now.offsets) × (base + length index.now.offsets < 2 ^ 32) × (0 < length workers.items) }
-    requires ready { All (λ w. IsReady (C.is_of cache.now) C.shown pieces.now base w.pass w.draw w.out.items w.tally w.state) workers.items }
+    requires whole { (count_of pieces.now ≡ length index.now.offsets) × (base + length index.now.offsets < 2 ^ 32)
+        × (0 < length workers.items) }
+    requires ready { All
+        (λ w. IsReady (C.is_of cache.now) C.shown pieces.now base w.pass w.draw w.out.items w.tally w.state)
+        workers.items }
     ensures same { length result.items ≡ length workers.items }
-    ensures worked { All (λ w. HasWorked (C.is_of cache.now) C.shown pieces.now base (answers_from base (file_of capture.now))
+    ensures worked { All
+        (λ w. HasWorked (C.is_of cache.now) C.shown pieces.now base (answers_from base (file_of capture.now))
         w.pass w.draw w.out.items w.tally w.state) result.items }
-    ensures metered { AllZip (λ o w. w.state ≡ WorkState.Finished → HasMetered pieces.now (answers_from base (file_of capture.now))
+    ensures metered { AllZip (λ o w. w.state ≡ WorkState.Finished
+        → HasMetered pieces.now (answers_from base (file_of capture.now))
         (C.shown o.pass) (C.shown w.pass) w.draw) workers.items result.items }
 {
     work_all(
@@ -159,16 +177,21 @@ fn unseated<C: FlowCache>(
     pieces: &Pieces,
     workers: Vec<Worker<C>>,
 ) -> Result<(Vec<Held<C>>, Tally), NoMemory>
-    requires done { All (λ w. IsDone (C.is_of cache.now) C.shown pieces.now base (answers_from base (file_of capture.now))
+    requires done { All
+        (λ w. IsDone (C.is_of cache.now) C.shown pieces.now base (answers_from base (file_of capture.now))
         w.pass w.draw w.out.items w.tally) workers.items }
-    requires some { (0 < length workers.items) × (length workers.items ≤ 64) × (length workers.items ≡ seats_in pieces.now) }
+    requires some { (0 < length workers.items) × (length workers.items ≤ 64)
+        × (length workers.items ≡ seats_in pieces.now) }
     requires enough { length (answers_from base (file_of capture.now)) ≤ number_of pieces.now * size_of pieces.now }
     ensures many { IfOk result (λ r. length r.0.items ≡ length workers.items) }
-    ensures held { IfOk result (λ r. All (λ h. C.is_of cache.now h.pass × IsHeld (base + length (answers_from base (file_of capture.now))) (C.shown h.pass) h.out.items) r.0.items) }
+    ensures held { IfOk result
+        (λ r. All (λ h. C.is_of cache.now h.pass
+        × IsHeld (base + length (answers_from base (file_of capture.now))) (C.shown h.pass) h.out.items) r.0.items) }
     ensures packets { IfOk result (λ r. IsPermutation (flat_map (λ w. (C.shown w.pass).note.packets) workers.items)
         (flat_map (λ h. (C.shown h.pass).note.packets) r.0.items)) }
     ensures spread { IfOk result (λ _. IsPermutation (answers_from base (file_of capture.now))
-        (pieces_of (size_of pieces.now) (answers_from base (file_of capture.now)) (flat_map (λ w. drawn_of w.draw) workers.items))) }
+        (pieces_of (size_of pieces.now) (answers_from base (file_of capture.now))
+        (flat_map (λ w. drawn_of w.draw) workers.items))) }
     ensures tally { IfOk result (λ r. IsTallyOf r.1 (answers_from base (file_of capture.now)) × IsTallied r.1) }
 {
     packets_law();
@@ -209,8 +232,8 @@ fn unseated<C: FlowCache>(
     Ok((helds, tally))
 }
 
-/// Meters a part of a capture by a worker for each pass, all at once. The first record of the part has the number `base`.
-/// It gives what the workers hold then, and the tally of the part's records.
+/// Meters a part of a capture by a worker for each pass, all at once. The first record of the part has the number
+/// `base`. It gives what the workers hold then, and the tally of the part's records.
 pub(crate) fn meter_part<C: FlowCache, G: Gate, R: Threads + Sync>(
     rt: &R,
     alloc: Global,
@@ -228,8 +251,12 @@ pub(crate) fn meter_part<C: FlowCache, G: Gate, R: Threads + Sync>(
     requires some { (0 < length helds.items) × (length helds.items ≤ 64) }
     requires held { All (λ h. C.is_of cache.now h.pass × IsHeld base (C.shown h.pass) h.out.items) helds.items }
     ensures many { IfOk result (λ r. length r.0.items ≡ length helds.items) }
-    ensures held { IfOk result (λ r. All (λ h. C.is_of cache.now h.pass × IsHeld (base + length index.now.offsets) (C.shown h.pass) h.out.items) r.0.items) }
-    ensures packets { IfOk result (λ r. IsPermutation (flat_map (λ h. (C.shown h.pass).note.packets) helds.items ++ packets_in (answers_from base (file_of capture.now)))
+    ensures held { IfOk result
+        (λ r. All (λ h. C.is_of cache.now h.pass
+        × IsHeld (base + length index.now.offsets) (C.shown h.pass) h.out.items) r.0.items) }
+    ensures packets { IfOk result
+        (λ r. IsPermutation (flat_map (λ h. (C.shown h.pass).note.packets) helds.items
+        ++ packets_in (answers_from base (file_of capture.now)))
         (flat_map (λ h. (C.shown h.pass).note.packets) r.0.items)) }
     ensures tally { IfOk result (λ r. IsTallyOf r.1 (answers_from base (file_of capture.now)) × IsTallied r.1) }
 {

@@ -1,6 +1,7 @@
 //! A capture that is read in windows, each metered before the next is read.
 
-ghost use Rattle.std.specs.Prelude.{◌≡◌, ◌+◌, ◌*◌, ◌-◌, ◌^◌, ◌<◌, ◌≤◌, ◌++◌, ◌⊎◌, List, ℕ, [], length, flat_map, All, Err, IfOk, IfErr, IsErrOf, OnOk, IsTrue, IsPermutation};
+ghost use Rattle.std.specs.Prelude.{◌≡◌, ◌+◌, ◌*◌, ◌-◌, ◌^◌, ◌<◌, ◌≤◌, ◌++◌, ◌⊎◌, List, ℕ, [], length, flat_map, All};
+ghost use Rattle.std.specs.Prelude.{Err, IfOk, IfErr, IsErrOf, OnOk, IsTrue, IsPermutation};
 ghost use Rattle.std.specs.declared.option.Option.{Option};
 ghost use Rattle.std.specs.Io.KnownBytes.{Consumes, IsAtEnd};
 ghost use Rattle.meter_io.specs.Sides.{side};
@@ -36,8 +37,8 @@ use std::thread::Threads;
 /// The length of the file header, behind which the records of the first window begin.
 const FILE_HEADER: usize = 24;
 
-/// What all workers did together with a capture that was read in windows: one pass for all seats, the fragments that it was
-/// handed, the tally, and how many bytes are left behind the last record.
+/// What all workers did together with a capture that was read in windows: one pass for all seats, the fragments that it
+/// was handed, the tally, and how many bytes are left behind the last record.
 #[derive(Drop)]
 pub struct WindowGathered<C: FlowCache> {
     pub pass: C::Pass,
@@ -46,8 +47,8 @@ pub struct WindowGathered<C: FlowCache> {
     pub tail: u64,
 }
 
-/// What stays from one window to the next: what the workers hold, the memory of the index, and the tally of all records so
-/// far.
+/// What stays from one window to the next: what the workers hold, the memory of the index, and the tally of all records
+/// so far.
 #[derive(Drop)]
 pub(crate) struct Metering<C: FlowCache> {
     pub(crate) helds: Vec<Held<C>>,
@@ -68,13 +69,18 @@ fn meter_window<C: FlowCache, G: Gate, R: Threads + Sync>(
     requires long { (length (file_of part.now).bytes ≤ 2 ^ 30) × (metering.tally.captured ≤ 2 ^ 30) }
     requires piece { (0 < piece) × (piece ≤ 65536) }
     requires some { (0 < length metering.helds.items) × (length metering.helds.items ≤ 64) }
-    requires held { All (λ h. C.is_of cache.now h.pass × IsHeld metering.tally.captured (C.shown h.pass) h.out.items) metering.helds.items }
+    requires held { All (λ h. C.is_of cache.now h.pass × IsHeld metering.tally.captured (C.shown h.pass) h.out.items)
+        metering.helds.items }
     requires tallied { IsTallied metering.tally }
     ensures index { IfOk result (λ m. IsIndexOf m.index (file_of part.now)) }
     ensures many { IfOk result (λ m. length m.helds.items ≡ length metering.helds.items) }
-    ensures held { IfOk result (λ m. All (λ h. C.is_of cache.now h.pass × IsHeld m.tally.captured (C.shown h.pass) h.out.items) m.helds.items) }
-    ensures packets { IfOk result (λ m. IsPermutation (flat_map (λ h. (C.shown h.pass).note.packets) metering.helds.items
-        ++ packets_in (answers_from metering.tally.captured (file_of part.now))) (flat_map (λ h. (C.shown h.pass).note.packets) m.helds.items)) }
+    ensures held { IfOk result
+        (λ m. All (λ h. C.is_of cache.now h.pass × IsHeld m.tally.captured (C.shown h.pass) h.out.items)
+        m.helds.items) }
+    ensures packets { IfOk result
+        (λ m. IsPermutation (flat_map (λ h. (C.shown h.pass).note.packets) metering.helds.items
+        ++ packets_in (answers_from metering.tally.captured (file_of part.now)))
+        (flat_map (λ h. (C.shown h.pass).note.packets) m.helds.items)) }
     ensures counts { IfOk result (λ m. (earlier : List Answer) → IsTallyOf metering.tally earlier
         → IsTallyOf m.tally (earlier ++ answers_from metering.tally.captured (file_of part.now))) }
     ensures tallied { IfOk result (λ m. IsTallied m.tally) }
@@ -112,19 +118,26 @@ fn meter_input<S: Source, C: FlowCache, G: Gate, R: Threads + Sync>(
     piece: u64,
     gate: &G,
 ) -> Result<Metering<C>, MeterFault>
-    requires first { (capture_file input.window.bytes ≡ Some (headed_by head input.window.bytes)) × (input.taken ≡ length input.window.bytes) }
+    requires first { (capture_file input.window.bytes ≡ Some (headed_by head input.window.bytes))
+        × (input.taken ≡ length input.window.bytes) }
     requires size { (262184 ≤ input.window.size) × (input.window.size ≤ 2 ^ 27) }
     requires within { (input.taken ≤ input.limit) × (input.limit ≤ 2 ^ 30) }
     requires ended { IsTrue input.ended → IsAtEnd (S.left source.old) }
     requires piece { (0 < piece) × (piece ≤ 65536) }
     requires some { (0 < length metering.helds.items) × (length metering.helds.items ≤ 64) }
     requires held { All (λ h. C.is_of cache.now h.pass × IsHeld 0 (C.shown h.pass) h.out.items) metering.helds.items }
-    requires none { (flat_map (λ h. (C.shown h.pass).note.packets) metering.helds.items ≡ []) × IsTallyOf metering.tally [] }
+    requires none { (flat_map (λ h. (C.shown h.pass).note.packets) metering.helds.items ≡ [])
+        × IsTallyOf metering.tally [] }
     ensures many { IfOk result (λ m. length m.helds.items ≡ length metering.helds.items) }
-    ensures held { IfOk result (λ m. All (λ h. C.is_of cache.now h.pass × IsHeld m.tally.captured (C.shown h.pass) h.out.items) m.helds.items) }
-    ensures metered { IfOk result (λ m. (first : Option (List ℕ)) → Consumes first (S.left source.old) input.window.bytes
-        → IsMeteredWhole (began first (side S.left S.faults source.old source.new)) input.limit (flat_map (λ h. (C.shown h.pass).note.packets) m.helds.items) m.tally m.index.tail) }
-    ensures refused { IfErr result (λ fault. (first : Option (List ℕ)) → Consumes first (S.left source.old) input.window.bytes
+    ensures held { IfOk result
+        (λ m. All (λ h. C.is_of cache.now h.pass × IsHeld m.tally.captured (C.shown h.pass) h.out.items)
+        m.helds.items) }
+    ensures metered { IfOk result (λ m. (first : Option (List ℕ))
+        → Consumes first (S.left source.old) input.window.bytes
+        → IsMeteredWhole (began first (side S.left S.faults source.old source.new)) input.limit
+        (flat_map (λ h. (C.shown h.pass).note.packets) m.helds.items) m.tally m.index.tail) }
+    ensures refused { IfErr result (λ fault. (first : Option (List ℕ))
+        → Consumes first (S.left source.old) input.window.bytes
         → IsRefused (began first (side S.left S.faults source.old source.new)) input.limit fault) }
     ensures faults { HasFaults (side S.left S.faults source.old source.new) result }
 {
@@ -165,10 +178,13 @@ fn begun<C: FlowCache>(
 ) -> Result<(CaptureInput, Metering<C>), NoMemory>
     requires window { (262184 ≤ window) × (window ≤ 2 ^ 27) }
     requires passes { All (λ p. C.is_of cache.now p × IsFresh (C.shown p)) passes.items }
-    ensures input { IfOk result (λ r. (r.0.window.bytes ≡ []) × (r.0.window.size ≡ window) × (r.0.taken ≡ 0) × (r.0.limit ≡ limit)) }
+    ensures input { IfOk result (λ r. (r.0.window.bytes ≡ []) × (r.0.window.size ≡ window) × (r.0.taken ≡ 0)
+        × (r.0.limit ≡ limit)) }
     ensures many { IfOk result (λ r. length r.1.helds.items ≡ length passes.items) }
-    ensures held { IfOk result (λ r. All (λ h. C.is_of cache.now h.pass × IsHeld 0 (C.shown h.pass) h.out.items) r.1.helds.items) }
-    ensures none { IfOk result (λ r. (flat_map (λ h. (C.shown h.pass).note.packets) r.1.helds.items ≡ []) × IsTallyOf r.1.tally []) }
+    ensures held { IfOk result
+        (λ r. All (λ h. C.is_of cache.now h.pass × IsHeld 0 (C.shown h.pass) h.out.items) r.1.helds.items) }
+    ensures none { IfOk result (λ r. (flat_map (λ h. (C.shown h.pass).note.packets) r.1.helds.items ≡ [])
+        × IsTallyOf r.1.tally []) }
 {
     let helds = held_of(alloc, cache, passes)?;
     let index = RecordIndex::with_room(alloc, window)?;
@@ -183,10 +199,14 @@ fn begun<C: FlowCache>(
 
 /// What all workers have in the end.
 fn gathered<C: FlowCache>(cache: &C, metering: Metering<C>) -> Result<WindowGathered<C>, NoMemory>
-    requires held { All (λ h. C.is_of cache.now h.pass × IsHeld metering.tally.captured (C.shown h.pass) h.out.items) metering.helds.items }
+    requires held { All (λ h. C.is_of cache.now h.pass × IsHeld metering.tally.captured (C.shown h.pass) h.out.items)
+        metering.helds.items }
     requires some { 0 < length metering.helds.items }
-    ensures own { IfOk result (λ r. C.is_of cache.now r.pass × ((C.shown r.pass).note.seats ≡ length metering.helds.items)) }
-    ensures packets { IfOk result (λ r. IsPermutation (flat_map (λ h. (C.shown h.pass).note.packets) metering.helds.items) (C.shown r.pass).note.packets) }
+    ensures own { IfOk result (λ r. C.is_of cache.now r.pass
+        × ((C.shown r.pass).note.seats ≡ length metering.helds.items)) }
+    ensures packets { IfOk result
+        (λ r. IsPermutation (flat_map (λ h. (C.shown h.pass).note.packets) metering.helds.items)
+        (C.shown r.pass).note.packets) }
     ensures parts { IfOk result (λ r. r.parts.items ≡ (C.shown r.pass).note.handed) }
     ensures counts { IfOk result (λ r. (r.tally ≡ metering.tally) × (r.tail ≡ metering.index.tail)) }
 {
@@ -204,17 +224,17 @@ fn gathered<C: FlowCache>(cache: &C, metering: Metering<C>) -> Result<WindowGath
     })
 }
 
-/// Meters a capture that is read in windows of `window` bytes (262,184 to 2^27), through a cache, by one worker for each of
-/// its passes (1 to 64). Each window is metered, by all workers at once, before the next is read; what is left behind the
-/// last record of a window begins the next one. The memory of the window and of its index is taken once.
+/// Meters a capture that is read in windows of `window` bytes (262,184 to 2^27), through a cache, by one worker for
+/// each of its passes (1 to 64). Each window is metered, by all workers at once, before the next is read; what is left
+/// behind the last record of a window begins the next one. The memory of the window and of its index is taken once.
 ///
 /// The records of a window are cut into pieces of `piece` records (1 to 65,536); the gate is told of each piece, by its
-/// number within the window. At most `limit` bytes may come, and at most 2^30. The united pass has metered just the packets
-/// of the capture, each once; `parts` are the fragments that it was handed; the tally is that of all records, and the source
-/// has nothing left.
+/// number within the window. At most `limit` bytes may come, and at most 2^30. The united pass has metered just the
+/// packets of the capture, each once; `parts` are the fragments that it was handed; the tally is that of all records,
+/// and the source has nothing left.
 ///
-/// Refusals in the order of [`MeterFault`]: where the input is no capture, of an unknown link type or damaged, it is read to
-/// its end first, so that `Failed` and `TooLarge` keep their place. `NoMemory` may come at any time.
+/// Refusals in the order of [`MeterFault`]: where the input is no capture, of an unknown link type or damaged, it is
+/// read to its end first, so that `Failed` and `TooLarge` keep their place. `NoMemory` may come at any time.
 pub fn meter_windows<S: Source, C: FlowCache, G: Gate, R: Threads + Sync>(
     rt: &R,
     alloc: Global,
@@ -229,9 +249,12 @@ pub fn meter_windows<S: Source, C: FlowCache, G: Gate, R: Threads + Sync>(
     requires window { (262184 ≤ window) × (window ≤ 2 ^ 27) }
     requires piece { (0 < piece) × (piece ≤ 65536) }
     requires limit { limit ≤ 2 ^ 30 }
-    requires passes { (0 < length passes.items) × (length passes.items ≤ 64) × All (λ p. C.is_of cache.now p × IsFresh (C.shown p)) passes.items }
+    requires passes { (0 < length passes.items) × (length passes.items ≤ 64)
+        × All (λ p. C.is_of cache.now p × IsFresh (C.shown p)) passes.items }
     ensures own { IfOk result (λ r. C.is_of cache.now r.pass × ((C.shown r.pass).note.seats ≡ length passes.items)) }
-    ensures metered { IfOk result (λ r. IsMeteredWhole (side S.left S.faults source.old source.new) limit (C.shown r.pass).note.packets r.tally r.tail) }
+    ensures metered { IfOk result
+        (λ r. IsMeteredWhole (side S.left S.faults source.old source.new) limit
+        (C.shown r.pass).note.packets r.tally r.tail) }
     ensures parts { IfOk result (λ r. IsPermutation (C.shown r.pass).note.handed r.parts.items) }
     ensures refused { IfErr result (λ fault. IsRefused (side S.left S.faults source.old source.new) limit fault) }
     ensures faults { HasFaults (side S.left S.faults source.old source.new) result }

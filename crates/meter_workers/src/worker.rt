@@ -28,7 +28,8 @@ pub struct Worker<C: FlowCache> {
     pub state: WorkState,
 }
 
-/// What a worker holds between two parts of a capture: its pass of the cache, and the fragments that the cache handed it.
+/// What a worker holds between two parts of a capture: its pass of the cache, and the fragments that the cache handed
+/// it.
 #[derive(Drop)]
 pub(crate) struct Held<C: FlowCache> {
     pub(crate) pass: C::Pass,

@@ -1,6 +1,7 @@
 //! What one worker does.
 
-ghost use Rattle.std.specs.Prelude.{◌≡◌, ◌≢◌, ◌+◌, ◌-◌, ◌*◌, ◌^◌, ◌<◌, ◌≤◌, List, ℕ, Result, [], ◌∷◌, ◌++◌, length, min, IfOk, OnOk, OnErr, slice_range, option_to_list};
+ghost use Rattle.std.specs.Prelude.{◌≡◌, ◌≢◌, ◌+◌, ◌-◌, ◌*◌, ◌^◌, ◌<◌, ◌≤◌, List, ℕ, Result, [], ◌∷◌, ◌++◌, length};
+ghost use Rattle.std.specs.Prelude.{min, IfOk, OnOk, OnErr, slice_range, option_to_list};
 ghost use Rattle.pcap_reader.specs.Views.{file_of, record_read};
 ghost use Rattle.pcap_reader.specs.Index.{IsIndexOf};
 ghost use Rattle.packet_accept.specs.Acceptance.{accepted};
@@ -39,7 +40,8 @@ fn count_answer(tally: &mut Tally, answer: &Result<Packet, Ignored>)
     requires tallied { IsTallied tally.old }
     requires small { IfOk answer.now (λ packet. packet.octets < 2 ^ 24) }
     requires early { IfOk answer.now (λ packet. packet.time < 1000 * 2 ^ 32) }
-    ensures counts { (earlier : List (Result Packet Ignored)) → IsTallyOf tally.old earlier → IsTallyOf tally.new (earlier ++ answer.now ∷ []) }
+    ensures counts { (earlier : List (Result Packet Ignored)) → IsTallyOf tally.old earlier
+        → IsTallyOf tally.new (earlier ++ answer.now ∷ []) }
     ensures tallied { IsTallied tally.new }
     ensures captured { tally.new.captured ≡ tally.old.captured + 1 }
 {
@@ -66,7 +68,8 @@ fn meter_record<C: FlowCache>(
     ensures own { C.is_of cache.now pass.new }
     ensures did { let file = file_of capture.now in OnOk result (Did (C.shown pass.old) out.old.items tally.old
         (accepted file.link file.nanos (record_read rec.now) number ∷ []) (C.shown pass.new) out.new.items tally.new) }
-    ensures metered { let file = file_of capture.now in (C.shown pass.new).note.packets ≡ (C.shown pass.old).note.packets
+    ensures metered { let file = file_of capture.now in
+        (C.shown pass.new).note.packets ≡ (C.shown pass.old).note.packets
         ++ packets_in (accepted file.link file.nanos (record_read rec.now) number ∷ []) }
     ensures below { AreBelow (number + 1) (C.shown pass.new).note.packets }
     ensures tallied { IsTallied tally.new }
@@ -97,18 +100,21 @@ pub(crate) fn meter_piece<C: FlowCache>(
 ) -> Result<(), NoMemory>
     requires index { IsIndexOf index.now (file_of capture.now) }
     requires part { (piece.start < piece.end) × (piece.end ≤ length index.now.offsets) }
-    requires few { (base + length index.now.offsets < 2 ^ 32) × (tally.old.captured + length index.now.offsets < 2 ^ 38 + piece.start) }
+    requires few { (base + length index.now.offsets < 2 ^ 32)
+        × (tally.old.captured + length index.now.offsets < 2 ^ 38 + piece.start) }
     requires own { C.is_of cache.now pass.old }
     requires single { (C.shown pass.old).note.seats ≡ 1 }
     requires below { AreBelow (base + piece.start) (C.shown pass.old).note.packets }
     requires tallied { IsTallied tally.old }
     ensures own { C.is_of cache.now pass.new }
     ensures did { OnOk result (Did (C.shown pass.old) out.old.items tally.old
-        (slice_range (answers_from base (file_of capture.now)) piece.start piece.end) (C.shown pass.new) out.new.items tally.new) }
+        (slice_range (answers_from base (file_of capture.now)) piece.start piece.end)
+        (C.shown pass.new) out.new.items tally.new) }
     ensures below { OnOk result (AreBelow (base + piece.end) (C.shown pass.new).note.packets) }
     ensures tallied { OnOk result (IsTallied tally.new) }
     ensures captured { OnOk result (tally.new.captured + piece.start ≡ tally.old.captured + piece.end) }
-    ensures failed { OnErr result ((stop : ℕ) × (stop ≤ piece.end) × ((C.shown pass.new).note.packets ≡ (C.shown pass.old).note.packets
+    ensures failed { OnErr result ((stop : ℕ) × (stop ≤ piece.end)
+        × ((C.shown pass.new).note.packets ≡ (C.shown pass.old).note.packets
         ++ packets_in (slice_range (answers_from base (file_of capture.now)) piece.start stop))) }
 {
     packets_law();
@@ -136,7 +142,8 @@ fn work_through<C: FlowCache, G: Gate>(
 ) -> Result<(), NoMemory>
     requires index { IsIndexOf index.now (file_of capture.now) }
     requires whole { count_of pieces.now ≡ length index.now.offsets }
-    requires few { (base + length index.now.offsets < 2 ^ 32) × (tally.old.captured + length index.now.offsets < 2 ^ 38) }
+    requires few { (base + length index.now.offsets < 2 ^ 32)
+        × (tally.old.captured + length index.now.offsets < 2 ^ 38) }
     requires own { C.is_of cache.now pass.old × IsPassOf pieces.now draw.old }
     requires single { ((C.shown pass.old).note.seats ≡ 1) × (seats_of draw.old ≡ 1) }
     requires below { AreBelow base (C.shown pass.old).note.packets }
@@ -144,7 +151,8 @@ fn work_through<C: FlowCache, G: Gate>(
     ensures own { C.is_of cache.now pass.new × IsPassOf pieces.now draw.new × (seats_of draw.new ≡ 1) }
     ensures ended { OnOk result (0 < nones_of draw.new) }
     ensures did { OnOk result ((drawn : List ℕ) × (drawn_of draw.new ≡ drawn_of draw.old ++ drawn)
-        × Did (C.shown pass.old) out.old.items tally.old (pieces_of (size_of pieces.now) (answers_from base (file_of capture.now)) drawn)
+        × Did (C.shown pass.old) out.old.items tally.old
+        (pieces_of (size_of pieces.now) (answers_from base (file_of capture.now)) drawn)
         (C.shown pass.new) out.new.items tally.new) }
     ensures tallied { OnOk result (IsTallied tally.new) }
     ensures few { OnOk result (tally.new.captured ≤ tally.old.captured + length index.now.offsets) }
@@ -163,7 +171,8 @@ fn work_through<C: FlowCache, G: Gate>(
     Err(NoMemory)
 }
 
-/// Draws pieces, meters their records through the worker's pass, and tallies them, until none is left: the worker is then
+/// Draws pieces, meters their records through the worker's pass, and tallies them, until none is left: the worker is
+/// then
 /// `Finished`. Before each piece the gate is told.
 ///
 /// `base` is the number of records before this part of the capture; its records are numbered from there on. `pieces` is
@@ -182,21 +191,26 @@ pub fn work<C: FlowCache, G: Gate>(
     requires going { worker.old.state ≡ WorkState.Going }
     requires index { IsIndexOf index.now (file_of capture.now) }
     requires whole { count_of pieces.now ≡ length index.now.offsets }
-    requires few { (base + length index.now.offsets < 2 ^ 32) × (worker.old.tally.captured + length index.now.offsets < 2 ^ 38) }
+    requires few { (base + length index.now.offsets < 2 ^ 32)
+        × (worker.old.tally.captured + length index.now.offsets < 2 ^ 38) }
     requires own { C.is_of cache.now worker.old.pass × IsPassOf pieces.now worker.old.draw }
     requires single { ((C.shown worker.old.pass).note.seats ≡ 1) × (seats_of worker.old.draw ≡ 1) }
     requires below { AreBelow base (C.shown worker.old.pass).note.packets }
     requires tallied { IsTallied worker.old.tally }
-    ensures own { C.is_of cache.now worker.new.pass × IsPassOf pieces.now worker.new.draw × (seats_of worker.new.draw ≡ 1) }
+    ensures own { C.is_of cache.now worker.new.pass × IsPassOf pieces.now worker.new.draw
+        × (seats_of worker.new.draw ≡ 1) }
     ensures ended { worker.new.state ≢ WorkState.Going }
     ensures none_left { worker.new.state ≡ WorkState.Finished → 0 < nones_of worker.new.draw }
-    ensures did { worker.new.state ≡ WorkState.Finished → (drawn : List ℕ) × (drawn_of worker.new.draw ≡ drawn_of worker.old.draw ++ drawn)
+    ensures did { worker.new.state ≡ WorkState.Finished
+        → (drawn : List ℕ) × (drawn_of worker.new.draw ≡ drawn_of worker.old.draw ++ drawn)
         × Did (C.shown worker.old.pass) worker.old.out.items worker.old.tally
         (pieces_of (size_of pieces.now) (answers_from base (file_of capture.now)) drawn)
         (C.shown worker.new.pass) worker.new.out.items worker.new.tally }
     ensures tallied { worker.new.state ≡ WorkState.Finished → IsTallied worker.new.tally }
-    ensures few { worker.new.state ≡ WorkState.Finished → worker.new.tally.captured ≤ worker.old.tally.captured + length index.now.offsets }
-    ensures below { worker.new.state ≡ WorkState.Finished → AreBelow (base + length index.now.offsets) (C.shown worker.new.pass).note.packets }
+    ensures few { worker.new.state ≡ WorkState.Finished
+        → worker.new.tally.captured ≤ worker.old.tally.captured + length index.now.offsets }
+    ensures below { worker.new.state ≡ WorkState.Finished
+        → AreBelow (base + length index.now.offsets) (C.shown worker.new.pass).note.packets }
 {
     let end = work_through(
         capture,

@@ -38,8 +38,8 @@ impl MeteredList {
         MeteredList { parts: None }
     }
 
-    /// Keeps the fragments that were handed out and the entries of a cache in place of those before. Without memory the given
-    /// ones are given up.
+    /// Keeps the fragments that were handed out and the entries of a cache in place of those before. Without memory the
+    /// given ones are given up.
     pub fn keep(&mut self, handed: Vec<Fragment>, entries: Vec<Fragment>) -> Result<(), NoMemory>
         ensures kept { OnOk result (self.new ≡ handed.items ++ entries.items) }
         ensures stays { OnErr result (self.new ≡ self.old) }

@@ -1,10 +1,10 @@
-//! The program behind `bench/reading.sh`: it meters the capture of standard input in windows through one turn cache, and
-//! neither gathers nor writes flow records.
+//! The program behind `bench/reading.sh`: it meters the capture of standard input in windows through one turn cache,
+//! and neither gathers nor writes flow records.
 //!
 //!     metering_alone WORKERS WINDOW SETS < CAPTURE
 //!
-//! It writes one line: how many records there are, how many of them are packets, and the octets of these. The status is 0,
-//! 1 where the capture isn't metered, 2 where the words are no such numbers.
+//! It writes one line: how many records there are, how many of them are packets, and the octets of these. The status is
+//! 0, 1 where the capture isn't metered, 2 where the words are no such numbers.
 #![tactic(auto)]
 
 ghost use Rattle.std.specs.Prelude.{◌≤◌, ◌^◌};

@@ -32,7 +32,8 @@ struct Outcome {
     tail: u64,
 }
 
-/// How a capture is metered: by how many workers, in windows and pieces of which size, and at most how many bytes of it.
+/// How a capture is metered: by how many workers, in windows and pieces of which size, and at most how many bytes of
+/// it.
 #[derive(Clone, Copy)]
 struct Setting {
     seats: usize,

@@ -1,5 +1,6 @@
 -- The answers to the records of a file.
-use Rattle.std.proofs.Common.{◌≡◌, ℕ, ◌+◌, List, [], ◌∷◌, ◌++◌, Result, add-zero, zero, suc, length, map, Some, refl, sym, ap, ◌∙◌, add-one, take, arith, slice_get, IsPermutation}
+use Rattle.std.proofs.Common.{◌≡◌, ℕ, ◌+◌, List, [], ◌∷◌, ◌++◌, Result, add-zero, zero, suc, length, map, Some, refl}
+use Rattle.std.proofs.Common.{sym, ap, ◌∙◌, add-one, take, arith, slice_get, IsPermutation}
 use Rattle.std.proofs.Math.Seq.{take-length}
 use Rattle.std.specs.List.{enumerate_from}
 use Rattle.std.specs.Result.{result_ok}

@@ -1,10 +1,13 @@
 -- What is made of the elements of a permuted list, one behind the other, is permuted too.
-use Rattle.std.proofs.Common.{◌≡◌, ℕ, suc, ◌<◌, inl, inr, List, [], ◌∷◌, ◌++◌, length, get_or, set, take, drop, Option, Some, None, refl, sym, ap, ◌∙◌, subst, arith, flat_map, IsPermutation}
+use Rattle.std.proofs.Common.{◌≡◌, ℕ, suc, ◌<◌, inl, inr, List, [], ◌∷◌, ◌++◌, length, get_or, set, take, drop, Option}
+use Rattle.std.proofs.Common.{Some, None, refl, sym, ap, ◌∙◌, subst, arith, flat_map, IsPermutation}
 use Rattle.std.specs.List.{filter_map, cons_option, swap}
 use Rattle.std.proofs.lemmas.Bool.{cases_order}
-use Rattle.std.proofs.lemmas.List.{set_split, set_at, set_comm, set-append_left, set-get_or, get_or-take, length-set, length-take, append_assoc}
+use Rattle.std.proofs.lemmas.List.{set_split, set_at, set_comm, set-append_left, set-get_or, get_or-take, length-set}
+use Rattle.std.proofs.lemmas.List.{length-take, append_assoc}
 use Rattle.std.proofs.lemmas.List.Concat.{flat_map-append}
-use Rattle.std.proofs.lemmas.List.Sorted.{IsPermutation-refl, IsPermutation-trans, IsPermutation-append_left, IsPermutation-append_right, IsPermutation-append_comm, IsPermutation-keeps}
+use Rattle.std.proofs.lemmas.List.Sorted.{IsPermutation-refl, IsPermutation-trans, IsPermutation-append_left}
+use Rattle.std.proofs.lemmas.List.Sorted.{IsPermutation-append_right, IsPermutation-append_comm, IsPermutation-keeps}
 
 module _ {B : Type 0} where
   same : (xs ys : List B) → xs ≡ ys → IsPermutation xs ys

@@ -30,8 +30,10 @@ use pcap_reader::{Capture, Record};
 pub fn accept(capture: &Capture<'_>, rec: &Record<'_>, n: u64) -> Result<Packet, Ignored>
     ensures answer { let file = file_of capture.now in result ≡ accepted file.link file.nanos (record_read rec.now) n }
     // Where the time and the headers have no fault there is a packet: what octets hold fits the fields of a key.
-    ensures complete { let file = file_of capture.now in let read = record_read rec.now in (time : ℕ) (headers : Headers)
-        → time_of file.nanos read.seconds read.fraction ≡ Ok time → headers_of file.link read ≡ Ok headers → IsOk result }
+    ensures complete { let file = file_of capture.now in let read = record_read rec.now in
+        (time : ℕ) (headers : Headers)
+        → time_of file.nanos read.seconds read.fraction ≡ Ok time → headers_of file.link read ≡ Ok headers
+        → IsOk result }
     ensures number { IfOk result (λ packet. packet.number ≡ n) }
     ensures octets { IfOk result (λ packet. packet.octets < 2 ^ 24) }
     ensures time { IfOk result (λ packet. packet.time < 2 ^ 43) }

@@ -30,7 +30,8 @@ pub fn headers_of<'a>(link: u32, rec: &Record<'a>) -> Result<HeaderViews<'a>, Ig
     ensures fields { IfOk result (λ views. headers_of link (record_read rec.now) ≡ Ok (headers_shown views)) }
     ensures fault { IfErr result (λ cause. headers_of link (record_read rec.now) ≡ Err cause) }
     ensures version { IfOk result (λ views. IsIpVersion views.ip.version) }
-    ensures narrow { IfOk result (λ views. views.ip.version ≡ 4 → (views.ip.source < 2 ^ 32) × (views.ip.destination < 2 ^ 32)) }
+    ensures narrow { IfOk result (λ views. views.ip.version ≡ 4
+        → (views.ip.source < 2 ^ 32) × (views.ip.destination < 2 ^ 32)) }
     ensures bounded { IfOk result (λ views. views.ip.octets < 2 ^ 24) }
 {
     let frame = link_of(link, rec.captured)?;

@@ -1,6 +1,7 @@
 //! Laws on the definitions, for proofs above. The calls do nothing.
 
-ghost use Rattle.std.specs.Prelude.{◌≡◌, ◌+◌, ◌++◌, ℕ, List, [], ◌∷◌, Option, Result, Some, IsPermutation, length, take, slice_get};
+ghost use Rattle.std.specs.Prelude.{◌≡◌, ◌+◌, ◌++◌, ℕ, List, [], ◌∷◌, Option, Result, Some, IsPermutation, length};
+ghost use Rattle.std.specs.Prelude.{take, slice_get};
 ghost use Rattle.pcap_reader.specs.File.{CaptureFile};
 ghost use Rattle.pcap_reader.specs.Records.{PacketRecord, records_of};
 ghost use Rattle.packet_accept.specs.declared.packet.Packet.{Packet};
@@ -17,8 +18,10 @@ pub fn packets_law()
         → slice_get (answers_of file) n ≡ Some (accepted file.link file.nanos rec n) }
     // The first records, and one more.
     ensures next { (file : CaptureFile) (n : ℕ) (rec : PacketRecord) → slice_get (records_of file) n ≡ Some rec
-        → packets_in (take (n + 1) (answers_of file)) ≡ packets_in (take n (answers_of file)) ++ packets_in (accepted file.link file.nanos rec n ∷ []) }
-    ensures all { (file : CaptureFile) → packets_in (take (length (records_of file)) (answers_of file)) ≡ packets_of file }
+        → packets_in (take (n + 1) (answers_of file)) ≡ packets_in (take n (answers_of file))
+        ++ packets_in (accepted file.link file.nanos rec n ∷ []) }
+    ensures all { (file : CaptureFile) → packets_in (take (length (records_of file)) (answers_of file))
+        ≡ packets_of file }
     ensures together { (answers others : List (Result Packet Ignored))
         → packets_in (answers ++ others) ≡ packets_in answers ++ packets_in others }
     ensures permuted { (answers others : List (Result Packet Ignored)) → IsPermutation answers others

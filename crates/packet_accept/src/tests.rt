@@ -46,7 +46,8 @@ struct Row {
 /// Rows of a table: the capture's kind and link type, the seconds and the fraction, the frame in pieces, how
 /// many octets of it are captured of how many original ones, and what is wanted.
 macro_rules! records {
-    ($($kind:ident $link:literal at $seconds:literal, $fraction:literal [$($piece:expr),*] $captured:literal of $original:literal => $want:expr;)*) => {
+    ($($kind:ident $link:literal at $seconds:literal,
+        $fraction:literal [$($piece:expr),*] $captured:literal of $original:literal => $want:expr;)*) => {
         &[$(Row {
             kind: $kind,
             link: $link,
@@ -75,12 +76,14 @@ const TIMES: &[Row] = records! {
     LittleMicros 1 at 1000, 1000 [ETHERNET, IPV4, V4_UDP, UDP] 42 of 42 => Gives(4, 17, 4000, 53, 1_000_001, 28, 0);
     BigMicros 1 at 1000, 999_999 [ETHERNET, IPV4, V4_UDP, UDP] 42 of 42 => Gives(4, 17, 4000, 53, 1_000_999, 28, 0);
     LittleMicros 1 at 1000, 1_000_000 [ETHERNET, IPV4, V4_UDP, UDP] 42 of 42 => No(BadTime);
-    LittleMicros 1 at 4_294_967_295, 999_999 [ETHERNET, IPV4, V4_UDP, UDP] 42 of 42 => Gives(4, 17, 4000, 53, 4_294_967_295_999, 28, 0);
+    LittleMicros 1 at 4_294_967_295, 999_999 [ETHERNET, IPV4, V4_UDP, UDP] 42 of 42 =>
+        Gives(4, 17, 4000, 53, 4_294_967_295_999, 28, 0);
     LittleMicros 1 at 0, 4_294_967_295 [ETHERNET, IPV4, V4_UDP, UDP] 42 of 42 => No(BadTime);
     BigNanos 1 at 1000, 0 [ETHERNET, IPV4, V4_UDP, UDP] 42 of 42 => Gives(4, 17, 4000, 53, 1_000_000, 28, 0);
     BigNanos 1 at 1000, 999_999 [ETHERNET, IPV4, V4_UDP, UDP] 42 of 42 => Gives(4, 17, 4000, 53, 1_000_000, 28, 0);
     LittleNanos 1 at 1000, 1_000_000 [ETHERNET, IPV4, V4_UDP, UDP] 42 of 42 => Gives(4, 17, 4000, 53, 1_000_001, 28, 0);
-    LittleNanos 1 at 1000, 999_999_999 [ETHERNET, IPV4, V4_UDP, UDP] 42 of 42 => Gives(4, 17, 4000, 53, 1_000_999, 28, 0);
+    LittleNanos 1 at 1000, 999_999_999 [ETHERNET, IPV4, V4_UDP, UDP] 42 of 42 =>
+        Gives(4, 17, 4000, 53, 1_000_999, 28, 0);
     BigNanos 1 at 1000, 1_000_000_000 [ETHERNET, IPV4, V4_UDP, UDP] 42 of 42 => No(BadTime);
 };
 
@@ -97,29 +100,42 @@ const CAUSES: &[Row] = records! {
     LittleMicros 101 at 1000, 0 [b"\x44\0\0\x1c\0\0\0\0\x40\x11\0\0", V4_ADDRESSES] 20 of 28 => No(BadHeader);
     LittleMicros 101 at 1000, 0 [b"\x50"] 1 of 28 => No(NotIp);
     LittleMicros 1 at 1000, 0 [ETHERNET, IPV4, V4_UDP, UDP] 37 of 42 => No(ShortTransport);
-    LittleMicros 1 at 1000, 0 [ETHERNET, IPV4, b"\x45\0\0\x14\0\0\0\0\x40\x06\0\0", V4_ADDRESSES, ZEROS] 60 of 60 => No(ShortTransport);
+    LittleMicros 1 at 1000, 0 [ETHERNET, IPV4, b"\x45\0\0\x14\0\0\0\0\x40\x06\0\0", V4_ADDRESSES, ZEROS] 60 of 60 =>
+        No(ShortTransport);
     LittleMicros 101 at 1000, 0 [b"\x45\0\0\x28\0\0\0\0\x40\x06\0\0", V4_ADDRESSES, TCP] 33 of 40 => No(ShortTransport);
 };
 
 const PACKETS: &[Row] = records! {
     LittleMicros 101 at 1000, 0 [V4_UDP, UDP] 28 of 28 => Gives(4, 17, 4000, 53, 1_000_000, 28, 0);
     LittleMicros 113 at 1000, 0 [COOKED, IPV4, V4_UDP, UDP] 44 of 44 => Gives(4, 17, 4000, 53, 1_000_000, 28, 0);
-    LittleMicros 1 at 1000, 0 [ETHERNET, TAG, TAG, IPV4, V4_UDP, UDP] 50 of 50 => Gives(4, 17, 4000, 53, 1_000_000, 28, 0);
+    LittleMicros 1 at 1000, 0 [ETHERNET, TAG, TAG, IPV4, V4_UDP, UDP] 50 of 50 =>
+        Gives(4, 17, 4000, 53, 1_000_000, 28, 0);
     LittleMicros 1 at 1000, 0 [ETHERNET, IPV4, V4_UDP, UDP] 38 of 42 => Gives(4, 17, 4000, 53, 1_000_000, 28, 0);
-    LittleMicros 101 at 1000, 0 [b"\x45\0\0\x28\0\0\0\0\x40\x06\0\0", V4_ADDRESSES, TCP] 34 of 40 => Gives(4, 6, 1025, 443, 1_000_000, 40, 16);
+    LittleMicros 101 at 1000, 0 [b"\x45\0\0\x28\0\0\0\0\x40\x06\0\0", V4_ADDRESSES, TCP] 34 of 40 =>
+        Gives(4, 6, 1025, 443, 1_000_000, 40, 16);
     // No ports: another protocol, and a fragment other than the first.
-    LittleMicros 101 at 1000, 0 [b"\x45\0\0\x1c\0\0\0\0\x40\x01\0\0", V4_ADDRESSES, UDP] 28 of 28 => Gives(4, 1, 0, 0, 1_000_000, 28, 0);
-    LittleMicros 101 at 1000, 0 [b"\x45\0\0\x14\0\0\0\x01\x40\x06\0\0", V4_ADDRESSES] 20 of 20 => Gives(4, 6, 0, 0, 1_000_000, 20, 0);
+    LittleMicros 101 at 1000, 0 [b"\x45\0\0\x1c\0\0\0\0\x40\x01\0\0", V4_ADDRESSES, UDP] 28 of 28 =>
+        Gives(4, 1, 0, 0, 1_000_000, 28, 0);
+    LittleMicros 101 at 1000, 0 [b"\x45\0\0\x14\0\0\0\x01\x40\x06\0\0", V4_ADDRESSES] 20 of 20 =>
+        Gives(4, 6, 0, 0, 1_000_000, 20, 0);
     // A total length of 0: what the link part leaves of the original length.
-    LittleMicros 1 at 1000, 0 [ETHERNET, IPV4, V4_OFFLOADED, UDP] 42 of 3014 => Gives(4, 17, 4000, 53, 1_000_000, 3000, 0);
-    LittleMicros 113 at 1000, 0 [COOKED, IPV4, V4_OFFLOADED, UDP] 44 of 3016 => Gives(4, 17, 4000, 53, 1_000_000, 3000, 0);
+    LittleMicros 1 at 1000, 0 [ETHERNET, IPV4, V4_OFFLOADED, UDP] 42 of 3014 =>
+        Gives(4, 17, 4000, 53, 1_000_000, 3000, 0);
+    LittleMicros 113 at 1000, 0 [COOKED, IPV4, V4_OFFLOADED, UDP] 44 of 3016 =>
+        Gives(4, 17, 4000, 53, 1_000_000, 3000, 0);
     LittleMicros 101 at 1000, 0 [V4_OFFLOADED, UDP] 28 of 3000 => Gives(4, 17, 4000, 53, 1_000_000, 3000, 0);
-    LittleMicros 1 at 1000, 0 [ETHERNET, IPV4, b"\x45\0\0\0\0\0\0\0\x40\x01\0\0", V4_ADDRESSES] 34 of 3 => Gives(4, 1, 0, 0, 1_000_000, 20, 0);
-    LittleMicros 1 at 1000, 0 [ETHERNET, IPV4, V4_OFFLOADED, UDP] 42 of 16_777_229 => Gives(4, 17, 4000, 53, 1_000_000, 16_777_215, 0);
+    LittleMicros 1 at 1000, 0 [ETHERNET, IPV4, b"\x45\0\0\0\0\0\0\0\x40\x01\0\0", V4_ADDRESSES] 34 of 3 =>
+        Gives(4, 1, 0, 0, 1_000_000, 20, 0);
+    LittleMicros 1 at 1000, 0 [ETHERNET, IPV4, V4_OFFLOADED, UDP] 42 of 16_777_229 =>
+        Gives(4, 17, 4000, 53, 1_000_000, 16_777_215, 0);
     LittleMicros 1 at 1000, 0 [ETHERNET, IPV4, V4_OFFLOADED, UDP] 42 of 16_777_230 => No(BadHeader);
     // Two IPv6 packets behind a hop-by-hop and a fragment header: a first and a later fragment.
-    LittleMicros 101 at 5, 0 [V6, b"\0\x24\0\x40", V6_ADDRESSES, b"\x2c\0\x01\x04\0\0\0\0", b"\x06\0\0\x01\0\0\0\x09", TCP] 76 of 76 => Gives(6, 6, 1025, 443, 5000, 76, 16);
-    LittleMicros 101 at 5, 0 [V6, b"\0\x74\0\x40", V6_ADDRESSES, b"\x2c\0\x01\x04\0\0\0\0", b"\x06\0\0\x20\0\0\0\x09", ZEROS, ZEROS, ZEROS, ZEROS] 156 of 156 => Gives(6, 6, 0, 0, 5000, 156, 0);
+    LittleMicros 101 at 5,
+        0 [V6, b"\0\x24\0\x40", V6_ADDRESSES, b"\x2c\0\x01\x04\0\0\0\0", b"\x06\0\0\x01\0\0\0\x09", TCP] 76 of 76 =>
+            Gives(6, 6, 1025, 443, 5000, 76, 16);
+    LittleMicros 101 at 5,
+        0 [V6, b"\0\x74\0\x40", V6_ADDRESSES, b"\x2c\0\x01\x04\0\0\0\0", b"\x06\0\0\x20\0\0\0\x09", ZEROS, ZEROS, ZEROS,
+            ZEROS] 156 of 156 => Gives(6, 6, 0, 0, 5000, 156, 0);
 };
 
 /// The magic number of a capture.

@@ -51,7 +51,8 @@ pub fn transport_of(ip: &IpView<'_>) -> Result<Transport, Ignored>
 /// The ports and the control bits of TCP.
 #[inline]
 fn tcp_of(payload: &[u8]) -> Result<Transport, Ignored>
-    ensures fields { IfOk result (λ transport. or_short_transport (tcp_part payload.now) ≡ Ok (transport_shown transport)) }
+    ensures fields { IfOk result (λ transport. or_short_transport (tcp_part payload.now)
+        ≡ Ok (transport_shown transport)) }
     ensures fault { IfErr result (λ cause. or_short_transport (tcp_part payload.now) ≡ Err cause) }
 {
     let Ok(view) = TcpView::of(payload) else {
@@ -67,7 +68,8 @@ fn tcp_of(payload: &[u8]) -> Result<Transport, Ignored>
 /// The ports of UDP, which has no control bits.
 #[inline]
 fn udp_of(payload: &[u8]) -> Result<Transport, Ignored>
-    ensures fields { IfOk result (λ transport. or_short_transport (udp_part payload.now) ≡ Ok (transport_shown transport)) }
+    ensures fields { IfOk result (λ transport. or_short_transport (udp_part payload.now)
+        ≡ Ok (transport_shown transport)) }
     ensures fault { IfErr result (λ cause. or_short_transport (udp_part payload.now) ≡ Err cause) }
 {
     let Ok(view) = UdpView::of(payload) else {

@@ -1,9 +1,11 @@
 -- The walk over the extension headers, one header at a time.
-use Rattle.std.proofs.Common.{not, ◌≡◌, ◌<◌, ◌≤◌, ℕ, zero, suc, Bool, true, false, List, length, drop, Ok, Err, refl, ◌∙◌, arith, if◌then◌else◌, length-drop}
+use Rattle.std.proofs.Common.{not, ◌≡◌, ◌<◌, ◌≤◌, ℕ, zero, suc, Bool, true, false, List, length, drop, Ok, Err, refl}
+use Rattle.std.proofs.Common.{◌∙◌, arith, if◌then◌else◌, length-drop}
 use Rattle.std.proofs.lemmas.Grind.{common_steps}
 use Rattle.packet_headers.specs.declared.fault.HeaderFault.TheVariants.{Short}
 use Rattle.octets.specs.Numbers.{octet_at}
-use Rattle.packet_headers.specs.Extensions.{is_extension, extension_length, is_whole, is_later_fragment, over_at_most, upper_part, WalksOn}
+use Rattle.packet_headers.specs.Extensions.{is_extension, extension_length, is_whole, is_later_fragment, over_at_most}
+use Rattle.packet_headers.specs.Extensions.{upper_part, WalksOn}
 
 -- an extension header has at least eight octets
 pub extension_length-least : (next : ℕ) (headers : List ℕ) → 8 ≤ extension_length next headers

@@ -1,5 +1,6 @@
 -- The extension headers of IPv6 (RFC 8200, section 4; the authentication header: RFC 4302, section 2).
-use Rattle.std.specs.Prelude.{◌≡◌, ◌+◌, ◌*◌, ◌/◌, ◌==◌, ◌&&◌, ◌||◌, ℕ, zero, suc, Bool, true, false, List, length, drop, Result, Ok, Err, nat_lt, nat_le, not, if◌then◌else◌}
+use Rattle.std.specs.Prelude.{◌≡◌, ◌+◌, ◌*◌, ◌/◌, ◌==◌, ◌&&◌, ◌||◌, ℕ, zero, suc, Bool, true, false, List, length, drop}
+use Rattle.std.specs.Prelude.{Result, Ok, Err, nat_lt, nat_le, not, if◌then◌else◌}
 use Rattle.packet_headers.specs.declared.fault.HeaderFault.{HeaderFault}
 use Rattle.packet_headers.specs.declared.fault.HeaderFault.TheVariants.{Short}
 use Rattle.octets.specs.Numbers.{octet_at, number_at}

@@ -1,5 +1,6 @@
 -- The IPv4 header (RFC 791, section 3.1).
-use Rattle.std.specs.Prelude.{◌*◌, ◌/◌, ◌%◌, ◌==◌, ◌||◌, ℕ, max, List, length, Result, Ok, Err, nat_lt, not, if◌then◌else◌}
+use Rattle.std.specs.Prelude.{◌*◌, ◌/◌, ◌%◌, ◌==◌, ◌||◌, ℕ, max, List, length, Result, Ok, Err, nat_lt, not}
+use Rattle.std.specs.Prelude.{if◌then◌else◌}
 use Rattle.packet_headers.specs.declared.fault.HeaderFault.{HeaderFault}
 use Rattle.packet_headers.specs.declared.fault.HeaderFault.TheVariants.{Short, BadHeader}
 use Rattle.octets.specs.Numbers.{octet_at, number_at}

@@ -1,5 +1,6 @@
 -- The link part: what stands in front of the IP header of a captured frame.
-use Rattle.std.specs.Prelude.{◌≡◌, ◌+◌, ◌/◌, ◌⊎◌, ◌==◌, ◌||◌, ℕ, Bool, List, length, Option, Some, None, Result, Ok, Err, nat_lt, not, if◌then◌else◌}
+use Rattle.std.specs.Prelude.{◌≡◌, ◌+◌, ◌/◌, ◌⊎◌, ◌==◌, ◌||◌, ℕ, Bool, List, length, Option, Some, None, Result, Ok}
+use Rattle.std.specs.Prelude.{Err, nat_lt, not, if◌then◌else◌}
 use Rattle.link_types.specs.declared.link.LinkType.{LinkType}
 use Rattle.link_types.specs.declared.link.LinkType.TheVariants.{Ethernet, RawIp, LinuxCooked}
 use Rattle.link_types.specs.Links.{link_of}

@@ -1,7 +1,8 @@
 //! The extension headers of IPv6 (RFC 8200, section 4; RFC 4302, section 2).
 
 ghost use Rattle.std.specs.Prelude.{◌≡◌, ◌≢◌, ◌≤◌, ℕ, List, true, false, IfOk, IfErr, length};
-ghost use Rattle.packet_headers.specs.Extensions.{is_extension, extension_length, is_whole, is_later_fragment, upper_part, WalksOn};
+ghost use Rattle.packet_headers.specs.Extensions.{is_extension, extension_length, is_whole, is_later_fragment};
+ghost use Rattle.packet_headers.specs.Extensions.{upper_part, WalksOn};
 ghost use Rattle.packet_headers.specs.Shown.{upper_shown, StepGives};
 
 use crate::fault::HeaderFault;

@@ -81,13 +81,17 @@ const LINK_PARTS: &[Row] = frames! {
     1 [ETHERNET, CUSTOMER, b"\0\x05", IPV4, V4_UDP, UDP] 17 of 46 => Link(Short);
     1 [ETHERNET, CUSTOMER, b"\0\x05", IPV4, V4_UDP, UDP] 18 of 46 => Ip(Short);
     // Two tags.
-    1 [ETHERNET, SERVICE, b"\0\x05", CUSTOMER, b"\0\x06", IPV4, V4_UDP, UDP] 50 of 50 => Packet(28, 17, false, 42, 50, 4000, 53, 0);
-    1 [ETHERNET, CUSTOMER, b"\0\x05", CUSTOMER, b"\0\x06", IPV6, V6, b"\0\x08\x11\x40", V6_ADDRESSES, UDP] 70 of 70 => Packet(48, 17, false, 62, 70, 4000, 53, 0);
+    1 [ETHERNET, SERVICE, b"\0\x05", CUSTOMER, b"\0\x06", IPV4, V4_UDP, UDP] 50 of 50 =>
+        Packet(28, 17, false, 42, 50, 4000, 53, 0);
+    1 [ETHERNET, CUSTOMER, b"\0\x05", CUSTOMER, b"\0\x06", IPV6, V6, b"\0\x08\x11\x40", V6_ADDRESSES, UDP] 70 of 70 =>
+        Packet(48, 17, false, 62, 70, 4000, 53, 0);
     1 [ETHERNET, SERVICE, b"\0\x05", SERVICE, b"\0\x06", IPV4, V4_UDP, UDP] 21 of 50 => Link(Short);
     1 [ETHERNET, SERVICE, b"\0\x05", SERVICE, b"\0\x06", IPV4, V4_UDP, UDP] 22 of 50 => Ip(Short);
     // A third tag is no IP, whatever lies behind it.
-    1 [ETHERNET, SERVICE, b"\0\x05", SERVICE, b"\0\x06", CUSTOMER, b"\0\x07", IPV4, V4_UDP, UDP] 54 of 54 => Link(NotIp);
-    1 [ETHERNET, SERVICE, b"\0\x05", SERVICE, b"\0\x06", CUSTOMER, b"\0\x07", IPV4, V4_UDP, UDP] 25 of 54 => Link(NotIp);
+    1 [ETHERNET, SERVICE, b"\0\x05", SERVICE, b"\0\x06", CUSTOMER, b"\0\x07", IPV4, V4_UDP, UDP] 54 of 54 =>
+        Link(NotIp);
+    1 [ETHERNET, SERVICE, b"\0\x05", SERVICE, b"\0\x06", CUSTOMER, b"\0\x07", IPV4, V4_UDP, UDP] 25 of 54 =>
+        Link(NotIp);
     1 [ETHERNET, SERVICE, b"\0\x05", SERVICE, b"\0\x06", CUSTOMER] 22 of 54 => Link(NotIp);
     // Linux cooked version 1: 16 octets of header.
     113 [COOKED, IPV4, V4_UDP, UDP] 44 of 44 => Packet(28, 17, false, 36, 44, 4000, 53, 0);
@@ -112,47 +116,77 @@ const IPV4_PACKETS: &[Row] = frames! {
     101 [b"\x44\0", b"\0\x1c", b"\0\0\0\0", b"\x40\x11\0\0", V4_ADDRESSES, UDP] 28 of 28 => Ip(BadHeader);
     101 [b"\x44\0", b"\0\x1c", b"\0\0\0\0", b"\x40\x11\0\0", V4_ADDRESSES, UDP] 19 of 28 => Ip(Short);
     1 [ETHERNET, IPV4, b"\x65\0", b"\0\x1c", b"\0\0\0\0", b"\x40\x11\0\0", V4_ADDRESSES, UDP] 42 of 42 => Ip(BadHeader);
-    101 [b"\x46\0", b"\0\x20", b"\0\0\0\0", b"\x40\x11\0\0", V4_ADDRESSES, OPTION, UDP] 32 of 32 => Packet(32, 17, false, 24, 32, 4000, 53, 0);
+    101 [b"\x46\0", b"\0\x20", b"\0\0\0\0", b"\x40\x11\0\0", V4_ADDRESSES, OPTION, UDP] 32 of 32 =>
+        Packet(32, 17, false, 24, 32, 4000, 53, 0);
     101 [b"\x46\0", b"\0\x20", b"\0\0\0\0", b"\x40\x11\0\0", V4_ADDRESSES, OPTION, UDP] 23 of 32 => Ip(Short);
     101 [b"\x46\0", b"\0\x20", b"\0\0\0\0", b"\x40\x11\0\0", V4_ADDRESSES, OPTION, UDP] 24 of 32 => Transport(Short);
-    101 [b"\x4f\0", b"\0\x44", b"\0\0\0\0", b"\x40\x11\0\0", V4_ADDRESSES, OPTION, OPTION, OPTION, OPTION, OPTION, OPTION, OPTION, OPTION, OPTION, OPTION, UDP] 68 of 68 => Packet(68, 17, false, 60, 68, 4000, 53, 0);
-    101 [b"\x4f\0", b"\0\x44", b"\0\0\0\0", b"\x40\x11\0\0", V4_ADDRESSES, OPTION, OPTION, OPTION, OPTION, OPTION, OPTION, OPTION, OPTION, OPTION, OPTION, UDP] 59 of 68 => Ip(Short);
-    101 [b"\x4f\0", b"\0\x3c", b"\0\0\0\0", b"\x40\x01\0\0", V4_ADDRESSES, OPTION, OPTION, OPTION, OPTION, OPTION, OPTION, OPTION, OPTION, OPTION, OPTION] 60 of 60 => Packet(60, 1, false, 60, 60, 0, 0, 0);
-    101 [b"\x4f\0", b"\0\x3b", b"\0\0\0\0", b"\x40\x01\0\0", V4_ADDRESSES, OPTION, OPTION, OPTION, OPTION, OPTION, OPTION, OPTION, OPTION, OPTION, OPTION] 60 of 60 => Ip(BadHeader);
+    101 [b"\x4f\0", b"\0\x44", b"\0\0\0\0", b"\x40\x11\0\0", V4_ADDRESSES, OPTION, OPTION, OPTION, OPTION, OPTION,
+        OPTION, OPTION, OPTION, OPTION, OPTION, UDP] 68 of 68 => Packet(68, 17, false, 60, 68, 4000, 53, 0);
+    101 [b"\x4f\0", b"\0\x44", b"\0\0\0\0", b"\x40\x11\0\0", V4_ADDRESSES, OPTION, OPTION, OPTION, OPTION, OPTION,
+        OPTION, OPTION, OPTION, OPTION, OPTION, UDP] 59 of 68 => Ip(Short);
+    101 [b"\x4f\0", b"\0\x3c", b"\0\0\0\0", b"\x40\x01\0\0", V4_ADDRESSES, OPTION, OPTION, OPTION, OPTION, OPTION,
+        OPTION, OPTION, OPTION, OPTION, OPTION] 60 of 60 => Packet(60, 1, false, 60, 60, 0, 0, 0);
+    101 [b"\x4f\0", b"\0\x3b", b"\0\0\0\0", b"\x40\x01\0\0", V4_ADDRESSES, OPTION, OPTION, OPTION, OPTION, OPTION,
+        OPTION, OPTION, OPTION, OPTION, OPTION] 60 of 60 => Ip(BadHeader);
     // Total lengths around the header's, of 0, and beyond what is captured.
     101 [b"\x45\0", b"\0\x13", b"\0\0\0\0", b"\x40\x01\0\0", V4_ADDRESSES, UDP] 28 of 28 => Ip(BadHeader);
     101 [b"\x45\0", b"\0\x01", b"\0\0\0\0", b"\x40\x01\0\0", V4_ADDRESSES, UDP] 28 of 28 => Ip(BadHeader);
-    101 [b"\x45\0", b"\0\x14", b"\0\0\0\0", b"\x40\x01\0\0", V4_ADDRESSES, UDP] 28 of 28 => Packet(20, 1, false, 20, 20, 0, 0, 0);
-    101 [b"\x45\0", b"\0\x15", b"\0\0\0\0", b"\x40\x01\0\0", V4_ADDRESSES, UDP] 28 of 28 => Packet(21, 1, false, 20, 21, 0, 0, 0);
+    101 [b"\x45\0", b"\0\x14", b"\0\0\0\0", b"\x40\x01\0\0", V4_ADDRESSES, UDP] 28 of 28 =>
+        Packet(20, 1, false, 20, 20, 0, 0, 0);
+    101 [b"\x45\0", b"\0\x15", b"\0\0\0\0", b"\x40\x01\0\0", V4_ADDRESSES, UDP] 28 of 28 =>
+        Packet(21, 1, false, 20, 21, 0, 0, 0);
     101 [b"\x46\0", b"\0\x17", b"\0\0\0\0", b"\x40\x01\0\0", V4_ADDRESSES, OPTION, UDP] 32 of 32 => Ip(BadHeader);
-    101 [b"\x45\0", b"\xff\xff", b"\0\0\0\0", b"\x40\x11\0\0", V4_ADDRESSES, UDP] 28 of 28 => Packet(65535, 17, false, 20, 28, 4000, 53, 0);
-    101 [b"\x45\0", b"\0\0", b"\0\0\0\0", b"\x40\x11\0\0", V4_ADDRESSES, UDP] 28 of 3000 => Packet(3000, 17, false, 20, 28, 4000, 53, 0);
-    1 [ETHERNET, IPV4, b"\x45\0", b"\0\0", b"\0\0\0\0", b"\x40\x11\0\0", V4_ADDRESSES, UDP] 42 of 3014 => Packet(3000, 17, false, 34, 42, 4000, 53, 0);
-    101 [b"\x45\0", b"\0\0", b"\0\0\0\0", b"\x40\x11\0\0", V4_ADDRESSES, UDP] 28 of 24 => Packet(24, 17, false, 20, 24, 4000, 53, 0);
+    101 [b"\x45\0", b"\xff\xff", b"\0\0\0\0", b"\x40\x11\0\0", V4_ADDRESSES, UDP] 28 of 28 =>
+        Packet(65535, 17, false, 20, 28, 4000, 53, 0);
+    101 [b"\x45\0", b"\0\0", b"\0\0\0\0", b"\x40\x11\0\0", V4_ADDRESSES, UDP] 28 of 3000 =>
+        Packet(3000, 17, false, 20, 28, 4000, 53, 0);
+    1 [ETHERNET, IPV4, b"\x45\0", b"\0\0", b"\0\0\0\0", b"\x40\x11\0\0", V4_ADDRESSES, UDP] 42 of 3014 =>
+        Packet(3000, 17, false, 34, 42, 4000, 53, 0);
+    101 [b"\x45\0", b"\0\0", b"\0\0\0\0", b"\x40\x11\0\0", V4_ADDRESSES, UDP] 28 of 24 =>
+        Packet(24, 17, false, 20, 24, 4000, 53, 0);
     101 [b"\x45\0", b"\0\0", b"\0\0\0\0", b"\x40\x11\0\0", V4_ADDRESSES, UDP] 28 of 23 => Transport(Short);
-    101 [b"\x45\0", b"\0\0", b"\0\0\0\0", b"\x40\x01\0\0", V4_ADDRESSES, UDP] 28 of 10 => Packet(20, 1, false, 20, 20, 0, 0, 0);
-    1 [ETHERNET, IPV4, b"\x45\0", b"\0\0", b"\0\0\0\0", b"\x40\x01\0\0", V4_ADDRESSES, UDP] 42 of 3 => Packet(20, 1, false, 34, 34, 0, 0, 0);
-    101 [b"\x45\0", b"\0\0", b"\0\0\0\0", b"\x40\x11\0\0", V4_ADDRESSES, UDP] 28 of 16777215 => Packet(16777215, 17, false, 20, 28, 4000, 53, 0);
+    101 [b"\x45\0", b"\0\0", b"\0\0\0\0", b"\x40\x01\0\0", V4_ADDRESSES, UDP] 28 of 10 =>
+        Packet(20, 1, false, 20, 20, 0, 0, 0);
+    1 [ETHERNET, IPV4, b"\x45\0", b"\0\0", b"\0\0\0\0", b"\x40\x01\0\0", V4_ADDRESSES, UDP] 42 of 3 =>
+        Packet(20, 1, false, 34, 34, 0, 0, 0);
+    101 [b"\x45\0", b"\0\0", b"\0\0\0\0", b"\x40\x11\0\0", V4_ADDRESSES, UDP] 28 of 16777215 =>
+        Packet(16777215, 17, false, 20, 28, 4000, 53, 0);
     101 [b"\x45\0", b"\0\0", b"\0\0\0\0", b"\x40\x11\0\0", V4_ADDRESSES, UDP] 28 of 16777216 => Ip(BadHeader);
-    1 [ETHERNET, IPV4, b"\x45\0", b"\0\0", b"\0\0\0\0", b"\x40\x11\0\0", V4_ADDRESSES, UDP] 42 of 16777229 => Packet(16777215, 17, false, 34, 42, 4000, 53, 0);
+    1 [ETHERNET, IPV4, b"\x45\0", b"\0\0", b"\0\0\0\0", b"\x40\x11\0\0", V4_ADDRESSES, UDP] 42 of 16777229 =>
+        Packet(16777215, 17, false, 34, 42, 4000, 53, 0);
     // What is captured behind the packet's end is padding.
-    1 [ETHERNET, IPV4, b"\x45\0", b"\0\x14", b"\0\0\0\0", b"\x40\x06\0\0", V4_ADDRESSES, ZEROS] 60 of 60 => Transport(Short);
-    1 [ETHERNET, IPV4, b"\x45\0", b"\0\x17", b"\0\0\0\0", b"\x40\x11\0\0", V4_ADDRESSES, UDP, ZEROS] 60 of 60 => Transport(Short);
-    1 [ETHERNET, IPV4, b"\x45\0", b"\0\x18", b"\0\0\0\0", b"\x40\x11\0\0", V4_ADDRESSES, UDP, ZEROS] 60 of 60 => Packet(24, 17, false, 34, 38, 4000, 53, 0);
+    1 [ETHERNET, IPV4, b"\x45\0", b"\0\x14", b"\0\0\0\0", b"\x40\x06\0\0", V4_ADDRESSES, ZEROS] 60 of 60 =>
+        Transport(Short);
+    1 [ETHERNET, IPV4, b"\x45\0", b"\0\x17", b"\0\0\0\0", b"\x40\x11\0\0", V4_ADDRESSES, UDP, ZEROS] 60 of 60 =>
+        Transport(Short);
+    1 [ETHERNET, IPV4, b"\x45\0", b"\0\x18", b"\0\0\0\0", b"\x40\x11\0\0", V4_ADDRESSES, UDP, ZEROS] 60 of 60 =>
+        Packet(24, 17, false, 34, 38, 4000, 53, 0);
     // Fragments: the lower 13 bits of the field are the offset, the upper 3 are flags.
-    101 [b"\x45\0", b"\0\x1c", b"\0\0\0\x01", b"\x40\x11\0\0", V4_ADDRESSES, UDP] 28 of 28 => Packet(28, 17, true, 20, 28, 0, 0, 0);
-    101 [b"\x45\0", b"\0\x1c", b"\0\0\x1f\xff", b"\x40\x11\0\0", V4_ADDRESSES, UDP] 28 of 28 => Packet(28, 17, true, 20, 28, 0, 0, 0);
-    101 [b"\x45\0", b"\0\x1c", b"\0\0\x10\0", b"\x40\x11\0\0", V4_ADDRESSES, UDP] 28 of 28 => Packet(28, 17, true, 20, 28, 0, 0, 0);
-    101 [b"\x45\0", b"\0\x1c", b"\0\0\x20\0", b"\x40\x11\0\0", V4_ADDRESSES, UDP] 28 of 28 => Packet(28, 17, false, 20, 28, 4000, 53, 0);
-    101 [b"\x45\0", b"\0\x1c", b"\0\0\xe0\0", b"\x40\x11\0\0", V4_ADDRESSES, UDP] 28 of 28 => Packet(28, 17, false, 20, 28, 4000, 53, 0);
-    101 [b"\x45\0", b"\0\x14", b"\0\0\x20\x01", b"\x40\x06\0\0", V4_ADDRESSES] 20 of 20 => Packet(20, 6, true, 20, 20, 0, 0, 0);
+    101 [b"\x45\0", b"\0\x1c", b"\0\0\0\x01", b"\x40\x11\0\0", V4_ADDRESSES, UDP] 28 of 28 =>
+        Packet(28, 17, true, 20, 28, 0, 0, 0);
+    101 [b"\x45\0", b"\0\x1c", b"\0\0\x1f\xff", b"\x40\x11\0\0", V4_ADDRESSES, UDP] 28 of 28 =>
+        Packet(28, 17, true, 20, 28, 0, 0, 0);
+    101 [b"\x45\0", b"\0\x1c", b"\0\0\x10\0", b"\x40\x11\0\0", V4_ADDRESSES, UDP] 28 of 28 =>
+        Packet(28, 17, true, 20, 28, 0, 0, 0);
+    101 [b"\x45\0", b"\0\x1c", b"\0\0\x20\0", b"\x40\x11\0\0", V4_ADDRESSES, UDP] 28 of 28 =>
+        Packet(28, 17, false, 20, 28, 4000, 53, 0);
+    101 [b"\x45\0", b"\0\x1c", b"\0\0\xe0\0", b"\x40\x11\0\0", V4_ADDRESSES, UDP] 28 of 28 =>
+        Packet(28, 17, false, 20, 28, 4000, 53, 0);
+    101 [b"\x45\0", b"\0\x14", b"\0\0\x20\x01", b"\x40\x06\0\0", V4_ADDRESSES] 20 of 20 =>
+        Packet(20, 6, true, 20, 20, 0, 0, 0);
     // TCP: 14 octets for the flags, which are 12 bits.
-    101 [b"\x45\0", b"\0\x28", b"\0\0\0\0", b"\x40\x06\0\0", V4_ADDRESSES, TCP_PORTS, b"\x50\x12", ZEROS] 33 of 40 => Transport(Short);
-    101 [b"\x45\0", b"\0\x28", b"\0\0\0\0", b"\x40\x06\0\0", V4_ADDRESSES, TCP_PORTS, b"\x50\x12", ZEROS] 34 of 40 => Packet(40, 6, false, 20, 34, 1025, 443, 18);
-    101 [b"\x45\0", b"\0\x28", b"\0\0\0\0", b"\x40\x06\0\0", V4_ADDRESSES, TCP_PORTS, b"\xff\xff", ZEROS] 40 of 40 => Packet(40, 6, false, 20, 40, 1025, 443, 4095);
-    101 [b"\x45\0", b"\0\x28", b"\0\0\0\0", b"\x40\x06\0\0", V4_ADDRESSES, TCP_PORTS, b"\xf0\0", ZEROS] 40 of 40 => Packet(40, 6, false, 20, 40, 1025, 443, 0);
-    101 [b"\x45\0", b"\0\x21", b"\0\0\0\0", b"\x40\x06\0\0", V4_ADDRESSES, TCP_PORTS, b"\x50\x12", ZEROS] 40 of 40 => Transport(Short);
-    101 [b"\x45\0", b"\0\x22", b"\0\0\0\0", b"\x40\x06\0\0", V4_ADDRESSES, TCP_PORTS, b"\x59\0", ZEROS] 40 of 40 => Packet(34, 6, false, 20, 34, 1025, 443, 2304);
+    101 [b"\x45\0", b"\0\x28", b"\0\0\0\0", b"\x40\x06\0\0", V4_ADDRESSES, TCP_PORTS, b"\x50\x12", ZEROS] 33 of 40 =>
+        Transport(Short);
+    101 [b"\x45\0", b"\0\x28", b"\0\0\0\0", b"\x40\x06\0\0", V4_ADDRESSES, TCP_PORTS, b"\x50\x12", ZEROS] 34 of 40 =>
+        Packet(40, 6, false, 20, 34, 1025, 443, 18);
+    101 [b"\x45\0", b"\0\x28", b"\0\0\0\0", b"\x40\x06\0\0", V4_ADDRESSES, TCP_PORTS, b"\xff\xff", ZEROS] 40 of 40 =>
+        Packet(40, 6, false, 20, 40, 1025, 443, 4095);
+    101 [b"\x45\0", b"\0\x28", b"\0\0\0\0", b"\x40\x06\0\0", V4_ADDRESSES, TCP_PORTS, b"\xf0\0", ZEROS] 40 of 40 =>
+        Packet(40, 6, false, 20, 40, 1025, 443, 0);
+    101 [b"\x45\0", b"\0\x21", b"\0\0\0\0", b"\x40\x06\0\0", V4_ADDRESSES, TCP_PORTS, b"\x50\x12", ZEROS] 40 of 40 =>
+        Transport(Short);
+    101 [b"\x45\0", b"\0\x22", b"\0\0\0\0", b"\x40\x06\0\0", V4_ADDRESSES, TCP_PORTS, b"\x59\0", ZEROS] 40 of 40 =>
+        Packet(34, 6, false, 20, 34, 1025, 443, 2304);
 };
 
 /// IPv6: the header, payload lengths, and one extension header.
@@ -176,19 +210,26 @@ const IPV6_PACKETS: &[Row] = frames! {
     101 [V6, b"\0\x04\x11\x40", V6_ADDRESSES, UDP, ZEROS] 60 of 60 => Packet(44, 17, false, 40, 44, 4000, 53, 0);
     101 [V6, b"\0\x03\x11\x40", V6_ADDRESSES, UDP, ZEROS] 60 of 60 => Transport(Short);
     // Hop-by-hop options of 8 and 16 octets, whole and one octet short.
-    101 [V6, b"\0\x10\0\x40", V6_ADDRESSES, b"\x11\0\x01\x04\0\0\0\0", UDP] 56 of 56 => Packet(56, 17, false, 48, 56, 4000, 53, 0);
-    101 [V6, b"\0\x18\0\x40", V6_ADDRESSES, b"\x11\x01\x01\x0c\0\0\0\0\0\0\0\0\0\0\0\0", UDP] 64 of 64 => Packet(64, 17, false, 56, 64, 4000, 53, 0);
-    101 [V6, b"\0\x08\0\x40", V6_ADDRESSES, b"\x3b\0\x01\x04\0\0\0\0"] 48 of 48 => Packet(48, 59, false, 48, 48, 0, 0, 0);
+    101 [V6, b"\0\x10\0\x40", V6_ADDRESSES, b"\x11\0\x01\x04\0\0\0\0", UDP] 56 of 56 =>
+        Packet(56, 17, false, 48, 56, 4000, 53, 0);
+    101 [V6, b"\0\x18\0\x40", V6_ADDRESSES, b"\x11\x01\x01\x0c\0\0\0\0\0\0\0\0\0\0\0\0", UDP] 64 of 64 =>
+        Packet(64, 17, false, 56, 64, 4000, 53, 0);
+    101 [V6, b"\0\x08\0\x40", V6_ADDRESSES, b"\x3b\0\x01\x04\0\0\0\0"] 48 of 48 =>
+        Packet(48, 59, false, 48, 48, 0, 0, 0);
     101 [V6, b"\0\x07\0\x40", V6_ADDRESSES, b"\x3b\0\x01\x04\0\0\0\0"] 48 of 48 => Ip(Short);
     101 [V6, b"\0\x08\0\x40", V6_ADDRESSES, b"\x3b\0\x01\x04\0\0\0\0"] 47 of 48 => Ip(Short);
     101 [V6, b"\0\x08\0\x40", V6_ADDRESSES, b"\x3b\0\x01\x04\0\0\0\0"] 41 of 48 => Ip(Short);
     101 [V6, b"\0\x08\0\x40", V6_ADDRESSES, b"\x3b\0\x01\x04\0\0\0\0"] 40 of 48 => Ip(Short);
     101 [V6, b"\0\x0f\0\x40", V6_ADDRESSES, b"\x11\x01\x01\x0c\0\0\0\0\0\0\0\0\0\0\0\0", UDP] 64 of 64 => Ip(Short);
     // Routing, destination options, and authentication of 12 and 24 octets.
-    101 [V6, b"\0\x10\x2b\x40", V6_ADDRESSES, b"\x11\0\x04\0\0\0\0\0", UDP] 56 of 56 => Packet(56, 17, false, 48, 56, 4000, 53, 0);
-    101 [V6, b"\0\x10\x3c\x40", V6_ADDRESSES, b"\x11\0\x01\x04\0\0\0\0", UDP] 56 of 56 => Packet(56, 17, false, 48, 56, 4000, 53, 0);
-    101 [V6, b"\0\x14\x33\x40", V6_ADDRESSES, b"\x11\x01\0\0\0\0\0\0\0\0\0\0", UDP] 60 of 60 => Packet(60, 17, false, 52, 60, 4000, 53, 0);
-    101 [V6, b"\0\x20\x33\x40", V6_ADDRESSES, b"\x11\x04\0\0\0\0\0\0\0\0\0\0", b"\0\0\0\0\0\0\0\0\0\0\0\0", UDP] 72 of 72 => Packet(72, 17, false, 64, 72, 4000, 53, 0);
+    101 [V6, b"\0\x10\x2b\x40", V6_ADDRESSES, b"\x11\0\x04\0\0\0\0\0", UDP] 56 of 56 =>
+        Packet(56, 17, false, 48, 56, 4000, 53, 0);
+    101 [V6, b"\0\x10\x3c\x40", V6_ADDRESSES, b"\x11\0\x01\x04\0\0\0\0", UDP] 56 of 56 =>
+        Packet(56, 17, false, 48, 56, 4000, 53, 0);
+    101 [V6, b"\0\x14\x33\x40", V6_ADDRESSES, b"\x11\x01\0\0\0\0\0\0\0\0\0\0", UDP] 60 of 60 =>
+        Packet(60, 17, false, 52, 60, 4000, 53, 0);
+    101 [V6, b"\0\x20\x33\x40", V6_ADDRESSES, b"\x11\x04\0\0\0\0\0\0\0\0\0\0", b"\0\0\0\0\0\0\0\0\0\0\0\0", UDP] 72 of
+        72 => Packet(72, 17, false, 64, 72, 4000, 53, 0);
     101 [V6, b"\0\x0b\x33\x40", V6_ADDRESSES, b"\x3b\x01\0\0\0\0\0\0\0\0\0\0"] 52 of 52 => Ip(Short);
     101 [V6, b"\0\x08\x33\x40", V6_ADDRESSES, b"\x3b\0\0\0\0\0\0\0"] 48 of 48 => Packet(48, 59, false, 48, 48, 0, 0, 0);
 };
@@ -196,34 +237,54 @@ const IPV6_PACKETS: &[Row] = frames! {
 /// IPv6: fragments and chains of extension headers.
 const CHAINS: &[Row] = frames! {
     // Fragments: the upper 13 bits of the field are the offset, the lower 3 are flags.
-    101 [V6, b"\0\x10\x2c\x40", V6_ADDRESSES, b"\x11\0\0\x01\0\0\0\x09", UDP] 56 of 56 => Packet(56, 17, false, 48, 56, 4000, 53, 0);
-    101 [V6, b"\0\x10\x2c\x40", V6_ADDRESSES, b"\x11\0\0\x07\0\0\0\x09", UDP] 56 of 56 => Packet(56, 17, false, 48, 56, 4000, 53, 0);
-    101 [V6, b"\0\x10\x2c\x40", V6_ADDRESSES, b"\x11\0\0\x08\0\0\0\x09", UDP] 56 of 56 => Packet(56, 17, true, 48, 56, 0, 0, 0);
-    101 [V6, b"\0\x10\x2c\x40", V6_ADDRESSES, b"\x11\0\xff\xf8\0\0\0\x09", UDP] 56 of 56 => Packet(56, 17, true, 48, 56, 0, 0, 0);
-    101 [V6, b"\0\x10\x2c\x40", V6_ADDRESSES, b"\x11\0\x01\0\0\0\0\x09", UDP] 56 of 56 => Packet(56, 17, true, 48, 56, 0, 0, 0);
-    101 [V6, b"\0\x08\x2c\x40", V6_ADDRESSES, b"\x06\0\0\x08\0\0\0\x09"] 48 of 48 => Packet(48, 6, true, 48, 48, 0, 0, 0);
+    101 [V6, b"\0\x10\x2c\x40", V6_ADDRESSES, b"\x11\0\0\x01\0\0\0\x09", UDP] 56 of 56 =>
+        Packet(56, 17, false, 48, 56, 4000, 53, 0);
+    101 [V6, b"\0\x10\x2c\x40", V6_ADDRESSES, b"\x11\0\0\x07\0\0\0\x09", UDP] 56 of 56 =>
+        Packet(56, 17, false, 48, 56, 4000, 53, 0);
+    101 [V6, b"\0\x10\x2c\x40", V6_ADDRESSES, b"\x11\0\0\x08\0\0\0\x09", UDP] 56 of 56 =>
+        Packet(56, 17, true, 48, 56, 0, 0, 0);
+    101 [V6, b"\0\x10\x2c\x40", V6_ADDRESSES, b"\x11\0\xff\xf8\0\0\0\x09", UDP] 56 of 56 =>
+        Packet(56, 17, true, 48, 56, 0, 0, 0);
+    101 [V6, b"\0\x10\x2c\x40", V6_ADDRESSES, b"\x11\0\x01\0\0\0\0\x09", UDP] 56 of 56 =>
+        Packet(56, 17, true, 48, 56, 0, 0, 0);
+    101 [V6, b"\0\x08\x2c\x40", V6_ADDRESSES, b"\x06\0\0\x08\0\0\0\x09"] 48 of 48 =>
+        Packet(48, 6, true, 48, 48, 0, 0, 0);
     101 [V6, b"\0\x07\x2c\x40", V6_ADDRESSES, b"\x06\0\0\x08\0\0\0\x09"] 48 of 48 => Ip(Short);
     101 [V6, b"\0\x08\x2c\x40", V6_ADDRESSES, b"\x06\0\0\x08\0\0\0\x09"] 47 of 48 => Ip(Short);
     // The protocol of a later fragment is what its header names: ESP, and 41, which isn't gone over either.
-    101 [V6, b"\0\x10\x2c\x40", V6_ADDRESSES, b"\x32\0\0\x08\0\0\0\x09", UDP] 56 of 56 => Packet(56, 50, true, 48, 56, 0, 0, 0);
-    101 [V6, b"\0\x10\x2c\x40", V6_ADDRESSES, b"\x29\0\x10\x01\0\0\0\x09", UDP] 56 of 56 => Packet(56, 41, true, 48, 56, 0, 0, 0);
+    101 [V6, b"\0\x10\x2c\x40", V6_ADDRESSES, b"\x32\0\0\x08\0\0\0\x09", UDP] 56 of 56 =>
+        Packet(56, 50, true, 48, 56, 0, 0, 0);
+    101 [V6, b"\0\x10\x2c\x40", V6_ADDRESSES, b"\x29\0\x10\x01\0\0\0\x09", UDP] 56 of 56 =>
+        Packet(56, 41, true, 48, 56, 0, 0, 0);
     // The second octet of a fragment header is no length.
-    101 [V6, b"\0\x10\x2c\x40", V6_ADDRESSES, b"\x11\xff\0\0\0\0\0\x09", UDP] 56 of 56 => Packet(56, 17, false, 48, 56, 4000, 53, 0);
+    101 [V6, b"\0\x10\x2c\x40", V6_ADDRESSES, b"\x11\xff\0\0\0\0\0\x09", UDP] 56 of 56 =>
+        Packet(56, 17, false, 48, 56, 4000, 53, 0);
     // Chains: all five kinds, a kind again, and what follows a later fragment's header isn't looked at.
-    101 [V6, b"\0\x40\0\x40", V6_ADDRESSES, b"\x2b\0\x01\x04\0\0\0\0", b"\x3c\0\x01\x04\0\0\0\0", b"\x2c\0\x01\x04\0\0\0\0", b"\x33\0\0\0\0\0\0\x09", b"\x06\x01\0\0\0\0\0\0\0\0\0\0", TCP_PORTS, b"\x50\x10", ZEROS] 104 of 104 => Packet(104, 6, false, 84, 104, 1025, 443, 16);
-    101 [V6, b"\0\x20\x3c\x40", V6_ADDRESSES, b"\x3c\0\x01\x04\0\0\0\0", b"\0\0\x01\x04\0\0\0\0", b"\x11\0\x01\x04\0\0\0\0", UDP] 72 of 72 => Packet(72, 17, false, 64, 72, 4000, 53, 0);
-    101 [V6, b"\0\x18\x2c\x40", V6_ADDRESSES, b"\0\0\0\x08\0\0\0\x09", b"\x2c\0\x01\x04\0\0\0\0", UDP] 64 of 64 => Packet(64, 0, true, 48, 64, 0, 0, 0);
-    101 [V6, b"\0\x18\0\x40", V6_ADDRESSES, b"\x2c\0\x01\x04\0\0\0\0", b"\x11\0\0\0\0\0\0\x09", UDP] 64 of 64 => Packet(64, 17, false, 56, 64, 4000, 53, 0);
-    101 [V6, b"\0\x0f\0\x40", V6_ADDRESSES, b"\x2c\0\x01\x04\0\0\0\0", b"\x11\0\0\x08\0\0\0\x09", UDP] 64 of 64 => Ip(Short);
+    101 [V6, b"\0\x40\0\x40", V6_ADDRESSES, b"\x2b\0\x01\x04\0\0\0\0", b"\x3c\0\x01\x04\0\0\0\0",
+        b"\x2c\0\x01\x04\0\0\0\0", b"\x33\0\0\0\0\0\0\x09", b"\x06\x01\0\0\0\0\0\0\0\0\0\0", TCP_PORTS, b"\x50\x10",
+            ZEROS] 104 of 104 => Packet(104, 6, false, 84, 104, 1025, 443, 16);
+    101 [V6, b"\0\x20\x3c\x40", V6_ADDRESSES, b"\x3c\0\x01\x04\0\0\0\0", b"\0\0\x01\x04\0\0\0\0",
+        b"\x11\0\x01\x04\0\0\0\0", UDP] 72 of 72 => Packet(72, 17, false, 64, 72, 4000, 53, 0);
+    101 [V6, b"\0\x18\x2c\x40", V6_ADDRESSES, b"\0\0\0\x08\0\0\0\x09", b"\x2c\0\x01\x04\0\0\0\0", UDP] 64 of 64 =>
+        Packet(64, 0, true, 48, 64, 0, 0, 0);
+    101 [V6, b"\0\x18\0\x40", V6_ADDRESSES, b"\x2c\0\x01\x04\0\0\0\0", b"\x11\0\0\0\0\0\0\x09", UDP] 64 of 64 =>
+        Packet(64, 17, false, 56, 64, 4000, 53, 0);
+    101 [V6, b"\0\x0f\0\x40", V6_ADDRESSES, b"\x2c\0\x01\x04\0\0\0\0", b"\x11\0\0\x08\0\0\0\x09", UDP] 64 of 64 =>
+        Ip(Short);
     // Headers that aren't gone over end the walk.
-    101 [V6, b"\0\x10\0\x40", V6_ADDRESSES, b"\x87\0\x01\x04\0\0\0\0", UDP] 56 of 56 => Packet(56, 135, false, 48, 56, 0, 0, 0);
+    101 [V6, b"\0\x10\0\x40", V6_ADDRESSES, b"\x87\0\x01\x04\0\0\0\0", UDP] 56 of 56 =>
+        Packet(56, 135, false, 48, 56, 0, 0, 0);
     101 [V6, b"\0\x08\x32\x40", V6_ADDRESSES, UDP] 48 of 48 => Packet(48, 50, false, 40, 48, 0, 0, 0);
-    101 [V6, b"\0\x10\0\x40", V6_ADDRESSES, b"\x3b\0\x01\x04\0\0\0\0", UDP] 56 of 56 => Packet(56, 59, false, 48, 56, 0, 0, 0);
+    101 [V6, b"\0\x10\0\x40", V6_ADDRESSES, b"\x3b\0\x01\x04\0\0\0\0", UDP] 56 of 56 =>
+        Packet(56, 59, false, 48, 56, 0, 0, 0);
     // Offloaded, with an extension header; and two fragments behind a hop-by-hop header.
-    101 [V6, b"\0\0\0\x40", V6_ADDRESSES, b"\x11\0\x01\x04\0\0\0\0", UDP] 56 of 9000 => Packet(9000, 17, false, 48, 56, 4000, 53, 0);
+    101 [V6, b"\0\0\0\x40", V6_ADDRESSES, b"\x11\0\x01\x04\0\0\0\0", UDP] 56 of 9000 =>
+        Packet(9000, 17, false, 48, 56, 4000, 53, 0);
     101 [V6, b"\0\0\0\x40", V6_ADDRESSES, b"\x11\0\x01\x04\0\0\0\0", UDP] 56 of 47 => Ip(Short);
-    101 [V6, b"\0\x24\0\x40", V6_ADDRESSES, b"\x2c\0\x01\x04\0\0\0\0", b"\x06\0\0\x01\0\0\0\x09", TCP_PORTS, b"\x50\x10", ZEROS] 76 of 76 => Packet(76, 6, false, 56, 76, 1025, 443, 16);
-    101 [V6, b"\0\x74\0\x40", V6_ADDRESSES, b"\x2c\0\x01\x04\0\0\0\0", b"\x06\0\0\x20\0\0\0\x09", ZEROS, ZEROS, ZEROS, ZEROS] 156 of 156 => Packet(156, 6, true, 56, 156, 0, 0, 0);
+    101 [V6, b"\0\x24\0\x40", V6_ADDRESSES, b"\x2c\0\x01\x04\0\0\0\0", b"\x06\0\0\x01\0\0\0\x09", TCP_PORTS,
+        b"\x50\x10", ZEROS] 76 of 76 => Packet(76, 6, false, 56, 76, 1025, 443, 16);
+    101 [V6, b"\0\x74\0\x40", V6_ADDRESSES, b"\x2c\0\x01\x04\0\0\0\0", b"\x06\0\0\x20\0\0\0\x09", ZEROS, ZEROS, ZEROS,
+        ZEROS] 156 of 156 => Packet(156, 6, true, 56, 156, 0, 0, 0);
 };
 
 /// The captured part of a row's frame.

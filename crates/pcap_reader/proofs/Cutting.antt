@@ -1,5 +1,6 @@
 -- The file is cut into its header, its records and the rest, in one way only.
-use Rattle.std.proofs.Common.{◌≡◌, ℕ, zero, suc, ◌+◌, ◌*◌, ◌≤◌, true, false, List, [], ◌∷◌, ◌++◌, length, take, drop, refl, sym, ap, ◌∙◌, append_assoc, arith, inl, inr}
+use Rattle.std.proofs.Common.{◌≡◌, ℕ, zero, suc, ◌+◌, ◌*◌, ◌≤◌, true, false, List, [], ◌∷◌, ◌++◌, length, take, drop}
+use Rattle.std.proofs.Common.{refl, sym, ap, ◌∙◌, append_assoc, arith, inl, inr}
 use Rattle.std.specs.List.{concat, AllByRecursion}
 use Rattle.std.proofs.Math.Seq.{take-add}
 use Rattle.std.proofs.lemmas.List.{take-append-drop, length-append, length-take, length-drop, take_at, drop_at}
@@ -7,7 +8,8 @@ use Rattle.std.proofs.lemmas.Bool.{cases_Bool}
 use Rattle.std.proofs.lemmas.Bool.Decides.{nat_tests}
 use Rattle.octets.specs.declared.endianness.Endianness.{Endianness}
 use Rattle.pcap_reader.specs.File.{CaptureFile}
-use Rattle.pcap_reader.specs.Records.{claimed_len, most_captured, begins_with_record, record_parts, parts_of, rest_of, IsRecord, IsCutInto, IsOnlyCut}
+use Rattle.pcap_reader.specs.Records.{claimed_len, most_captured, begins_with_record, record_parts, parts_of, rest_of}
+use Rattle.pcap_reader.specs.Records.{IsRecord, IsCutInto, IsOnlyCut}
 use Rattle.pcap_reader.specs.Front.{EndsAt}
 use Rattle.octets.proofs.Reading.{number-drop-append}
 use Rattle.pcap_reader.proofs.Parts.{record_parts-record, record_parts-rest}
@@ -183,7 +185,8 @@ one_cut file parts rest h cut =
     (same, left ∙ ap (λ (ps : List (List ℕ)). drop (file.start + length (concat ps)) file.bytes) same)
 
 -- there is one way to cut a file
-pub file_is_cut_once : (file : CaptureFile) → file.start ≤ length file.bytes → IsOnlyCut file (parts_of file) (rest_of file)
+pub file_is_cut_once : (file : CaptureFile) → file.start ≤ length file.bytes
+    → IsOnlyCut file (parts_of file) (rest_of file)
 file_is_cut_once file h = record { cut = file_is_cut file h; only = λ parts rest. one_cut file parts rest h }
 
 -- each record has 16 bytes and more

@@ -1,13 +1,16 @@
 -- Where the n-th record stands in the file.
-use Rattle.std.proofs.Common.{◌≡◌, ℕ, zero, suc, ◌+◌, ◌-◌, ◌≤◌, ◌<◌, List, [], ◌∷◌, ◌++◌, length, get_or, take, drop, Some, refl, sym, ap, ◌∙◌, append_assoc, arith}
+use Rattle.std.proofs.Common.{◌≡◌, ℕ, zero, suc, ◌+◌, ◌-◌, ◌≤◌, ◌<◌, List, [], ◌∷◌, ◌++◌, length, get_or, take, drop}
+use Rattle.std.proofs.Common.{Some, refl, sym, ap, ◌∙◌, append_assoc, arith}
 use Rattle.std.specs.List.{concat, AllByRecursion, slice_get}
 use Rattle.std.specs.Option.{option_map}
-use Rattle.std.proofs.lemmas.List.{length-append, length-drop, length-take, take_at, drop_at, drop-drop, drop-append-le, length-map}
+use Rattle.std.proofs.lemmas.List.{length-append, length-drop, length-take, take_at, drop_at, drop-drop, drop-append-le}
+use Rattle.std.proofs.lemmas.List.{length-map}
 use Rattle.std.proofs.lemmas.Option.{slice_get-get_or, slice_get-map}
 use Rattle.octets.specs.declared.endianness.Endianness.{Endianness}
 use Rattle.pcap_reader.specs.File.{CaptureFile}
 use Rattle.octets.specs.Numbers.{number}
-use Rattle.pcap_reader.specs.Records.{claimed_len, most_captured, parts_of, rest_of, records_of, offsets_from, PacketRecord, packet_record, IsRecord}
+use Rattle.pcap_reader.specs.Records.{claimed_len, most_captured, parts_of, rest_of, records_of, offsets_from}
+use Rattle.pcap_reader.specs.Records.{PacketRecord, packet_record, IsRecord}
 use Rattle.pcap_reader.specs.Index.{Offsets, IsIndexOf}
 use Rattle.octets.proofs.Reading.{number-drop-append}
 use Rattle.pcap_reader.proofs.Cutting.{file_is_cut}
@@ -45,7 +48,8 @@ record_stands : (file : CaptureFile) (index : Offsets) (n : ℕ) → file.start 
 record_stands file index n long is within =
     let cut = file_is_cut file long in
     let count = is.count ∙ length-map (parts_of file) (packet_record file.order) in
-    rw is.offsets (stands_at file.order (parts_of file) (take file.start file.bytes) (rest_of file) file.bytes file.start n
+    rw is.offsets
+    (stands_at file.order (parts_of file) (take file.start file.bytes) (rest_of file) file.bytes file.start n
     (omega (arith, length-take file.start file.bytes)) cut.together cut.records (omega (arith, count)))
 
 -- what its place in the bytes holds of a record
@@ -83,7 +87,8 @@ Reads-from_place order bytes part at stands =
           (omega (arith, claim, is.whole, length-drop 16 part));
     }
 
-pub record_reads : (file : CaptureFile) (index : Offsets) (n : ℕ) → file.start ≤ length file.bytes → IsIndexOf index file
+pub record_reads : (file : CaptureFile) (index : Offsets) (n : ℕ) → file.start ≤ length file.bytes
+    → IsIndexOf index file
     → n < length index.offsets
     → Reads file.order file.bytes (get_or (parts_of file) n []) (get_or index.offsets n 0)
 record_reads file index n long is within =

@@ -1,11 +1,13 @@
 -- What the search for records has found when it stands at a place.
-use Rattle.std.proofs.Common.{◌≡◌, ℕ, suc, ◌+◌, ◌*◌, ◌-◌, ◌≤◌, true, false, List, [], ◌∷◌, ◌++◌, length, take, drop, Some, None, refl, sym, ap, ◌∙◌, append_assoc, arith}
+use Rattle.std.proofs.Common.{◌≡◌, ℕ, suc, ◌+◌, ◌*◌, ◌-◌, ◌≤◌, true, false, List, [], ◌∷◌, ◌++◌, length, take, drop}
+use Rattle.std.proofs.Common.{Some, None, refl, sym, ap, ◌∙◌, append_assoc, arith}
 use Rattle.std.specs.List.{concat}
 use Rattle.std.proofs.lemmas.List.{length-append, length-take, length-drop, length-map, append-nil}
 use Rattle.std.proofs.lemmas.Bool.Decides.{nat_tests}
 use Rattle.octets.specs.declared.endianness.Endianness.{Endianness}
 use Rattle.pcap_reader.specs.File.{CaptureFile}
-use Rattle.pcap_reader.specs.Records.{claimed_len, begins_with_record, begins_with_damage, record_parts, parts_of, damage_of, packet_record, offsets_from}
+use Rattle.pcap_reader.specs.Records.{claimed_len, begins_with_record, begins_with_damage, record_parts, parts_of}
+use Rattle.pcap_reader.specs.Records.{damage_of, packet_record, offsets_from}
 use Rattle.pcap_reader.specs.Index.{Offsets, IsIndexOf}
 use Rattle.pcap_reader.specs.Front.{EndsAt, IsRest}
 use Rattle.pcap_reader.proofs.Cutting.{few_parts}
@@ -13,11 +15,14 @@ use Rattle.pcap_reader.proofs.Parts.{record_parts-record, record_parts-rest}
 
 -- the offsets found, with those from this place on, are all, and the rest begins behind the records from here on
 pub record Found (order : Endianness) (start : ℕ) (bytes offsets : List ℕ) (at : ℕ) : Type 0 where
-  pub all : offsets ++ offsets_from at (record_parts order at bytes) ≡ offsets_from start (record_parts order start bytes)
-  pub rest : at + length (concat (record_parts order at bytes)) ≡ start + length (concat (record_parts order start bytes))
+  pub all : offsets ++ offsets_from at (record_parts order at bytes)
+      ≡ offsets_from start (record_parts order start bytes)
+  pub rest : at + length (concat (record_parts order at bytes))
+      ≡ start + length (concat (record_parts order start bytes))
   pub within : at ≤ length bytes
 
-pub Found-start : (order : Endianness) (start : ℕ) (bytes : List ℕ) → start ≤ length bytes → Found order start bytes [] start
+pub Found-start : (order : Endianness) (start : ℕ) (bytes : List ℕ) → start ≤ length bytes
+    → Found order start bytes [] start
 Found-start order start bytes h = record { all = refl; rest = refl; within = h }
 
 pub Found-record : (order : Endianness) (start : ℕ) (bytes offsets : List ℕ) (at end : ℕ) → EndsAt order bytes at end
@@ -63,7 +68,8 @@ Found-ended order start bytes offsets at h found =
 
 -- at the rest the index is whole
 pub Found-index : (file : CaptureFile) (index : Offsets) (at : ℕ)
-    → begins_with_record file.order (drop at file.bytes) ≡ false → Found file.order file.start file.bytes index.offsets at
+    → begins_with_record file.order (drop at file.bytes) ≡ false
+    → Found file.order file.start file.bytes index.offsets at
     → index.tail ≡ length file.bytes - at → IsIndexOf index file
 Found-index file index at h found tail =
     let ended = Found-ended file.order file.start file.bytes index.offsets at h found in

@@ -40,7 +40,15 @@ capture_file bytes =
     if nat_lt (length bytes) file_header_len then None else
     option_and_then
     (λ m. if is_version_2_4 m.0 bytes
-    then Some (record { bytes = bytes; start = file_header_len; order = m.0; nanos = m.1; link = ordered_number_at m.0 20 4 bytes })
+    then Some
+    (record {
+      bytes = bytes;
+      start = file_header_len;
+      order = m.0;
+      nanos = m.1;
+      link =
+          ordered_number_at m.0 20 4 bytes;
+    })
     else None)
     (told_by_magic (ordered_number_at Big 0 4 bytes))
 

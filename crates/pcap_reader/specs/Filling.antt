@@ -22,7 +22,8 @@ HasEndedFor Full count most window left = (count < most) × (length window.bytes
 HasEndedFor Ended count most window left = (count < most) × (length window.bytes < window.size) × IsAtEnd left
 
 -- The window grew by bytes that the source gave, at most so many, and what ended it; fewer where a read failed.
-pub record IsFilled (most : ℕ) (old new : WindowState) (before after : Option (List ℕ)) (result : Result FillEnd Failed) : Type 0 where
+pub record IsFilled (most : ℕ) (old new : WindowState) (before after : Option (List ℕ))
+    (result : Result FillEnd Failed) : Type 0 where
   pub got : List ℕ
   pub bytes : new.bytes ≡ old.bytes ++ got
   pub taken : Consumes before after got

@@ -14,15 +14,32 @@ file_with bytes h = record { bytes = bytes; start = file_header_len; order = h.o
 
 -- the file that a capture reads
 abbrev pub file_of : Capture → CaptureFile
-file_of c = record { bytes = c.bytes.now; start = c.start; order = c.head.order; nanos = c.head.nanos; link = number_of c.head.link }
+file_of c =
+    record {
+      bytes = c.bytes.now;
+      start = c.start;
+      order = c.head.order;
+      nanos = c.head.nanos;
+      link =
+          number_of c.head.link;
+    }
 
 -- the file that begins with this header and has these bytes
 abbrev pub headed_by : Head → List ℕ → CaptureFile
-headed_by head bytes = record { bytes = bytes; start = file_header_len; order = head.order; nanos = head.nanos; link = number_of head.link }
+headed_by head bytes =
+    record {
+      bytes = bytes;
+      start = file_header_len;
+      order = head.order;
+      nanos = head.nanos;
+      link =
+          number_of head.link;
+    }
 
 -- the part that has these bytes, of a file that begins with this header
 abbrev pub part_of : Head → List ℕ → CaptureFile
-part_of head bytes = record { bytes = bytes; start = 0; order = head.order; nanos = head.nanos; link = number_of head.link }
+part_of head bytes =
+    record { bytes = bytes; start = 0; order = head.order; nanos = head.nanos; link = number_of head.link }
 
 -- the packet record that was read
 abbrev pub record_read : Record → PacketRecord

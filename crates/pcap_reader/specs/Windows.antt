@@ -7,7 +7,8 @@ use Rattle.pcap_reader.specs.Records.{parts_of, rest_offset, rest_of, records_of
 
 -- The file with more bytes behind it.
 abbrev pub grown : CaptureFile → List ℕ → CaptureFile
-grown file more = record { bytes = file.bytes ++ more; start = file.start; order = file.order; nanos = file.nanos; link = file.link }
+grown file more =
+    record { bytes = file.bytes ++ more; start = file.start; order = file.order; nanos = file.nanos; link = file.link }
 
 -- A part of the file: bytes that are read as the file is, and whose records begin at their first byte.
 abbrev pub part_with : CaptureFile → List ℕ → CaptureFile
@@ -19,15 +20,16 @@ parts_from file left [] = []
 parts_from file left (piece ∷ pieces) =
     part_with file (left ++ piece) ∷ parts_from file (rest_of (part_with file (left ++ piece))) pieces
 
--- What more bytes bring. The records behind those of the file are those of the part that begins with its rest; the rest is
--- that part's; and so is the damage, its place counted from where that part begins.
+-- What more bytes bring. The records behind those of the file are those of the part that begins with its rest; the rest
+-- is that part's; and so is the damage, its place counted from where that part begins.
 pub record GoesOn (file : CaptureFile) (more : List ℕ) : Type 0 where
   pub records : records_of (grown file more) ≡ records_of file ++ records_of (part_with file (rest_of file ++ more))
   pub rest : rest_of (grown file more) ≡ rest_of (part_with file (rest_of file ++ more))
-  pub damage : damage_of (grown file more) ≡ option_map (λ at. rest_offset file + at) (damage_of (part_with file (rest_of file ++ more)))
+  pub damage : damage_of (grown file more)
+      ≡ option_map (λ at. rest_offset file + at) (damage_of (part_with file (rest_of file ++ more)))
 
--- The file is read in these parts: its bytes behind the file header are cut into pieces, anywhere, and the parts come of
--- the pieces. Before the first of them nothing is left.
+-- The file is read in these parts: its bytes behind the file header are cut into pieces, anywhere, and the parts come
+-- of the pieces. Before the first of them nothing is left.
 pub record IsReadIn (file : CaptureFile) (parts : List CaptureFile) : Type 0 where
   pub pieces : List (List ℕ)
   pub cut : drop file.start file.bytes ≡ concat pieces
@@ -35,7 +37,15 @@ pub record IsReadIn (file : CaptureFile) (parts : List CaptureFile) : Type 0 whe
 
 -- What stands before the records of a file: a file that has none.
 abbrev pub front_of : CaptureFile → CaptureFile
-front_of file = record { bytes = take file.start file.bytes; start = file.start; order = file.order; nanos = file.nanos; link = file.link }
+front_of file =
+    record {
+      bytes = take file.start file.bytes;
+      start = file.start;
+      order = file.order;
+      nanos = file.nanos;
+      link =
+          file.link;
+    }
 
 -- The file is that front, and more.
 pub record GrowsFromFront (file : CaptureFile) : Type 0 where

@@ -19,7 +19,8 @@ pub struct Capture<'a> {
 }
 
 impl<'a> Capture<'a> {
-    ghost use Rattle.std.specs.Prelude.{◌≡◌, ◌<◌, ◌≤◌, ◌^◌, ◌↔◌, ℕ, None, Some, Ok, Err, IfOk, OnOk, IsSomeAnd, ◌+◌, ◌*◌, length, slice_get, slice_index, slice_range};
+    ghost use Rattle.std.specs.Prelude.{◌≡◌, ◌<◌, ◌≤◌, ◌^◌, ◌↔◌, ℕ, None, Some, Ok, Err, IfOk, OnOk, IsSomeAnd, ◌+◌};
+    ghost use Rattle.std.specs.Prelude.{◌*◌, length, slice_get, slice_index, slice_range};
     ghost use Rattle.link_types.specs.Links.{IsKnownLink};
     ghost use Rattle.pcap_reader.specs.File.{capture_file};
     ghost use Rattle.pcap_reader.specs.Records.{IsOnlyCut, parts_of, rest_of, damage_of, records_of, most_captured};
@@ -33,7 +34,8 @@ impl<'a> Capture<'a> {
         ensures bytes { IfOk result (λ c. (file_of c).bytes ≡ bytes.now) }
         ensures known { IfOk result (λ c. IsKnownLink (file_of c).link) }
         ensures not_capture { (result ≡ Err CaptureError.NotCapture) ↔ (capture_file bytes.now ≡ None) }
-        ensures link_unknown { (n : ℕ) → (result ≡ Err (CaptureError.LinkUnknown n)) ↔ IsSomeAnd (capture_file bytes.now) (λ file. (file.link ≡ n) × ¬ IsKnownLink n) }
+        ensures link_unknown { (n : ℕ) → (result ≡ Err (CaptureError.LinkUnknown n))
+            ↔ IsSomeAnd (capture_file bytes.now) (λ file. (file.link ≡ n) × ¬ IsKnownLink n) }
     {
         let head = Head::of(bytes)?;
         let start = FILE_HEADER;
@@ -55,7 +57,8 @@ impl<'a> Capture<'a> {
         requires { length (file_of self.now).bytes < 2 ^ 32 }
         ensures cut { let file = file_of self.now in IsOnlyCut file (parts_of file) (rest_of file) }
         ensures index { IfOk result (λ index. IsIndexOf index (file_of self.now)) }
-        ensures few { IfOk result (λ index. (file_of self.now).start + 16 * length index.offsets + index.tail ≤ length (file_of self.now).bytes) }
+        ensures few { IfOk result (λ index. (file_of self.now).start + 16 * length index.offsets + index.tail
+            ≤ length (file_of self.now).bytes) }
         ensures undamaged { OnOk result (damage_of (file_of self.now) ≡ None) }
         ensures damaged { (at : ℕ) → result ≡ Err (IndexError.Damaged at) → damage_of (file_of self.now) ≡ Some at }
     {
@@ -71,7 +74,8 @@ impl<'a> Capture<'a> {
 
         // The index has the place of each record, and the length of the rest.
         ensures index { IfOk result (λ index. IsIndexOf index (file_of self.now)) }
-        ensures few { IfOk result (λ index. (file_of self.now).start + 16 * length index.offsets + index.tail ≤ length (file_of self.now).bytes) }
+        ensures few { IfOk result (λ index. (file_of self.now).start + 16 * length index.offsets + index.tail
+            ≤ length (file_of self.now).bytes) }
 
         // Damage is the first record header that claims too much.
         ensures undamaged { OnOk result (damage_of (file_of self.now) ≡ None) }
@@ -102,8 +106,10 @@ impl<'a> Capture<'a> {
         requires index { IsIndexOf index.now (file_of self.now) }
         requires number { n < length index.now.offsets }
         ensures value { slice_get (records_of (file_of self.now)) n ≡ Some (record_read result) }
-        ensures place { let from = slice_index index.now.offsets n + 16 in result.captured.now ≡ slice_range (file_of self.now).bytes from (from + length result.captured.now) }
-        ensures within { slice_index index.now.offsets n + 16 + length result.captured.now ≤ length (file_of self.now).bytes }
+        ensures place { let from = slice_index index.now.offsets n + 16 in
+            result.captured.now ≡ slice_range (file_of self.now).bytes from (from + length result.captured.now) }
+        ensures within { slice_index index.now.offsets n + 16 + length result.captured.now
+            ≤ length (file_of self.now).bytes }
         ensures small { length result.captured.now ≤ most_captured }
     {
         record_at(self.head.order, self.bytes, index.offset(n))

@@ -29,14 +29,15 @@ pub struct Head {
 }
 
 impl Head {
-    /// The file header at the beginning of the bytes, 24 of them. Its magic number is one of four, its version is 2.4, and
-    /// its link type is the whole last field, so that one with a nonzero upper half is unknown.
+    /// The file header at the beginning of the bytes, 24 of them. Its magic number is one of four, its version is 2.4,
+    /// and its link type is the whole last field, so that one with a nonzero upper half is unknown.
     pub fn of(bytes: &[u8]) -> Result<Head, CaptureError>
         ensures head { IfOk result (λ head. capture_file bytes.now ≡ Some (headed_by head bytes.now)) }
         ensures known { IfOk result (λ head. IsKnownLink (headed_by head bytes.now).link) }
         ensures whole { OnOk result (24 ≤ length bytes.now) }
         ensures not_capture { (result ≡ Err CaptureError.NotCapture) ↔ (capture_file bytes.now ≡ None) }
-        ensures link_unknown { (n : ℕ) → (result ≡ Err (CaptureError.LinkUnknown n)) ↔ IsSomeAnd (capture_file bytes.now) (λ file. (file.link ≡ n) × ¬ IsKnownLink n) }
+        ensures link_unknown { (n : ℕ) → (result ≡ Err (CaptureError.LinkUnknown n))
+            ↔ IsSomeAnd (capture_file bytes.now) (λ file. (file.link ≡ n) × ¬ IsKnownLink n) }
     {
         let Some(header) = read_header(bytes) else {
             return Err(CaptureError::NotCapture);

@@ -10,8 +10,8 @@ use meter_io::{Failed, NoMemory, Source};
 use std::alloc::Global;
 use std::marker::Model;
 
-/// Some bytes of a source, in memory that is taken once. Contracts see the bytes that it has, and its size, the most that
-/// it can have.
+/// Some bytes of a source, in memory that is taken once. Contracts see the bytes that it has, and its size, the most
+/// that it can have.
 #[derive(Drop)]
 pub struct Window {
     buffer: Vec<u8>,
@@ -59,7 +59,8 @@ fn fill_behind<S: Source>(
 ) -> Result<FillEnd, Failed>
     requires within { end.old ≤ length buffer.old }
     ensures within { end.new ≤ length buffer.new }
-    ensures filled { IsFilled most (window_in buffer.old end.old) (window_in buffer.new end.new) (S.left source.old) (S.left source.new) result }
+    ensures filled { IsFilled most (window_in buffer.old end.old) (window_in buffer.new end.new) (S.left source.old)
+        (S.left source.new) result }
     ensures cause { HasCause (S.faults source.old) (S.faults source.new) result }
 {
     let mut taken: u64 = 0;
@@ -90,8 +91,8 @@ fn put_in_front(buffer: &mut [u8], bytes: &[u8])
 }
 
 impl Window {
-    /// An empty window of `size` bytes, 262,184 to 2^27, whose memory is taken here: so a full window has room for a file
-    /// header and a whole record.
+    /// An empty window of `size` bytes, 262,184 to 2^27, whose memory is taken here: so a full window has room for a
+    /// file header and a whole record.
     pub fn open(alloc: Global, size: usize) -> Result<Window, NoMemory>
         requires size { (262184 ≤ size) × (size ≤ 2 ^ 27) }
         ensures { IfOk result (λ window. window ≡ record { bytes = []; size = size }) }
@@ -123,8 +124,8 @@ impl Window {
         buffer
     }
 
-    /// Appends bytes of the source, until `most` were taken (`Spent`), the window is full (`Full`), or the source is at its
-    /// end (`Ended`), tried in this order. Each read asks for all that is still wanted.
+    /// Appends bytes of the source, until `most` were taken (`Spent`), the window is full (`Full`), or the source is at
+    /// its end (`Ended`), tried in this order. Each read asks for all that is still wanted.
     ///
     /// `Failed` comes only where the source's count of faults rose. The bytes taken before stay in the window.
     pub fn fill<S: Source>(&mut self, source: &mut S, most: u64) -> Result<FillEnd, Failed>

@@ -8,9 +8,11 @@ use Rattle.pcapng_reader.specs.Index.{IsIndexOf, records_at, found_at}
 use Rattle.pcapng_reader.specs.Filtered.{capture_of}
 use Rattle.pcapng_reader.specs.Outcome.{IsAnswer}
 use Rattle.pcapng_reader.proofs.Fitting.{records-fit}
-use Rattle.pcapng_reader.proofs.Written.{written_file, written-is_file, written-rest, written-undamaged, written-packets}
+use Rattle.pcapng_reader.proofs.Written.{written_file, written-is_file, written-rest, written-undamaged}
+use Rattle.pcapng_reader.proofs.Written.{written-packets}
 
-pub answer-is : (bytes : List ℕ) (places : List Place) → IsSome (file_order bytes) → AreOctets bytes → IsIndexOf places bytes
+pub answer-is : (bytes : List ℕ) (places : List Place) → IsSome (file_order bytes) → AreOctets bytes
+    → IsIndexOf places bytes
     → IsAnswer bytes (capture_of (records_at bytes places))
 answer-is bytes places opened each index =
     let records = records_at bytes places in

@@ -36,7 +36,8 @@ record StampFits (stamp : Stamp) : Type 0 where
 fitting-fits : (seconds fraction : ℕ) → fraction < 2 ^ 32 → StampFits (fitting seconds fraction)
 fitting-fits seconds fraction small =
     elim (cases_Bool (nat_lt seconds (2 ^ 32))) [
-      | inl low ↦ let is : seconds < 2 ^ 32 = grind (arith, nat_tests) in rw low (record { seconds = is; fraction = small })
+      | inl low ↦ let is : seconds < 2 ^ 32 = grind (arith, nat_tests) in
+          rw low (record { seconds = is; fraction = small })
       | inr high ↦ rw high (record { seconds = omega arith; fraction = omega arith })
     ]
 
@@ -56,7 +57,8 @@ fraction-fits rest units less =
     let some : 0 < units = omega arith in
     (div-lt_iff_lt-mul {k = units} {x = rest * 1000000000} {y = 2 ^ 32} some).1 (omega (arith, less))
 
-place-fits : (bytes : List ℕ) (place : Place) → AreOctets bytes → IsPlaceIn bytes place → LinkedFits (record_at bytes place)
+place-fits : (bytes : List ℕ) (place : Place) → AreOctets bytes → IsPlaceIn bytes place
+    → LinkedFits (record_at bytes place)
 place-fits bytes (Place.Enhanced from to order interface) each at =
     let part = slice_range bytes from to in
     let octets = take-octets (to - from) (drop from bytes) (drop-octets from bytes each) in
@@ -70,11 +72,17 @@ place-fits bytes (Place.Enhanced from to order interface) each at =
       original = number-fits order (drop 24 part) (drop-octets 24 part octets);
       captured = omega (arith, at.block.small, length-take (captured_len order part) (drop 28 part));
     }
-place-fits bytes Place.Simple each at = record { seconds = omega arith; fraction = omega arith; original = omega arith; captured = omega arith }
+place-fits bytes Place.Simple each at = record {
+  seconds = omega arith;
+  fraction = omega arith;
+  original = omega arith;
+  captured = omega arith;
+}
 
 -- the records of an index fit
 pub records-fit : (bytes : List ℕ) (places : List Place) → AreOctets bytes → All (IsPlaceIn bytes) places
     → AllByRecursion LinkedFits (records_at bytes places)
 records-fit bytes places each all =
     recursion_from_All LinkedFits (records_at bytes places) (All-map LinkedFits (record_at bytes) places
-    (All-weaker (IsPlaceIn bytes) (λ place. LinkedFits (record_at bytes place)) (λ place. place-fits bytes place each) places all))
+    (All-weaker (IsPlaceIn bytes) (λ place. LinkedFits (record_at bytes place))
+    (λ place. place-fits bytes place each) places all))

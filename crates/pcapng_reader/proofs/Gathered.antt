@@ -1,5 +1,6 @@
 -- What was written so far is a beginning of the capture.
-use Rattle.std.proofs.Common.{◌≡◌, ℕ, ◌+◌, ◌≤◌, List, [], ◌∷◌, ◌++◌, length, take, drop, Some, Ok, Err, refl, sym, ap, subst, ◌∙◌, append_assoc, append-nil, add-one}
+use Rattle.std.proofs.Common.{◌≡◌, ℕ, ◌+◌, ◌≤◌, List, [], ◌∷◌, ◌++◌, length, take, drop, Some, Ok, Err, refl, sym, ap}
+use Rattle.std.proofs.Common.{subst, ◌∙◌, append_assoc, append-nil, add-one}
 use Rattle.std.specs.Prelude.{map, slice_get, Result, OnOk, OnErr}
 use Rattle.std.specs.List.{concat}
 use Rattle.std.specs.declared.option.Option.{Option}
@@ -12,11 +13,13 @@ use Rattle.pcapng_reader.specs.Records.{LinkedRecord}
 use Rattle.pcapng_reader.specs.Filtered.{octets_of_record, capture_of, file_header}
 
 octets-together : (first others : List LinkedRecord)
-    → concat (map octets_of_record (first ++ others)) ≡ concat (map octets_of_record first) ++ concat (map octets_of_record others)
+    → concat (map octets_of_record (first ++ others)) ≡ concat (map octets_of_record first)
+    ++ concat (map octets_of_record others)
 octets-together [] others = refl
 octets-together (linked ∷ first) others =
     ap (λ (rest : List ℕ). octets_of_record linked ++ rest) (octets-together first others)
-    ∙ sym (append_assoc (octets_of_record linked) (concat (map octets_of_record first)) (concat (map octets_of_record others)))
+    ∙ sym (append_assoc (octets_of_record linked) (concat (map octets_of_record first))
+    (concat (map octets_of_record others)))
 
 capture-together : (first others : List LinkedRecord)
     → capture_of (first ++ others) ≡ capture_of first ++ concat (map octets_of_record others)
@@ -36,17 +39,21 @@ capture-more records n linked is =
 -- the capture of the first records is a beginning of that of all
 capture-begun : (records : List LinkedRecord) (n : ℕ)
     → capture_of records ≡ capture_of (take n records) ++ concat (map octets_of_record (drop n records))
-capture-begun records n = ap capture_of (sym (take-append-drop n records)) ∙ capture-together (take n records) (drop n records)
+capture-begun records n = ap capture_of (sym (take-append-drop n records))
+    ∙ capture-together (take n records) (drop n records)
 
 -- some octets more, with what is gathered and not written yet
-pub gathered-more : (done piece old new next : List ℕ) (before more : List ℕ) → done ++ old ≡ before → next ≡ old ++ more
+pub gathered-more : (done piece old new next : List ℕ) (before more : List ℕ) → done ++ old ≡ before
+    → next ≡ old ++ more
     → piece ++ new ≡ next → (done ++ piece) ++ new ≡ before ++ more
 gathered-more done piece old new next before more first second third =
-    append_assoc done piece new ∙ ap (λ (rest : List ℕ). done ++ rest) (third ∙ second) ∙ sym (append_assoc done old more)
+    append_assoc done piece new ∙ ap (λ (rest : List ℕ). done ++ rest) (third ∙ second)
+    ∙ sym (append_assoc done old more)
     ∙ ap (λ (rest : List ℕ). rest ++ more) first
 
 -- a beginning of what was to be written next is a beginning of all
-pub begun-in : (a b c : Option (List ℕ)) (done next whole more : List ℕ) (count : ℕ) → Appends a b done → Appends b c (take count next)
+pub begun-in : (a b c : Option (List ℕ)) (done next whole more : List ℕ) (count : ℕ) → Appends a b done
+    → Appends b c (take count next)
     → whole ≡ (done ++ next) ++ more → (n : ℕ) × Appends a c (take n whole)
 begun-in a b c done next whole more count first second is =
     let written = done ++ take count next in
@@ -67,12 +74,15 @@ begun-capture a b c done next records n count first second is =
     (capture-begun records n ∙ ap (λ (rest : List ℕ). rest ++ concat (map octets_of_record (drop n records))) (sym is))
 
 -- what is gathered next, behind what was written
-pub next-whole : (done old next : List ℕ) (before more : List ℕ) → done ++ old ≡ before → next ≡ old ++ more → done ++ next ≡ before ++ more
+pub next-whole : (done old next : List ℕ) (before more : List ℕ) → done ++ old ≡ before → next ≡ old ++ more
+    → done ++ next ≡ before ++ more
 next-whole done old next before more first second =
-    ap (λ (rest : List ℕ). done ++ rest) second ∙ sym (append_assoc done old more) ∙ ap (λ (rest : List ℕ). rest ++ more) first
+    ap (λ (rest : List ℕ). done ++ rest) second ∙ sym (append_assoc done old more)
+    ∙ ap (λ (rest : List ℕ). rest ++ more) first
 
 -- behind the last record the capture is whole
-pub capture-whole : (records : List LinkedRecord) (n : ℕ) → length records ≤ n → capture_of (take n records) ≡ capture_of records
+pub capture-whole : (records : List LinkedRecord) (n : ℕ) → length records ≤ n
+    → capture_of (take n records) ≡ capture_of records
 capture-whole records n all = ap capture_of (take_all n records all)
 
 pub on-ok : {T E : Type 0} (r : Result T E) (P Q : Type 0) → (P → Q) → OnOk r P → OnOk r Q

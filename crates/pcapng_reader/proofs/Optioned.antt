@@ -21,7 +21,8 @@ unfolding next_option
 nothing-last order = refl
 
 -- where an option stands, it is the first, and the others are those behind it
-pub options_in-coded : (order : Endianness) (octets : List ℕ) (code len : ℕ) → next_option order octets ≡ Next.Coded code len
+pub options_in-coded : (order : Endianness) (octets : List ℕ) (code len : ℕ)
+    → next_option order octets ≡ Next.Coded code len
     → options_in order octets ≡ Some (record { code = code; value = take len (drop 4 octets) })
     ∷ options_in order (drop (4 + padded len) octets)
 unfolding options_from
@@ -34,7 +35,8 @@ options_in-coded order (octet ∷ octets) code len h =
     Some (record { code = code; value = take len (drop 4 (octet ∷ octets)) }) ∷ others)
     (options_from-drop order (3 + padded len) octets ∙ ap (options_in order) left))
 
-pub options_in-last : (order : Endianness) (octets : List ℕ) → next_option order octets ≡ Next.Last → options_in order octets ≡ []
+pub options_in-last : (order : Endianness) (octets : List ℕ) → next_option order octets ≡ Next.Last
+    → options_in order octets ≡ []
 unfolding options_from
 options_in-last order [] h = refl
 options_in-last order (octet ∷ octets) h = rw (h, options_from) refl
@@ -47,7 +49,8 @@ options_in-beyond order (octet ∷ octets) h = rw (h, options_from) refl
 
 -- one option more
 pub with_options-more : (order : Endianness) (interface next : Interface) (octets value rest : List ℕ) (code len : ℕ)
-    → next_option order octets ≡ Next.Coded code len → with_option order interface (record { code = code; value = value }) ≡ Some next
+    → next_option order octets ≡ Next.Coded code len
+    → with_option order interface (record { code = code; value = value }) ≡ Some next
     → value ≡ take len (drop 4 octets) → rest ≡ drop (4 + padded len) octets
     → with_options order next (options_in order rest) ≡ with_options order interface (options_in order octets)
 with_options-more order interface next octets value rest code len stands told value_is rest_is =
@@ -59,7 +62,8 @@ with_options-more order interface next octets value rest code len stands told va
 
 -- a bad option
 pub with_options-bad : (order : Endianness) (interface : Interface) (octets value : List ℕ) (code len : ℕ)
-    → next_option order octets ≡ Next.Coded code len → with_option order interface (record { code = code; value = value }) ≡ None
+    → next_option order octets ≡ Next.Coded code len
+    → with_option order interface (record { code = code; value = value }) ≡ None
     → value ≡ take len (drop 4 octets)
     → with_options order interface (options_in order octets) ≡ None
 with_options-bad order interface octets value code len stands told value_is =

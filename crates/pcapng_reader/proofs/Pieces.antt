@@ -1,5 +1,6 @@
 -- The blocks that stand one behind the other: the first of them, and none.
-use Rattle.std.proofs.Common.{◌≡◌, ℕ, zero, suc, ◌+◌, ◌-◌, ◌≤◌, List, [], ◌∷◌, take, drop, Ok, Err, refl, sym, ap, ◌∙◌, arith}
+use Rattle.std.proofs.Common.{◌≡◌, ℕ, zero, suc, ◌+◌, ◌-◌, ◌≤◌, List, [], ◌∷◌, take, drop, Ok, Err, refl, sym, ap, ◌∙◌}
+use Rattle.std.proofs.Common.{arith}
 use Rattle.std.specs.Prelude.{Result, slice_range}
 use Rattle.std.proofs.lemmas.List.{drop-drop}
 use Rattle.octets.specs.declared.endianness.Endianness.{Endianness}
@@ -24,7 +25,8 @@ unfolding front
 nothing-tail section = refl
 
 -- where a block stands, it is the first, and the others are those behind it
-pub pieces-block : (section order : Endianness) (at len : ℕ) (bytes : List ℕ) → front section bytes ≡ Front.Block order len → 12 ≤ len
+pub pieces-block : (section order : Endianness) (at len : ℕ) (bytes : List ℕ)
+    → front section bytes ≡ Front.Block order len → 12 ≤ len
     → pieces_from section at 0 bytes ≡ Ok (record { at = at; order = order; part = take len bytes })
     ∷ pieces_from order (at + len) 0 (drop len bytes)
 unfolding pieces_from
@@ -39,7 +41,8 @@ pieces-block section order at len (byte ∷ bytes) h long =
     ∙ ap (λ (k : ℕ). pieces_from order k 0 (drop (len - 1) bytes)) there
     ∙ ap (pieces_from order (at + len) 0) left))
 
-pub pieces-tail : (section : Endianness) (at : ℕ) (bytes : List ℕ) → front section bytes ≡ Front.Tail → pieces_from section at 0 bytes ≡ []
+pub pieces-tail : (section : Endianness) (at : ℕ) (bytes : List ℕ) → front section bytes ≡ Front.Tail
+    → pieces_from section at 0 bytes ≡ []
 unfolding pieces_from
 pieces-tail section at [] h = refl
 pieces-tail section at (byte ∷ bytes) h = rw (h, pieces_from) refl
@@ -57,14 +60,16 @@ part-same bytes at len to is = let same : to - at ≡ len = omega arith in ap (�
 pub block-more : (bytes : List ℕ) (found next : Found) (section order : Endianness) (at len to : ℕ)
     → front section (drop at bytes) ≡ Front.Block order len → 12 ≤ len → to ≡ at + len
     → with_block found (record { at = at; order = order; part = slice_range bytes at to }) ≡ Ok next
-    → with_pieces next (pieces_from order to 0 (drop to bytes)) ≡ with_pieces found (pieces_from section at 0 (drop at bytes))
+    → with_pieces next (pieces_from order to 0 (drop to bytes))
+    ≡ with_pieces found (pieces_from section at 0 (drop at bytes))
 block-more bytes found next section order at len to stands long is told =
     let part = part-same bytes at len to is in
     let others = pieces_from order (at + len) 0 (drop len (drop at bytes)) in
     let taken : with_block found (record { at = at; order = order; part = take len (drop at bytes) }) ≡ Ok next =
     ap (λ (p : List ℕ). with_block found (record { at = at; order = order; part = p })) (sym part) ∙ told in
     let left : pieces_from order (at + len) 0 (drop len (drop at bytes)) ≡ pieces_from order to 0 (drop to bytes) =
-    ap (pieces_from order (at + len) 0) (drop-drop len at bytes) ∙ ap (λ (k : ℕ). pieces_from order k 0 (drop k bytes)) (sym is) in
+    ap (pieces_from order (at + len) 0) (drop-drop len at bytes)
+    ∙ ap (λ (k : ℕ). pieces_from order k 0 (drop k bytes)) (sym is) in
     sym (ap (with_pieces found) (pieces-block section order at len (drop at bytes) stands long)
     ∙ ap (λ (r : Result Found ℕ). r >>= (λ (n : Found). with_pieces n others)) taken ∙ ap (with_pieces next) left)
 
@@ -82,10 +87,12 @@ block-bad bytes found section order at len to n stands long is told =
     ∙ ap (λ (r : Result Found ℕ). r >>= (λ (n : Found). with_pieces n others)) taken
 
 -- at the tail all was found
-pub at-tail : (bytes : List ℕ) (found : Found) (section : Endianness) (at : ℕ) → front section (drop at bytes) ≡ Front.Tail
+pub at-tail : (bytes : List ℕ) (found : Found) (section : Endianness) (at : ℕ)
+    → front section (drop at bytes) ≡ Front.Tail
     → with_pieces found (pieces_from section at 0 (drop at bytes)) ≡ Ok found
 at-tail bytes found section at h = ap (with_pieces found) (pieces-tail section at (drop at bytes) h)
 
-pub at-malformed : (bytes : List ℕ) (found : Found) (section : Endianness) (at : ℕ) → front section (drop at bytes) ≡ Front.Malformed
+pub at-malformed : (bytes : List ℕ) (found : Found) (section : Endianness) (at : ℕ)
+    → front section (drop at bytes) ≡ Front.Malformed
     → with_pieces found (pieces_from section at 0 (drop at bytes)) ≡ Err at
 at-malformed bytes found section at h = ap (with_pieces found) (pieces-malformed section at (drop at bytes) h)

@@ -1,5 +1,6 @@
 -- An accepted record is accepted as one of raw IP, too, and gives the same packet.
-use Rattle.std.proofs.Common.{◌≡◌, ℕ, ◌-◌, ◌/◌, ◌≤◌, ◌⊎◌, true, List, length, drop, Some, None, Ok, Err, refl, sym, ap, ◌∙◌, arith, inl, inr}
+use Rattle.std.proofs.Common.{◌≡◌, ℕ, ◌-◌, ◌/◌, ◌≤◌, ◌⊎◌, true, List, length, drop, Some, None, Ok, Err, refl, sym, ap}
+use Rattle.std.proofs.Common.{◌∙◌, arith, inl, inr}
 use Rattle.std.specs.Prelude.{Result, ◌==◌, option_map}
 use Rattle.std.specs.Result.{result_ok}
 use Rattle.std.proofs.lemmas.Bool.{cases_Bool}
@@ -56,7 +57,8 @@ packet_with n parts = record {
   flags = parts.headers.transport.flags;
 }
 
-parts-of : (link : ℕ) (rec : PacketRecord) (n : ℕ) (packet : Packet) → accepted link true rec n ≡ Ok packet → Parts link rec
+parts-of : (link : ℕ) (rec : PacketRecord) (n : ℕ) (packet : Packet) → accepted link true rec n ≡ Ok packet
+    → Parts link rec
 unfolding accepted
 parts-of link rec n packet h =
     let one = bind-ok (time_of true rec.seconds rec.fraction) _ packet h in
@@ -64,7 +66,8 @@ parts-of link rec n packet h =
     let three = bind-ok (key_of two.0) _ packet two.2 in
     record { time = one.0; is_time = one.1; headers = two.0; is_headers = two.1; key = three.0; is_key = three.1 }
 
-accepted-with : (link : ℕ) (rec : PacketRecord) (n : ℕ) (parts : Parts link rec) → accepted link true rec n ≡ Ok (packet_with n parts)
+accepted-with : (link : ℕ) (rec : PacketRecord) (n : ℕ) (parts : Parts link rec)
+    → accepted link true rec n ≡ Ok (packet_with n parts)
 unfolding accepted
 accepted-with link rec n parts = rw (parts.is_time, parts.is_headers, parts.is_key) refl
 
@@ -78,11 +81,13 @@ record Layers (link : ℕ) (rec : PacketRecord) (headers : Headers) : Type 0 whe
   pub is_transport : transport_part ip ≡ Ok transport
   pub whole : record { ip = ip; transport = transport } ≡ headers
 
-layers-of : (link : ℕ) (rec : PacketRecord) (headers : Headers) → headers_of link rec ≡ Ok headers → Layers link rec headers
+layers-of : (link : ℕ) (rec : PacketRecord) (headers : Headers) → headers_of link rec ≡ Ok headers
+    → Layers link rec headers
 unfolding headers_of
 layers-of link rec headers h =
     let one = bind-ok (or_cause (link_part link rec.captured)) _ headers h in
-    let two = bind-ok (or_cause (ip_part one.0.version (drop one.0.offset rec.captured) (rec.original - one.0.offset))) _ headers one.2 in
+    let two = bind-ok (or_cause (ip_part one.0.version (drop one.0.offset rec.captured) (rec.original - one.0.offset)))
+    _ headers one.2 in
     let three = bind-ok (transport_part two.0) _ headers two.2 in
     let last = three.2 in
     record {
@@ -113,7 +118,8 @@ from-v4 rest original ip h = let one = bind-ok (header_length rest) _ ip h in be
 
 from-v6 : (rest : List ℕ) (original : ℕ) (ip : IpPart) → ipv6_part rest original ≡ Ok ip → BeginsIp 6 rest
 unfolding ipv6_part
-from-v6 rest original ip h = let one = bind-ok (V6.checked_length rest original) _ ip h in begins-v6 rest original one.0 one.1
+from-v6 rest original ip h = let one = bind-ok (V6.checked_length rest original) _ ip h in
+    begins-v6 rest original one.0 one.1
 
 raw-v4 : (rest : List ℕ) → BeginsIp 4 rest → raw_part rest ≡ Ok (record { version = 4; offset = 0 })
 unfolding raw_part
@@ -161,7 +167,8 @@ pub record IsRawOf (linked : LinkedRecord) (n : ℕ) (packet : Packet) : Type 0 
   pub gives : accepted 101 true raw n ≡ Ok packet
   pub fits : Fits linked.rec → Fits raw
 
-pub raw-accepted : (linked : LinkedRecord) (n : ℕ) (packet : Packet) → accepted linked.link true linked.rec n ≡ Ok packet
+pub raw-accepted : (linked : LinkedRecord) (n : ℕ) (packet : Packet)
+    → accepted linked.link true linked.rec n ≡ Ok packet
     → IsRawOf linked n packet
 raw-accepted linked n packet h =
     let parts = parts-of linked.link linked.rec n packet h in

@@ -1,6 +1,7 @@
 -- The blocks of a file (draft-ietf-opsawg-pcapng, section 3.1), each with the order of octets of its section
 -- (section 4.1).
-use Rattle.std.specs.Prelude.{ℕ, zero, suc, ◌-◌, ◌%◌, ◌==◌, ◌||◌, Bool, not, List, [], ◌∷◌, length, take, nat_lt, if◌then◌else◌, Option, Some, None, Result, Ok, Err}
+use Rattle.std.specs.Prelude.{ℕ, zero, suc, ◌-◌, ◌%◌, ◌==◌, ◌||◌, Bool, not, List, [], ◌∷◌, length, take, nat_lt}
+use Rattle.std.specs.Prelude.{if◌then◌else◌, Option, Some, None, Result, Ok, Err}
 use Rattle.octets.specs.declared.endianness.Endianness.{Endianness}
 use Rattle.octets.specs.declared.endianness.Endianness.TheVariants as Order
 use Rattle.octets.specs.Numbers.{ordered_number_at}
@@ -51,15 +52,16 @@ abbrev pub ordered_front : Option Endianness → List ℕ → Front
 ordered_front None bytes = Front.Malformed
 ordered_front (Some order) bytes = sized_front order bytes
 
--- What the bytes begin with, in a section of this order: a block, something malformed, or fewer octets than a block has,
--- which are the tail.
+-- What the bytes begin with, in a section of this order: a block, something malformed, or fewer octets than a block
+-- has, which are the tail.
 unfoldable pub front : Endianness → List ℕ → Front
 front section bytes =
     if nat_lt (length bytes) 12 then Front.Tail
     else ordered_front (block_order section bytes) bytes
 
 -- The blocks, one directly behind the other, of which the first begins behind the first `skip` of these bytes; `at`
--- octets of the file stand before the bytes. Where something malformed stands behind them, its place is the last of the list, as a fault.
+-- octets of the file stand before the bytes. Where something malformed stands behind them, its place is the last of the
+-- list, as a fault.
 unfoldable pub pieces_from : Endianness → ℕ → ℕ → List ℕ → List (Result Block ℕ)
 pieces_from section at skip [] = []
 pieces_from section at (suc skip) (byte ∷ bytes) = pieces_from section (suc at) skip bytes

@@ -5,8 +5,8 @@ use Rattle.octets.specs.declared.endianness.Endianness.TheVariants.{Little}
 use Rattle.pcapng_reader.specs.declared.front.Front.TheVariants as Front
 use Rattle.pcapng_reader.specs.Blocks.{Block, front}
 
--- The blocks stand one directly behind the other, the first of them at `at`, each in the section that it stands in, up to
--- the tail or to something malformed.
+-- The blocks stand one directly behind the other, the first of them at `at`, each in the section that it stands in, up
+-- to the tail or to something malformed.
 abbrev pub AreBlocks : Endianness → ℕ → List (Result Block ℕ) → List ℕ → Type 0
 AreBlocks section at [] bytes = front section bytes ≡ Front.Tail
 AreBlocks section at (Err place ∷ pieces) bytes = (place ≡ at) × (pieces ≡ []) × (front section bytes ≡ Front.Malformed)

@@ -1,5 +1,6 @@
 -- The packets of a file, and the classic capture of raw IP that they are written as.
-use Rattle.std.specs.Prelude.{ℕ, ◌+◌, ◌-◌, ◌<◌, ◌≤◌, ◌^◌, true, List, [], ◌∷◌, ◌++◌, length, map, drop, Option, Some, None, Result, Ok, Err, option_map}
+use Rattle.std.specs.Prelude.{ℕ, ◌+◌, ◌-◌, ◌<◌, ◌≤◌, ◌^◌, true, List, [], ◌∷◌, ◌++◌, length, map, drop, Option, Some}
+use Rattle.std.specs.Prelude.{None, Result, Ok, Err, option_map}
 use Rattle.std.specs.List.{concat, filter_map}
 use Rattle.std.specs.Result.{result_ok}
 use Rattle.octets.specs.declared.endianness.Endianness.TheVariants.{Little}
@@ -47,15 +48,17 @@ raw_records records = filter_map raw_of records
 abbrev pub four : ℕ → List ℕ
 four number = ordered_octets Little 4 number
 
--- A record of a classic capture (draft-ietf-opsawg-pcap, section 5): seconds, fraction, captured and original length, and
--- the captured octets.
+-- A record of a classic capture (draft-ietf-opsawg-pcap, section 5): seconds, fraction, captured and original length,
+-- and the captured octets.
 abbrev pub record_octets : PacketRecord → List ℕ
-record_octets rec = four rec.seconds ++ (four rec.fraction ++ (four (length rec.captured) ++ (four rec.original ++ rec.captured)))
+record_octets rec =
+    four rec.seconds ++ (four rec.fraction ++ (four (length rec.captured) ++ (four rec.original ++ rec.captured)))
 
 -- The header of a classic capture (draft-ietf-opsawg-pcap, section 4): least significant octet first and nanoseconds,
 -- version 2.4, at most 262,144 captured octets a record, and raw IP, 101.
 abbrev pub file_header : List ℕ
-file_header = 0x4d ∷ 0x3c ∷ 0xb2 ∷ 0xa1 ∷ 2 ∷ 0 ∷ 4 ∷ 0 ∷ 0 ∷ 0 ∷ 0 ∷ 0 ∷ 0 ∷ 0 ∷ 0 ∷ 0 ∷ 0 ∷ 0 ∷ 4 ∷ 0 ∷ 0x65 ∷ 0 ∷ 0 ∷ 0 ∷ []
+file_header = 0x4d ∷ 0x3c ∷ 0xb2 ∷ 0xa1 ∷ 2 ∷ 0 ∷ 4 ∷ 0 ∷ 0 ∷ 0 ∷ 0 ∷ 0 ∷ 0 ∷ 0 ∷ 0 ∷ 0 ∷ 0 ∷ 0 ∷ 4 ∷ 0 ∷ 0x65 ∷ 0 ∷ 0
+    ∷ 0 ∷ []
 
 -- What is written of a record: nothing where it isn't accepted.
 abbrev pub octets_if : Option PacketRecord → List ℕ

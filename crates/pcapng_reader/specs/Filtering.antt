@@ -2,7 +2,8 @@
 use Rattle.std.specs.Prelude.{ℕ, ◌≡◌, List, None, Err, IsSome}
 use Rattle.meter_io.specs.Sides.{Side, IsUntouched, HasFailed, HasTaken, HasBegun}
 use Rattle.pcapng_reader.specs.declared.status.PngStatus.{PngStatus}
-use Rattle.pcapng_reader.specs.declared.status.PngStatus.TheVariants.{Done, ReadFault, Usage, WriteFault, NotPcapng, BadBlock, TooLarge, NoMemory}
+use Rattle.pcapng_reader.specs.declared.status.PngStatus.TheVariants.{Done, ReadFault, Usage, WriteFault, NotPcapng}
+use Rattle.pcapng_reader.specs.declared.status.PngStatus.TheVariants.{BadBlock, TooLarge, NoMemory}
 use Rattle.pcapng_reader.specs.Blocks.{file_order}
 use Rattle.pcapng_reader.specs.Reading.{found_in}
 use Rattle.pcapng_reader.specs.Outcome.{IsAnswer}

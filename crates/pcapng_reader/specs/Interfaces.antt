@@ -1,5 +1,6 @@
 -- Interfaces (draft-ietf-opsawg-pcapng, section 4.2): the link type of their packets, and how their times count.
-use Rattle.std.specs.Prelude.{ℕ, ◌-◌, ◌^◌, ◌==◌, ◌&&◌, List, [], ◌∷◌, length, slice_range, nat_lt, nat_le, if◌then◌else◌, Option, Some, None, option_map, option_and_then}
+use Rattle.std.specs.Prelude.{ℕ, ◌-◌, ◌^◌, ◌==◌, ◌&&◌, List, [], ◌∷◌, length, slice_range, nat_lt, nat_le}
+use Rattle.std.specs.Prelude.{if◌then◌else◌, Option, Some, None, option_map, option_and_then}
 use Rattle.octets.specs.declared.endianness.Endianness.{Endianness}
 use Rattle.octets.specs.Numbers.{octet_at, ordered_number_at}
 use Rattle.pcapng_reader.specs.declared.interface.Interface.{Interface}

@@ -1,12 +1,15 @@
 -- What a run means, by its words and its status.
-use Rattle.std.specs.Prelude.{ℕ, ◌≡◌, ◌⊎◌, ◌≤◌, ◌^◌, Bool, true, false, IsTrue, List, [], ◌∷◌, length, codes, Option, Some, None, IsSome, Ok, Err, ⊤}
+use Rattle.std.specs.Prelude.{ℕ, ◌≡◌, ◌⊎◌, ◌≤◌, ◌^◌, Bool, true, false, IsTrue, List, [], ◌∷◌, length, codes, Option}
+use Rattle.std.specs.Prelude.{Some, None, IsSome, Ok, Err, ⊤}
 use Rattle.std.specs.Str.{bytes_eq}
-use Rattle.meter_io.specs.Sides.{Side, HasFailed, IsUntouched, IsRead, IsTooLarge, IsBroken, IsWrong, HasTaken, HasBegun}
+use Rattle.meter_io.specs.Sides.{Side, HasFailed, IsUntouched, IsRead, IsTooLarge, IsBroken, IsWrong, HasTaken}
+use Rattle.meter_io.specs.Sides.{HasBegun}
 use Rattle.pcap_reader.specs.File.{CaptureFile, capture_file}
 use Rattle.pcap_reader.specs.Records.{damage_of, rest_of}
 use Rattle.packet_accept.specs.Packets.{packets_of}
 use Rattle.pcapng_reader.specs.declared.status.PngStatus.{PngStatus}
-use Rattle.pcapng_reader.specs.declared.status.PngStatus.TheVariants.{Done, ReadFault, Usage, WriteFault, NotPcapng, BadBlock, TooLarge, NoMemory}
+use Rattle.pcapng_reader.specs.declared.status.PngStatus.TheVariants.{Done, ReadFault, Usage, WriteFault, NotPcapng}
+use Rattle.pcapng_reader.specs.declared.status.PngStatus.TheVariants.{BadBlock, TooLarge, NoMemory}
 use Rattle.pcapng_reader.specs.Blocks.{file_order}
 use Rattle.pcapng_reader.specs.Reading.{Found, found_in}
 use Rattle.pcapng_reader.specs.Filtered.{packets_from, capture_of}
@@ -21,8 +24,8 @@ is_command (word ∷ (another ∷ words)) = false
 abbrev pub limit : ℕ
 limit = 2 ^ 30
 
--- The input is a file that tells these records, and what is written is their capture. That is a classic capture of raw IP
--- with nanoseconds and nothing behind its records, and its packets are those of the input, with the same numbers.
+-- The input is a file that tells these records, and what is written is their capture. That is a classic capture of raw
+-- IP with nanoseconds and nothing behind its records, and its packets are those of the input, with the same numbers.
 pub record IsAnswer (input written : List ℕ) : Type 0 where
   pub is_pcapng : IsSome (file_order input)
   pub found : Found

@@ -1,5 +1,6 @@
 -- What a file tells, block by block (draft-ietf-opsawg-pcapng, section 4).
-use Rattle.std.specs.Prelude.{ℕ, ◌+◌, ◌==◌, ◌&&◌, List, [], ◌∷◌, ◌++◌, length, slice_get, nat_le, if◌then◌else◌, Option, Some, None, Result, Ok, Err, option_map}
+use Rattle.std.specs.Prelude.{ℕ, ◌+◌, ◌==◌, ◌&&◌, List, [], ◌∷◌, ◌++◌, length, slice_get, nat_le, if◌then◌else◌, Option}
+use Rattle.std.specs.Prelude.{Some, None, Result, Ok, Err, option_map}
 use Rattle.octets.specs.declared.endianness.Endianness.{Endianness}
 use Rattle.octets.specs.Numbers.{ordered_number_at}
 use Rattle.octets.specs.Outcome.{◌>>=◌}
@@ -25,8 +26,8 @@ enhanced_content interfaces order part =
     then option_map Content.Enhanced (slice_get interfaces (ordered_number_at order 8 4 part))
     else None
 
--- What a block tells, in a section with these interfaces so far, by its type, at 0: none where it is bad. A simple packet
--- has 16 octets at least. Blocks of other types are skipped unread.
+-- What a block tells, in a section with these interfaces so far, by its type, at 0: none where it is bad. A simple
+-- packet has 16 octets at least. Blocks of other types are skipped unread.
 unfoldable pub content_of : List Interface → Endianness → List ℕ → Option Content
 content_of interfaces order part =
     let kind = ordered_number_at order 0 4 part in
@@ -47,7 +48,11 @@ with_content found block Content.Section = record { interfaces = []; records = f
 with_content found block (Content.Described interface) =
     record { interfaces = found.interfaces ++ interface ∷ []; records = found.records }
 with_content found block (Content.Enhanced interface) =
-    record { interfaces = found.interfaces; records = found.records ++ enhanced_record interface block.order block.part ∷ [] }
+    record {
+      interfaces = found.interfaces;
+      records =
+          found.records ++ enhanced_record interface block.order block.part ∷ [];
+    }
 with_content found block Content.Simple =
     record { interfaces = found.interfaces; records = found.records ++ simple_record ∷ [] }
 with_content found block Content.Other = found

@@ -1,7 +1,8 @@
 -- The exit status of each way in which a run ends.
 use Rattle.std.specs.Prelude.{ℕ}
 use Rattle.pcapng_reader.specs.declared.status.PngStatus.{PngStatus}
-use Rattle.pcapng_reader.specs.declared.status.PngStatus.TheVariants.{Done, ReadFault, Usage, WriteFault, NotPcapng, BadBlock, TooLarge, NoMemory}
+use Rattle.pcapng_reader.specs.declared.status.PngStatus.TheVariants.{Done, ReadFault, Usage, WriteFault, NotPcapng}
+use Rattle.pcapng_reader.specs.declared.status.PngStatus.TheVariants.{BadBlock, TooLarge, NoMemory}
 
 abbrev pub exit_status : PngStatus → ℕ
 exit_status Done = 0

@@ -1,6 +1,7 @@
 //! A capture: its first section header looked at, its packets found and read.
 
-ghost use Rattle.std.specs.Prelude.{◌≡◌, ◌+◌, ◌<◌, ◌≤◌, ◌^◌, ◌↔◌, ℕ, All, None, Ok, Err, IfOk, IfErr, OnOk, IsErr, IsSome, Some, length, slice_get, slice_range};
+ghost use Rattle.std.specs.Prelude.{◌≡◌, ◌+◌, ◌<◌, ◌≤◌, ◌^◌, ◌↔◌, ℕ, All, None, Ok, Err, IfOk, IfErr, OnOk, IsErr};
+ghost use Rattle.std.specs.Prelude.{IsSome, Some, length, slice_get, slice_range};
 ghost use Rattle.octets.specs.declared.endianness.Endianness.{Endianness};
 ghost use Rattle.pcapng_reader.specs.Blocks.{file_order};
 ghost use Rattle.pcap_reader.specs.Records.{most_captured};
@@ -52,7 +53,8 @@ fn take_block(
     ensures taken { OnOk result (with_block (found_at bytes.now interfaces.old.items places.old.items)
         (record { at = at; order = order; part = slice_range bytes.now at to })
         ≡ Ok (found_at bytes.now interfaces.new.items places.new.items)) }
-    ensures bad { (n : ℕ) → result ≡ Err (PngFault.BadBlock n) → with_block (found_at bytes.now interfaces.old.items places.old.items)
+    ensures bad { (n : ℕ) → result ≡ Err (PngFault.BadBlock n)
+        → with_block (found_at bytes.now interfaces.old.items places.old.items)
         (record { at = at; order = order; part = slice_range bytes.now at to }) ≡ Err n }
     ensures units { All HasUnits interfaces.new.items }
     ensures whole { All (IsPlaceIn bytes.now) places.new.items }
@@ -128,7 +130,8 @@ impl<'a> PngCapture<'a> {
     pub fn record(&self, index: &PngIndex, n: u64) -> PngRecord<'a>
         requires index { IsIndexOf index.now (bytes_of self.now) }
         requires number { n < length index.now }
-        ensures value { (found : Found) → found_in (bytes_of self.now) ≡ Ok found → slice_get found.records n ≡ Some (linked_read result) }
+        ensures value { (found : Found) → found_in (bytes_of self.now) ≡ Ok found
+            → slice_get found.records n ≡ Some (linked_read result) }
         ensures part { (from : ℕ) × (from + length result.rec.captured.now ≤ length (bytes_of self.now))
             × (result.rec.captured.now ≡ slice_range (bytes_of self.now) from (from + length result.rec.captured.now)) }
         ensures small { length result.rec.captured.now ≤ most_captured }

@@ -15,8 +15,8 @@ use pcap_reader::Record;
 pub struct PngRecord<'a> {
     /// The link type of the packet's interface, and 0 for a simple packet, of which nothing is read.
     pub link: u32,
-    /// Time in seconds and nanoseconds, lengths, and captured octets. Without a time, or where its seconds are below 0 or
-    /// above 2^32 - 1, the seconds are 0 and the fraction is 2^32 - 1.
+    /// Time in seconds and nanoseconds, lengths, and captured octets. Without a time, or where its seconds are below 0
+    /// or above 2^32 - 1, the seconds are 0 and the fraction is 2^32 - 1.
     pub rec: Record<'a>,
 }
 

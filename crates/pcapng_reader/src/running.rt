@@ -59,7 +59,8 @@ fn filter<K: Sink>(alloc: Global, bytes: &[u8], output: &mut K) -> PngStatus
 /// order:
 ///
 /// - `Usage`: exactly where the words are not that one word. Nothing is read.
-/// - `ReadFault`: only where a read failed and the input counted it. `TooLarge`: exactly where more bytes came than 2^30.
+/// - `ReadFault`: only where a read failed and the input counted it. `TooLarge`: exactly where more bytes came than
+///   2^30.
 /// - `NotPcapng`: exactly where the bytes do not begin with a section header of a known order of octets.
 /// - `BadBlock`: exactly where a block is malformed or bad, with the place of the first one.
 /// - `WriteFault`: only where a write failed and the output counted it; it took a beginning of what it was to take.
@@ -71,7 +72,8 @@ pub fn run_png<S: Source, K: Sink>(
     output: &mut K,
 ) -> PngStatus
     ensures usage { (result ≡ PngStatus.Usage) ↔ IsFalse (is_command (map string_bytes words.now)) }
-    ensures means { Ends (side S.left S.faults input.old input.new) (side K.held K.faults output.old output.new) result }
+    ensures means { Ends (side S.left S.faults input.old input.new)
+        (side K.held K.faults output.old output.new) result }
     ensures complete { IsComplete (map string_bytes words.now) (side S.left S.faults input.old input.new)
         (side K.held K.faults output.old output.new) result }
     ensures read_fault { result ≡ PngStatus.ReadFault → Rose (S.faults input.old) (S.faults input.new) }

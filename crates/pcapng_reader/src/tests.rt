@@ -7,8 +7,8 @@ use std::alloc::Global;
 use std::process::Abort;
 use std::test::Fail;
 
-/// What is wanted of a file: its records, as link type, seconds, fraction, original length and captured length; the place
-/// of a bad block; or that it is no such file.
+/// What is wanted of a file: its records, as link type, seconds, fraction, original length and captured length; the
+/// place of a bad block; or that it is no such file.
 #[derive(Clone, Copy)]
 enum Want {
     Told(&'static [(u32, u32, u32, u32, usize)]),
@@ -136,7 +136,8 @@ const BLOCKS: &[Row] = files! {
     [SECTION, ETHERNET, PACKET, FRAME, AFTER] => ONE;
     [BIG, BIG_ETHERNET, BIG_PACKET, FRAME, BIG_AFTER] => ONE;
     // Sections of both orders, each with interfaces of its own.
-    [SECTION, ETHERNET, PACKET, FRAME, AFTER, BIG, BIG_ETHERNET, BIG_PACKET, FRAME, BIG_AFTER] => Told(&[(1, 1000, 0, 42, 42), (1, 1000, 0, 42, 42)]);
+    [SECTION, ETHERNET, PACKET, FRAME, AFTER, BIG, BIG_ETHERNET, BIG_PACKET, FRAME, BIG_AFTER] =>
+        Told(&[(1, 1000, 0, 42, 42), (1, 1000, 0, 42, 42)]);
     [SECTION, ETHERNET, PACKET, FRAME, AFTER, BIG, BIG_PACKET, FRAME, BIG_AFTER] => Bad(152);
     [SECTION, ETHERNET, SECTION, PACKET, FRAME, AFTER] => Bad(76);
     [SECTION, ETHERNET, SECTION, RAW, PACKET, FRAME, AFTER] => Told(&[(101, 1000, 0, 42, 42)]);
@@ -161,7 +162,8 @@ const BLOCKS: &[Row] = files! {
 
 /// Interfaces, resolutions, offsets and options.
 const INTERFACES: &[Row] = files! {
-    [SECTION, ETHERNET, RAW, COOKED, PACKET, FRAME, AFTER, PACKET_ON_2, FRAME, AFTER, PACKET_ON_1, FRAME, AFTER] => Told(&[(1, 1000, 0, 42, 42), (113, 1000, 0, 42, 42), (101, 1000, 0, 42, 42)]);
+    [SECTION, ETHERNET, RAW, COOKED, PACKET, FRAME, AFTER, PACKET_ON_2, FRAME, AFTER, PACKET_ON_1, FRAME, AFTER] =>
+        Told(&[(1, 1000, 0, 42, 42), (113, 1000, 0, 42, 42), (101, 1000, 0, 42, 42)]);
     [SECTION, WIRELESS, PACKET, FRAME, AFTER] => Told(&[(105, 1000, 0, 42, 42)]);
     [SECTION, ETHERNET, PACKET_ON_1, FRAME, AFTER] => Bad(48);
     // An interface that comes behind its packet.
@@ -175,18 +177,25 @@ const INTERFACES: &[Row] = files! {
     [SECTION, WITH_8, b"\x09\0\x01\0\x13\0\0\0", END_8] => Bad(28);
     [SECTION, WITH_8, b"\x09\0\x01\0\x7f\0\0\0", END_8] => Bad(28);
     [SECTION, WITH_8, b"\x09\0\x01\0\x80\0\0\0", END_8, PACKET, FRAME, AFTER] => Told(&[(1, 1_000_000_000, 0, 42, 42)]);
-    [SECTION, WITH_8, b"\x09\0\x01\0\x8a\0\0\0", END_8, PACKET_ODD, FRAME, AFTER] => Told(&[(1, 1_205_632, 706_054_687, 42, 42)]);
+    [SECTION, WITH_8, b"\x09\0\x01\0\x8a\0\0\0", END_8, PACKET_ODD, FRAME, AFTER] =>
+        Told(&[(1, 1_205_632, 706_054_687, 42, 42)]);
     [SECTION, WITH_8, b"\x09\0\x01\0\xbe\0\0\0", END_8, PACKET_LATE, FRAME, AFTER] => Told(&[(1, 1, 0, 42, 42)]);
     [SECTION, WITH_8, b"\x09\0\x01\0\xbf\0\0\0", END_8] => Bad(28);
     // Seconds at their ends.
-    [SECTION, WITH_8, b"\x09\0\x01\0\x00\0\0\0", END_8, PACKET_BELOW, FRAME, AFTER] => Told(&[(1, u32::MAX, 0, 42, 42)]);
+    [SECTION, WITH_8, b"\x09\0\x01\0\x00\0\0\0", END_8, PACKET_BELOW, FRAME, AFTER] =>
+        Told(&[(1, u32::MAX, 0, 42, 42)]);
     [SECTION, WITH_8, b"\x09\0\x01\0\x00\0\0\0", END_8, PACKET_ABOVE, FRAME, AFTER] => Told(&[(1, 0, NO_TIME, 42, 42)]);
     // Offsets: 1, -1, -1000, -1001, and the least.
-    [SECTION, WITH_12, b"\x0e\0\x08\0\x01\0\0\0\0\0\0\0", END_12, PACKET, FRAME, AFTER] => Told(&[(1, 1001, 0, 42, 42)]);
-    [SECTION, WITH_12, b"\x0e\0\x08\0\xff\xff\xff\xff\xff\xff\xff\xff", END_12, PACKET, FRAME, AFTER] => Told(&[(1, 999, 0, 42, 42)]);
-    [SECTION, WITH_12, b"\x0e\0\x08\0\x18\xfc\xff\xff\xff\xff\xff\xff", END_12, PACKET, FRAME, AFTER] => Told(&[(1, 0, 0, 42, 42)]);
-    [SECTION, WITH_12, b"\x0e\0\x08\0\x17\xfc\xff\xff\xff\xff\xff\xff", END_12, PACKET, FRAME, AFTER] => Told(&[(1, 0, NO_TIME, 42, 42)]);
-    [SECTION, WITH_12, b"\x0e\0\x08\0\0\0\0\0\0\0\0\x80", END_12, PACKET, FRAME, AFTER] => Told(&[(1, 0, NO_TIME, 42, 42)]);
+    [SECTION, WITH_12, b"\x0e\0\x08\0\x01\0\0\0\0\0\0\0", END_12, PACKET, FRAME, AFTER] =>
+        Told(&[(1, 1001, 0, 42, 42)]);
+    [SECTION, WITH_12, b"\x0e\0\x08\0\xff\xff\xff\xff\xff\xff\xff\xff", END_12, PACKET, FRAME, AFTER] =>
+        Told(&[(1, 999, 0, 42, 42)]);
+    [SECTION, WITH_12, b"\x0e\0\x08\0\x18\xfc\xff\xff\xff\xff\xff\xff", END_12, PACKET, FRAME, AFTER] =>
+        Told(&[(1, 0, 0, 42, 42)]);
+    [SECTION, WITH_12, b"\x0e\0\x08\0\x17\xfc\xff\xff\xff\xff\xff\xff", END_12, PACKET, FRAME, AFTER] =>
+        Told(&[(1, 0, NO_TIME, 42, 42)]);
+    [SECTION, WITH_12, b"\x0e\0\x08\0\0\0\0\0\0\0\0\x80", END_12, PACKET, FRAME, AFTER] =>
+        Told(&[(1, 0, NO_TIME, 42, 42)]);
     // Other lengths of these options, options beyond the end, and the end of options.
     [SECTION, WITH_8, b"\x09\0\x02\0\x09\0\0\0", END_8] => Bad(28);
     [SECTION, WITH_8, b"\x0e\0\x04\0\x01\0\0\0", END_8] => Bad(28);
@@ -206,12 +215,16 @@ const INTERFACES: &[Row] = files! {
 const PACKETS: &[Row] = files! {
     // Lengths around the least, 32, without captured octets.
     [SECTION, ETHERNET, b"\x06\0\0\0\x1c\0\0\0\0\0\0\0\0\0\0\0\0\0\0\0\0\0\0\0\x1c\0\0\0"] => Bad(48);
-    [SECTION, ETHERNET, b"\x06\0\0\0\x20\0\0\0\0\0\0\0\0\0\0\0\0\0\0\0\0\0\0\0\x05\0\0\0\x20\0\0\0"] => Told(&[(1, 0, 0, 5, 0)]);
+    [SECTION, ETHERNET, b"\x06\0\0\0\x20\0\0\0\0\0\0\0\0\0\0\0\0\0\0\0\0\0\0\0\x05\0\0\0\x20\0\0\0"] =>
+        Told(&[(1, 0, 0, 5, 0)]);
     // One captured octet where no room is, and four where four are; the original length may be below.
     [SECTION, ETHERNET, b"\x06\0\0\0\x20\0\0\0\0\0\0\0\0\0\0\0\0\0\0\0\x01\0\0\0\x05\0\0\0\x20\0\0\0"] => Bad(48);
-    [SECTION, ETHERNET, b"\x06\0\0\0\x24\0\0\0\0\0\0\0\0\0\0\0\0\0\0\0\x01\0\0\0\0\0\0\0\x01\0\0\0\x24\0\0\0"] => Told(&[(1, 0, 0, 0, 1)]);
-    [SECTION, ETHERNET, b"\x06\0\0\0\x24\0\0\0\0\0\0\0\0\0\0\0\0\0\0\0\x04\0\0\0\0\0\0\0\x01\0\0\0\x24\0\0\0"] => Told(&[(1, 0, 0, 0, 4)]);
-    [SECTION, ETHERNET, b"\x06\0\0\0\x24\0\0\0\0\0\0\0\0\0\0\0\0\0\0\0\x05\0\0\0\0\0\0\0\x01\0\0\0\x24\0\0\0"] => Bad(48);
+    [SECTION, ETHERNET, b"\x06\0\0\0\x24\0\0\0\0\0\0\0\0\0\0\0\0\0\0\0\x01\0\0\0\0\0\0\0\x01\0\0\0\x24\0\0\0"] =>
+        Told(&[(1, 0, 0, 0, 1)]);
+    [SECTION, ETHERNET, b"\x06\0\0\0\x24\0\0\0\0\0\0\0\0\0\0\0\0\0\0\0\x04\0\0\0\0\0\0\0\x01\0\0\0\x24\0\0\0"] =>
+        Told(&[(1, 0, 0, 0, 4)]);
+    [SECTION, ETHERNET, b"\x06\0\0\0\x24\0\0\0\0\0\0\0\0\0\0\0\0\0\0\0\x05\0\0\0\0\0\0\0\x01\0\0\0\x24\0\0\0"] =>
+        Bad(48);
     [SECTION, ETHERNET, b"\x06\0\0\0\x20\0\0\0\0\0\0\0\0\0\0\0\0\0\0\0\xff\xff\xff\xff\0\0\0\0\x20\0\0\0"] => Bad(48);
     // Simple packets have no time, and need no interface. The least has 16 octets.
     [SECTION, ETHERNET, SIMPLE] => Told(&[(0, 0, NO_TIME, 0, 0)]);
@@ -338,7 +351,8 @@ struct Run {
 
 /// Rows of a table of runs.
 macro_rules! runs {
-    ($([$($word:expr),*] [$($piece:expr),*] [$($read:expr),*] [$($write:expr),*] => $status:expr, [$($out:expr),*];)*) => {
+    ($([$($word:expr),*] [$($piece:expr),*] [$($read:expr),*] [$($write:expr),*] => $status:expr,
+        [$($out:expr),*];)*) => {
         &[$(Run {
             words: &[$($word),*],
             pieces: &[$($piece),*],
@@ -356,7 +370,9 @@ const RUNS: &[Run] = runs! {
     ["pcapng"] [BIG, BIG_ETHERNET, BIG_PACKET, FRAME, BIG_AFTER] [] [] => PngStatus::Done, [HEADER, WRITTEN, PART];
     ["pcapng"] [SECTION] [] [] => PngStatus::Done, [HEADER];
     // A packet of another link and a simple packet are left out.
-    ["pcapng"] [SECTION, ETHERNET, WIRELESS, PACKET_ON_1, FRAME, AFTER, SIMPLE, PACKET, FRAME, AFTER, PACKET, FRAME, AFTER] [] [] => PngStatus::Done, [HEADER, WRITTEN, PART, WRITTEN, PART];
+    ["pcapng"]
+        [SECTION, ETHERNET, WIRELESS, PACKET_ON_1, FRAME, AFTER, SIMPLE, PACKET, FRAME, AFTER, PACKET, FRAME, AFTER] []
+            [] => PngStatus::Done, [HEADER, WRITTEN, PART, WRITTEN, PART];
     ["pcapng"] [SECTION, ETHERNET, PACKET_ON_1, FRAME, AFTER] [] [] => PngStatus::BadBlock(48), [];
     ["pcapng"] [] [] [] => PngStatus::NotPcapng, [];
     ["pcapng"] [HEADER] [] [] => PngStatus::NotPcapng, [];
@@ -366,7 +382,8 @@ const RUNS: &[Run] = runs! {
     ["pcapng"] [SECTION] [3] [] => PngStatus::ReadFault, [];
     ["pcapng"] [] [1] [1] => PngStatus::ReadFault, [];
     ["pcapng"] [SECTION] [] [1] => PngStatus::WriteFault, [];
-    ["pcapng"] [SECTION, ETHERNET, PACKET, FRAME, AFTER] [] [3] => PngStatus::WriteFault, [b"\x4d\x3c\xb2\xa1\x02\0\x04\0\0\0"];
+    ["pcapng"] [SECTION, ETHERNET, PACKET, FRAME, AFTER] [] [3] => PngStatus::WriteFault,
+        [b"\x4d\x3c\xb2\xa1\x02\0\x04\0\0\0"];
     ["pcapng"] [] [] [1] => PngStatus::NotPcapng, [];
 };
 

@@ -1,6 +1,7 @@
 //! The accepted packets of a capture, written as a classic capture of raw IP.
 
-ghost use Rattle.std.specs.Prelude.{◌≡◌, ◌+◌, ◌<◌, ◌≤◌, ◌++◌, [], List, ℕ, length, map, take, slice_get, IfSome, OnOk, OnErr, Some, option_map};
+ghost use Rattle.std.specs.Prelude.{◌≡◌, ◌+◌, ◌<◌, ◌≤◌, ◌++◌, [], List, ℕ, length, map, take, slice_get, IfSome, OnOk};
+ghost use Rattle.std.specs.Prelude.{OnErr, Some, option_map};
 ghost use Rattle.std.specs.Io.KnownBytes.{Appends};
 ghost use Rattle.std.specs.Vec.{vec_capacity};
 ghost use Rattle.meter_io.specs.Causes.{HasCause};
@@ -74,9 +75,11 @@ fn append_record(buffer: &mut Vec<u8>, rec: &Record<'_>)
 
 /// Writes what was gathered, where it is enough.
 fn write_if_many<K: Sink>(buffer: &mut Vec<u8>, output: &mut K) -> Result<(), Failed>
-    ensures whole { OnOk result ((piece : List ℕ) × Appends (K.held output.old) (K.held output.new) piece × (piece ++ buffer.new.items ≡ buffer.old.items)) }
+    ensures whole { OnOk result ((piece : List ℕ) × Appends (K.held output.old) (K.held output.new) piece
+        × (piece ++ buffer.new.items ≡ buffer.old.items)) }
     ensures short { OnOk result (length buffer.new.items < 65536) }
-    ensures begun { OnErr result ((count : ℕ) × Appends (K.held output.old) (K.held output.new) (take count buffer.old.items)) }
+    ensures begun { OnErr result ((count : ℕ)
+        × Appends (K.held output.old) (K.held output.new) (take count buffer.old.items)) }
     ensures cause { HasCause (K.faults output.old) (K.faults output.new) result }
     ensures room { vec_capacity buffer.old ≤ vec_capacity buffer.new }
 {
@@ -111,8 +114,11 @@ pub(crate) fn write_packets<K: Sink>(
     requires index { IsIndexOf index.now (bytes_of capture.now) }
     requires room { 327696 ≤ vec_capacity buffer }
     requires empty { buffer.items ≡ [] }
-    ensures whole { OnOk result (Appends (K.held output.old) (K.held output.new) (capture_of (records_at (bytes_of capture.now) index.now))) }
-    ensures begun { OnErr result ((count : ℕ) × Appends (K.held output.old) (K.held output.new) (take count (capture_of (records_at (bytes_of capture.now) index.now)))) }
+    ensures whole { OnOk result
+        (Appends (K.held output.old) (K.held output.new) (capture_of (records_at (bytes_of capture.now) index.now))) }
+    ensures begun { OnErr result ((count : ℕ)
+        × Appends (K.held output.old) (K.held output.new)
+        (take count (capture_of (records_at (bytes_of capture.now) index.now)))) }
     ensures cause { HasCause (K.faults output.old) (K.faults output.new) result }
 {
     let mut buffer = buffer;

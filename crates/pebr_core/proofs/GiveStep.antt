@@ -1,5 +1,7 @@
 -- The step Give leads from a sound state to a sound state, and gives no slot that a seat uses.
-use Rattle.std.proofs.Common.{◌≡◌, ◌≢◌, ℕ, ◌<◌, ◌+◌, ◌≤◌, ◌⊎◌, zero, suc, Bool, true, false, not, ◌&&◌, ◌||◌, List, [], ◌∷◌, length, get_or, Some, cond, is_some, refl, sym, ◌∙◌, ap, subst, inl, inr, arith, count_by, eqb}
+use Rattle.std.proofs.Common.{◌≡◌, ◌≢◌, ℕ, ◌<◌, ◌+◌, ◌≤◌, ◌⊎◌, zero, suc, Bool, true, false, not, ◌&&◌, ◌||◌, List, []}
+use Rattle.std.proofs.Common.{◌∷◌, length, get_or, Some, cond, is_some, refl, sym, ◌∙◌, ap, subst, inl, inr, arith}
+use Rattle.std.proofs.Common.{count_by, eqb}
 use Rattle.std.specs.List.{list_all}
 use Rattle.std.proofs.lemmas.Bool.{false≢true, cases_lt, cases_eq, cases_Bool, and_parts, ne_eqb, not-true}
 use Rattle.std.proofs.lemmas.Option.{none-some}
@@ -11,17 +13,21 @@ use Rattle.pebr_core.specs.declared.kinds.Retired.{Retired}
 use Rattle.pebr_core.specs.declared.kinds.Retired.TheVariants as retire
 use Rattle.pebr_core.specs.declared.kinds.ShieldAt.{ShieldAt}
 use Rattle.pebr_core.specs.declared.kinds.ShieldAt.TheVariants as shield
-use Rattle.pebr_core.specs.State.{Scan, Seat, State, has, seat_at, shield_at, retired_at, scan_of, has_scanned, is_retired, is_down, slot_count, nobody, no_scan}
+use Rattle.pebr_core.specs.State.{Scan, Seat, State, has, seat_at, shield_at, retired_at, scan_of, has_scanned}
+use Rattle.pebr_core.specs.State.{is_retired, is_down, slot_count, nobody, no_scan}
 use Rattle.pebr_core.specs.Steps.{with_seat, united, released, each_below, is_complete, given, after_give}
 use Rattle.pebr_core.specs.Kept.{Uses, IsTaggedUpTo, IsSound}
-use Rattle.pebr_core.proofs.Marks.{has-without, has-united, has-inside, released-at, length-without, length-united, length-released, each_below-at, is_some-value}
+use Rattle.pebr_core.proofs.Marks.{has-without, has-united, has-inside, released-at, length-without, length-united}
+use Rattle.pebr_core.proofs.Marks.{length-released, each_below-at, is_some-value}
 use Rattle.pebr_core.proofs.SeatChange.{Between, alone, between, seat_kept}
 use Rattle.pebr_core.proofs.ShieldSteps.{held_at_most}
 
 -- a given slot is a candidate that isn't kept
-given-parts : (seat : Seat) (slot : ℕ) → has (given seat) slot ≡ true → (has (scan_of seat).candidates slot ≡ true) × (has (scan_of seat).kept slot ≡ false)
+given-parts : (seat : Seat) (slot : ℕ) → has (given seat) slot ≡ true
+    → (has (scan_of seat).candidates slot ≡ true) × (has (scan_of seat).kept slot ≡ false)
 given-parts seat slot h =
-    let parts = and_parts (has (scan_of seat).candidates slot) (not (has (scan_of seat).kept slot)) (sym (has-without (scan_of seat).candidates (scan_of seat).kept slot) ∙ h) in
+    let parts = and_parts (has (scan_of seat).candidates slot) (not (has (scan_of seat).kept slot))
+    (sym (has-without (scan_of seat).candidates (scan_of seat).kept slot) ∙ h) in
     (parts.0, not-true (has (scan_of seat).kept slot) parts.1)
 
 -- a shield that is valid is one of the seat's shields
@@ -35,7 +41,8 @@ valid_inside seat place slot h = elim (cases_lt place (length seat.shields)) as 
     down_valid e = cc
 
 -- where all shields are down, none is valid
-all_down : (shields : List ShieldAt) (place slot : ℕ) → list_all is_down shields ≡ true → get_or shields place shield.Down ≡ shield.Valid slot → ⊥
+all_down : (shields : List ShieldAt) (place slot : ℕ) → list_all is_down shields ≡ true
+    → get_or shields place shield.Down ≡ shield.Valid slot → ⊥
 all_down [] place slot h e = cc
 all_down (shield.Down ∷ shields) zero slot h e = cc
 all_down (shield.Set other ∷ shields) zero slot h e = false≢true h
@@ -49,27 +56,34 @@ or_right_true true b h e = absurd (false≢true (sym e))
 or_right_true false b h e = h
 
 -- what a complete scan has done
-complete-passed : (shape : Shape) (i : ℕ) (scan : Scan) (j : ℕ) → is_complete shape i scan ≡ true → j < shape.seats → j ≢ i → has scan.passed j ≡ true
+complete-passed : (shape : Shape) (i : ℕ) (scan : Scan) (j : ℕ) → is_complete shape i scan ≡ true → j < shape.seats
+    → j ≢ i → has scan.passed j ≡ true
 complete-passed shape i scan j h inside apart =
     (and_parts (has scan.passed j) (each_below shape.shields (λ place. has_scanned scan j place))
     (or_right_true (eqb j i) (has scan.passed j && each_below shape.shields (λ place. has_scanned scan j place))
-    (each_below-at (λ k. (eqb k i) || (has scan.passed k && each_below shape.shields (λ place. has_scanned scan k place))) shape.seats j h inside)
+    (each_below-at
+    (λ k. (eqb k i) || (has scan.passed k && each_below shape.shields (λ place. has_scanned scan k place))) shape.seats
+    j h inside)
     (ne_eqb j i apart))).0
 
-complete-scanned : (shape : Shape) (i : ℕ) (scan : Scan) (j place : ℕ) → is_complete shape i scan ≡ true → j < shape.seats → j ≢ i → place < shape.shields → has_scanned scan j place ≡ true
+complete-scanned : (shape : Shape) (i : ℕ) (scan : Scan) (j place : ℕ) → is_complete shape i scan ≡ true
+    → j < shape.seats → j ≢ i → place < shape.shields → has_scanned scan j place ≡ true
 complete-scanned shape i scan j place h inside apart low =
     each_below-at (λ p. has_scanned scan j p) shape.shields place
     (and_parts (has scan.passed j) (each_below shape.shields (λ p. has_scanned scan j p))
     (or_right_true (eqb j i) (has scan.passed j && each_below shape.shields (λ p. has_scanned scan j p))
-    (each_below-at (λ k. (eqb k i) || (has scan.passed k && each_below shape.shields (λ p. has_scanned scan k p))) shape.seats j h inside)
+    (each_below-at (λ k. (eqb k i) || (has scan.passed k && each_below shape.shields (λ p. has_scanned scan k p)))
+    shape.seats j h inside)
     (ne_eqb j i apart))).1
     low
 
 -- No given slot is used by any seat.
-pub given_unused : (state : State) (i : ℕ) → IsSound state → i < state.shape.seats → is_some (seat_at state i).scan ≡ true
+pub given_unused : (state : State) (i : ℕ) → IsSound state → i < state.shape.seats
+    → is_some (seat_at state i).scan ≡ true
     → is_complete state.shape i (scan_of (seat_at state i)) ≡ true → list_all is_down (seat_at state i).shields ≡ true
     → (j slot : ℕ) → Uses (seat_at state j) slot → has (given (seat_at state i)) slot ≡ false
-given_unused state i sound inside scanning complete down j slot uses = pick (cases_Bool (has (given owner) slot)) (cases_eq j i)
+given_unused state i sound inside scanning complete down j slot uses =
+    pick (cases_Bool (has (given owner) slot)) (cases_eq j i)
   where
     owner : Seat
     owner = seat_at state i
@@ -102,9 +116,13 @@ given_unused state i sound inside scanning complete down j slot uses = pick (cas
         elim u as (λ _. ⊥) [
           | inl valid ↦
               let read = complete-scanned state.shape i (scan_of (seat_at state i)) j valid.0 complete low apart
-              (let below = valid_inside (seat_at state j) valid.0 slot valid.1 in let n = (sound.shape.each j low).shields in omega arith) in
-              false≢true (sym parts.1 ∙ sound.kept.shielded i (scan_of (seat_at state i)) at j valid.0 slot passed valid.1 parts.0 read)
-          | inr seen ↦ false≢true (sym (sound.kept.passed i (scan_of (seat_at state i)) at j passed seen.0 seen.1 slot parts.0) ∙ seen.2)
+              (let below = valid_inside (seat_at state j) valid.0 slot valid.1 in
+              let n = (sound.shape.each j low).shields in omega arith) in
+              false≢true
+              (sym parts.1 ∙ sound.kept.shielded i (scan_of (seat_at state i)) at j valid.0 slot passed valid.1 parts.0
+              read)
+          | inr seen ↦ false≢true
+              (sym (sound.kept.passed i (scan_of (seat_at state i)) at j passed seen.0 seen.1 slot parts.0) ∙ seen.2)
         ]
 
     own : Uses (seat_at state i) slot → ⊥
@@ -114,7 +132,8 @@ given_unused state i sound inside scanning complete down j slot uses = pick (cas
         out_in : (epoch : ℕ) → stance.Out ≡ stance.In epoch → ⊥
         out_in epoch e = cc
 
-    pick : ((has (given (seat_at state i)) slot ≡ true) ⊎ (has (given (seat_at state i)) slot ≡ false)) → ((j ≡ i) ⊎ (j ≡ i → ⊥)) → has (given (seat_at state i)) slot ≡ false
+    pick : ((has (given (seat_at state i)) slot ≡ true) ⊎ (has (given (seat_at state i)) slot ≡ false))
+        → ((j ≡ i) ⊎ (j ≡ i → ⊥)) → has (given (seat_at state i)) slot ≡ false
     pick (inr none) _ = none
     pick (inl is) (inl here) = absurd (own (subst (λ m. Uses (seat_at state m) slot) here uses))
     pick (inl is) (inr there) = absurd (contradiction is there uses)
@@ -124,7 +143,8 @@ given_unused state i sound inside scanning complete down j slot uses = pick (cas
 -- one set grows by what the other loses
 moved : (fresh marks : List Bool) (rs : List Retired) → length fresh ≡ length marks → length rs ≡ length marks
     → ((s : ℕ) → has marks s ≡ true → (has fresh s ≡ false) × (is_retired (get_or rs s retire.No) ≡ true))
-    → count_by (λ b. b) (united fresh marks) + count_by is_retired (released rs marks) ≡ count_by (λ b. b) fresh + count_by is_retired rs
+    → count_by (λ b. b) (united fresh marks) + count_by is_retired (released rs marks)
+    ≡ count_by (λ b. b) fresh + count_by is_retired rs
 moved [] [] [] a b h = refl
 moved [] [] (r ∷ rs) a b h = absurd (omega arith)
 moved [] (m ∷ ms) rs a b h = absurd (omega arith)
@@ -139,28 +159,34 @@ moved (f ∷ fs) (m ∷ ms) (r ∷ rs) a b h =
     let d = sum_by-cons (λ x. cond (is_retired x) 1 0) r rs in
     omega (arith, rest, head, u, l, c, d)
   where
-    here : (f m : Bool) (r : Retired) → (m ≡ true → (f ≡ false) × (is_retired r ≡ true)) → cond (f || m) 1 0 + cond (is_retired (cond m retire.No r)) 1 0 ≡ cond f 1 0 + cond (is_retired r) 1 0
+    here : (f m : Bool) (r : Retired) → (m ≡ true → (f ≡ false) × (is_retired r ≡ true))
+        → cond (f || m) 1 0 + cond (is_retired (cond m retire.No r)) 1 0 ≡ cond f 1 0 + cond (is_retired r) 1 0
     here true true r k = absurd (false≢true (sym (k refl).0))
     here false true r k = sym (ap (λ b. 0 + cond b 1 0) (k refl).1)
     here true false r k = refl
     here false false r k = refl
 
 -- each slot is held as often as before
-times_moved : (fresh mark : Bool) (r : Retired) → (mark ≡ true → (fresh ≡ false) × (is_retired r ≡ true)) → cond (fresh || mark) 1 0 + cond (is_retired (cond mark retire.No r)) 1 0 ≡ cond fresh 1 0 + cond (is_retired r) 1 0
+times_moved : (fresh mark : Bool) (r : Retired) → (mark ≡ true → (fresh ≡ false) × (is_retired r ≡ true))
+    → cond (fresh || mark) 1 0 + cond (is_retired (cond mark retire.No r)) 1 0
+    ≡ cond fresh 1 0 + cond (is_retired r) 1 0
 times_moved true true r k = absurd (false≢true (sym (k refl).0))
 times_moved false true r k = sym (ap (λ b. 0 + cond b 1 0) (k refl).1)
 times_moved true false r k = refl
 times_moved false false r k = refl
 
 -- a released slot has no tag, and any other is as it was
-released-tagged : (rs : List Retired) (marks : List Bool) (s tag : ℕ) → get_or (released rs marks) s retire.No ≡ retire.Tagged tag → get_or rs s retire.No ≡ retire.Tagged tag
+released-tagged : (rs : List Retired) (marks : List Bool) (s tag : ℕ)
+    → get_or (released rs marks) s retire.No ≡ retire.Tagged tag → get_or rs s retire.No ≡ retire.Tagged tag
 released-tagged rs marks s tag h = pick (has marks s) (sym (released-at rs marks s) ∙ h)
   where
-    pick : (b : Bool) → cond b retire.No (get_or rs s retire.No) ≡ retire.Tagged tag → get_or rs s retire.No ≡ retire.Tagged tag
+    pick : (b : Bool) → cond b retire.No (get_or rs s retire.No) ≡ retire.Tagged tag
+        → get_or rs s retire.No ≡ retire.Tagged tag
     pick true e = absurd cc
     pick false e = e
 
-released-bound : (most : ℕ) (rs : List Retired) (marks : List Bool) (s : ℕ) → IsTaggedUpTo most (get_or rs s retire.No) → IsTaggedUpTo most (get_or (released rs marks) s retire.No)
+released-bound : (most : ℕ) (rs : List Retired) (marks : List Bool) (s : ℕ) → IsTaggedUpTo most (get_or rs s retire.No)
+    → IsTaggedUpTo most (get_or (released rs marks) s retire.No)
 released-bound most rs marks s h = subst (IsTaggedUpTo most) (sym (released-at rs marks s)) (pick (has marks s))
   where
     pick : (b : Bool) → IsTaggedUpTo most (cond b retire.No (get_or rs s retire.No))
@@ -170,9 +196,12 @@ released-bound most rs marks s h = subst (IsTaggedUpTo most) (sym (released-at r
 or_false : (a b : Bool) → a ≡ false → b ≡ false → (a || b) ≡ false
 or_false a b h k = ap (λ x. x || b) h ∙ k
 
-give-between : (epoch : ℕ) (owner : Seat) (j : ℕ) (reader : Seat) → ((slot : ℕ) → Uses reader slot → has (given owner) slot ≡ false) → Between owner j reader → Between (after_give epoch owner) j reader
+give-between : (epoch : ℕ) (owner : Seat) (j : ℕ) (reader : Seat)
+    → ((slot : ℕ) → Uses reader slot → has (given owner) slot ≡ false) → Between owner j reader
+    → Between (after_give epoch owner) j reader
 give-between epoch owner j reader free h = (
-  λ s uses. has-united owner.fresh (given owner) s ∙ or_false (has owner.fresh s) (has (given owner) s) (h.0 s uses) (free s uses),
+  λ s uses. has-united owner.fresh (given owner) s
+      ∙ or_false (has owner.fresh s) (has (given owner) s) (h.0 s uses) (free s uses),
   λ s tag e at retired. h.1 s tag e at (released-tagged owner.retired (given owner) s tag retired),
   λ scan e. absurd (none-some scan e),
   λ scan e. absurd (none-some scan e),
@@ -192,14 +221,22 @@ give_sound state i sound inside scanning complete down =
     let marks = given seat in
     let new = after_give state.epoch seat in
     let here = alone state sound.kept i in
-    let marks_length : length marks ≡ slot_count state.shape = length-without scan.candidates scan.kept ∙ scan_fits.candidates in
-    let free : (j slot : ℕ) → Uses (seat_at state j) slot → has marks slot ≡ false = given_unused state i sound inside scanning complete down in
-    let first : (j : ℕ) → Between new j (seat_at state j) = λ j. give-between state.epoch seat j (seat_at state j) (free j) (between state sound.kept i j) in
-    let apart : (slot : ℕ) → has marks slot ≡ true → (has seat.fresh slot ≡ false) × (is_retired (retired_at seat slot) ≡ true) =
+    let marks_length : length marks ≡ slot_count state.shape =
+    length-without scan.candidates scan.kept ∙ scan_fits.candidates in
+    let free : (j slot : ℕ) → Uses (seat_at state j) slot → has marks slot ≡ false =
+    given_unused state i sound inside scanning complete down in
+    let first : (j : ℕ) → Between new j (seat_at state j) =
+    λ j. give-between state.epoch seat j (seat_at state j) (free j) (between state sound.kept i j) in
+    let apart : (slot : ℕ) → has marks slot ≡ true
+    → (has seat.fresh slot ≡ false) × (is_retired (retired_at seat slot) ≡ true) =
     λ slot is.
-    let retired : is_retired (retired_at seat slot) ≡ true = sym (own.all_retired slot) ∙ (given-parts seat slot is).0 in
-    let low : slot < slot_count state.shape = let l = has-inside marks slot is in omega (arith, marks_length) in
-    (alone_retired (has seat.fresh slot) (is_retired (retired_at seat slot)) (count_by (λ held. eqb held slot) state.roots) retired (held_at_most state sound slot i low), retired) in
+    let retired : is_retired (retired_at seat slot) ≡ true =
+    sym (own.all_retired slot) ∙ (given-parts seat slot is).0 in
+    let low : slot < slot_count state.shape = let l = has-inside marks slot is in omega (arith, marks_length) in (
+      alone_retired (has seat.fresh slot) (is_retired (retired_at seat slot))
+          (count_by (λ held. eqb held slot) state.roots) retired (held_at_most state sound slot i low),
+      retired,
+    ) in
     seat_kept state i new sound inside
     (record {
       seen = fits.seen;
@@ -211,10 +248,16 @@ give_sound state i sound inside scanning complete down =
       valid = fits.valid;
     })
     (λ slot. ap (λ b. cond b 1 0 + cond (is_retired (retired_at new slot)) 1 0) (has-united seat.fresh marks slot)
-    ∙ (ap (λ r. cond (has seat.fresh slot || has marks slot) 1 0 + cond (is_retired r) 1 0) (released-at seat.retired marks slot)
+    ∙ (ap (λ r. cond (has seat.fresh slot || has marks slot) 1 0 + cond (is_retired r) 1 0)
+    (released-at seat.retired marks slot)
     ∙ times_moved (has seat.fresh slot) (has marks slot) (retired_at seat slot) (apart slot)))
-    (moved seat.fresh marks seat.retired (fits.fresh ∙ sym marks_length) (fits.retired ∙ sym marks_length) apart)
-    (low_epoch state.epoch, here.1, λ s. released-bound state.epoch seat.retired marks s (here.2 s), λ s e. absurd (none-some s e))
+    (moved seat.fresh marks seat.retired (fits.fresh ∙ sym marks_length) (fits.retired ∙ sym marks_length) apart) (
+      low_epoch state.epoch,
+      here.1,
+      λ s. released-bound state.epoch seat.retired marks s (here.2 s),
+      λ s e. absurd
+          (none-some s e),
+    )
     (first i)
     (λ j _. first j)
     (λ j _. between state sound.kept j i)
@@ -222,7 +265,8 @@ give_sound state i sound inside scanning complete down =
     low_epoch : (n : ℕ) → n ≤ n
     low_epoch n = omega arith
 
-    alone_retired : (fresh retired : Bool) (roots : ℕ) → retired ≡ true → roots + (cond fresh 1 0 + cond retired 1 0) ≤ 1 → fresh ≡ false
+    alone_retired : (fresh retired : Bool) (roots : ℕ) → retired ≡ true
+        → roots + (cond fresh 1 0 + cond retired 1 0) ≤ 1 → fresh ≡ false
     alone_retired false retired roots h low = refl
     alone_retired true true roots h low = absurd (omega arith)
     alone_retired true false roots h low = absurd (false≢true h)

@@ -1,5 +1,8 @@
 -- Marks, and lists with one place changed.
-use Rattle.std.proofs.Common.{◌≡◌, ◌≢◌, ℕ, ◌<◌, ◌⊎◌, Bool, true, false, List, length, get_or, set, map, replicate, Option, Some, None, is_some, refl, sym, ◌∙◌, ap, subst, inl, inr, arith, get_or-set_same, get_or-set_other, zero, suc, [], ◌∷◌, unwrap_or, take, drop, ◌++◌, not, ◌&&◌, ◌||◌, cond, ◌+◌, ◌≤◌, zero-le}
+use Rattle.std.proofs.Common.{◌≡◌, ◌≢◌, ℕ, ◌<◌, ◌⊎◌, Bool, true, false, List, length, get_or, set, map, replicate}
+use Rattle.std.proofs.Common.{Option, Some, None, is_some, refl, sym, ◌∙◌, ap, subst, inl, inr, arith, get_or-set_same}
+use Rattle.std.proofs.Common.{get_or-set_other, zero, suc, [], ◌∷◌, unwrap_or, take, drop, ◌++◌, not, ◌&&◌, ◌||◌, cond}
+use Rattle.std.proofs.Common.{◌+◌, ◌≤◌, zero-le}
 use Rattle.std.proofs.lemmas.Bool.{false≢true, cases_eq, and_parts}
 use Rattle.std.proofs.lemmas.Option.{same_Some}
 use Rattle.std.specs.List.{list_all, range_with_len}
@@ -9,7 +12,8 @@ use Rattle.pebr_core.specs.State.{has}
 use Rattle.pebr_core.specs.Steps.{emptied, without, united, released, each_below}
 
 -- what is read at a place of a list after a change
-pub set_at : {A : Type 0} (P : A → Type 0) (xs : List A) (i : ℕ) (v d : A) (j : ℕ) → i < length xs → (j ≡ i → P v) → (j ≢ i → P (get_or xs j d)) → P (get_or (set xs i v) j d)
+pub set_at : {A : Type 0} (P : A → Type 0) (xs : List A) (i : ℕ) (v d : A) (j : ℕ) → i < length xs → (j ≡ i → P v)
+    → (j ≢ i → P (get_or xs j d)) → P (get_or (set xs i v) j d)
 set_at {A} P xs i v d j inside here there =
     ⊎_cases (cases_eq j i)
   where
@@ -18,14 +22,16 @@ set_at {A} P xs i v d j inside here there =
     ⊎_cases (inr n) = subst P (sym (get_or-set_other xs i j v d n)) (there n)
 
 -- the same, where it may be past the end
-pub set_anywhere : {A : Type 0} (P : A → Type 0) (xs : List A) (i : ℕ) (v d : A) (j : ℕ) → (j ≡ i → P v) → P (get_or xs j d) → P (get_or (set xs i v) j d)
+pub set_anywhere : {A : Type 0} (P : A → Type 0) (xs : List A) (i : ℕ) (v d : A) (j : ℕ) → (j ≡ i → P v)
+    → P (get_or xs j d) → P (get_or (set xs i v) j d)
 set_anywhere P [] i v d j here there = there
 set_anywhere P (x ∷ xs) zero v d zero here there = here refl
 set_anywhere P (x ∷ xs) zero v d (suc j) here there = there
 set_anywhere P (x ∷ xs) (suc i) v d zero here there = there
 set_anywhere P (x ∷ xs) (suc i) v d (suc j) here there = set_anywhere P xs i v d j (λ e. here (ap suc e)) there
 
-pub get_or-map_default : {A B : Type 0} (f : A → B) (xs : List A) (i : ℕ) (d : A) → get_or (map f xs) i (f d) ≡ f (get_or xs i d)
+pub get_or-map_default : {A B : Type 0} (f : A → B) (xs : List A) (i : ℕ) (d : A)
+    → get_or (map f xs) i (f d) ≡ f (get_or xs i d)
 get_or-map_default f [] i d = refl
 get_or-map_default f (x ∷ xs) zero d = refl
 get_or-map_default f (x ∷ xs) (suc i) d = get_or-map_default f xs i d
@@ -74,38 +80,47 @@ is_some-value None d h = absurd (false≢true h)
 is_some-value (Some x) d h = refl
 
 -- a slice of a whole vector, written back
-pub written_back : {A : Type 0} (xs ys : List A) (n : ℕ) → n ≡ length ys → length xs ≡ length ys → take n (xs ++ drop (length xs) ys) ≡ xs
+pub written_back : {A : Type 0} (xs ys : List A) (n : ℕ) → n ≡ length ys → length xs ≡ length ys
+    → take n (xs ++ drop (length xs) ys) ≡ xs
 written_back [] [] n h k = ap (λ m. take m []) h
 written_back [] (y ∷ ys) n h k = absurd (omega arith)
 written_back (x ∷ xs) [] n h k = absurd (omega arith)
 written_back (x ∷ xs) (y ∷ ys) zero h k = absurd (omega arith)
 written_back (x ∷ xs) (y ∷ ys) (suc n) h k = ap (λ l. x ∷ l) (written_back xs ys n (omega arith) (omega arith))
 
-pub filled_with : {A : Type 0} (xs ys : List A) (v : A) → length xs ≡ length ys → ((k : ℕ) → k < length xs → get_or xs k v ≡ v) → xs ≡ map (λ _. v) ys
+pub filled_with : {A : Type 0} (xs ys : List A) (v : A) → length xs ≡ length ys
+    → ((k : ℕ) → k < length xs → get_or xs k v ≡ v) → xs ≡ map (λ _. v) ys
 filled_with [] [] v h k = refl
 filled_with [] (y ∷ ys) v h k = absurd (omega arith)
 filled_with (x ∷ xs) [] v h k = absurd (omega arith)
-filled_with (x ∷ xs) (y ∷ ys) v h k = ap (λ z. z ∷ xs) (k 0 (omega arith)) ∙ ap (λ l. v ∷ l) (filled_with xs ys v (omega arith) (λ i lt. k (suc i) (omega arith)))
+filled_with (x ∷ xs) (y ∷ ys) v h k = ap (λ z. z ∷ xs) (k 0 (omega arith))
+    ∙ ap (λ l. v ∷ l) (filled_with xs ys v (omega arith) (λ i lt. k (suc i) (omega arith)))
 
-pub rows_filled : {A : Type 0} (xs ys : List (List A)) (f : List A → List A) → length xs ≡ length ys → ((k : ℕ) → k < length xs → get_or xs k [] ≡ f (get_or ys k [])) → xs ≡ map f ys
+pub rows_filled : {A : Type 0} (xs ys : List (List A)) (f : List A → List A) → length xs ≡ length ys
+    → ((k : ℕ) → k < length xs → get_or xs k [] ≡ f (get_or ys k [])) → xs ≡ map f ys
 rows_filled [] [] f h k = refl
 rows_filled [] (y ∷ ys) f h k = absurd (omega arith)
 rows_filled (x ∷ xs) [] f h k = absurd (omega arith)
-rows_filled (x ∷ xs) (y ∷ ys) f h k = ap (λ z. z ∷ xs) (k 0 (omega arith)) ∙ ap (λ l. f y ∷ l) (rows_filled xs ys f (omega arith) (λ i lt. k (suc i) (omega arith)))
+rows_filled (x ∷ xs) (y ∷ ys) f h k = ap (λ z. z ∷ xs) (k 0 (omega arith))
+    ∙ ap (λ l. f y ∷ l) (rows_filled xs ys f (omega arith) (λ i lt. k (suc i) (omega arith)))
 
 -- a list whose entries are those of another, each by a function
-pub is_mapped : {A B : Type 0} (f : A → B) (xs : List B) (ys : List A) (e : B) (d : A) → length xs ≡ length ys → ((k : ℕ) → k < length xs → get_or xs k e ≡ f (get_or ys k d)) → xs ≡ map f ys
+pub is_mapped : {A B : Type 0} (f : A → B) (xs : List B) (ys : List A) (e : B) (d : A) → length xs ≡ length ys
+    → ((k : ℕ) → k < length xs → get_or xs k e ≡ f (get_or ys k d)) → xs ≡ map f ys
 is_mapped f [] [] e d h k = refl
 is_mapped f [] (y ∷ ys) e d h k = absurd (omega arith)
 is_mapped f (x ∷ xs) [] e d h k = absurd (omega arith)
-is_mapped f (x ∷ xs) (y ∷ ys) e d h k = ap (λ z. z ∷ xs) (k 0 (omega arith)) ∙ ap (λ l. f y ∷ l) (is_mapped f xs ys e d (omega arith) (λ i lt. k (suc i) (omega arith)))
+is_mapped f (x ∷ xs) (y ∷ ys) e d h k = ap (λ z. z ∷ xs) (k 0 (omega arith))
+    ∙ ap (λ l. f y ∷ l) (is_mapped f xs ys e d (omega arith) (λ i lt. k (suc i) (omega arith)))
 
 -- one value at every place
 pub map_same : {A B : Type 0} (xs : List A) (v : B) → map (λ _. v) xs ≡ replicate (length xs) v
 map_same [] v = refl
 map_same (x ∷ xs) v = ap (λ l. v ∷ l) (map_same xs v)
 
-pub map_same_rows : {A B : Type 0} (rows : List (List A)) (v : B) (width : ℕ) → ((j : ℕ) → j < length rows → length (get_or rows j []) ≡ width) → map (map (λ _. v)) rows ≡ replicate (length rows) (replicate width v)
+pub map_same_rows : {A B : Type 0} (rows : List (List A)) (v : B) (width : ℕ)
+    → ((j : ℕ) → j < length rows → length (get_or rows j []) ≡ width)
+    → map (map (λ _. v)) rows ≡ replicate (length rows) (replicate width v)
 map_same_rows [] v width h = refl
 map_same_rows (row ∷ rows) v width h =
     ap (λ r. r ∷ map (map (λ _. v)) rows) (map_same row v ∙ ap (λ n. replicate n v) (h 0 (omega arith)))
@@ -125,7 +140,8 @@ has-inside (x ∷ xs) (suc i) h = let below = has-inside xs i h in omega arith
 pub has-removed : (marks : List Bool) (i j : ℕ) → has marks j ≡ false → has (set marks i false) j ≡ false
 has-removed marks i j h = set_anywhere (λ b. b ≡ false) marks i false false j (λ _. refl) h
 
-pub has-without : (marks others : List Bool) (i : ℕ) → has (without marks others) i ≡ (has marks i && not (has others i))
+pub has-without : (marks others : List Bool) (i : ℕ)
+    → has (without marks others) i ≡ (has marks i && not (has others i))
 has-without [] others i = refl
 has-without (m ∷ ms) [] i = sym (and_true (has (m ∷ ms) i))
   where
@@ -145,7 +161,8 @@ has-united (m ∷ ms) [] i = sym (or_false (has (m ∷ ms) i))
 has-united (m ∷ ms) (o ∷ os) zero = refl
 has-united (m ∷ ms) (o ∷ os) (suc i) = has-united ms os i
 
-pub released-at : (rs : List Retired) (marks : List Bool) (i : ℕ) → get_or (released rs marks) i retire.No ≡ cond (has marks i) retire.No (get_or rs i retire.No)
+pub released-at : (rs : List Retired) (marks : List Bool) (i : ℕ)
+    → get_or (released rs marks) i retire.No ≡ cond (has marks i) retire.No (get_or rs i retire.No)
 released-at [] marks i = sym (same_either (has marks i))
   where
     same_either : (b : Bool) → cond b retire.No retire.No ≡ retire.No
@@ -160,7 +177,8 @@ length-without [] others = refl
 length-without (m ∷ ms) [] = refl
 length-without (m ∷ ms) (o ∷ os) = ap suc (length-without ms os)
 
-pub length-united : (marks others : List Bool) → length marks ≡ length others → length (united marks others) ≡ length marks
+pub length-united : (marks others : List Bool) → length marks ≡ length others
+    → length (united marks others) ≡ length marks
 length-united [] others h = sym h
 length-united (m ∷ ms) [] h = refl
 length-united (m ∷ ms) (o ∷ os) h = ap suc (length-united ms os (omega arith))

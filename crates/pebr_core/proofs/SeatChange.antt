@@ -3,7 +3,9 @@ use Rattle.std.proofs.Common.{◌≡◌, ◌≢◌, ℕ, ◌<◌, ◌≤◌, fal
 use Rattle.std.proofs.lemmas.List.Sums.{sum_by-set}
 use Rattle.pebr_core.specs.State.{Scan, Seat, State, has, seat_at, retired_at, slot_count, slots_per_seat, nobody}
 use Rattle.pebr_core.specs.Steps.{with_seat, last_epoch}
-use Rattle.pebr_core.specs.Kept.{Uses, times_held, times_in, IsPinnedUpTo, IsTaggedUpTo, HasSeenNoOlder, IsScanOf, PassedHasSeenNone, ScannedIsKept, LookedIsOlder, Kept, held_count, IsSeatOfShape, IsOfShape, IsSound}
+use Rattle.pebr_core.specs.Kept.{Uses, times_held, times_in, IsPinnedUpTo, IsTaggedUpTo, HasSeenNoOlder, IsScanOf}
+use Rattle.pebr_core.specs.Kept.{PassedHasSeenNone, ScannedIsKept, LookedIsOlder, Kept, held_count, IsSeatOfShape}
+use Rattle.pebr_core.specs.Kept.{IsOfShape, IsSound}
 use Rattle.pebr_core.proofs.Marks.{set_at}
 
 -- what is known of one seat by itself, the i-th, at this epoch
@@ -27,8 +29,13 @@ pub alone : (state : State) → Kept state → (i : ℕ) → Alone state.epoch i
 alone state k i = (k.epochs.noted i, k.epochs.pinned i, k.epochs.tagged i, k.scans i)
 
 pub between : (state : State) → Kept state → (i j : ℕ) → Between (seat_at state i) j (seat_at state j)
-between state k i j =
-    (k.safe.unused i j, k.older i j, λ scan e. k.passed i scan e j, λ scan e. k.shielded i scan e j, λ scan e. k.looked i scan e j)
+between state k i j = (
+  k.safe.unused i j,
+  k.older i j,
+  λ scan e. k.passed i scan e j,
+  λ scan e. k.shielded i scan e j,
+  λ scan e. k.looked i scan e j,
+)
 
 -- facts on each seat and on each two seats make a state kept
 pub kept_from : (state : State) → state.epoch ≤ last_epoch
@@ -47,7 +54,8 @@ kept_from state bound once one two = record {
 }
 
 -- a seat of the changed state is the new one, or an old one
-pub seat_changed : (P : Seat → Type 0) (state : State) (i : ℕ) (seat : Seat) (j : ℕ) → i < length state.seats → (j ≡ i → P seat) → (j ≢ i → P (seat_at state j)) → P (seat_at (with_seat state i seat) j)
+pub seat_changed : (P : Seat → Type 0) (state : State) (i : ℕ) (seat : Seat) (j : ℕ) → i < length state.seats
+    → (j ≡ i → P seat) → (j ≢ i → P (seat_at state j)) → P (seat_at (with_seat state i seat) j)
 seat_changed P state i seat j inside here there = set_at P state.seats i seat nobody j inside here there
 
 module _ (state : State) (i : ℕ) (seat : Seat) (sound : IsSound state) (inside : i < state.shape.seats) where
@@ -61,10 +69,12 @@ module _ (state : State) (i : ℕ) (seat : Seat) (sound : IsSound state) (inside
     words = sound.shape.words;
     width = sound.shape.width;
     seats = length-set state.seats i seat ∙ sound.shape.seats;
-    each = λ j h. seat_changed (IsSeatOfShape state.shape) state i seat j in_list (λ _. fits) (λ _. sound.shape.each j h);
+    each = λ j h. seat_changed (IsSeatOfShape state.shape) state i seat j in_list (λ _. fits)
+        (λ _. sound.shape.each j h);
   }
 
-  pub once_kept : ((slot : ℕ) → times_held slot seat ≡ times_held slot (seat_at state i)) → (slot : ℕ) → slot < slot_count state.shape → times_in (with_seat state i seat) slot ≡ 1
+  pub once_kept : ((slot : ℕ) → times_held slot seat ≡ times_held slot (seat_at state i)) → (slot : ℕ)
+      → slot < slot_count state.shape → times_in (with_seat state i seat) slot ≡ 1
   once_kept same slot h =
       let sums = sum_by-set (times_held slot) state.seats i seat nobody in_list in
       let before = sound.kept.safe.once slot h in

@@ -1,17 +1,21 @@
 -- The state at the start is sound.
-use Rattle.std.proofs.Common.{◌≡◌, ℕ, ◌<◌, ◌+◌, ◌-◌, ◌*◌, ◌≤◌, zero, suc, min, max, false, ◌&&◌, [], length, map, replicate, None, cond, refl, sym, ◌∙◌, ap, subst, inl, inr, arith, count_by, sum_by, eqb, ltb, leb, add-zero, zero-add, zero-mul, add-mul, suc-mul, mul-le-mul_right}
+use Rattle.std.proofs.Common.{◌≡◌, ℕ, ◌<◌, ◌+◌, ◌-◌, ◌*◌, ◌≤◌, zero, suc, min, max, false, ◌&&◌, [], length, map}
+use Rattle.std.proofs.Common.{replicate, None, cond, refl, sym, ◌∙◌, ap, subst, inl, inr, arith, count_by, sum_by, eqb}
+use Rattle.std.proofs.Common.{ltb, leb, add-zero, zero-add, zero-mul, add-mul, suc-mul, mul-le-mul_right}
 use Rattle.std.specs.List.{range_with_len}
 use Rattle.std.proofs.lemmas.Bool.{cases_lt}
 use Rattle.std.proofs.lemmas.Bool.Decides.{nat_tests}
 use Rattle.std.proofs.lemmas.Option.{none-some}
 use Rattle.std.proofs.lemmas.List.{length-replicate, get_or-replicate, get_or_past}
-use Rattle.std.proofs.lemmas.List.FromFn.{length-range_with_len, get_or-range_with_len, length-map-range_with_len, get_or-map-range_with_len}
+use Rattle.std.proofs.lemmas.List.FromFn.{length-range_with_len, get_or-range_with_len, length-map-range_with_len}
+use Rattle.std.proofs.lemmas.List.FromFn.{get_or-map-range_with_len}
 use Rattle.std.proofs.lemmas.List.Sums.{sum_by-cons}
 use Rattle.pebr_core.specs.declared.kinds.Shape.{Shape}
 use Rattle.pebr_core.specs.declared.kinds.Stance.TheVariants as stance
 use Rattle.pebr_core.specs.declared.kinds.Retired.TheVariants as retire
 use Rattle.pebr_core.specs.declared.kinds.ShieldAt.TheVariants as shield
-use Rattle.pebr_core.specs.State.{Seat, seat_at, shield_at, retired_at, is_retired, nobody, is_share_of, first_seat, start_state, slots_per_seat, slot_count}
+use Rattle.pebr_core.specs.State.{Seat, seat_at, shield_at, retired_at, is_retired, nobody, is_share_of, first_seat}
+use Rattle.pebr_core.specs.State.{start_state, slots_per_seat, slot_count}
 use Rattle.pebr_core.specs.Kept.{times_held, times_in, IsPinnedUpTo, IsTaggedUpTo, held_count, IsSeatOfShape, IsSound}
 use Rattle.pebr_core.proofs.Marks.{get_or-replicate_default}
 use Rattle.pebr_core.proofs.SeatChange.{Alone, Between, kept_from}
@@ -71,7 +75,9 @@ start_seat shape i inside = get_or-map-range_with_len (first_seat shape) 0 shape
 start-quiet : (shape : Shape) (i : ℕ) → IsQuiet (seat_at (start_state shape) i)
 start-quiet shape i = elim (cases_lt i shape.seats) [
   | inl inside ↦ subst IsQuiet (sym (start_seat shape i inside)) (first-quiet shape i)
-  | inr past ↦ subst IsQuiet (sym (get_or_past (map (first_seat shape) (range_with_len 0 shape.seats)) i nobody (let n = length-map-range_with_len (first_seat shape) 0 shape.seats in omega arith))) nobody-quiet
+  | inr past ↦ subst IsQuiet
+      (sym (get_or_past (map (first_seat shape) (range_with_len 0 shape.seats)) i nobody
+      (let n = length-map-range_with_len (first_seat shape) 0 shape.seats in omega arith))) nobody-quiet
 ]
 
 first-shape : (shape : Shape) (i : ℕ) → IsSeatOfShape shape (first_seat shape i)
@@ -97,7 +103,8 @@ first-shape shape i = record {
 abbrev within : ℕ → ℕ → ℕ → ℕ
 within low high n = cond (leb low n && ltb n high) 1 0
 
-within-joined : (low middle high n : ℕ) → low ≤ middle → middle ≤ high → within low middle n + within middle high n ≡ within low high n
+within-joined : (low middle high n : ℕ) → low ≤ middle → middle ≤ high
+    → within low middle n + within middle high n ≡ within low high n
 within-joined low middle high n a b = grind (arith, nat_tests)
 
 within-none : (low n : ℕ) → within low low n ≡ 0
@@ -119,9 +126,11 @@ count-range n a (suc m) =
     ∙ ap (λ k. within a k n) (let e : a + 1 + m ≡ a + suc m = omega arith in e))))
 
 -- neighbouring parts of one size
-parts-range : {X : Type 0} (f : X → ℕ) (g : ℕ → X) (base size n : ℕ) → ((i : ℕ) → f (g i) ≡ within (base + i * size) (base + (i + 1) * size) n) → (a m : ℕ)
+parts-range : {X : Type 0} (f : X → ℕ) (g : ℕ → X) (base size n : ℕ)
+    → ((i : ℕ) → f (g i) ≡ within (base + i * size) (base + (i + 1) * size) n) → (a m : ℕ)
     → sum_by f (map g (range_with_len a m)) ≡ within (base + a * size) (base + (a + m) * size) n
-parts-range f g base size n each a zero = sym (ap (λ k. within (base + a * size) (base + k * size) n) (add-zero a) ∙ within-none (base + a * size) n)
+parts-range f g base size n each a zero =
+    sym (ap (λ k. within (base + a * size) (base + k * size) n) (add-zero a) ∙ within-none (base + a * size) n)
 parts-range f g base size n each a (suc m) =
     sum_by-cons f (g a) (map g (range_with_len (a + 1) m))
     ∙ (ap (λ k. k + sum_by f (map g (range_with_len (a + 1) m))) (each a)
@@ -130,19 +139,25 @@ parts-range f g base size n each a (suc m) =
     (omega (arith, add-mul a 1 size)) (omega (arith, add-mul (a + 1) m size))
     ∙ ap (λ k. within (base + a * size) (base + k * size) n) (let e : a + 1 + m ≡ a + suc m = omega arith in e))))
 
-first-held : (shape : Shape) (slot i : ℕ) → slot < slot_count shape → times_held slot (first_seat shape i) ≡ within (shape.roots + i * slots_per_seat shape) (shape.roots + (i + 1) * slots_per_seat shape) slot
+first-held : (shape : Shape) (slot i : ℕ) → slot < slot_count shape
+    → times_held slot (first_seat shape i) ≡ within (shape.roots + i * slots_per_seat shape)
+    (shape.roots + (i + 1) * slots_per_seat shape) slot
 first-held shape slot i inside =
-    ap (λ b. cond b 1 0 + cond (is_retired (retired_at (first_seat shape i) slot)) 1 0) (get_or-map-range_with_len (is_share_of shape i) 0 (slot_count shape) slot slot false inside (zero-add slot))
-    ∙ (ap (λ r. within (shape.roots + i * slots_per_seat shape) (shape.roots + (i + 1) * slots_per_seat shape) slot + cond (is_retired r) 1 0) (get_or-replicate_default (slot_count shape) slot retire.No)
+    ap (λ b. cond b 1 0 + cond (is_retired (retired_at (first_seat shape i) slot)) 1 0)
+    (get_or-map-range_with_len (is_share_of shape i) 0 (slot_count shape) slot slot false inside (zero-add slot))
+    ∙ (ap (λ r. within (shape.roots + i * slots_per_seat shape) (shape.roots + (i + 1) * slots_per_seat shape) slot
+    + cond (is_retired r) 1 0) (get_or-replicate_default (slot_count shape) slot retire.No)
     ∙ add-zero (within (shape.roots + i * slots_per_seat shape) (shape.roots + (i + 1) * slots_per_seat shape) slot))
 
 start-once : (shape : Shape) (slot : ℕ) → slot < slot_count shape → times_in (start_state shape) slot ≡ 1
 start-once shape slot inside =
     let k = slots_per_seat shape in
     let roots = count-range slot 0 shape.roots in
-    let seats = parts-range (times_held slot) (first_seat shape) shape.roots k slot (λ i. first-held shape slot i inside) 0 shape.seats in
+    let seats = parts-range (times_held slot) (first_seat shape) shape.roots k slot
+    (λ i. first-held shape slot i inside) 0 shape.seats in
     let start : shape.roots + 0 * k ≡ 0 + shape.roots = omega (arith, zero-mul k) in
-    let end : shape.roots + (0 + shape.seats) * k ≡ slot_count shape = ap (λ m. shape.roots + m * k) (zero-add shape.seats) in
+    let end : shape.roots + (0 + shape.seats) * k ≡ slot_count shape =
+    ap (λ m. shape.roots + m * k) (zero-add shape.seats) in
     ap (λ m. m + sum_by (times_held slot) (map (first_seat shape) (range_with_len 0 shape.seats))) roots
     ∙ (ap (λ m. within 0 (0 + shape.roots) slot + m) seats
     ∙ (ap (λ m. within 0 (0 + shape.roots) slot + within m (shape.roots + (0 + shape.seats) * k) slot) start
@@ -151,19 +166,23 @@ start-once shape slot inside =
     ∙ within-yes 0 (slot_count shape) slot (omega arith) inside))))
 
 -- how many numbers of a range lie from low on and below high
-count-within : (low high a m : ℕ) → count_by (λ b. b) (map (λ n. leb low n && ltb n high) (range_with_len a m)) ≡ min high (a + m) - max low a
+count-within : (low high a m : ℕ) → count_by (λ b. b) (map (λ n. leb low n && ltb n high) (range_with_len a m))
+    ≡ min high (a + m) - max low a
 count-within low high a zero = let e : 0 ≡ min high (a + 0) - max low a = omega arith in e
 count-within low high a (suc m) =
-    sum_by-cons (λ b. cond b 1 0) (leb low a && ltb a high) (map (λ n. leb low n && ltb n high) (range_with_len (a + 1) m))
+    sum_by-cons (λ b. cond b 1 0) (leb low a && ltb a high)
+    (map (λ n. leb low n && ltb n high) (range_with_len (a + 1) m))
     ∙ (ap (λ k. within low high a + k) (count-within low high (a + 1) m)
     ∙ one_more low high a m)
   where
-    one_more : (low high a m : ℕ) → within low high a + (min high (a + 1 + m) - max low (a + 1)) ≡ min high (a + suc m) - max low a
+    one_more : (low high a m : ℕ) → within low high a + (min high (a + 1 + m) - max low (a + 1))
+        ≡ min high (a + suc m) - max low a
     one_more low high a m = grind (arith, nat_tests)
 
 count-none : (n : ℕ) → count_by is_retired (replicate n retire.No) ≡ 0
 count-none zero = refl
-count-none (suc n) = sum_by-cons (λ r. cond (is_retired r) 1 0) retire.No (replicate n retire.No) ∙ (zero-add (count_by is_retired (replicate n retire.No)) ∙ count-none n)
+count-none (suc n) = sum_by-cons (λ r. cond (is_retired r) 1 0) retire.No (replicate n retire.No)
+    ∙ (zero-add (count_by is_retired (replicate n retire.No)) ∙ count-none n)
 
 first-count : (shape : Shape) (i : ℕ) → i < shape.seats → held_count (first_seat shape i) ≡ slots_per_seat shape
 first-count shape i inside =
@@ -179,12 +198,14 @@ start_sound shape = record {
     roots = length-range_with_len 0 shape.roots;
     slots = λ root inside. let e = get_or-range_with_len 0 shape.roots root 0 inside in omega (arith, e);
     words = length-replicate (slot_count shape) (replicate shape.width 0);
-    width = λ slot inside. ap length (get_or-replicate (slot_count shape) slot (replicate shape.width 0) [] inside) ∙ length-replicate shape.width 0;
+    width = λ slot inside. ap length (get_or-replicate (slot_count shape) slot (replicate shape.width 0) [] inside)
+        ∙ length-replicate shape.width 0;
     seats = length-map-range_with_len (first_seat shape) 0 shape.seats;
     each = λ i inside. subst (IsSeatOfShape shape) (sym (start_seat shape i inside)) (first-shape shape i);
   };
   kept = kept_from (start_state shape) (omega arith) (start-once shape)
       (λ i. quiet-alone i (seat_at (start_state shape) i) (start-quiet shape i))
-      (λ i j. quiet-between (seat_at (start_state shape) i) j (seat_at (start_state shape) j) (start-quiet shape i) (start-quiet shape j));
+      (λ i j. quiet-between (seat_at (start_state shape) i) j (seat_at (start_state shape) j) (start-quiet shape i)
+      (start-quiet shape j));
   holding = λ i inside. ap held_count (start_seat shape i inside) ∙ first-count shape i inside;
 }

@@ -1,5 +1,6 @@
 -- What the steps make of a seat's entry.
-use Rattle.std.specs.Prelude.{ℕ, Bool, true, false, List, [], map, Option, Some, None, if◌then◌else◌, slice_set, slice_index_or}
+use Rattle.std.specs.Prelude.{ℕ, Bool, true, false, List, [], map, Option, Some, None, if◌then◌else◌, slice_set}
+use Rattle.std.specs.Prelude.{slice_index_or}
 use Rattle.pebr_core.specs.declared.kinds.Stance.{Stance}
 use Rattle.pebr_core.specs.declared.kinds.Stance.TheVariants as stance
 use Rattle.pebr_core.specs.declared.kinds.Retired.{Retired}
@@ -22,10 +23,12 @@ reopened scan = record {
 }
 
 abbrev pub noted_entry : ℕ → SeatData → SeatData
-noted_entry epoch seat = record seat { noted = epoch; retired = map (tag_with epoch) seat.retired; scan = reopened seat.scan }
+noted_entry epoch seat =
+    record seat { noted = epoch; retired = map (tag_with epoch) seat.retired; scan = reopened seat.scan }
 
 abbrev pub pinned_entry : SeatData → SeatData
-pinned_entry seat = record seat { status = stance.In seat.noted; seen = emptied seat.seen; scan = record seat.scan { is_open = false } }
+pinned_entry seat =
+    record seat { status = stance.In seat.noted; seen = emptied seat.seen; scan = record seat.scan { is_open = false } }
 
 abbrev pub left_entry : SeatData → SeatData
 left_entry seat = record seat { status = stance.Out; seen = emptied seat.seen }
@@ -36,7 +39,8 @@ passing_entry other seat = record seat { scan = record seat.scan { passed = slic
 
 -- the scan found another seat in with an epoch
 abbrev pub finding_entry : ℕ → ℕ → SeatData → SeatData
-finding_entry other epoch seat = record seat { scan = record seat.scan { looked = slice_set seat.scan.looked other (Some epoch) } }
+finding_entry other epoch seat =
+    record seat { scan = record seat.scan { looked = slice_set seat.scan.looked other (Some epoch) } }
 
 abbrev pub can_pass_entry : SeatData → Stance → Bool
 can_pass_entry seat status = can_pass (map is_retired seat.retired) seat.retired status
@@ -58,12 +62,14 @@ abbrev pub checked_entry : SeatData → SeatData
 checked_entry seat = record seat { shields = checked seat.status seat.seen seat.shields }
 
 abbrev pub replaced_entry : ℕ → ℕ → SeatData → SeatData
-replaced_entry old new seat = record seat { fresh = slice_set seat.fresh new false; retired = slice_set seat.retired old retire.Untagged }
+replaced_entry old new seat =
+    record seat { fresh = slice_set seat.fresh new false; retired = slice_set seat.retired old retire.Untagged }
 
 -- the kept candidates, with a slot that a shield was found on
 abbrev pub kept_with : List Retired → List Bool → Option ℕ → List Bool
 kept_with slots kept None = kept
-kept_with slots kept (Some slot) = if is_retired (slice_index_or slots slot retire.No) then slice_set kept slot true else kept
+kept_with slots kept (Some slot) = if is_retired (slice_index_or slots slot retire.No) then slice_set kept slot true
+    else kept
 
 abbrev pub scanned_entry : ℕ → ℕ → Option ℕ → SeatData → SeatData
 scanned_entry other place slot seat = record seat {

@@ -1,6 +1,8 @@
 -- What every state that is reached keeps.
-use Rattle.std.specs.Prelude.{◌≡◌, ◌≢◌, ℕ, ◌+◌, ◌≤◌, ◌<◌, ◌⊎◌, true, false, List, [], length, Some, None, count_by, sum_by, cond, ◌==◌, slice_index_or}
-use Rattle.pebr_core.specs.State.{Scan, Seat, State, has, seat_at, root_at, shield_at, retired_at, found_at, has_scanned, is_retired, slots_per_seat, slot_count}
+use Rattle.std.specs.Prelude.{◌≡◌, ◌≢◌, ℕ, ◌+◌, ◌≤◌, ◌<◌, ◌⊎◌, true, false, List, [], length, Some, None, count_by}
+use Rattle.std.specs.Prelude.{sum_by, cond, ◌==◌, slice_index_or}
+use Rattle.pebr_core.specs.State.{Scan, Seat, State, has, seat_at, root_at, shield_at, retired_at, found_at}
+use Rattle.pebr_core.specs.State.{has_scanned, is_retired, slots_per_seat, slot_count}
 use Rattle.pebr_core.specs.Steps.{is_above_tags, last_epoch}
 use Rattle.pebr_core.specs.declared.kinds.Shape.{Shape}
 use Rattle.pebr_core.specs.declared.kinds.Stance.{Stance}
@@ -55,7 +57,8 @@ HasSeenNoOlder owner reader =
 abbrev pub PinsSeeNoOlder : State → Type 0
 PinsSeeNoOlder state = (i j : ℕ) → HasSeenNoOlder (seat_at state i) (seat_at state j)
 
--- A scanning seat is out. Its candidates are all its retired slots, each with a tag. Its kept slots are candidates. Its looked and passed seats are other seats. Its scanned shields are shields of passed seats.
+-- A scanning seat is out. Its candidates are all its retired slots, each with a tag. Its kept slots are candidates. Its
+-- looked and passed seats are other seats. Its scanned shields are shields of passed seats.
 pub record IsScanOf (i : ℕ) (seat : Seat) (scan : Scan) : Type 0 where
   pub out : seat.status ≡ stance.Out
   pub all_retired : (slot : ℕ) → has scan.candidates slot ≡ is_retired (retired_at seat slot)
@@ -74,15 +77,18 @@ HasSeenNoCandidate scan seat = (slot : ℕ) → has scan.candidates slot ≡ tru
 
 -- Each passed seat isn't in, or has seen no candidate.
 abbrev pub PassedHasSeenNone : Scan → ℕ → Seat → Type 0
-PassedHasSeenNone scan j seat = has scan.passed j ≡ true → (epoch : ℕ) → seat.status ≡ stance.In epoch → HasSeenNoCandidate scan seat
+PassedHasSeenNone scan j seat = has scan.passed j ≡ true → (epoch : ℕ) → seat.status ≡ stance.In epoch
+    → HasSeenNoCandidate scan seat
 
 -- A valid shield of a passed seat on a candidate isn't scanned yet, or the candidate is kept.
 abbrev pub ScannedIsKept : Scan → ℕ → Seat → Type 0
 ScannedIsKept scan j seat =
-    (place slot : ℕ) → has scan.passed j ≡ true → shield_at seat place ≡ shield.Valid slot → has scan.candidates slot ≡ true
+    (place slot : ℕ) → has scan.passed j ≡ true → shield_at seat place ≡ shield.Valid slot
+    → has scan.candidates slot ≡ true
     → has_scanned scan j place ≡ true → has scan.kept slot ≡ true
 
--- Where a seat was looked at with an epoch and isn't passed, that epoch is at most the greatest tag of a candidate. Such a seat is in with that epoch, or it isn't in, or it has seen no candidate.
+-- Where a seat was looked at with an epoch and isn't passed, that epoch is at most the greatest tag of a candidate.
+-- Such a seat is in with that epoch, or it isn't in, or it has seen no candidate.
 abbrev pub LookedIsOlder : List Retired → Scan → ℕ → Seat → Type 0
 LookedIsOlder retired scan j seat =
     (found : ℕ) → found_at scan j ≡ Some found → has scan.passed j ≡ false
@@ -91,7 +97,8 @@ LookedIsOlder retired scan j seat =
 
 -- these three for each scanning seat by itself
 abbrev pub OfEachScan : (Seat → Scan → ℕ → Seat → Type 0) → State → Type 0
-OfEachScan P state = (i : ℕ) (scan : Scan) → (seat_at state i).scan ≡ Some scan → (j : ℕ) → P (seat_at state i) scan j (seat_at state j)
+OfEachScan P state = (i : ℕ) (scan : Scan) → (seat_at state i).scan ≡ Some scan → (j : ℕ)
+    → P (seat_at state i) scan j (seat_at state j)
 
 -- What every reachable state keeps, in seven parts.
 pub record Kept (state : State) : Type 0 where
@@ -111,7 +118,8 @@ held_count seat = count_by (λ fresh. fresh) seat.fresh + count_by is_retired se
 abbrev pub Holding : State → Type 0
 Holding state = (i : ℕ) → i < state.shape.seats → held_count (seat_at state i) ≡ slots_per_seat state.shape
 
--- The data is that of a core of its shape: there is one entry for each root, slot, seat and shield, and each slot that is named is one.
+-- The data is that of a core of its shape: there is one entry for each root, slot, seat and shield, and each slot that
+-- is named is one.
 
 pub record IsScanOfShape (shape : Shape) (scan : Scan) : Type 0 where
   pub candidates : length scan.candidates ≡ slot_count shape
@@ -134,7 +142,8 @@ pub record IsOfShape (state : State) : Type 0 where
   pub roots : length state.roots ≡ state.shape.roots
   pub slots : (root : ℕ) → root < state.shape.roots → root_at state root < slot_count state.shape
   pub words : length state.words ≡ slot_count state.shape
-  pub width : (slot : ℕ) → slot < slot_count state.shape → length (slice_index_or state.words slot []) ≡ state.shape.width
+  pub width : (slot : ℕ) → slot < slot_count state.shape
+      → length (slice_index_or state.words slot []) ≡ state.shape.width
   pub seats : length state.seats ≡ state.shape.seats
   pub each : (i : ℕ) → i < state.shape.seats → IsSeatOfShape state.shape (seat_at state i)
 

@@ -19,7 +19,8 @@ answers_of state (step ∷ steps) = answer_of state step ∷ answers_of (after s
 -- the place of the first step that isn't enabled, counted from 0
 abbrev pub first_refused : State → List Step → Option ℕ
 first_refused state [] = None
-first_refused state (step ∷ steps) = if is_enabled state step then option_map (λ place. suc place) (first_refused (after state step) steps) else Some 0
+first_refused state (step ∷ steps) = if is_enabled state step
+    then option_map (λ place. suc place) (first_refused (after state step) steps) else Some 0
 
 -- No slot that a seat uses becomes fresh at any seat.
 abbrev pub GivesNoUsed : State → State → Type 0
@@ -34,4 +35,5 @@ KeepsUsedWords old new = (j slot word : ℕ) → Uses (seat_at old j) slot → w
 abbrev pub IsSafeRun : State → List Step → Type 0
 IsSafeRun state [] = IsSound state
 IsSafeRun state (step ∷ steps) =
-    IsSound state × GivesNoUsed state (after state step) × KeepsUsedWords state (after state step) × IsSafeRun (after state step) steps
+    IsSound state × GivesNoUsed state (after state step) × KeepsUsedWords state (after state step)
+    × IsSafeRun (after state step) steps

@@ -1,6 +1,7 @@
 -- What a core holds at one moment, as plain data: an epoch, the roots, the slots' words and the seats.
 -- A set of numbers below a bound is a list of marks, one for each number.
-use Rattle.std.specs.Prelude.{ℕ, ◌+◌, ◌*◌, Bool, true, false, ◌&&◌, List, [], map, replicate, Option, None, unwrap_or, nat_lt, nat_le, ◌==◌, slice_index_or, Some}
+use Rattle.std.specs.Prelude.{ℕ, ◌+◌, ◌*◌, Bool, true, false, ◌&&◌, List, [], map, replicate, Option, None, unwrap_or}
+use Rattle.std.specs.Prelude.{nat_lt, nat_le, ◌==◌, slice_index_or, Some}
 use Rattle.std.specs.List.{range_with_len}
 use Rattle.pebr_core.specs.declared.kinds.Shape.{Shape}
 use Rattle.pebr_core.specs.declared.kinds.Stance.{Stance}
@@ -127,7 +128,8 @@ is_down (shield.Valid slot) = false
 -- At the start each seat has its own share of the slots fresh, the roots have the first slots, all words
 -- are 0, and each seat is out.
 abbrev pub is_share_of : Shape → ℕ → ℕ → Bool
-is_share_of shape i slot = nat_le (shape.roots + i * slots_per_seat shape) slot && nat_lt slot (shape.roots + (i + 1) * slots_per_seat shape)
+is_share_of shape i slot = nat_le (shape.roots + i * slots_per_seat shape) slot && nat_lt slot
+    (shape.roots + (i + 1) * slots_per_seat shape)
 
 abbrev pub first_seat : Shape → ℕ → Seat
 first_seat shape i = record {

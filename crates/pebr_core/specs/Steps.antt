@@ -1,8 +1,12 @@
--- The steps of the seats. For each kind of step three things: where it is enabled, what it changes, and what it answers. What a row doesn't name stays.
--- This scheme of pins, ejection and shields is this repository's own, after Kang and Jung, 'A marriage of pointer- and epoch-based reclamation' (PLDI 2020).
-use Rattle.std.specs.Prelude.{ℕ, ◌+◌, ◌^◌, Bool, true, false, not, ◌&&◌, ◌||◌, List, [], ◌∷◌, map, replicate, count_by, Option, Some, None, is_some, unwrap_or, if◌then◌else◌, ◌==◌, nat_lt, slice_set, slice_index_or}
+-- The steps of the seats. For each kind of step three things: where it is enabled, what it changes, and what it
+-- answers. What a row doesn't name stays. This scheme of pins, ejection and shields is this repository's own, after
+-- Kang and Jung, 'A marriage of pointer- and epoch-based reclamation' (PLDI 2020).
+use Rattle.std.specs.Prelude.{ℕ, ◌+◌, ◌^◌, Bool, true, false, not, ◌&&◌, ◌||◌, List, [], ◌∷◌, map, replicate, count_by}
+use Rattle.std.specs.Prelude.{Option, Some, None, is_some, unwrap_or, if◌then◌else◌, ◌==◌, nat_lt, slice_set}
+use Rattle.std.specs.Prelude.{slice_index_or}
 use Rattle.std.specs.List.{range_with_len, list_all, list_any}
-use Rattle.pebr_core.specs.State.{Scan, Seat, State, has, seat_at, root_at, word_at, shield_at, scan_of, found_at, has_scanned, is_retired, is_out, is_down, is_valid_on, slot_under, slot_count}
+use Rattle.pebr_core.specs.State.{Scan, Seat, State, has, seat_at, root_at, word_at, shield_at, scan_of, found_at}
+use Rattle.pebr_core.specs.State.{has_scanned, is_retired, is_out, is_down, is_valid_on, slot_under, slot_count}
 use Rattle.pebr_core.specs.declared.kinds.Shape.{Shape}
 use Rattle.pebr_core.specs.declared.kinds.Stance.{Stance}
 use Rattle.pebr_core.specs.declared.kinds.Stance.TheVariants as stance
@@ -41,14 +45,16 @@ new_scan shape slots = record {
 
 -- the epoch is above the tag of each candidate
 abbrev pub is_above_tags : List Bool → List Retired → ℕ → Bool
-is_above_tags (true ∷ candidates) (retire.Tagged tag ∷ slots) epoch = nat_lt tag epoch && is_above_tags candidates slots epoch
+is_above_tags (true ∷ candidates) (retire.Tagged tag ∷ slots) epoch =
+    nat_lt tag epoch && is_above_tags candidates slots epoch
 is_above_tags (true ∷ candidates) (retire.Untagged ∷ slots) epoch = is_above_tags candidates slots epoch
 is_above_tags (true ∷ candidates) (retire.No ∷ slots) epoch = is_above_tags candidates slots epoch
 is_above_tags (false ∷ candidates) (slot ∷ slots) epoch = is_above_tags candidates slots epoch
 is_above_tags (candidate ∷ candidates) [] epoch = true
 is_above_tags [] slots epoch = true
 
--- A seat with this status can't use a candidate by its pin: it is out or ejected, or in with an epoch above every candidate's tag.
+-- A seat with this status can't use a candidate by its pin: it is out or ejected, or in with an epoch above every
+-- candidate's tag.
 abbrev pub can_pass : List Bool → List Retired → Stance → Bool
 can_pass candidates slots stance.Out = true
 can_pass candidates slots (stance.Ejected epoch) = true
@@ -85,12 +91,14 @@ with_look scan other epoch = record scan { looked = slice_set scan.looked other 
 
 -- a scan that read a shield of a seat
 abbrev pub with_scanned : Scan → ℕ → ℕ → Scan
-with_scanned scan other place = record scan { scanned = slice_set scan.scanned other (slice_set (slice_index_or scan.scanned other []) place true) }
+with_scanned scan other place =
+    record scan { scanned = slice_set scan.scanned other (slice_set (slice_index_or scan.scanned other []) place true) }
 
 -- a scan that keeps a slot that a shield was found on, where it is a candidate
 abbrev pub with_kept : Scan → Option ℕ → Scan
 with_kept scan None = scan
-with_kept scan (Some slot) = if has scan.candidates slot then record scan { kept = slice_set scan.kept slot true } else scan
+with_kept scan (Some slot) = if has scan.candidates slot then record scan { kept = slice_set scan.kept slot true }
+    else scan
 
 -- a shield that is set on a slot of this set becomes valid
 abbrev pub validated : List Bool → ShieldAt → ShieldAt
@@ -129,7 +137,8 @@ each_below bound test = list_all test (range_with_len 0 bound)
 -- the scan of a seat has passed each other seat and read all its shields
 abbrev pub is_complete : Shape → ℕ → Scan → Bool
 is_complete shape i scan =
-    each_below shape.seats (λ j. (j == i) || (has scan.passed j && each_below shape.shields (λ place. has_scanned scan j place)))
+    each_below shape.seats
+    (λ j. (j == i) || (has scan.passed j && each_below shape.shields (λ place. has_scanned scan j place)))
 
 -- what the steps make of one seat
 
@@ -165,7 +174,8 @@ abbrev pub after_check : Seat → Seat
 after_check seat = record seat { shields = checked seat.status seat.seen seat.shields }
 
 abbrev pub after_replace : ℕ → ℕ → Seat → Seat
-after_replace old new seat = record seat { fresh = slice_set seat.fresh new false; retired = slice_set seat.retired old retire.Untagged }
+after_replace old new seat =
+    record seat { fresh = slice_set seat.fresh new false; retired = slice_set seat.retired old retire.Untagged }
 
 abbrev pub after_scan : ℕ → ℕ → Option ℕ → Seat → Seat
 after_scan other place slot seat = with_scan seat (with_kept (with_scanned (scan_of seat) other place) slot)
@@ -222,11 +232,14 @@ is_enabled state (step.Eject i j) =
     && is_some (found_at (scan_of (seat_at state i)) j) && not (has (scan_of (seat_at state i)).passed j)
 is_enabled state (step.Load i root) = is_seat state i && is_root state root && not (is_out (seat_at state i).status)
 is_enabled state (step.Shield i place slot) =
-    is_seat state i && is_place state place && is_slot state slot && not (is_out (seat_at state i).status) && has (seat_at state i).seen slot
+    is_seat state i && is_place state place && is_slot state slot && not (is_out (seat_at state i).status) && has
+    (seat_at state i).seen slot
 is_enabled state (step.Check i) = is_seat state i && not (is_out (seat_at state i).status)
 is_enabled state (step.Unshield i place) = is_seat state i && is_place state place
-is_enabled state (step.Read i slot word) = is_seat state i && is_slot state slot && is_word state word && is_shielded (seat_at state i) slot
-is_enabled state (step.Write i slot word value) = is_seat state i && is_slot state slot && is_word state word && has (seat_at state i).fresh slot
+is_enabled state (step.Read i slot word) =
+    is_seat state i && is_slot state slot && is_word state word && is_shielded (seat_at state i) slot
+is_enabled state (step.Write i slot word value) =
+    is_seat state i && is_slot state slot && is_word state word && has (seat_at state i).fresh slot
 is_enabled state (step.Replace i root old new) =
     is_seat state i && is_root state root && is_slot state old && is_slot state new
     && not (is_out (seat_at state i).status) && is_shielded (seat_at state i) old && has (seat_at state i).fresh new
@@ -242,7 +255,8 @@ abbrev pub after : State → Step → State
 after state (step.Note i) = with_seat state i (after_note state.shape state.epoch (seat_at state i))
 after state (step.Pin i) = with_seat state i (after_pin (seat_at state i))
 after state (step.Leave i) = with_seat state i (after_leave (seat_at state i))
-after state (step.Advance i) = if state.epoch == (seat_at state i).noted then record state { epoch = state.epoch + 1 } else state
+after state (step.Advance i) = if state.epoch == (seat_at state i).noted then record state { epoch = state.epoch + 1 }
+    else state
 after state (step.Look i j) = with_seat state i (after_look j (seat_at state j).status (seat_at state i))
 after state (step.Eject i j) =
     let other = seat_at state j in
@@ -260,7 +274,8 @@ after state (step.Replace i root old new) =
     if root_at state root == old
     then record (with_seat state i (after_replace old new (seat_at state i))) { roots = slice_set state.roots root new }
     else state
-after state (step.Scan i j place) = with_seat state i (after_scan j place (slot_under (shield_at (seat_at state j) place)) (seat_at state i))
+after state (step.Scan i j place) = with_seat state i
+    (after_scan j place (slot_under (shield_at (seat_at state j) place)) (seat_at state i))
 after state (step.Give i) = with_seat state i (after_give state.epoch (seat_at state i))
 
 -- the answer to the read of a shield
@@ -279,7 +294,8 @@ abbrev pub answer_of : State → Step → Answer
 answer_of state (step.Note i) = answer.Epoch state.epoch
 answer_of state (step.Pin i) = answer.In (seat_at state i).noted
 answer_of state (step.Leave i) = answer.Out
-answer_of state (step.Advance i) = if state.epoch == (seat_at state i).noted then answer.Epoch (state.epoch + 1) else answer.Lost
+answer_of state (step.Advance i) = if state.epoch == (seat_at state i).noted then answer.Epoch (state.epoch + 1)
+    else answer.Lost
 answer_of state (step.Look i j) =
     let seat = seat_at state i in
     let status = (seat_at state j).status in

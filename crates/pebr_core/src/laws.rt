@@ -1,15 +1,19 @@
 //! What holds of every state, and not only of the states of cores.
 
-ghost use Rattle.std.specs.Prelude.{◌≡◌, ℕ, ◌+◌, ◌<◌, ◌≤◌, List, [], length, Option, Some, None, IsTrue, true, false, count_by, slice_index_or};
+ghost use Rattle.std.specs.Prelude.{◌≡◌, ℕ, ◌+◌, ◌<◌, ◌≤◌, List, [], length, Option, Some, None, IsTrue, true, false};
+ghost use Rattle.std.specs.Prelude.{count_by, slice_index_or};
 ghost use Rattle.pebr_core.specs.declared.kinds.Retired.TheVariants as retire;
 ghost use Rattle.pebr_core.specs.declared.kinds.ShieldAt.TheVariants as shield;
 ghost use Rattle.pebr_core.specs.declared.kinds.Shape.{Shape};
 ghost use Rattle.pebr_core.specs.declared.kinds.Step.{Step};
 ghost use Rattle.pebr_core.specs.declared.kinds.Step.TheVariants as step;
-ghost use Rattle.pebr_core.specs.State.{State, Seat, start_state, slot_count, seat_at, has, scan_of, found_at, retired_at, root_at, is_retired, shield_at};
-ghost use Rattle.pebr_core.specs.Steps.{is_enabled, is_shielded, after, given, after_note, after_look, after_pass, after_scan, after_give};
+ghost use Rattle.pebr_core.specs.State.{State, Seat, start_state, slot_count, seat_at, has, scan_of, found_at};
+ghost use Rattle.pebr_core.specs.State.{retired_at, root_at, is_retired, shield_at};
+ghost use Rattle.pebr_core.specs.Steps.{is_enabled, is_shielded, after, given, after_note, after_look, after_pass};
+ghost use Rattle.pebr_core.specs.Steps.{after_scan, after_give};
 ghost use Rattle.pebr_core.specs.Kept.{IsSound};
-ghost use Rattle.pebr_core.specs.Frames.{seat_of, LeavesTheRest, UsesBeginAtLoad, LeavesShields, IsFreshAlone, kept_count, fresh_count, retired_count};
+ghost use Rattle.pebr_core.specs.Frames.{seat_of, LeavesTheRest, UsesBeginAtLoad, LeavesShields, IsFreshAlone};
+ghost use Rattle.pebr_core.specs.Frames.{kept_count, fresh_count, retired_count};
 ghost use Rattle.pebr_core.specs.Runs.{first_refused, GivesNoUsed, KeepsUsedWords, IsSafeRun};
 
 /// The state at the start is sound.
@@ -68,15 +72,18 @@ pub fn kept_slots_are_counted()
     ensures note { (shape : Shape) (epoch : ℕ) (seat : Seat) → kept_count (after_note shape epoch seat) ≡ 0 }
     ensures pass { (other : ℕ) (seat : Seat) → kept_count (after_pass other seat) ≡ kept_count seat }
     // A Scan keeps at most one more, and none where the shield was down.
-    ensures scan { (other place : ℕ) (slot : Option ℕ) (seat : Seat) → kept_count (after_scan other place slot seat) ≤ kept_count seat + 1 }
+    ensures scan { (other place : ℕ) (slot : Option ℕ) (seat : Seat)
+        → kept_count (after_scan other place slot seat) ≤ kept_count seat + 1 }
     ensures empty { (other place : ℕ) (seat : Seat) → kept_count (after_scan other place None seat) ≡ kept_count seat }
     // What a Give leaves retired is what was kept, and what it gives is the rest.
     ensures left { (state : State) (i epoch : ℕ) → IsSound state → IsTrue (is_enabled state (step.Give i))
         → retired_count (after_give epoch (seat_at state i)) ≡ kept_count (seat_at state i) }
     ensures given { (state : State) (i epoch : ℕ) → IsSound state → IsTrue (is_enabled state (step.Give i))
-        → count_by (λ mark. mark) (given (seat_at state i)) + kept_count (seat_at state i) ≡ retired_count (seat_at state i) }
+        → count_by (λ mark. mark) (given (seat_at state i)) + kept_count (seat_at state i)
+        ≡ retired_count (seat_at state i) }
     ensures fresh { (state : State) (i epoch : ℕ) → IsSound state → IsTrue (is_enabled state (step.Give i))
-        → fresh_count (after_give epoch (seat_at state i)) ≡ fresh_count (seat_at state i) + count_by (λ mark. mark) (given (seat_at state i)) }
+        → fresh_count (after_give epoch (seat_at state i))
+        ≡ fresh_count (seat_at state i) + count_by (λ mark. mark) (given (seat_at state i)) }
 {}
 
 /// Other words of the same lengths keep a state sound. So a start with given contents is sound.
@@ -97,8 +104,10 @@ pub fn fresh_slots_are_alone()
 
 /// The slot of a root is fresh at no seat, and retired at none.
 pub fn root_slots_are_alone()
-    ensures fresh { (state : State) (root i : ℕ) → IsSound state → root < state.shape.roots → has (seat_at state i).fresh (root_at state root) ≡ false }
-    ensures retired { (state : State) (root i : ℕ) → IsSound state → root < state.shape.roots → is_retired (retired_at (seat_at state i) (root_at state root)) ≡ false }
+    ensures fresh { (state : State) (root i : ℕ) → IsSound state → root < state.shape.roots
+        → has (seat_at state i).fresh (root_at state root) ≡ false }
+    ensures retired { (state : State) (root i : ℕ) → IsSound state → root < state.shape.roots
+        → is_retired (retired_at (seat_at state i) (root_at state root)) ≡ false }
 {}
 
 /// A slot that a shield is valid on is protected.

@@ -1,6 +1,7 @@
 //! The slots that a seat retired, with their tags.
 
-ghost use Rattle.std.specs.Prelude.{◌≡◌, ℕ, ◌^◌, List, [], ◌∷◌, not, map, length, replicate, IfOk, slice_index_or, slice_set, count_by, if◌then◌else◌};
+ghost use Rattle.std.specs.Prelude.{◌≡◌, ℕ, ◌^◌, List, [], ◌∷◌, not, map, length, replicate, IfOk, slice_index_or};
+ghost use Rattle.std.specs.Prelude.{slice_set, count_by, if◌then◌else◌};
 ghost use Rattle.pebr_core.specs.declared.kinds.Retired.{Retired};
 ghost use Rattle.pebr_core.specs.declared.kinds.Retired.TheVariants as retire;
 ghost use Rattle.pebr_core.specs.State.{has, is_retired};
@@ -109,7 +110,8 @@ impl RetiredSlots {
 
     /// What a slot is once the retired slots that aren't in a set are taken out.
     fn released(&self, kept: &Row<bool>, slot: usize) -> Retired
-        ensures { result ≡ (if has (given_marks self.now kept.now) slot then retire.No else slice_index_or self.now slot retire.No) }
+        ensures { result ≡ (if has (given_marks self.now kept.now) slot then retire.No
+            else slice_index_or self.now slot retire.No) }
     {
         if self.is_outside(kept, slot) {
             Retired::No

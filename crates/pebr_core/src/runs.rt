@@ -1,6 +1,7 @@
 //! One step, and whole lists of steps.
 
-ghost use Rattle.std.specs.Prelude.{◌≡◌, ℕ, ◌+◌, ◌↔◌, [], ◌∷◌, ◌++◌, Ok, Err, Some, None, IsTrue, IsOk, IsOkAnd, IfOk, IfErr, OnOk};
+ghost use Rattle.std.specs.Prelude.{◌≡◌, ℕ, ◌+◌, ◌↔◌, [], ◌∷◌, ◌++◌, Ok, Err, Some, None, IsTrue, IsOk, IsOkAnd, IfOk};
+ghost use Rattle.std.specs.Prelude.{IfErr, OnOk};
 ghost use Rattle.pebr_core.specs.State.{State};
 ghost use Rattle.pebr_core.specs.Steps.{is_enabled, after, answer_of, next};
 ghost use Rattle.pebr_core.specs.Kept.{IsSound};
@@ -99,7 +100,8 @@ impl Core {
 /// from 0. The core is given up.
 pub fn replay(alloc: Global, core: Core, steps: &[Step]) -> Result<Replayed, ReplayError>
     ensures whole { IsOk result → first_refused core steps.now ≡ None }
-    ensures refused { (place : ℕ) → result ≡ Err (ReplayError.NotEnabled place) → first_refused core steps.now ≡ Some place }
+    ensures refused { (place : ℕ) → result ≡ Err (ReplayError.NotEnabled place)
+        → first_refused core steps.now ≡ Some place }
     ensures state { IfOk result (λ replayed. replayed.core ≡ state_after core steps.now) }
     ensures answers { IfOk result (λ replayed. replayed.answers.items ≡ answers_of core steps.now) }
     // Each state on the way is sound, no step makes a used slot fresh, and none changes a word of one.

@@ -1,6 +1,7 @@
 //! What a core keeps of each seat.
 
-ghost use Rattle.std.specs.Prelude.{◌≡◌, true, false, [], ◌&&◌, ◌||◌, ◌==◌, map, length, count_by, is_some, if◌then◌else◌};
+ghost use Rattle.std.specs.Prelude.{◌≡◌, true, false, [], ◌&&◌, ◌||◌, ◌==◌, map, length, count_by, is_some};
+ghost use Rattle.std.specs.Prelude.{if◌then◌else◌};
 ghost use Rattle.std.specs.List.{list_any, list_all};
 ghost use Rattle.pebr_core.specs.State.{has, scan_of, has_scanned, is_retired, is_valid_on, is_down};
 ghost use Rattle.pebr_core.specs.Steps.{can_pass, epoch_of, is_in_at, check_answer, validated, each_below, is_complete};
@@ -77,7 +78,8 @@ impl ScanData {
     /// Whether a seat is the scanning one, or it is passed and all its shields were read.
     fn is_done_with(&self, other: usize, shields: usize, seat: usize) -> bool
         ensures { result ≡ ((other == seat)
-            || (has self.now.passed other && each_below shields (λ place. has_scanned (scan_parts [] self.now) other place))) }
+            || (has self.now.passed other && each_below shields
+            (λ place. has_scanned (scan_parts [] self.now) other place))) }
     {
         other == seat || (self.passed.get(other, false) && self.has_read_shields(other, shields))
     }
@@ -97,7 +99,9 @@ impl ScanData {
 
 impl SeatData {
     ghost use Rattle.pebr_core.specs.Shown.{shown_seat};
-    ghost use Rattle.pebr_core.specs.Entries.{noted_entry, pinned_entry, left_entry, can_pass_entry, looking_entry, ejected_entry, passing_entry, loaded_entry, shielded_entry, checked_entry, replaced_entry, scanned_entry, given_entry};
+    ghost use Rattle.pebr_core.specs.Entries.{noted_entry, pinned_entry, left_entry, can_pass_entry, looking_entry};
+    ghost use Rattle.pebr_core.specs.Entries.{ejected_entry, passing_entry, loaded_entry, shielded_entry};
+    ghost use Rattle.pebr_core.specs.Entries.{checked_entry, replaced_entry, scanned_entry, given_entry};
 
     /// Reads the epoch, tags what is retired with it, and opens a scan.
     pub fn note(&mut self, epoch: u64)
@@ -137,7 +141,8 @@ impl SeatData {
 
     /// Takes down what another seat's status showed.
     pub fn look(&mut self, other: usize, status: Stance) -> Answer
-        ensures answer { result ≡ (if can_pass_entry self.old status then Answer.Passed else Answer.In (epoch_of status)) }
+        ensures answer { result ≡ (if can_pass_entry self.old status then Answer.Passed
+            else Answer.In (epoch_of status)) }
         ensures entry { self.new ≡ looking_entry other status self.old }
     {
         if self.can_pass(status) {

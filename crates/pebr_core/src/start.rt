@@ -29,7 +29,8 @@ fn first_roots(alloc: Global, count: usize) -> Result<Row<usize>, NoMemory>
 fn first_fresh(alloc: Global, shape: &Shape, seat: usize) -> Result<Row<bool>, NoMemory>
     requires limits { IsWithinLimits shape.now }
     requires seat { seat < shape.now.seats }
-    ensures { IfOk result (λ fresh. fresh ≡ map (is_share_of shape.now seat) (range_with_len 0 (slot_count shape.now))) }
+    ensures { IfOk result
+        (λ fresh. fresh ≡ map (is_share_of shape.now seat) (range_with_len 0 (slot_count shape.now))) }
 {
     let share = shape.slots_per_seat();
     let first = shape.roots + seat * share;

@@ -1,5 +1,6 @@
 -- What is used of a pass: the slot under a valid shield, the least fresh slot, and that a seat has its number of slots.
-use Rattle.std.proofs.Common.{◌≡◌, ◌≢◌, ℕ, zero, suc, ◌<◌, Bool, true, false, List, [], ◌∷◌, length, get_or, set, map, replicate, Some, unwrap_or, cond, refl, sym, ap, ◌∙◌, subst, ⊎_elim, arith, count_by}
+use Rattle.std.proofs.Common.{◌≡◌, ◌≢◌, ℕ, zero, suc, ◌<◌, Bool, true, false, List, [], ◌∷◌, length, get_or, set, map}
+use Rattle.std.proofs.Common.{replicate, Some, unwrap_or, cond, refl, sym, ap, ◌∙◌, subst, ⊎_elim, arith, count_by}
 use Rattle.std.specs.Prelude.{IsTrue, slice_index}
 use Rattle.std.specs.List.{list_all}
 use Rattle.std.proofs.lemmas.Bool.{false≢true}
@@ -34,23 +35,28 @@ valid_as shield.Down h = absurd (false≢true h)
 valid_as (shield.Set slot) h = absurd (false≢true h)
 valid_as (shield.Valid slot) h = refl
 
-pub valid_at : (known : Seat) (place : ℕ) → IsTrue (is_valid_at known place) → shield_at known place ≡ shield.Valid (slot_at known place)
+pub valid_at : (known : Seat) (place : ℕ) → IsTrue (is_valid_at known place)
+    → shield_at known place ≡ shield.Valid (slot_at known place)
 valid_at known place h = valid_as (shield_at known place) h
 
 -- what a pass keeps of a valid shield
-pub under_valid : (under : List ℕ) (known : Seat) (place : ℕ) → AreUnder under known → IsTrue (is_valid_at known place) → slice_index under place ≡ slot_at known place
+pub under_valid : (under : List ℕ) (known : Seat) (place : ℕ) → AreUnder under known → IsTrue (is_valid_at known place)
+    → slice_index under place ≡ slot_at known place
 under_valid under known place h valid = h place (slot_at known place) (ap slot_under (valid_at known place valid))
 
 -- the least slot of a set that has one
 pub least_has : (marks : List Bool) → 0 < count_by (λ mark. mark) marks → has marks (least marks) ≡ true
 least_has [] h = absurd (omega (arith, h))
 least_has (true ∷ marks) h = refl
-least_has (false ∷ marks) h = least_has marks (let e = sum_by-cons (λ (b : Bool). cond b 1 0) false marks in omega (arith, e, h))
+least_has (false ∷ marks) h = least_has marks
+    (let e = sum_by-cons (λ (b : Bool). cond b 1 0) false marks in omega (arith, e, h))
 
 pub least_inside : (marks : List Bool) → 0 < count_by (λ mark. mark) marks → least marks < length marks
 least_inside [] h = absurd (omega (arith, h))
 least_inside (true ∷ marks) h = omega arith
-least_inside (false ∷ marks) h = let r = least_inside marks (let e = sum_by-cons (λ (b : Bool). cond b 1 0) false marks in omega (arith, e, h)) in omega (arith, r)
+least_inside (false ∷ marks) h = let r =
+    least_inside marks (let e = sum_by-cons (λ (b : Bool). cond b 1 0) false marks in omega (arith, e, h)) in
+    omega (arith, r)
 
 -- a check moves no shield
 
@@ -63,43 +69,59 @@ slot_validated seen (shield.Set slot) = one (has seen slot)
     one false = refl
 slot_validated seen (shield.Valid slot) = refl
 
-all_validated : (seen : List Bool) (shields : List ShieldAt) (place : ℕ) → slot_under (get_or (map (validated seen) shields) place shield.Down) ≡ slot_under (get_or shields place shield.Down)
+all_validated : (seen : List Bool) (shields : List ShieldAt) (place : ℕ)
+    → slot_under (get_or (map (validated seen) shields) place shield.Down)
+    ≡ slot_under (get_or shields place shield.Down)
 all_validated seen [] place = refl
 all_validated seen (s ∷ shields) zero = slot_validated seen s
 all_validated seen (s ∷ shields) (suc place) = all_validated seen shields place
 
-slot_checked : (status : Stance) (seen : List Bool) (shields : List ShieldAt) (place : ℕ) → slot_under (get_or (checked status seen shields) place shield.Down) ≡ slot_under (get_or shields place shield.Down)
+slot_checked : (status : Stance) (seen : List Bool) (shields : List ShieldAt) (place : ℕ)
+    → slot_under (get_or (checked status seen shields) place shield.Down)
+    ≡ slot_under (get_or shields place shield.Down)
 slot_checked stance.Out seen shields place = refl
 slot_checked (stance.In epoch) seen shields place = all_validated seen shields place
 slot_checked (stance.Ejected epoch) seen shields place = refl
 
-pub under_checked : (under : List ℕ) (result : Checked) (known : Seat) → AreUnder under known → AreUnder under (checked_seat result known)
-under_checked under found.Valid known h = λ place slot up. h place slot (sym (slot_checked known.status known.seen known.shields place) ∙ up)
+pub under_checked : (under : List ℕ) (result : Checked) (known : Seat) → AreUnder under known
+    → AreUnder under (checked_seat result known)
+under_checked under found.Valid known h =
+    λ place slot up. h place slot (sym (slot_checked known.status known.seen known.shields place) ∙ up)
 under_checked under found.Ejected known h = h
 
 -- a shield that is set
-pub under_set : (under : List ℕ) (known : Seat) (place slot : ℕ) → place < length under → AreUnder under known → AreUnder (set under place slot) (after_shield place (shield.Set slot) known)
+pub under_set : (under : List ℕ) (known : Seat) (place slot : ℕ) → place < length under → AreUnder under known
+    → AreUnder (set under place slot) (after_shield place (shield.Set slot) known)
 under_set under known place slot inside h = λ k other up. dite (ℕ_discrete k place)
     (λ (same : k ≡ place). subst (λ n. get_or (set under place slot) n 0 ≡ other) (sym same)
-    (get_or-set_same under place slot 0 inside ∙ told known.shields place (subst (λ n. slot_under (get_or (set known.shields place (shield.Set slot)) n shield.Down) ≡ Some other) same up)))
+    (get_or-set_same under place slot 0 inside
+    ∙ told known.shields place
+    (subst (λ n. slot_under (get_or (set known.shields place (shield.Set slot)) n shield.Down) ≡ Some other) same up)))
     (λ (apart : k ≢ place). get_or-set_other under place k slot 0 apart
     ∙ h k other (sym (ap slot_under (get_or-set_other known.shields place k (shield.Set slot) shield.Down apart)) ∙ up))
   where
-    told : (shields : List ShieldAt) (n : ℕ) {other : ℕ} → slot_under (get_or (set shields n (shield.Set slot)) n shield.Down) ≡ Some other → slot ≡ other
+    told : (shields : List ShieldAt) (n : ℕ) {other : ℕ}
+        → slot_under (get_or (set shields n (shield.Set slot)) n shield.Down) ≡ Some other → slot ≡ other
     told [] n e = absurd cc
     told (s ∷ ss) zero e = ap (λ o. unwrap_or o 0) e
     told (s ∷ ss) (suc n) e = told ss n e
 
 -- a shield that is taken down
-pub under_down : (under : List ℕ) (known : Seat) (place : ℕ) → AreUnder under known → AreUnder under (after_shield place shield.Down known)
+pub under_down : (under : List ℕ) (known : Seat) (place : ℕ) → AreUnder under known
+    → AreUnder under (after_shield place shield.Down known)
 under_down under known place h = λ k slot up. dite (ℕ_discrete k place)
     (λ (same : k ≡ place). h k slot (down k same up))
-    (λ (apart : k ≢ place). h k slot (sym (ap slot_under (get_or-set_other known.shields place k shield.Down shield.Down apart)) ∙ up))
+    (λ (apart : k ≢ place). h k slot
+    (sym (ap slot_under (get_or-set_other known.shields place k shield.Down shield.Down apart)) ∙ up))
   where
-    down : (k : ℕ) {slot : ℕ} → k ≡ place → slot_under (get_or (set known.shields place shield.Down) k shield.Down) ≡ Some slot → slot_under (get_or known.shields k shield.Down) ≡ Some slot
-    down k {slot} same up = absurd (none known.shields place (subst (λ n. slot_under (get_or (set known.shields place shield.Down) n shield.Down) ≡ Some slot) same up))
+    down : (k : ℕ) {slot : ℕ} → k ≡ place → slot_under (get_or (set known.shields place shield.Down) k shield.Down)
+        ≡ Some slot → slot_under (get_or known.shields k shield.Down) ≡ Some slot
+    down k {slot} same up =
+        absurd (none known.shields place
+        (subst (λ n. slot_under (get_or (set known.shields place shield.Down) n shield.Down) ≡ Some slot) same up))
       where
-        none : (shields : List ShieldAt) (n : ℕ) → slot_under (get_or (set shields n shield.Down) n shield.Down) ≡ Some slot → ⊥
+        none : (shields : List ShieldAt) (n : ℕ)
+            → slot_under (get_or (set shields n shield.Down) n shield.Down) ≡ Some slot → ⊥
         none [] n e = absurd cc
         none (s ∷ ss) zero e = absurd cc
         none (s ∷ ss) (suc n) e = none ss n e
@@ -109,31 +131,46 @@ under_down under known place h = λ k slot up. dite (ℕ_discrete k place)
 same_count : (known actual : Seat) → IsAsKnown known actual → held_count actual ≡ held_count known
 same_count known actual h = ⊎_elim
     (λ (e : actual ≡ known). ap held_count e)
-    (λ (e : (epoch : ℕ) × (known.status ≡ stance.In epoch) × (actual ≡ record known { status = stance.Ejected epoch })). ap held_count e.2)
+    (λ (e : (epoch : ℕ) × (known.status ≡ stance.In epoch) × (actual ≡ record known { status = stance.Ejected epoch })).
+    ap held_count e.2)
     h
 
-pub held_after : (shape : Shape) (s : Step) (a : Answer) (old new : Seat) → ((core : State) (s : Step) → IsSound core → IsTrue (is_enabled core s) → IsSound (after core s))
-    → ((core : State) (s : Step) → LeavesTheRest core s (after core s)) → seat_of s < shape.seats → IsStepOf shape s a old new → held_count new ≡ slots_per_seat shape
+pub held_after : (shape : Shape) (s : Step) (a : Answer) (old new : Seat)
+    → ((core : State) (s : Step) → IsSound core → IsTrue (is_enabled core s) → IsSound (after core s))
+    → ((core : State) (s : Step) → LeavesTheRest core s (after core s)) → seat_of s < shape.seats
+    → IsStepOf shape s a old new → held_count new ≡ slots_per_seat shape
 held_after shape s a old new law rest inside h =
     let sound = law h.core s h.sound h.enabled in
     let same : (after h.core s).shape ≡ shape = (rest h.core s).shape ∙ h.shape_is in
     sym (same_count new (seat_at (after h.core s) (seat_of s)) h.later)
-    ∙ (sound.holding (seat_of s) (subst (λ (sh : Shape). seat_of s < sh.seats) (sym same) inside) ∙ ap slots_per_seat same)
+    ∙ (sound.holding (seat_of s) (subst (λ (sh : Shape). seat_of s < sh.seats) (sym same) inside)
+    ∙ ap slots_per_seat same)
 
 -- shields that are all down
-pub all_down : (shields : List ShieldAt) (count : ℕ) → length shields ≡ count → ((place : ℕ) → place < count → get_or shields place shield.Down ≡ shield.Down) → shields ≡ replicate count shield.Down
+pub all_down : (shields : List ShieldAt) (count : ℕ) → length shields ≡ count
+    → ((place : ℕ) → place < count → get_or shields place shield.Down ≡ shield.Down)
+    → shields ≡ replicate count shield.Down
 all_down [] zero long each = refl
 all_down [] (suc count) long each = absurd (omega (arith, long))
 all_down (s ∷ shields) zero long each = absurd (omega (arith, long))
-all_down (s ∷ shields) (suc count) long each = ap (λ x. x ∷ shields) (each 0 (omega arith)) ∙ ap (λ l. shield.Down ∷ l) (all_down shields count (omega (arith, long)) (λ place lt. each (suc place) (omega (arith, lt))))
+all_down (s ∷ shields) (suc count) long each =
+    ap (λ x. x ∷ shields) (each 0 (omega arith))
+    ∙ ap (λ l. shield.Down ∷ l)
+    (all_down shields count (omega (arith, long)) (λ place lt. each (suc place) (omega (arith, lt))))
 
 -- a word that was read before is read again
-pub read_again : {whole : List ℕ → Type 0} {shape : Shape} (i slot word value : ℕ) (known : Seat) (past : History) (known' : Seat) (past' : History) → IsSure whole shape known' past'
-    → past' ≡ past_after (step.Read i slot word) (answer.Word value) known past → known' ≡ known → is_shielded known slot ≡ true
+pub read_again : {whole : List ℕ → Type 0} {shape : Shape} (i slot word value : ℕ) (known : Seat) (past : History)
+    (known' : Seat) (past' : History) → IsSure whole shape known' past'
+    → past' ≡ past_after (step.Read i slot word) (answer.Word value) known past → known' ≡ known
+    → is_shielded known slot ≡ true
     → (read : Read) → IsIn read past.reads → read.slot ≡ slot → read.word ≡ word → value ≡ read.value
-read_again {whole} {shape} i slot word value known past known' past' sure past_is known_is shielded read at slot_is word_is =
-    let now : IsSure whole shape known (past_after (step.Read i slot word) (answer.Word value) known past) = subst (λ k. IsSure whole shape k (past_after (step.Read i slot word) (answer.Word value) known past)) known_is (subst (λ p. IsSure whole shape known' p) past_is sure) in
-    now.same (record { slot = slot; word = word; value = value }) read (0, refl) (suc at.0, at.1) (sym slot_is) (sym word_is) shielded
+read_again {whole} {shape} i slot word value known past known' past' sure past_is known_is shielded read at slot_is
+    word_is =
+    let now : IsSure whole shape known (past_after (step.Read i slot word) (answer.Word value) known past) =
+    subst (λ k. IsSure whole shape k (past_after (step.Read i slot word) (answer.Word value) known past)) known_is
+    (subst (λ p. IsSure whole shape known' p) past_is sure) in
+    now.same (record { slot = slot; word = word; value = value }) read (0, refl) (suc at.0, at.1) (sym slot_is)
+    (sym word_is) shielded
 
 pub down_all : (count : ℕ) → list_all is_down (replicate count shield.Down) ≡ true
 down_all zero = refl

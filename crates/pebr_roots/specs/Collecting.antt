@@ -8,7 +8,8 @@ use Rattle.pebr_words.specs.Pasts.{History}
 
 -- A seat was found in and isn't passed.
 abbrev pub IsHeldUp : Seat → Type 0
-IsHeldUp known = (other : ℕ) × (epoch : ℕ) × (found_at (scan_of known) other ≡ Some epoch) × (has (scan_of known).passed other ≡ false)
+IsHeldUp known = (other : ℕ) × (epoch : ℕ) × (found_at (scan_of known) other ≡ Some epoch)
+    × (has (scan_of known).passed other ≡ false)
 
 -- The scan is open, and nothing but it has changed.
 pub record IsScanning (old new : Seat) : Type 0 where
@@ -48,7 +49,8 @@ pub record IsReading (other shields : ℕ) (old new : Seat) : Type 0 where
   pub scan : IsScanning old new
   pub passed : (j : ℕ) → has (scan_of new).passed j ≡ has (scan_of old).passed j
   pub read : (place : ℕ) → place < shields → has_scanned (scan_of new) other place ≡ true
-  pub unread : (place : ℕ) → shields ≤ place → has_scanned (scan_of new) other place ≡ has_scanned (scan_of old) other place
+  pub unread : (place : ℕ) → shields ≤ place
+      → has_scanned (scan_of new) other place ≡ has_scanned (scan_of old) other place
   pub others : (j place : ℕ) → j ≢ other → has_scanned (scan_of new) j place ≡ has_scanned (scan_of old) j place
   pub kept : kept_count new ≤ kept_count old + shields
 
@@ -63,7 +65,8 @@ pub record AreReading (me seats shields : ℕ) (old new : Seat) : Type 0 where
 abbrev pub others_below : ℕ → ℕ → ℕ
 others_below me bound = if nat_lt me bound then bound - 1 else bound
 
--- What a collection makes of the seat: slots are given, the others are left, and no more are left than the other seats have shields, or a seat holds the scan up.
+-- What a collection makes of the seat: slots are given, the others are left, and no more are left than the other seats
+-- have shields, or a seat holds the scan up.
 pub record IsCollected (shape : Shape) (force : Bool) (given left : ℕ) (old new : Seat) : Type 0 where
   pub rest : new ≡ record old { noted = new.noted; fresh = new.fresh; retired = new.retired; scan = new.scan }
   pub left_is : left ≡ retired_count new
@@ -72,9 +75,18 @@ pub record IsCollected (shape : Shape) (force : Bool) (given left : ℕ) (old ne
   pub few : is_scanning new ≡ false → left ≤ (shape.seats - 1) * shape.shields
   pub held_up : is_scanning new ≡ true → (force ≡ false) × (given ≡ 0) × IsHeldUp new
 
--- What a collection adds to what the seat remembers: a Note, an Advance unless the epoch is the last, a Give unless a seat holds the scan up, and without force no ejection.
+-- What a collection adds to what the seat remembers: a Note, an Advance unless the epoch is the last, a Give unless a
+-- seat holds the scan up, and without force no ejection.
 pub record HasCollected (shape : Shape) (force : Bool) (old new : History) (known : Seat) : Type 0 where
-  pub rest : new ≡ record old { last = new.last; steps = new.steps; notes = old.notes + 1; advances = new.advances; gives = new.gives; ejections = new.ejections }
+  pub rest : new ≡ record old {
+    last = new.last;
+    steps = new.steps;
+    notes = old.notes + 1;
+    advances =
+        new.advances;
+    gives = new.gives;
+    ejections = new.ejections;
+  }
   pub advances : (new.advances ≡ old.advances + 1) ⊎ ((new.advances ≡ old.advances) × (known.noted ≡ last_epoch))
   pub gives : new.gives ≡ old.gives + (if is_scanning known then 0 else 1)
   pub few : new.steps ≤ old.steps + (2 * (shape.seats - 1) + (shape.seats - 1) * shape.shields + 4)

@@ -30,14 +30,16 @@ abbrev pub entered_seat : Shape → ℕ → Seat → Seat
 entered_seat shape epoch seat = after_pin (after_note shape epoch seat)
 
 abbrev pub entered_past : ℕ → ℕ → Seat → History → History
-entered_past i epoch seat past = past_after (step.Pin i) (answer.In epoch) seat (past_after (step.Note i) (answer.Epoch epoch) seat past)
+entered_past i epoch seat past = past_after (step.Pin i) (answer.In epoch) seat
+    (past_after (step.Note i) (answer.Epoch epoch) seat past)
 
 -- Load, which found this slot, and Shield
 abbrev pub loaded_seat : ℕ → ℕ → Seat → Seat
 loaded_seat place slot seat = after_shield place (shield.Set slot) (after_load slot seat)
 
 abbrev pub loaded_past : ℕ → ℕ → ℕ → ℕ → Seat → History → History
-loaded_past i root place slot seat past = past_after (step.Shield i place slot) answer.Set seat (past_after (step.Load i root) (answer.Slot slot) seat past)
+loaded_past i root place slot seat past =
+    past_after (step.Shield i place slot) answer.Set seat (past_after (step.Load i root) (answer.Slot slot) seat past)
 
 -- Unshield for each place
 abbrev pub cleared_seat : Shape → Seat → Seat

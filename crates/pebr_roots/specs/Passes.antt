@@ -7,7 +7,8 @@ use Rattle.pebr_core.specs.State as core
 use Rattle.pebr_core.specs.State.{slots_per_seat}
 use Rattle.pebr_core.specs.Kept.{held_count}
 use Rattle.pebr_words.specs.Pasts.{History, Lost, Ejection, no_history}
-use Rattle.pebr_words.specs.Seats.{shape_of, fixed_of, known_of, number_of, numbers_of, note_of, past_of, lost_of, ejections_of, count_of, IsUnited, IsAt, IsStill, IsStep}
+use Rattle.pebr_words.specs.Seats.{shape_of, fixed_of, known_of, number_of, numbers_of, note_of, past_of, lost_of}
+use Rattle.pebr_words.specs.Seats.{ejections_of, count_of, IsUnited, IsAt, IsStill, IsStep}
 use Rattle.pebr_roots.specs.declared.pass.RootPass.{RootPass}
 use Rattle.pebr_roots.specs.declared.pass.Roots.{Roots}
 
@@ -57,12 +58,14 @@ module _ {P N A F : Type 0} where
     pub held : held_count (known_of pass.seat) ≡ slots_per_seat (shape_of roots.words)
 
   -- Steps were made: it is a pass of these roots with the same numbers as before.
-  pub record IsSame {g h : _} (roots : Roots P N A F) (old : RootPass P N A F g) (new : RootPass P N A F h) : Type 0 where
+  pub record IsSame {g h : _} (roots : Roots P N A F) (old : RootPass P N A F g)
+      (new : RootPass P N A F h) : Type 0 where
     pub of : IsOf roots new
     pub still : IsStill roots.words old.seat new.seat
 
   -- it made one step, this one, with this answer
-  abbrev pub IsOneStep : {g h : _} → (List ℕ → Type 0) → Roots P N A F → RootPass P N A F g → RootPass P N A F h → Step → Answer → Type 0
+  abbrev pub IsOneStep : {g h : _} → (List ℕ → Type 0) → Roots P N A F → RootPass P N A F g → RootPass P N A F h → Step
+      → Answer → Type 0
   IsOneStep whole roots old new step answer = IsStep whole roots.words old.seat new.seat step answer
 
   -- a pass that was opened with this number
@@ -77,6 +80,8 @@ module _ {P N A F : Type 0} where
     pub united : (empty : N) → IsUnited empty pass.seat
 
   -- one pass for each number
-  pub record AreOpenedPasses {g : _} (roots : Roots P N A F) (first : N) (passes : List (RootPass P N A F g)) : Type 0 where
+  pub record AreOpenedPasses {g : _} (roots : Roots P N A F) (first : N)
+      (passes : List (RootPass P N A F g)) : Type 0 where
     pub many : length passes ≡ (shape_of roots.words).seats
-    pub each : (i : ℕ) (d : _) → i < (shape_of roots.words).seats → IsOpenedPass roots first i (slice_index_or passes i d)
+    pub each : (i : ℕ) (d : _) → i < (shape_of roots.words).seats
+        → IsOpenedPass roots first i (slice_index_or passes i d)

@@ -19,4 +19,5 @@ is_valid_at known place = is_valid (shield_at known place)
 
 -- The list has the slot under each shield that is up.
 abbrev pub AreUnder : List ℕ → Seat → Type 0
-AreUnder under known = (place slot : ℕ) → slot_under (shield_at known place) ≡ Some slot → slice_index under place ≡ slot
+AreUnder under known = (place slot : ℕ) → slot_under (shield_at known place) ≡ Some slot
+    → slice_index under place ≡ slot

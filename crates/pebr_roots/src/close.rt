@@ -3,7 +3,8 @@
 ghost use Rattle.std.specs.Prelude.{◌≡◌, ◌++◌, ◌+◌, ◌*◌, IsTrue, IfOk, length, replicate, slice_set};
 ghost use Rattle.pebr_core.specs.State.{is_out};
 ghost use Rattle.pebr_words.specs.Opening.{rows_of};
-ghost use Rattle.pebr_roots.specs.Passes.{shape_at, fixed_at, known_by, number_by, numbers_by, count_by_pass, note_by, past_by, lost_by, ejections_by, IsUnitedPass, IsOf};
+ghost use Rattle.pebr_roots.specs.Passes.{shape_at, fixed_at, known_by, number_by, numbers_by, count_by_pass, note_by};
+ghost use Rattle.pebr_roots.specs.Passes.{past_by, lost_by, ejections_by, IsUnitedPass, IsOf};
 
 use crate::pass::{RootPass, Roots};
 use pebr_shields::{NoMemory, RootProtocol};
@@ -45,7 +46,8 @@ impl<P: RootProtocol> Roots<P> {
         requires out { IsTrue (is_out (known_by pass).status) }
         requires whole { count_by_pass pass ≡ (shape_at self).seats }
         requires united { IsUnitedPass P.empty pass }
-        ensures length { IfOk result (λ contents. length contents.items ≡ (shape_at self).roots * (shape_at self).width) }
+        ensures length { IfOk result (λ contents. length contents.items
+            ≡ (shape_at self).roots * (shape_at self).width) }
         ensures keeps { IfOk result (λ contents. P.keeps (fixed_at self) (rows_of (shape_at self) contents.items)
             (slice_set (replicate (shape_at self).seats P.empty) (number_by pass) (note_by P.first pass))) }
     {

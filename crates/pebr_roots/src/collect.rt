@@ -28,11 +28,14 @@ impl<P: RootProtocol> Roots<P> {
         requires down { IsTrue (list_all is_down (known_by pass.old).shields) }
         ensures same { IsSame self.now pass.old pass.new }
         ensures note { note_by P.first pass.new ≡ note_by P.first pass.old }
-        ensures slots { IsCollected (shape_at self.now) force result.given result.left (known_by pass.old) (known_by pass.new) }
-        ensures past { HasCollected (shape_at self.now) force (past_by pass.old) (past_by pass.new) (known_by pass.new) }
+        ensures slots { IsCollected (shape_at self.now) force result.given result.left (known_by pass.old)
+            (known_by pass.new) }
+        ensures past { HasCollected (shape_at self.now) force (past_by pass.old) (past_by pass.new)
+            (known_by pass.new) }
         ensures sure { IsSure P.whole (shape_at self.now) (known_by pass.new) (past_by pass.new) }
         ensures left { IsTrue force → result.left ≤ ((shape_at self.now).seats - 1) * (shape_at self.now).shields }
-        ensures fresh { IsTrue force → (shape_at self.now).batch + (shape_at self.now).shields ≤ fresh_count (known_by pass.new) }
+        ensures fresh { IsTrue force → (shape_at self.now).batch + (shape_at self.now).shields
+            ≤ fresh_count (known_by pass.new) }
     {
         kept_slots_are_counted();
         steps_are_safe();

@@ -8,7 +8,8 @@ ghost use Rattle.pebr_core.specs.Steps.{after_leave};
 ghost use Rattle.pebr_words.specs.Making.{act_on};
 ghost use Rattle.pebr_words.specs.Ruled.{CanNote, IsSure};
 ghost use Rattle.pebr_roots.specs.Ends.{entered_seat, entered_past};
-ghost use Rattle.pebr_roots.specs.Passes.{shape_at, fixed_at, known_by, number_by, note_by, past_by, IsOf, IsSame, IsOneStep};
+ghost use Rattle.pebr_roots.specs.Passes.{shape_at, fixed_at, known_by, number_by, note_by, past_by, IsOf, IsSame};
+ghost use Rattle.pebr_roots.specs.Passes.{IsOneStep};
 
 use crate::pass::{RootPass, Roots};
 use pebr_core::steps_are_safe;
@@ -22,8 +23,10 @@ impl<P: RootProtocol> Roots<P> {
         requires out { IsTrue (is_out (known_by pass.old).status) }
         ensures same { IsSame self.now pass.old pass.new }
         ensures note { note_by P.first pass.new ≡ note_by P.first pass.old }
-        ensures known { known_by pass.new ≡ entered_seat (shape_at self.now) (known_by pass.new).noted (known_by pass.old) }
-        ensures past { past_by pass.new ≡ entered_past (number_by pass.old) (known_by pass.new).noted (known_by pass.old) (past_by pass.old) }
+        ensures known { known_by pass.new ≡ entered_seat (shape_at self.now) (known_by pass.new).noted
+            (known_by pass.old) }
+        ensures past { past_by pass.new ≡ entered_past (number_by pass.old) (known_by pass.new).noted
+            (known_by pass.old) (past_by pass.old) }
         ensures sure { IsSure P.whole (shape_at self.now) (known_by pass.new) (past_by pass.new) }
     {
         steps_are_safe();
@@ -35,7 +38,8 @@ impl<P: RootProtocol> Roots<P> {
     pub fn leave(&self, pass: &mut RootPass<P>, act: Option<P::Act>)
         requires of { IsOf self.now pass.old }
         requires entered { is_out (known_by pass.old).status ≡ false }
-        requires keeps { CanNote (P.keeps (fixed_at self.now)) (number_by pass.old) (note_by P.first pass.old) (act_on P.after act (note_by P.first pass.old)) }
+        requires keeps { CanNote (P.keeps (fixed_at self.now)) (number_by pass.old) (note_by P.first pass.old)
+            (act_on P.after act (note_by P.first pass.old)) }
         ensures same { IsSame self.now pass.old pass.new }
         ensures note { note_by P.first pass.new ≡ act_on P.after act (note_by P.first pass.old) }
         ensures known { known_by pass.new ≡ after_leave (known_by pass.old) }

@@ -2,34 +2,35 @@
 //!
 //! # What it is
 //!
-//! Each root holds a slot of a few words, its content. A thread reads contents and replaces them through a pass of its own
-//! ([`RootPass`]), and waits for nobody:
+//! Each root holds a slot of a few words, its content. A thread reads contents and replaces them through a pass of its
+//! own ([`RootPass`]), and waits for nobody:
 //!
 //! - **Enter** notes the epoch and pins it ([`Roots::enter`]).
 //! - **Load** a root and set a shield on its slot ([`Roots::load`]), a few roots if need be.
-//! - **Check** ([`Roots::check`]): if the pass is still in, the shields are valid. If another pass has ejected it, leave and
-//!   try again.
-//! - **Read** the words of a slot under a valid shield ([`Roots::read`]). Nobody writes them while the shield stays up, even
-//!   if the pass is ejected afterwards. A content that was read word by word is whole: it is one that some pass put into a
-//!   root.
-//! - **Replace**: write the least fresh slot ([`Roots::write_fresh`]), then put it into a root that still has the slot under
-//!   the shield ([`Roots::replace`]). The old slot is retired.
+//! - **Check** ([`Roots::check`]): if the pass is still in, the shields are valid. If another pass has ejected it,
+//!   leave and try again.
+//! - **Read** the words of a slot under a valid shield ([`Roots::read`]). Nobody writes them while the shield stays up,
+//!   even if the pass is ejected afterwards. A content that was read word by word is whole: it is one that some pass
+//!   put into a root.
+//! - **Replace**: write the least fresh slot ([`Roots::write_fresh`]), then put it into a root that still has the slot
+//!   under the shield ([`Roots::replace`]). The old slot is retired.
 //! - **Clear** the shields and **leave** ([`Roots::clear`], [`Roots::leave`]).
 //!
 //! # Where fresh slots come from
 //!
-//! A pass owns `batch + seats * shields` slots, fresh and retired together ([`RootPass::fresh`], [`RootPass::retired`]).
-//! [`Roots::collect`] makes retired slots fresh that nobody uses any more. It raises the epoch and looks at each other seat.
-//! One that is in with an old epoch holds the scan up. Without force the collection ends there. With force it ejects that
-//! seat, goes on, and reads the shields of all the others: a retired slot under a shield stays retired, the rest is fresh. So
-//! at most `(seats - 1) * shields` slots are left, whatever the other passes do, and the steps that it makes have a bound.
+//! A pass owns `batch + seats * shields` slots, fresh and retired together ([`RootPass::fresh`],
+//! [`RootPass::retired`]). [`Roots::collect`] makes retired slots fresh that nobody uses any more. It raises the epoch
+//! and looks at each other seat. One that is in with an old epoch holds the scan up. Without force the collection ends
+//! there. With force it ejects that seat, goes on, and reads the shields of all the others: a retired slot under a
+//! shield stays retired, the rest is fresh. So at most `(seats - 1) * shields` slots are left, whatever the other
+//! passes do, and the steps that it makes have a bound.
 //!
 //! # What the clauses say
 //!
 //! A pass is seen by what it knows of its part of the core, by its note, and by its history: loads, reads, tries lost,
-//! ejections made, counts of steps (`specs/Passes.antt`). Each call says which steps it made and what these are afterwards. A
-//! [`RootProtocol`] says what the layer above keeps of the contents of all roots and of all notes: `replace` and `leave` ask
-//! that it still keeps, and [`Roots::close`] gives contents with which it keeps.
+//! ejections made, counts of steps (`specs/Passes.antt`). Each call says which steps it made and what these are
+//! afterwards. A [`RootProtocol`] says what the layer above keeps of the contents of all roots and of all notes:
+//! `replace` and `leave` ask that it still keeps, and [`Roots::close`] gives contents with which it keeps.
 //!
 //! No call but `open` and `close` takes memory, and none but these goes over all slots.
 #![tactic(auto)]

@@ -1,6 +1,7 @@
 //! Opening: the roots, and a pass for each number.
 
-ghost use Rattle.std.specs.Prelude.{◌≡◌, ◌*◌, ◌<◌, ℕ, ◌∷◌, [], ◌++◌, length, replicate, IfOk, OnOk, All, slice_index_or};
+ghost use Rattle.std.specs.Prelude.{◌≡◌, ◌*◌, ◌<◌, ℕ, ◌∷◌, [], ◌++◌, length, replicate, IfOk, OnOk, All};
+ghost use Rattle.std.specs.Prelude.{slice_index_or};
 ghost use Rattle.pebr_core.specs.Kept.{IsWithinLimits};
 ghost use Rattle.pebr_words.specs.Opening.{rows_of};
 ghost use Rattle.pebr_words.specs.Seats.{IsOpenedSeat, AreOpened, shape_of};

@@ -27,7 +27,8 @@ impl<P: RootProtocol> Roots<P> {
         ensures same { IsSame self.now pass.old pass.new }
         ensures note { note_by P.first pass.new ≡ note_by P.first pass.old }
         ensures known { known_by pass.new ≡ loaded_seat place result (known_by pass.old) }
-        ensures past { past_by pass.new ≡ loaded_past (number_by pass.old) root place result (known_by pass.old) (past_by pass.old) }
+        ensures past { past_by pass.new ≡ loaded_past (number_by pass.old) root place result (known_by pass.old)
+            (past_by pass.old) }
         ensures sure { IsSure P.whole (shape_at self.now) (known_by pass.new) (past_by pass.new) }
         ensures slot { result < slot_count (shape_at self.now) }
         ensures seen { has (known_by pass.new).seen result ≡ true }
@@ -46,8 +47,10 @@ impl<P: RootProtocol> Roots<P> {
         ensures same { IsSame self.now pass.old pass.new }
         ensures note { note_by P.first pass.new ≡ note_by P.first pass.old }
         ensures known { known_by pass.new ≡ checked_seat result (known_by pass.old) }
-        ensures step { IsOneStep P.whole self.now pass.old pass.new (step.Check (number_by pass.old)) (answer_to result) }
-        ensures valid { result ≡ checked.Valid → (place slot : ℕ) → shield_at (known_by pass.old) place ≡ shield.Set slot → has (known_by pass.old).seen slot ≡ true
+        ensures step { IsOneStep P.whole self.now pass.old pass.new (step.Check (number_by pass.old))
+            (answer_to result) }
+        ensures valid { result ≡ checked.Valid → (place slot : ℕ)
+            → shield_at (known_by pass.old) place ≡ shield.Set slot → has (known_by pass.old).seen slot ≡ true
             → shield_at (known_by pass.new) place ≡ shield.Valid slot }
     {
         check(&self.words, &mut pass.seat)
@@ -63,9 +66,12 @@ impl<P: RootProtocol> Roots<P> {
         ensures same { IsSame self.now pass.old pass.new }
         ensures note { note_by P.first pass.new ≡ note_by P.first pass.old }
         ensures known { known_by pass.new ≡ known_by pass.old }
-        ensures step { IsOneStep P.whole self.now pass.old pass.new (step.Read (number_by pass.old) (slot_at (known_by pass.old) place) word) (answer.Word result) }
-        ensures again { (read : Read) → IsIn read (past_by pass.old).reads → read.slot ≡ slot_at (known_by pass.old) place → read.word ≡ word → result ≡ read.value }
-        ensures whole { (content : List ℕ) → HasReadWhole (shape_at self.now) (past_by pass.new) (slot_at (known_by pass.old) place) content → P.whole content }
+        ensures step { IsOneStep P.whole self.now pass.old pass.new
+            (step.Read (number_by pass.old) (slot_at (known_by pass.old) place) word) (answer.Word result) }
+        ensures again { (read : Read) → IsIn read (past_by pass.old).reads
+            → read.slot ≡ slot_at (known_by pass.old) place → read.word ≡ word → result ≡ read.value }
+        ensures whole { (content : List ℕ) → HasReadWhole (shape_at self.now) (past_by pass.new)
+            (slot_at (known_by pass.old) place) content → P.whole content }
     {
         valid_shields_protect();
         let slot = pass.under[place];

@@ -6,7 +6,8 @@ ghost use Rattle.pebr_core.specs.Steps.{is_scanning, after_note};
 ghost use Rattle.pebr_core.specs.Frames.{kept_count};
 ghost use Rattle.pebr_words.specs.Ruled.{IsSure};
 ghost use Rattle.pebr_words.specs.Seats.{IsAt, IsStill, shape_of, known_of, number_of, note_of, past_of};
-ghost use Rattle.pebr_roots.specs.Collecting.{HasOpened, HasLooked, IsPassing, ArePassing, IsReading, AreReading, others_below};
+ghost use Rattle.pebr_roots.specs.Collecting.{HasOpened, HasLooked, IsPassing, ArePassing, IsReading, AreReading};
+ghost use Rattle.pebr_roots.specs.Collecting.{others_below};
 
 use pebr_core::{LAST_EPOCH, kept_slots_are_counted};
 use pebr_shields::{RootProtocol, Seat, Words, scan};
@@ -70,7 +71,8 @@ pub fn pass_all<P: RootProtocol>(words: &Words<P>, seat: &mut Seat<P>, force: bo
     requires unpassed { (j : ℕ) → has (scan_of (known_of seat.old)).passed j ≡ false }
     ensures still { IsStill words.now seat.old seat.new }
     ensures note { note_of P.first seat.new ≡ note_of P.first seat.old }
-    ensures known { ArePassing (number_of seat.old) (shape_of words.now).seats result (known_of seat.old) (known_of seat.new) }
+    ensures known { ArePassing (number_of seat.old) (shape_of words.now).seats result (known_of seat.old)
+        (known_of seat.new) }
     ensures past { HasLooked (past_of seat.old) (past_of seat.new) (2 * ((shape_of words.now).seats - 1)) }
     ensures forced { IsTrue force → IsTrue result }
     ensures mild { force ≡ false → (past_of seat.new).ejections ≡ (past_of seat.old).ejections }
@@ -112,8 +114,10 @@ fn scan_other<P: RootProtocol>(words: &Words<P>, seat: &mut Seat<P>, other: usiz
     requires unread { (place : ℕ) → has_scanned (scan_of (known_of seat.old)) other place ≡ false }
     ensures still { IsStill words.now seat.old seat.new }
     ensures note { note_of P.first seat.new ≡ note_of P.first seat.old }
-    ensures known { IsReading other (if other == number_of seat.old then 0 else (shape_of words.now).shields) (known_of seat.old) (known_of seat.new) }
-    ensures past { HasLooked (past_of seat.old) (past_of seat.new) (if other == number_of seat.old then 0 else (shape_of words.now).shields) }
+    ensures known { IsReading other (if other == number_of seat.old then 0 else (shape_of words.now).shields)
+        (known_of seat.old) (known_of seat.new) }
+    ensures past { HasLooked (past_of seat.old) (past_of seat.new)
+        (if other == number_of seat.old then 0 else (shape_of words.now).shields) }
     ensures ejections { (past_of seat.new).ejections ≡ (past_of seat.old).ejections }
 {
     if other != seat.number() {
@@ -125,13 +129,17 @@ fn scan_other<P: RootProtocol>(words: &Words<P>, seat: &mut Seat<P>, other: usiz
 pub fn scan_all<P: RootProtocol>(words: &Words<P>, seat: &mut Seat<P>)
     requires at { IsAt words.now seat.old }
     requires scanning { IsTrue (is_scanning (known_of seat.old)) }
-    requires passed { (j : ℕ) → j < (shape_of words.now).seats → j ≢ number_of seat.old → has (scan_of (known_of seat.old)).passed j ≡ true }
+    requires passed { (j : ℕ) → j < (shape_of words.now).seats → j ≢ number_of seat.old
+        → has (scan_of (known_of seat.old)).passed j ≡ true }
     requires unread { (j place : ℕ) → has_scanned (scan_of (known_of seat.old)) j place ≡ false }
     ensures still { IsStill words.now seat.old seat.new }
     ensures note { note_of P.first seat.new ≡ note_of P.first seat.old }
-    ensures known { AreReading (number_of seat.old) (shape_of words.now).seats (shape_of words.now).shields (known_of seat.old) (known_of seat.new) }
-    ensures kept { kept_count (known_of seat.new) ≤ kept_count (known_of seat.old) + ((shape_of words.now).seats - 1) * (shape_of words.now).shields }
-    ensures past { HasLooked (past_of seat.old) (past_of seat.new) (((shape_of words.now).seats - 1) * (shape_of words.now).shields) }
+    ensures known { AreReading (number_of seat.old) (shape_of words.now).seats (shape_of words.now).shields
+        (known_of seat.old) (known_of seat.new) }
+    ensures kept { kept_count (known_of seat.new)
+        ≤ kept_count (known_of seat.old) + ((shape_of words.now).seats - 1) * (shape_of words.now).shields }
+    ensures past { HasLooked (past_of seat.old) (past_of seat.new)
+        (((shape_of words.now).seats - 1) * (shape_of words.now).shields) }
     ensures ejections { (past_of seat.new).ejections ≡ (past_of seat.old).ejections }
 {
     for other in 0..words.shape().seats {

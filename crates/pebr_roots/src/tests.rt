@@ -7,7 +7,8 @@ ghost use Rattle.pebr_core.specs.declared.kinds.ShieldAt.TheVariants as shield;
 ghost use Rattle.pebr_core.specs.Frames.{fresh_count};
 ghost use Rattle.pebr_shields.specs.declared.checked.Checked.TheVariants as checked;
 ghost use Rattle.pebr_roots.specs.Under.{is_valid_at};
-ghost use Rattle.pebr_roots.specs.Passes.{shape_at, known_by, past_by, number_by, count_by_pass, IsOf, IsSame, IsUnitedPass, IsOpenedPass};
+ghost use Rattle.pebr_roots.specs.Passes.{shape_at, known_by, past_by, number_by, count_by_pass, IsOf, IsSame};
+ghost use Rattle.pebr_roots.specs.Passes.{IsUnitedPass, IsOpenedPass};
 
 use crate::ends::{Collected, ReplaceEnd};
 use crate::pass::{RootPass, Roots};
@@ -58,7 +59,8 @@ fn protect(roots: &Roots<Free>, pass: &mut RootPass<Free>) -> (usize, Checked)
 fn swap(roots: &Roots<Free>, pass: &mut RootPass<Free>, value: u64) -> Option<ReplaceEnd>
     requires of { IsOf roots.now pass.old }
     requires entered { is_out (known_by pass.old).status ≡ false }
-    requires one { ((shape_at roots.now).roots ≡ 1) × ((shape_at roots.now).shields ≡ 1) × ((shape_at roots.now).width ≡ 1) }
+    requires one { ((shape_at roots.now).roots ≡ 1) × ((shape_at roots.now).shields ≡ 1)
+        × ((shape_at roots.now).width ≡ 1) }
     requires valid { IsTrue (is_valid_at (known_by pass.old) 0) }
     ensures same { IsSame roots.now pass.old pass.new }
     ensures entered { is_out (known_by pass.new).status ≡ false }
@@ -90,7 +92,8 @@ fn attempt(
 ) -> (usize, Checked, Option<ReplaceEnd>)
     requires of { IsOf roots.now pass.old }
     requires out { IsTrue (is_out (known_by pass.old).status) }
-    requires one { ((shape_at roots.now).roots ≡ 1) × ((shape_at roots.now).shields ≡ 1) × ((shape_at roots.now).width ≡ 1) }
+    requires one { ((shape_at roots.now).roots ≡ 1) × ((shape_at roots.now).shields ≡ 1)
+        × ((shape_at roots.now).width ≡ 1) }
     ensures same { IsSame roots.now pass.old pass.new }
     ensures out { IsTrue (is_out (known_by pass.new).status) }
     ensures down { IsTrue (list_all is_down (known_by pass.new).shields) }
@@ -110,7 +113,8 @@ fn swap_if(
 ) -> Option<ReplaceEnd>
     requires of { IsOf roots.now pass.old }
     requires entered { is_out (known_by pass.old).status ≡ false }
-    requires one { ((shape_at roots.now).roots ≡ 1) × ((shape_at roots.now).shields ≡ 1) × ((shape_at roots.now).width ≡ 1) }
+    requires one { ((shape_at roots.now).roots ≡ 1) × ((shape_at roots.now).shields ≡ 1)
+        × ((shape_at roots.now).width ≡ 1) }
     requires valid { found ≡ checked.Valid → IsTrue (is_valid_at (known_by pass.old) 0) }
     ensures same { IsSame roots.now pass.old pass.new }
     ensures entered { is_out (known_by pass.new).status ≡ false }
@@ -144,7 +148,8 @@ fn ejected_after_its_check(
 ) -> bool
     requires first { IsOpenedPass roots.now tt 0 first.old }
     requires second { IsOpenedPass roots.now tt 1 second.old }
-    requires one { ((shape_at roots.now).roots ≡ 1) × ((shape_at roots.now).shields ≡ 1) × ((shape_at roots.now).width ≡ 1) }
+    requires one { ((shape_at roots.now).roots ≡ 1) × ((shape_at roots.now).shields ≡ 1)
+        × ((shape_at roots.now).width ≡ 1) }
     ensures same { IsSame roots.now first.old first.new × IsSame roots.now second.old second.new }
     ensures out { IsTrue (is_out (known_by first.new).status) × IsTrue (is_out (known_by second.new).status) }
 {
@@ -177,7 +182,8 @@ fn all_but_one_are_given(
 ) -> bool
     requires first { IsOpenedPass roots.now tt 0 first.old }
     requires second { IsOpenedPass roots.now tt 1 second.old }
-    requires one { ((shape_at roots.now).roots ≡ 1) × ((shape_at roots.now).shields ≡ 1) × ((shape_at roots.now).width ≡ 1) }
+    requires one { ((shape_at roots.now).roots ≡ 1) × ((shape_at roots.now).shields ≡ 1)
+        × ((shape_at roots.now).width ≡ 1) }
     ensures same { IsSame roots.now first.old first.new × IsSame roots.now second.old second.new }
     ensures out { IsTrue (is_out (known_by first.new).status) × IsTrue (is_out (known_by second.new).status) }
 {
@@ -201,7 +207,8 @@ fn all_but_one_are_given(
 fn stop_behind(roots: &Roots<Free>, pass: &mut RootPass<Free>, calls: usize)
     requires of { IsOf roots.now pass.old }
     requires out { IsTrue (is_out (known_by pass.old).status) }
-    requires one { ((shape_at roots.now).roots ≡ 1) × ((shape_at roots.now).shields ≡ 1) × ((shape_at roots.now).width ≡ 1) }
+    requires one { ((shape_at roots.now).roots ≡ 1) × ((shape_at roots.now).shields ≡ 1)
+        × ((shape_at roots.now).width ≡ 1) }
     ensures { IsOf roots.now pass.new }
 {
     if calls == 0 {
@@ -218,8 +225,10 @@ fn stop_behind(roots: &Roots<Free>, pass: &mut RootPass<Free>, calls: usize)
 fn stop_behind_load(roots: &Roots<Free>, pass: &mut RootPass<Free>, calls: usize)
     requires of { IsOf roots.now pass.old }
     requires entered { is_out (known_by pass.old).status ≡ false }
-    requires one { ((shape_at roots.now).roots ≡ 1) × ((shape_at roots.now).shields ≡ 1) × ((shape_at roots.now).width ≡ 1) }
-    requires set { (slot : ℕ) × (shield_at (known_by pass.old) 0 ≡ shield.Set slot) × (has (known_by pass.old).seen slot ≡ true) }
+    requires one { ((shape_at roots.now).roots ≡ 1) × ((shape_at roots.now).shields ≡ 1)
+        × ((shape_at roots.now).width ≡ 1) }
+    requires set { (slot : ℕ) × (shield_at (known_by pass.old) 0 ≡ shield.Set slot)
+        × (has (known_by pass.old).seen slot ≡ true) }
     ensures { IsOf roots.now pass.new }
 {
     if calls == 2 {
@@ -235,7 +244,8 @@ fn stop_behind_load(roots: &Roots<Free>, pass: &mut RootPass<Free>, calls: usize
 fn stop_behind_check(roots: &Roots<Free>, pass: &mut RootPass<Free>, calls: usize)
     requires of { IsOf roots.now pass.old }
     requires entered { is_out (known_by pass.old).status ≡ false }
-    requires one { ((shape_at roots.now).roots ≡ 1) × ((shape_at roots.now).shields ≡ 1) × ((shape_at roots.now).width ≡ 1) }
+    requires one { ((shape_at roots.now).roots ≡ 1) × ((shape_at roots.now).shields ≡ 1)
+        × ((shape_at roots.now).width ≡ 1) }
     requires valid { IsTrue (is_valid_at (known_by pass.old) 0) }
     ensures { IsOf roots.now pass.new }
 {
@@ -256,8 +266,9 @@ fn stop_behind_check(roots: &Roots<Free>, pass: &mut RootPass<Free>, calls: usiz
     }
 }
 
-/// A collection by force, of two seats with one shield each. The steps that it takes are no value of the program, so its
-/// contract counts them, whatever the other pass was stopped at: `2 * (seats - 1) + (seats - 1) * shields + 4` are 7.
+/// A collection by force, of two seats with one shield each. The steps that it takes are no value of the program, so
+/// its contract counts them, whatever the other pass was stopped at: `2 * (seats - 1) + (seats - 1) * shields + 4` are
+/// 7.
 fn collect_by_force(roots: &Roots<Free>, pass: &mut RootPass<Free>) -> Collected
     requires of { IsOf roots.now pass.old }
     requires out { IsTrue (is_out (known_by pass.old).status) }
@@ -279,7 +290,8 @@ fn left_behind(
 ) -> (usize, usize)
     requires first { IsOpenedPass roots.now tt 0 first.old }
     requires second { IsOpenedPass roots.now tt 1 second.old }
-    requires one { ((shape_at roots.now).roots ≡ 1) × ((shape_at roots.now).shields ≡ 1) × ((shape_at roots.now).width ≡ 1) }
+    requires one { ((shape_at roots.now).roots ≡ 1) × ((shape_at roots.now).shields ≡ 1)
+        × ((shape_at roots.now).width ≡ 1) }
     requires two { (shape_at roots.now).seats ≡ 2 }
 {
     attempt(roots, first, 1);
@@ -293,7 +305,13 @@ fn left_behind(
 
 /// One root with the content 5, and two passes.
 fn two(alloc: Global) -> Result<(Roots<Free>, RootPass<Free>, RootPass<Free>), NoMemory>
-    ensures shape { IfOk result (λ r. shape_at r.0 ≡ record { roots = 1; seats = 2; shields = 1; batch = 1; width = 1 }) }
+    ensures shape { IfOk result (λ r. shape_at r.0 ≡ record {
+      roots = 1;
+      seats = 2;
+      shields = 1;
+      batch = 1;
+      width = 1;
+    }) }
     ensures first { IfOk result (λ r. IsOpenedPass r.0 tt 0 r.1) }
     ensures second { IfOk result (λ r. IsOpenedPass r.0 tt 1 r.2) }
 {

@@ -40,7 +40,8 @@ pub fn check<P: RootProtocol>(words: &Words<P>, seat: &mut Seat<P>) -> Checked
     ensures note { note_of P.first seat.new ≡ note_of P.first seat.old }
     ensures known { known_of seat.new ≡ checked_seat result (known_of seat.old) }
     ensures step { IsStep P.whole words.now seat.old seat.new (step.Check (number_of seat.old)) (answer_to result) }
-    ensures valid { result ≡ Checked.Valid → (place slot : ℕ) → core.shield_at (known_of seat.old) place ≡ shield_at.Set slot → has (known_of seat.old).seen slot ≡ true
+    ensures valid { result ≡ Checked.Valid → (place slot : ℕ)
+        → core.shield_at (known_of seat.old) place ≡ shield_at.Set slot → has (known_of seat.old).seen slot ≡ true
         → core.shield_at (known_of seat.new) place ≡ shield_at.Valid slot }
 {
     if words.own_status(seat) {
@@ -57,7 +58,8 @@ pub fn unshield<P: RootProtocol>(words: &Words<P>, seat: &mut Seat<P>, place: us
     ensures still { IsStill words.now seat.old seat.new }
     ensures note { note_of P.first seat.new ≡ note_of P.first seat.old }
     ensures known { known_of seat.new ≡ after_shield place shield_at.Down (known_of seat.old) }
-    ensures step { IsStep P.whole words.now seat.old seat.new (step.Unshield (number_of seat.old) place) answer.Cleared }
+    ensures step { IsStep P.whole words.now seat.old seat.new
+        (step.Unshield (number_of seat.old) place) answer.Cleared }
     ensures down { core.shield_at (known_of seat.new) place ≡ shield_at.Down }
 {
     words.clear_shield(seat, place);
@@ -81,7 +83,8 @@ pub fn scan<P: RootProtocol>(
     ensures still { IsStill words.now seat.old seat.new }
     ensures note { note_of P.first seat.new ≡ note_of P.first seat.old }
     ensures known { known_of seat.new ≡ after_scan other place result (known_of seat.old) }
-    ensures step { IsStep P.whole words.now seat.old seat.new (step.Scan (number_of seat.old) other place) (found_under result) }
+    ensures step { IsStep P.whole words.now seat.old seat.new (step.Scan (number_of seat.old) other place)
+        (found_under result) }
     ensures scanned { has_scanned (scan_of (known_of seat.new)) other place ≡ true }
 {
     words.scan_shield(seat, other, place)

@@ -25,17 +25,21 @@ still_fresh (m ∷ ms) [] slot h = h
 still_fresh (m ∷ ms) (o ∷ os) zero h = ap (λ b. b || o) h
 still_fresh (m ∷ ms) (o ∷ os) (suc slot) h = still_fresh ms os slot h
 
-pub give_by : (shape : Shape) (number : ℕ) (known : Seat) (scan : Scan) → known.scan ≡ Some scan → is_complete shape number scan ≡ true → list_all is_down known.shields ≡ true
+pub give_by : (shape : Shape) (number : ℕ) (known : Seat) (scan : Scan) → known.scan ≡ Some scan
+    → is_complete shape number scan ≡ true → list_all is_down known.shields ≡ true
     → IsMadeBy shape (step.Give number) number known (λ n. n)
 give_by shape number known scan scans complete down core found is_shape sound inside as_known told =
     let seat : Seat = seat_at core number in
     let same = scans_known core number known scan sound scans as_known in
     let list = in_list shape core number is_shape sound inside in
     let new : Seat = after_give core.epoch seat in
-    let scan_is : scan_of seat ≡ scan = ap (λ (s : Seat). unwrap_or s.scan no_scan) same ∙ ap (λ s. unwrap_or s no_scan) scans in (
-      and_true (is_seat core number && is_scanning seat && is_complete core.shape number (scan_of seat)) (list_all is_down seat.shields)
+    let scan_is : scan_of seat ≡ scan = ap (λ (s : Seat). unwrap_or s.scan no_scan) same
+    ∙ ap (λ s. unwrap_or s no_scan) scans in (
+      and_true (is_seat core number && is_scanning seat && is_complete core.shape number (scan_of seat))
+          (list_all is_down seat.shields)
           (and_true (is_seat core number && is_scanning seat) (is_complete core.shape number (scan_of seat))
-          (and_true (is_seat core number) (is_scanning seat) (is_one shape core number is_shape sound inside) (ap (λ (s : Seat). is_some s.scan) same ∙ ap is_some scans))
+          (and_true (is_seat core number) (is_scanning seat) (is_one shape core number is_shape sound inside)
+          (ap (λ (s : Seat). is_some s.scan) same ∙ ap is_some scans))
           (ap (is_complete core.shape number) scan_is ∙ (ap (λ s. is_complete s number scan) is_shape ∙ complete)))
           (ap (λ (s : Seat). list_all is_down s.shields) same ∙ down),
       own_made core (step.Give number) found found known new list
@@ -43,12 +47,19 @@ give_by shape number known scan scans complete down core found is_shape sound in
           (λ q _. seat_signs core number new list q (λ _. refl) (λ k _. refl))
           (inl (ap (λ n. after_give n seat) (sym told) ∙ ap (after_give found) same))
           (λ epoch h. h)
-          (ap (answer_found (step.Give number) known) told ∙ ap (λ (s : Seat). answer_found (step.Give number) s core.epoch) (sym same)),
+          (ap (answer_found (step.Give number) known) told
+          ∙ ap (λ (s : Seat). answer_found (step.Give number) s core.epoch) (sym same)),
     )
 
-pub give_kept : {N A : Type 0} (keeps : List (List ℕ) → List N → Type 0) (whole : List ℕ → Type 0) (after_act : N → A → N) {shape : Shape} (number : ℕ) {known : Seat} {past : History} (note : N) (left : ℕ → ℕ)
+pub give_kept : {N A : Type 0} (keeps : List (List ℕ) → List N → Type 0) (whole : List ℕ → Type 0)
+    (after_act : N → A → N) {shape : Shape} (number : ℕ) {known : Seat} {past : History} (note : N) (left : ℕ → ℕ)
     → IsKeptBy keeps whole after_act shape (step.Give number) None number known past note left
-give_kept keeps whole after_act number {known} note left = kept_same keeps whole after_act (step.Give number) None number note left (λ core. refl) (λ core. refl) (λ found. refl) (λ shape found slot h. still_fresh known.fresh (given known) slot h)
+give_kept keeps whole after_act number {known} note left =
+    kept_same keeps whole after_act (step.Give number) None number note left (λ core. refl) (λ core. refl)
+    (λ found. refl) (λ shape found slot h. still_fresh known.fresh (given known) slot h)
 
-pub give_recalled : {shape : Shape} (number : ℕ) {known : Seat} {past : History} (left : ℕ → ℕ) → IsRecalledBy shape (step.Give number) number known past left
-give_recalled number {known} left = recalls_same (step.Give number) number left (λ a. refl) (λ a. refl) (λ a. refl) (λ core found before one. refl) (λ shape found slot h. still_fresh known.fresh (given known) slot h) (λ j root e. cc) (λ i slot word value e. cc) (λ i root old new e. cc)
+pub give_recalled : {shape : Shape} (number : ℕ) {known : Seat} {past : History} (left : ℕ → ℕ)
+    → IsRecalledBy shape (step.Give number) number known past left
+give_recalled number {known} left = recalls_same (step.Give number) number left (λ a. refl) (λ a. refl) (λ a. refl)
+    (λ core found before one. refl) (λ shape found slot h. still_fresh known.fresh (given known) slot h)
+    (λ j root e. cc) (λ i slot word value e. cc) (λ i root old new e. cc)

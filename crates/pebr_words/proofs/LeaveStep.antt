@@ -23,33 +23,48 @@ left_same : (known actual : Seat) → IsAsKnown known actual → after_leave act
 left_same known actual (inl same) = ap after_leave same
 left_same known actual (inr (epoch, was_in, now)) = ap after_leave now
 
-pub leave_made : (core : State) (i found epoch : ℕ) (known : Seat) → i < length core.seats → IsAsKnown known (seat_at core i)
+pub leave_made : (core : State) (i found epoch : ℕ) (known : Seat) → i < length core.seats
+    → IsAsKnown known (seat_at core i)
     → IsMade core (after core (step.Leave i)) (step.Leave i) found (4 * epoch) known
 leave_made core i found epoch known inside as_known =
     let new : Seat = after_leave (seat_at core i) in record {
       shape = refl;
-      told = subst (λ (s : Seat). Tells (of_status s.status) (4 * epoch)) (sym (seat_here core i new inside)) (epoch, refl);
+      told = subst (λ (s : Seat). Tells (of_status s.status) (4 * epoch)) (sym (seat_here core i new inside))
+          (epoch, refl);
       signs = λ q apart. seat_signs core i new inside q (λ e. absurd (apart e)) (λ k _. refl);
       own = inl (seat_here core i new inside ∙ left_same known (seat_at core i) as_known);
       others = λ j other apart h. subst (IsAsKnown other) (sym (seat_there core i j new apart)) h;
       epoch = le_refl core.epoch;
-      ejected = λ j epoch now. inl (not_ejected core i new inside (λ _ h. absurd (let e : stance.Out ≡ stance.Ejected _ = h in cc)) j epoch now);
+      ejected =
+          λ j epoch now. inl
+          (not_ejected core i new inside (λ _ h. absurd (let e : stance.Out ≡ stance.Ejected _ = h in cc)) j epoch now);
       answered = refl;
     }
 
-pub leave_by : (shape : Shape) (number epoch : ℕ) (known : Seat) → is_out known.status ≡ false → IsMadeBy shape (step.Leave number) number known (λ _. 4 * epoch)
+pub leave_by : (shape : Shape) (number epoch : ℕ) (known : Seat) → is_out known.status ≡ false
+    → IsMadeBy shape (step.Leave number) number known (λ _. 4 * epoch)
 leave_by shape number epoch known in' core found is_shape sound inside as_known told = (
-  and_true (is_seat core number) (not (is_out (seat_at core number).status)) (is_one shape core number is_shape sound inside) (ap not (in_known known (seat_at core number) in' as_known)),
+  and_true (is_seat core number) (not (is_out (seat_at core number).status))
+      (is_one shape core number is_shape sound inside) (ap not (in_known known (seat_at core number) in' as_known)),
   leave_made core number found epoch known (in_list shape core number is_shape sound inside) as_known,
 )
 
-pub leave_recalled : {shape : Shape} (number : ℕ) {known : Seat} {past : History} (left : ℕ → ℕ) → IsRecalledBy shape (step.Leave number) number known past left
-leave_recalled number left = recalls_same (step.Leave number) number left (λ a. refl) (λ a. refl) (λ a. refl) (λ core found before one. refl) (λ shape found slot h. h) (λ j root e. cc) (λ i slot word value e. cc) (λ i root old new e. cc)
+pub leave_recalled : {shape : Shape} (number : ℕ) {known : Seat} {past : History} (left : ℕ → ℕ)
+    → IsRecalledBy shape (step.Leave number) number known past left
+leave_recalled number left = recalls_same (step.Leave number) number left (λ a. refl) (λ a. refl) (λ a. refl)
+    (λ core found before one. refl) (λ shape found slot h. h) (λ j root e. cc) (λ i slot word value e. cc)
+    (λ i root old new e. cc)
 
 -- the note changes where the protocol lets it
-pub leave_kept : {N A : Type 0} (keeps : List (List ℕ) → List N → Type 0) (whole : List ℕ → Type 0) (after_act : N → A → N) {shape : Shape} (act : Option A) (number : ℕ) {known : Seat} {past : History} (note : N) (left : ℕ → ℕ)
-    → CanNote keeps number note (act_on after_act act note) → IsKeptBy keeps whole after_act shape (step.Leave number) act number known past note left
-leave_kept keeps whole after_act act number {known} {past} note left can law core notes found before kept at are_whole = (
-  can (contents core) notes kept at,
-  (kept_same keeps whole after_act (step.Leave number) None number {known = known} {past = past} note left (λ core. refl) (λ core. refl) (λ found. refl) (λ shape found slot h. h) law core notes found before kept at are_whole).1,
-)
+pub leave_kept : {N A : Type 0} (keeps : List (List ℕ) → List N → Type 0) (whole : List ℕ → Type 0)
+    (after_act : N → A → N) {shape : Shape} (act : Option A) (number : ℕ) {known : Seat} {past : History} (note : N)
+    (left : ℕ → ℕ)
+    → CanNote keeps number note (act_on after_act act note)
+    → IsKeptBy keeps whole after_act shape (step.Leave number) act number known past note left
+leave_kept keeps whole after_act act number {known} {past} note left can law core notes found before kept at
+    are_whole = (
+      can (contents core) notes kept at,
+      (kept_same keeps whole after_act (step.Leave number) None number {known = known} {past = past} note left
+          (λ core. refl) (λ core. refl) (λ found. refl)
+          (λ shape found slot h. h) law core notes found before kept at are_whole).1,
+    )

@@ -16,7 +16,8 @@ use Rattle.pebr_words.proofs.StepLemmas.{and_true, is_one}
 use Rattle.pebr_words.proofs.Makes.{kept_same}
 use Rattle.pebr_words.proofs.Recalling.{shields_known}
 
-pub read_by : (shape : Shape) (number slot word : ℕ) (known : Seat) → slot < slot_count shape → word < shape.width → is_shielded known slot ≡ true
+pub read_by : (shape : Shape) (number slot word : ℕ) (known : Seat) → slot < slot_count shape → word < shape.width
+    → is_shielded known slot ≡ true
     → IsMadeBy shape (step.Read number slot word) number known (λ n. n)
 read_by shape number slot word known in_slots in_width shielded core found is_shape sound inside as_known told = (
   and_true (is_seat core number && is_slot core slot && is_word core word) (is_shielded (seat_at core number) slot)
@@ -24,7 +25,8 @@ read_by shape number slot word known in_slots in_width shielded core found is_sh
       (and_true (is_seat core number) (is_slot core slot) (is_one shape core number is_shape sound inside)
       (lt-ltb slot (slot_count core.shape) (subst (λ (s : Shape). slot < slot_count s) (sym is_shape) in_slots)))
       (lt-ltb word core.shape.width (subst (λ (s : Shape). word < s.width) (sym is_shape) in_width)))
-      (ap (λ l. is_shielded (record known { shields = l }) slot) (shields_known known (seat_at core number) as_known) ∙ shielded),
+      (ap (λ l. is_shielded (record known { shields = l }) slot) (shields_known known (seat_at core number) as_known)
+      ∙ shielded),
   record {
     shape = refl;
     told = told;
@@ -37,12 +39,17 @@ read_by shape number slot word known in_slots in_width shielded core found is_sh
   },
 )
 
-pub read_kept : {N A : Type 0} (keeps : List (List ℕ) → List N → Type 0) (whole : List ℕ → Type 0) (after_act : N → A → N) {shape : Shape} (number slot word : ℕ) {known : Seat} {past : History} (note : N) (left : ℕ → ℕ)
+pub read_kept : {N A : Type 0} (keeps : List (List ℕ) → List N → Type 0) (whole : List ℕ → Type 0)
+    (after_act : N → A → N) {shape : Shape} (number slot word : ℕ) {known : Seat} {past : History} (note : N)
+    (left : ℕ → ℕ)
     → IsKeptBy keeps whole after_act shape (step.Read number slot word) None number known past note left
-read_kept keeps whole after_act number slot word note left = kept_same keeps whole after_act (step.Read number slot word) None number note left (λ core. refl) (λ core. refl) (λ found. refl) (λ shape found s h. h)
+read_kept keeps whole after_act number slot word note left =
+    kept_same keeps whole after_act (step.Read number slot word) None number note left (λ core. refl) (λ core. refl)
+    (λ found. refl) (λ shape found s h. h)
 
 -- a read has the word that was found
-pub read_recalled : {shape : Shape} (number slot word : ℕ) {known : Seat} {past : History} (left : ℕ → ℕ) → IsRecalledBy shape (step.Read number slot word) number known past left
+pub read_recalled : {shape : Shape} (number slot word : ℕ) {known : Seat} {past : History} (left : ℕ → ℕ)
+    → IsRecalledBy shape (step.Read number slot word) number known past left
 read_recalled number slot word {known} {past} left law core found before = record {
   reads = was_read;
   written = before.recalls.written;
@@ -50,6 +57,8 @@ read_recalled number slot word {known} {past} left law core found before = recor
   lost = before.recalls.lost;
 }
   where
-    was_read : (read : Read) → IsIn read (record { slot = slot; word = word; value = found } ∷ past.reads) → Uses (seat_at core number) read.slot → word_at core read.slot read.word ≡ read.value
-    was_read read (zero, e) used = let new : Read = record { slot = slot; word = word; value = found } in subst (λ (r : Read). word_at core r.slot r.word ≡ r.value) (some-injective new read e) (sym before.told)
+    was_read : (read : Read) → IsIn read (record { slot = slot; word = word; value = found } ∷ past.reads)
+        → Uses (seat_at core number) read.slot → word_at core read.slot read.word ≡ read.value
+    was_read read (zero, e) used = let new : Read = record { slot = slot; word = word; value = found } in
+        subst (λ (r : Read). word_at core r.slot r.word ≡ r.value) (some-injective new read e) (sym before.told)
     was_read read (suc place, e) used = before.recalls.reads read (place, e) used

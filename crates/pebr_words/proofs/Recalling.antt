@@ -1,5 +1,6 @@
 -- What a seat remembers stays so, at other seats' steps and at most of its own, and what the rule tells a seat of it.
-use Rattle.std.proofs.Common.{◌≡◌, ◌≢◌, ℕ, suc, ◌<◌, Bool, true, false, List, [], ◌∷◌, length, get_or, sym, refl, ap, ◌∙◌, subst, inl, inr, ◌⊎◌, ⊎_elim, arith, set}
+use Rattle.std.proofs.Common.{◌≡◌, ◌≢◌, ℕ, suc, ◌<◌, Bool, true, false, List, [], ◌∷◌, length, get_or, sym, refl, ap}
+use Rattle.std.proofs.Common.{◌∙◌, subst, inl, inr, ◌⊎◌, ⊎_elim, arith, set}
 use Rattle.std.proofs.lemmas.List.{get_or-set_other}
 use mathlib.Core.Logic.{dite}
 use native.Mathlib.Decide.{ℕ_discrete}
@@ -35,7 +36,8 @@ seen_known known actual (inl same) = ap (λ (s : Seat). s.seen) same
 seen_known known actual (inr (epoch, was_in, now)) = ap (λ (s : Seat). s.seen) now
 
 -- a slot that some shield is valid on
-pub valid_place : (shields : List ShieldAt) (slot : ℕ) → list_any (is_valid_on slot) shields ≡ true → (place : ℕ) × (get_or shields place shield.Down ≡ shield.Valid slot)
+pub valid_place : (shields : List ShieldAt) (slot : ℕ) → list_any (is_valid_on slot) shields ≡ true
+    → (place : ℕ) × (get_or shields place shield.Down ≡ shield.Valid slot)
 valid_place [] slot h = absurd (false≢true h)
 valid_place (at ∷ shields) slot h = pick (is_valid_on slot at) refl h (valid_place shields slot)
   where
@@ -45,49 +47,73 @@ valid_place (at ∷ shields) slot h = pick (is_valid_on slot at) refl h (valid_p
     is_on (shield.Valid other) e = ap shield.Valid (eqb-true other slot e)
 
     pick : (b : Bool) → is_valid_on slot at ≡ b → (b || list_any (is_valid_on slot) shields) ≡ true
-        → (list_any (is_valid_on slot) shields ≡ true → (place : ℕ) × (get_or shields place shield.Down ≡ shield.Valid slot))
+        → (list_any (is_valid_on slot) shields ≡ true
+        → (place : ℕ) × (get_or shields place shield.Down ≡ shield.Valid slot))
         → (place : ℕ) × (get_or (at ∷ shields) place shield.Down ≡ shield.Valid slot)
     pick true e k more = (0, is_on at e)
     pick false e k more = let rest = more k in (suc rest.0, rest.1)
 
 -- a slot under a valid shield is used
-pub shielded_uses : (known actual : Seat) (slot : ℕ) → IsAsKnown known actual → is_shielded known slot ≡ true → (place : ℕ) × (shield_at actual place ≡ shield.Valid slot)
-shielded_uses known actual slot as_known shielded = valid_place actual.shields slot (ap (list_any (is_valid_on slot)) (shields_known known actual as_known) ∙ shielded)
+pub shielded_uses : (known actual : Seat) (slot : ℕ) → IsAsKnown known actual → is_shielded known slot ≡ true
+    → (place : ℕ) × (shield_at actual place ≡ shield.Valid slot)
+shielded_uses known actual slot as_known shielded =
+    valid_place actual.shields slot (ap (list_any (is_valid_on slot)) (shields_known known actual as_known) ∙ shielded)
 
-same_words : (xs ys : List ℕ) → length xs ≡ length ys → ((k : ℕ) → k < length xs → get_or xs k 0 ≡ get_or ys k 0) → xs ≡ ys
+same_words : (xs ys : List ℕ) → length xs ≡ length ys → ((k : ℕ) → k < length xs → get_or xs k 0 ≡ get_or ys k 0)
+    → xs ≡ ys
 same_words [] [] long each = refl
 same_words [] (y ∷ ys) long each = absurd (omega (arith, long))
 same_words (x ∷ xs) [] long each = absurd (omega (arith, long))
-same_words (x ∷ xs) (y ∷ ys) long each = ap (λ z. z ∷ xs) (each 0 (omega arith)) ∙ ap (λ l. y ∷ l) (same_words xs ys (omega (arith, long)) (λ k h. each (suc k) (omega (arith, h))))
+same_words (x ∷ xs) (y ∷ ys) long each =
+    ap (λ z. z ∷ xs) (each 0 (omega arith)) ∙ ap (λ l. y ∷ l)
+    (same_words xs ys (omega (arith, long)) (λ k h. each (suc k) (omega (arith, h))))
 
 -- but for its status a seat is as it is known
-fits_known : (shape : Shape) (known actual : Seat) → IsAsKnown known actual → IsSeatOfShape shape actual → IsSeatOfShape shape known
+fits_known : (shape : Shape) (known actual : Seat) → IsAsKnown known actual → IsSeatOfShape shape actual
+    → IsSeatOfShape shape known
 fits_known shape known actual (inl same) h = subst (IsSeatOfShape shape) same h
 fits_known shape known actual (inr (epoch, was_in, now)) h =
-    let fits : IsSeatOfShape shape (record known { status = stance.Ejected epoch }) = subst (IsSeatOfShape shape) now h in
-    record { seen = fits.seen; shields = fits.shields; fresh = fits.fresh; retired = fits.retired; scan = fits.scan; set = fits.set; valid = fits.valid }
+    let fits : IsSeatOfShape shape (record known { status = stance.Ejected epoch }) =
+    subst (IsSeatOfShape shape) now h in
+    record {
+      seen = fits.seen;
+      shields = fits.shields;
+      fresh = fits.fresh;
+      retired = fits.retired;
+      scan =
+          fits.scan;
+      set = fits.set;
+      valid = fits.valid;
+    }
 
 -- what the rule tells a seat
-pub sure_of : (whole : List ℕ → Type 0) (shape : Shape) (core : State) (number : ℕ) (known : Seat) (past : History) → core.shape ≡ shape → IsSound core → number < shape.seats
-    → IsAsKnown known (seat_at core number) → Recalls core number past → AreWhole whole core → IsSure whole shape known past
+pub sure_of : (whole : List ℕ → Type 0) (shape : Shape) (core : State) (number : ℕ) (known : Seat) (past : History)
+    → core.shape ≡ shape → IsSound core → number < shape.seats
+    → IsAsKnown known (seat_at core number) → Recalls core number past → AreWhole whole core
+    → IsSure whole shape known past
 sure_of whole shape core number known past is_shape sound inside as_known recalls are_whole = record {
   same = λ read other in_reads in_reads' slots words shielded.
       let valid = shielded_uses known (seat_at core number) read.slot as_known shielded in
       let own : Uses (seat_at core number) read.slot = inl valid in
       sym (recalls.reads read in_reads own)
-      ∙ (ap (λ n. word_at core n read.word) slots ∙ (ap (word_at core other.slot) words ∙ recalls.reads other in_reads' (subst (Uses (seat_at core number)) slots own)));
+      ∙ (ap (λ n. word_at core n read.word) slots
+      ∙ (ap (word_at core other.slot) words ∙ recalls.reads other in_reads'
+      (subst (Uses (seat_at core number)) slots own)));
   whole_is = λ slot content shielded read.
       let valid = shielded_uses known (seat_at core number) slot as_known shielded in
       let own : Uses (seat_at core number) slot = inl valid in
       let core_inside : number < core.shape.seats = subst (λ (s : Shape). number < s.seats) (sym is_shape) inside in
       let low : slot < slot_count core.shape = (sound.shape.each number core_inside).valid valid.0 slot valid.1 in
-      subst whole (sym (content_is slot content own low read)) (are_whole slot low (λ i. sound.kept.safe.unused i number slot own));
+      subst whole (sym (content_is slot content own low read))
+      (are_whole slot low (λ i. sound.kept.safe.unused i number slot own));
   alone = λ one. recalls.lost (ap (λ (s : Shape). s.seats) is_shape ∙ one);
   fits = fits_known shape known (seat_at core number) as_known
-      (subst (λ s. IsSeatOfShape s (seat_at core number)) is_shape (sound.shape.each number (subst (λ (s : Shape). number < s.seats) (sym is_shape) inside)));
+      (subst (λ s. IsSeatOfShape s (seat_at core number)) is_shape
+      (sound.shape.each number (subst (λ (s : Shape). number < s.seats) (sym is_shape) inside)));
 }
   where
-    content_is : (slot : ℕ) (content : List ℕ) → Uses (seat_at core number) slot → slot < slot_count core.shape → HasReadWhole shape past slot content → content ≡ get_or core.words slot []
+    content_is : (slot : ℕ) (content : List ℕ) → Uses (seat_at core number) slot → slot < slot_count core.shape
+        → HasReadWhole shape past slot content → content ≡ get_or core.words slot []
     content_is slot content own low read = same_words content (get_or core.words slot [])
         (read.0 ∙ sym (sound.shape.width slot low ∙ ap (λ (s : Shape). s.width) is_shape))
         (λ k h. let r = read.1 k (subst (λ n. k < n) read.0 h) in
@@ -95,7 +121,8 @@ sure_of whole shape core number known past is_shape sound inside as_known recall
         ∙ (ap (λ n. word_at core n r.0.word) r.2 ∙ ap (word_at core slot) r.3)))
 
 -- who writes has the slot fresh
-write_fresh : (core : State) (i slot word value : ℕ) → is_enabled core (step.Write i slot word value) ≡ true → (slot < slot_count core.shape) × (has (seat_at core i).fresh slot ≡ true)
+write_fresh : (core : State) (i slot word value : ℕ) → is_enabled core (step.Write i slot word value) ≡ true
+    → (slot < slot_count core.shape) × (has (seat_at core i).fresh slot ≡ true)
 write_fresh core i slot word value h =
     let a = is_seat core i in
     let b = is_slot core slot in
@@ -104,11 +131,13 @@ write_fresh core i slot word value h =
     (ltb-true slot (slot_count core.shape) (and_parts a b (and_parts (a && b) c p3.0).0).1, p3.1)
 
 -- another seat's step
-pub others_recall : (law : StepsAreSafe) (core : State) (s : Step) → IsSound core → is_enabled core s ≡ true → (seats : ℕ) → core.shape.seats ≡ seats → seat_of s < seats
+pub others_recall : (law : StepsAreSafe) (core : State) (s : Step) → IsSound core → is_enabled core s ≡ true
+    → (seats : ℕ) → core.shape.seats ≡ seats → seat_of s < seats
     → (j : ℕ) (past : History) → j < seats → j ≢ seat_of s → Recalls core j past → Recalls (after core s) j past
 others_recall law core s sound enabled seats is_seats own_inside j past inside apart recalls = record {
   reads = λ read in_reads used. ⊎_elim
-      (λ (before : Uses (seat_at core j) read.slot). law.words core s sound enabled j read.slot read.word before ∙ recalls.reads read in_reads before)
+      (λ (before : Uses (seat_at core j) read.slot). law.words core s sound enabled j read.slot read.word before
+      ∙ recalls.reads read in_reads before)
       (λ (loaded : (root : ℕ) × (s ≡ step.Load j root) × _). absurd (apart (sym (ap seat_of loaded.1))))
       (law.begin core s j read.slot used);
   written = λ slot word value e.
@@ -118,39 +147,53 @@ others_recall law core s sound enabled seats is_seats own_inside j past inside a
             let fresh = write_fresh core (seat_of s) slot word v (subst (λ x. is_enabled core x ≡ true) is enabled) in
             false≢true (sym ((law.fresh core (seat_of s) slot sound fresh.0 fresh.1).others j apart) ∙ was.0)) ∙ was.1,
       );
-  shown = λ one. absurd (let e : seats ≡ 1 = sym is_seats ∙ (sym (ap (λ (x : Shape). x.seats) rest.shape) ∙ one) in apart (omega (arith, e, inside, own_inside)));
+  shown = λ one. absurd (let e : seats ≡ 1 = sym is_seats ∙ (sym (ap (λ (x : Shape). x.seats) rest.shape) ∙ one) in
+      apart (omega (arith, e, inside, own_inside)));
   lost = λ one. recalls.lost (sym (ap (λ (x : Shape). x.seats) rest.shape) ∙ one);
 }
   where
     rest : LeavesTheRest core s (after core s)
     rest = law.rest core s
 
--- The seat's own step, which loads and writes nothing and replaces no root, and at which the seat remembers nothing new but counts.
+-- The seat's own step, which loads and writes nothing and replaces no root, and at which the seat remembers nothing new
+-- but counts.
 pub recalls_same : {shape : Shape} (s : Step) (number : ℕ) {known : Seat} {past : History} (left : ℕ → ℕ)
-    → ((a : Answer) → (past_after s a known past).reads ≡ past.reads) → ((a : Answer) → (past_after s a known past).written ≡ past.written)
+    → ((a : Answer) → (past_after s a known past).reads ≡ past.reads)
+    → ((a : Answer) → (past_after s a known past).written ≡ past.written)
     → ((a : Answer) → (past_after s a known past).shown ≡ past.shown)
-    → ((core : State) (found : ℕ) → IsBefore shape s number known past core found (left found) → core.shape.seats ≡ 1 → (past_after s (answer_found s known found) known past).lost ≡ past.lost)
-    → ((core_shape : Shape) (found slot : ℕ) → has known.fresh slot ≡ true → has (known_after core_shape s found known).fresh slot ≡ true)
-    → ((j root : ℕ) → s ≢ step.Load j root) → ((i slot word value : ℕ) → s ≢ step.Write i slot word value) → ((i root old new : ℕ) → s ≢ step.Replace i root old new)
+    → ((core : State) (found : ℕ) → IsBefore shape s number known past core found (left found) → core.shape.seats ≡ 1
+    → (past_after s (answer_found s known found) known past).lost ≡ past.lost)
+    → ((core_shape : Shape) (found slot : ℕ) → has known.fresh slot ≡ true
+    → has (known_after core_shape s found known).fresh slot ≡ true)
+    → ((j root : ℕ) → s ≢ step.Load j root) → ((i slot word value : ℕ) → s ≢ step.Write i slot word value)
+    → ((i root old new : ℕ) → s ≢ step.Replace i root old new)
     → IsRecalledBy shape s number known past left
-recalls_same s number {known} {past} left reads written shown lost fresh no_load no_write no_replace law core found before =
+recalls_same s number {known} {past} left reads written shown lost fresh no_load no_write no_replace law core found
+    before =
     let a : Answer = answer_found s known found in
     let recalls = before.recalls in
     let rest = law.rest core s in record {
       reads = λ read in_reads used. ⊎_elim
-          (λ (was : Uses (seat_at core number) read.slot). law.words core s before.sound before.enabled number read.slot read.word was
+          (λ (was : Uses (seat_at core number) read.slot). law.words core s before.sound before.enabled number read.slot
+          read.word was
           ∙ recalls.reads read (subst (IsIn read) (reads a) in_reads) was)
           (λ (loaded : (root : ℕ) × (s ≡ step.Load number root) × _). absurd (no_load number loaded.0 loaded.1))
           (law.begin core s number read.slot used);
       written = λ slot word value e.
           let was = recalls.written slot word value (ap (λ l. written_at l slot word) (sym (written a)) ∙ e) in (
-            ap (λ f. has f slot) (fresh_known (known_after core.shape s found known) (seat_at (after core s) number) (subst (λ n. IsAsKnown (known_after core.shape s found known) (seat_at (after core s) n)) before.numbered before.made.own))
-                ∙ fresh core.shape found slot (ap (λ f. has f slot) (sym (fresh_known known (seat_at core number) before.as_known)) ∙ was.0),
+            ap (λ f. has f slot)
+                (fresh_known (known_after core.shape s found known) (seat_at (after core s) number)
+                (subst (λ n. IsAsKnown (known_after core.shape s found known) (seat_at (after core s) n))
+                before.numbered before.made.own))
+                ∙ fresh core.shape found slot
+                (ap (λ f. has f slot) (sym (fresh_known known (seat_at core number) before.as_known)) ∙ was.0),
             rest.words slot word (λ v. no_write (seat_of s) slot word v) ∙ was.1,
           );
       shown = λ one root slot e. rest.roots root (λ old new. no_replace (seat_of s) root old new)
-          ∙ recalls.shown (sym (ap (λ (x : Shape). x.seats) rest.shape) ∙ one) root slot (ap (λ l. shown_at l root) (sym (shown a)) ∙ e);
-      lost = λ one. lost core found before (sym (ap (λ (x : Shape). x.seats) rest.shape) ∙ one) ∙ recalls.lost (sym (ap (λ (x : Shape). x.seats) rest.shape) ∙ one);
+          ∙ recalls.shown (sym (ap (λ (x : Shape). x.seats) rest.shape) ∙ one) root slot
+          (ap (λ l. shown_at l root) (sym (shown a)) ∙ e);
+      lost = λ one. lost core found before (sym (ap (λ (x : Shape). x.seats) rest.shape) ∙ one)
+          ∙ recalls.lost (sym (ap (λ (x : Shape). x.seats) rest.shape) ∙ one);
     }
 
 -- what is seen of a slot that is seen since, or not

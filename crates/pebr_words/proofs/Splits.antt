@@ -11,7 +11,8 @@ use Rattle.pebr_words.proofs.Ejections.{listed_cut}
 use Rattle.pebr_words.proofs.Numbers.{total_set, total_last}
 
 module _ {N : Type 0} (keeps : List (List ℕ) → List N → Type 0) (whole : List ℕ → Type 0) (shape : Shape) where
-  pub splits : (id : ℕ) (view : List (Held N)) → 0 < length view → table.Splits (Ruled keeps whole shape) id view (remaining view) (taken view)
+  pub splits : (id : ℕ) (view : List (Held N)) → 0 < length view
+      → table.Splits (Ruled keeps whole shape) id view (remaining view) (taken view)
   splits id [] live s rule at = absurd (omega (arith, live))
   splits id (own ∷ others) live s rule at = record {
     core = rule.core;
@@ -33,7 +34,9 @@ module _ {N : Type 0} (keeps : List (List ℕ) → List N → Type 0) (whole : L
         (λ e. kept view held in_views.0 in_view e)
         (λ (is : own ∷ [] ≡ view). first held (subst (IsIn held) (sym is) in_view))
         (at_snoc (set s.views id others) (own ∷ []) view in_views.0 in_views.1);
-    ejected = λ other epoch now. (let h = rule.ejected other epoch now in (h.0, h.1, listed_cut s.views id own others at h.0 h.2));
+    ejected =
+        λ other epoch now. (let h = rule.ejected other epoch now in
+        (h.0, h.1, listed_cut s.views id own others at h.0 h.2));
     many = rule.many;
     kept = rule.kept;
     whole_is = rule.whole_is;
@@ -43,8 +46,10 @@ module _ {N : Type 0} (keeps : List (List ℕ) → List N → Type 0) (whole : L
       first held (zero, e) = rule.fits (own ∷ others) held (id, at) (0, e)
       first held (suc place, e) = absurd (some-ne-none held (sym e))
 
-      kept : (view : List (Held N)) (held : Held N) (j : ℕ) → IsIn held view → get_elem? (set s.views id others) j ≡ some view → Fits rule.core rule.notes held
+      kept : (view : List (Held N)) (held : Held N) (j : ℕ) → IsIn held view
+          → get_elem? (set s.views id others) j ≡ some view → Fits rule.core rule.notes held
       kept view held j in_view e = ⊎_elim
-          (λ (x : (j ≡ id) × (others ≡ view)). let in_others : IsIn held others = subst (IsIn held) (sym x.1) in_view in rule.fits (own ∷ others) held (id, at) (suc in_others.0, in_others.1))
+          (λ (x : (j ≡ id) × (others ≡ view)). let in_others : IsIn held others = subst (IsIn held) (sym x.1) in_view in
+          rule.fits (own ∷ others) held (id, at) (suc in_others.0, in_others.1))
           (λ (x : (j ≢ id) × (get_elem? s.views j ≡ some view)). rule.fits view held (j, x.1) in_view)
           (at_set s.views id j others view e)

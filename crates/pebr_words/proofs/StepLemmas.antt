@@ -32,17 +32,22 @@ out_is (stance.Ejected epoch) h = absurd (false≢true h)
 -- who is out wasn't ejected
 pub out_known : (known actual : Seat) → is_out known.status ≡ true → IsAsKnown known actual → actual ≡ known
 out_known known actual out (inl same) = same
-out_known known actual out (inr (epoch, was_in, now)) = absurd (let e : stance.Out ≡ stance.In epoch = sym (out_is known.status out) ∙ was_in in cc)
+out_known known actual out (inr (epoch, was_in, now)) =
+    absurd (let e : stance.Out ≡ stance.In epoch = sym (out_is known.status out) ∙ was_in in cc)
 
 -- who is ejected after a seat changed was so before, where that seat isn't ejected now
-pub not_ejected : (core : State) (i : ℕ) (new : Seat) → i < length core.seats → ((epoch : ℕ) → new.status ≡ stance.Ejected epoch → (seat_at core i).status ≡ stance.Ejected epoch)
-    → (j epoch : ℕ) → (seat_at (with_seat core i new) j).status ≡ stance.Ejected epoch → (seat_at core j).status ≡ stance.Ejected epoch
+pub not_ejected : (core : State) (i : ℕ) (new : Seat) → i < length core.seats
+    → ((epoch : ℕ) → new.status ≡ stance.Ejected epoch → (seat_at core i).status ≡ stance.Ejected epoch)
+    → (j epoch : ℕ) → (seat_at (with_seat core i new) j).status ≡ stance.Ejected epoch
+    → (seat_at core j).status ≡ stance.Ejected epoch
 not_ejected core i new inside own j epoch now = dite (ℕ_discrete j i)
     (λ (same : j ≡ i). subst (λ k. (seat_at core k).status ≡ stance.Ejected epoch) (sym same)
-    (own epoch (sym (ap (λ (s : Seat). s.status) (seat_here core i new inside)) ∙ subst (λ k. (seat_at (with_seat core i new) k).status ≡ stance.Ejected epoch) same now)))
+    (own epoch (sym (ap (λ (s : Seat). s.status) (seat_here core i new inside))
+    ∙ subst (λ k. (seat_at (with_seat core i new) k).status ≡ stance.Ejected epoch) same now)))
     (λ (apart : j ≢ i). sym (ap (λ (s : Seat). s.status) (seat_there core i j new apart)) ∙ now)
 
-module _ (shape : Shape) (core : State) (number : ℕ) (is_shape : core.shape ≡ shape) (sound : IsSound core) (inside : number < shape.seats) where
+module _ (shape : Shape) (core : State) (number : ℕ) (is_shape : core.shape ≡ shape) (sound : IsSound core)
+    (inside : number < shape.seats) where
   pub in_list : number < length core.seats
   in_list = subst (λ n. number < n) (sym (sound.shape.seats ∙ ap (λ (s : Shape). s.seats) is_shape)) inside
 
@@ -50,7 +55,8 @@ module _ (shape : Shape) (core : State) (number : ℕ) (is_shape : core.shape �
   is_one = lt-ltb number core.shape.seats (subst (λ (s : Shape). number < s.seats) (sym is_shape) inside)
 
 -- who isn't out isn't, though it may have been ejected
-pub in_known : (known actual : Seat) → is_out known.status ≡ false → IsAsKnown known actual → is_out actual.status ≡ false
+pub in_known : (known actual : Seat) → is_out known.status ≡ false → IsAsKnown known actual
+    → is_out actual.status ≡ false
 in_known known actual in' (inl same) = ap (λ (s : Seat). is_out s.status) same ∙ in'
 in_known known actual in' (inr (epoch, was_in, now)) = ap (λ (s : Seat). is_out s.status) now
 
@@ -59,7 +65,8 @@ noted_known known actual (inl same) = ap (λ (s : Seat). s.noted) same
 noted_known known actual (inr (epoch, was_in, now)) = ap (λ (s : Seat). s.noted) now
 
 -- who is at a scan is out, and wasn't ejected
-pub scans_known : (core : State) (i : ℕ) (known : Seat) (scan : Scan) → IsSound core → known.scan ≡ Some scan → IsAsKnown known (seat_at core i) → seat_at core i ≡ known
+pub scans_known : (core : State) (i : ℕ) (known : Seat) (scan : Scan) → IsSound core → known.scan ≡ Some scan
+    → IsAsKnown known (seat_at core i) → seat_at core i ≡ known
 scans_known core i known scan sound scans (inl same) = same
 scans_known core i known scan sound scans (inr (epoch, was_in, now)) =
     let out = (sound.kept.scans i scan (ap (λ (s : Seat). s.scan) now ∙ scans)).out in
@@ -85,12 +92,16 @@ own_made core s found left known new inside told signs own ejected answered = re
 }
 
 -- a change that doesn't look at the status
-pub known_by : (f : Seat → Seat) → ((seat : Seat) (status : Stance) → f (record seat { status = status }) ≡ record (f seat) { status = status }) → ((seat : Seat) → (f seat).status ≡ seat.status)
+pub known_by : (f : Seat → Seat)
+    → ((seat : Seat) (status : Stance) → f (record seat { status = status }) ≡ record (f seat) { status = status })
+    → ((seat : Seat) → (f seat).status ≡ seat.status)
     → (known actual : Seat) → IsAsKnown known actual → IsAsKnown (f known) (f actual)
 known_by f apart same known actual (inl e) = inl (ap f e)
-known_by f apart same known actual (inr (epoch, was_in, now)) = inr (epoch, same known ∙ was_in, ap f now ∙ apart known (stance.Ejected epoch))
+known_by f apart same known actual (inr (epoch, was_in, now)) =
+    inr (epoch, same known ∙ was_in, ap f now ∙ apart known (stance.Ejected epoch))
 
 -- but for its status, a seat is as it is known
 pub status_known : (known actual : Seat) → IsAsKnown known actual → record known { status = actual.status } ≡ actual
 status_known known actual (inl same) = ap (λ (s : Seat). record known { status = s.status }) same ∙ sym same
-status_known known actual (inr (epoch, was_in, now)) = ap (λ (s : Seat). record known { status = s.status }) now ∙ sym now
+status_known known actual (inr (epoch, was_in, now)) =
+    ap (λ (s : Seat). record known { status = s.status }) now ∙ sym now

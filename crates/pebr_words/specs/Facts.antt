@@ -16,18 +16,21 @@ use Rattle.pebr_words.specs.Pasts.{Ejection, History, past_after}
 use Rattle.pebr_core.specs.declared.kinds.Stance.TheVariants as stance
 use Rattle.pebr_words.specs.Making.{place_of, known_after, answer_found, note_after, IsAsKnown}
 
--- A step leads from a core to a new one. It was made by a seat that knew this, at whose word 'found' was found and 'left' stands afterwards.
+-- A step leads from a core to a new one. It was made by a seat that knew this, at whose word 'found' was found and
+-- 'left' stands afterwards.
 pub record IsMade (core new : State) (step : Step) (found left : ℕ) (known : Seat) : Type 0 where
   pub shape : new.shape ≡ core.shape
   pub told : Tells (sign_at new (place_of step)) left
   pub signs : (q : Place) → q ≢ place_of step → sign_at new q ≡ sign_at core q
   pub own : IsAsKnown (known_after core.shape step found known) (seat_at new (seat_of step))
-  pub others : (j : ℕ) (other : Seat) → j ≢ seat_of step → IsAsKnown other (seat_at core j) → IsAsKnown other (seat_at new j)
+  pub others : (j : ℕ) (other : Seat) → j ≢ seat_of step → IsAsKnown other (seat_at core j)
+      → IsAsKnown other (seat_at new j)
   pub epoch : core.epoch ≤ new.epoch
   -- an ejection that is new is listed
   pub ejected : (j epoch : ℕ) → (seat_at new j).status ≡ stance.Ejected epoch
       → ((seat_at core j).status ≡ stance.Ejected epoch)
-      ⊎ ((e : Ejection) × IsEjectionOf new j epoch e × ((past : History) → IsIn e (past_after step (answer_found step known found) known past).ejections))
+      ⊎ ((e : Ejection) × IsEjectionOf new j epoch e
+      × ((past : History) → IsIn e (past_after step (answer_found step known found) known past).ejections))
   pub answered : answer_found step known found ≡ answer_of core step
 
 -- the laws of the core
@@ -36,16 +39,19 @@ pub record StepsAreSafe : Type 0 where
   pub words : (core : State) (s : Step) → IsSound core → IsTrue (is_enabled core s) → KeepsUsedWords core (after core s)
   pub begin : (core : State) (s : Step) → UsesBeginAtLoad core s (after core s)
   pub rest : (core : State) (s : Step) → LeavesTheRest core s (after core s)
-  pub fresh : (core : State) (i slot : ℕ) → IsSound core → slot < slot_count core.shape → has (seat_at core i).fresh slot ≡ true → IsFreshAlone core i slot
+  pub fresh : (core : State) (i slot : ℕ) → IsSound core → slot < slot_count core.shape
+      → has (seat_at core i).fresh slot ≡ true → IsFreshAlone core i slot
 
 -- a kind of step is enabled, and made
 abbrev pub IsMadeBy : Shape → Step → ℕ → Seat → (ℕ → ℕ) → Type 0
 IsMadeBy shape s number known written =
-    (core : State) (found : ℕ) → core.shape ≡ shape → IsSound core → number < shape.seats → IsAsKnown known (seat_at core number) → Tells (sign_at core (place_of s)) found
+    (core : State) (found : ℕ) → core.shape ≡ shape → IsSound core → number < shape.seats
+    → IsAsKnown known (seat_at core number) → Tells (sign_at core (place_of s)) found
     → IsTrue (is_enabled core s) × IsMade core (after core s) s found (written found) known
 
 -- a core in which the seat makes the step
-pub record IsBefore (shape : Shape) (s : Step) (number : ℕ) (known : Seat) (past : History) (core : State) (found left : ℕ) : Type 0 where
+pub record IsBefore (shape : Shape) (s : Step) (number : ℕ) (known : Seat) (past : History) (core : State)
+    (found left : ℕ) : Type 0 where
   pub shape_is : core.shape ≡ shape
   pub sound : IsSound core
   pub numbered : seat_of s ≡ number
@@ -58,12 +64,16 @@ pub record IsBefore (shape : Shape) (s : Step) (number : ℕ) (known : Seat) (pa
   -- with one seat, nobody is ejected
   pub alone : core.shape.seats ≡ 1 → (j epoch : ℕ) → (seat_at core j).status ≢ stance.Ejected epoch
 
--- The protocol keeps where contents and the seat's note are as the step leaves them, and contents that must be whole are.
-abbrev pub IsKeptBy : {N A : Type 0} → (List (List ℕ) → List N → Type 0) → (List ℕ → Type 0) → (N → A → N) → Shape → Step → Option A → ℕ → Seat → History → N → (ℕ → ℕ) → Type 0
+-- The protocol keeps where contents and the seat's note are as the step leaves them, and contents that must be whole
+-- are.
+abbrev pub IsKeptBy : {N A : Type 0} → (List (List ℕ) → List N → Type 0) → (List ℕ → Type 0) → (N → A → N) → Shape
+    → Step → Option A → ℕ → Seat → History → N → (ℕ → ℕ) → Type 0
 IsKeptBy {N} keeps whole after_act shape s act number known past note written =
-    (law : StepsAreSafe) (core : State) (notes : List N) (found : ℕ) → IsBefore shape s number known past core found (written found)
+    (law : StepsAreSafe) (core : State) (notes : List N) (found : ℕ)
+    → IsBefore shape s number known past core found (written found)
     → keeps (contents core) notes → get_elem? notes number ≡ some note → AreWhole whole core
-    → keeps (contents (after core s)) (slice_set notes number (note_after after_act s act found note)) × AreWhole whole (after core s)
+    → keeps (contents (after core s)) (slice_set notes number (note_after after_act s act found note))
+    × AreWhole whole (after core s)
 
 -- What the seat remembers after the step is so.
 abbrev pub IsRecalledBy : Shape → Step → ℕ → Seat → History → (ℕ → ℕ) → Type 0

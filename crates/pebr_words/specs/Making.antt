@@ -1,5 +1,7 @@
--- How a core step is made on the words: which seat steps, at which word, and what the number found there makes of what the seat knows.
-use Rattle.std.specs.Prelude.{◌≡◌, ℕ, ◌+◌, ◌-◌, ◌*◌, ◌/◌, ◌%◌, List, [], ◌∷◌, Option, Some, None, if◌then◌else◌, ◌==◌, IsTrue, ◌⊎◌, count_by}
+-- How a core step is made on the words: which seat steps, at which word, and what the number found there makes of what
+-- the seat knows.
+use Rattle.std.specs.Prelude.{◌≡◌, ℕ, ◌+◌, ◌-◌, ◌*◌, ◌/◌, ◌%◌, List, [], ◌∷◌, Option, Some, None, if◌then◌else◌, ◌==◌}
+use Rattle.std.specs.Prelude.{IsTrue, ◌⊎◌, count_by}
 use Rattle.pebr_core.specs.declared.kinds.Shape.{Shape}
 use Rattle.pebr_core.specs.declared.kinds.Stance.{Stance}
 use Rattle.pebr_core.specs.declared.kinds.Stance.TheVariants as stance
@@ -9,7 +11,9 @@ use Rattle.pebr_core.specs.declared.kinds.Step.TheVariants as step
 use Rattle.pebr_core.specs.declared.kinds.Answer.{Answer}
 use Rattle.pebr_core.specs.declared.kinds.Answer.TheVariants as answer
 use Rattle.pebr_core.specs.State.{Seat, State, nobody, seat_at, scan_of, is_retired}
-use Rattle.pebr_core.specs.Steps.{can_pass, epoch_of, found_epoch, found_under, check_answer, given, is_enabled, after, answer_of, after_note, after_pin, after_leave, after_look, after_pass, after_load, after_shield, after_check, after_replace, after_scan, after_give}
+use Rattle.pebr_core.specs.Steps.{can_pass, epoch_of, found_epoch, found_under, check_answer, given, is_enabled, after}
+use Rattle.pebr_core.specs.Steps.{answer_of, after_note, after_pin, after_leave, after_look, after_pass, after_load}
+use Rattle.pebr_core.specs.Steps.{after_shield, after_check, after_replace, after_scan, after_give}
 use Rattle.pebr_core.specs.Kept.{IsSound}
 use Rattle.pebr_words.specs.declared.views.Held.{Held}
 use Rattle.pebr_core.specs.Frames.{seat_of}
@@ -18,7 +22,8 @@ use Rattle.pebr_words.specs.Places.{Place, epoch_word, status_word, shield_word,
 
 -- the status that a status word tells
 abbrev pub stance_from : ℕ → Stance
-stance_from word = if word % 4 == 1 then stance.In (word / 4) else (if word % 4 == 2 then stance.Ejected (word / 4) else stance.Out)
+stance_from word = if word % 4 == 1 then stance.In (word / 4)
+    else (if word % 4 == 2 then stance.Ejected (word / 4) else stance.Out)
 
 -- the slot that a shield word tells
 abbrev pub slot_from : ℕ → Option ℕ
@@ -66,7 +71,8 @@ answer_found (step.Pin i) seat found = answer.In seat.noted
 answer_found (step.Leave i) seat found = answer.Out
 answer_found (step.Advance i) seat found = if found == seat.noted then answer.Epoch (seat.noted + 1) else answer.Lost
 answer_found (step.Look i j) seat found =
-    if can_pass (scan_of seat).candidates seat.retired (stance_from found) then answer.Passed else answer.In (epoch_of (stance_from found))
+    if can_pass (scan_of seat).candidates seat.retired (stance_from found) then answer.Passed
+    else answer.In (epoch_of (stance_from found))
 answer_found (step.Eject i j) seat found = if found == 4 * found_epoch seat j + 1 then answer.Ejected else answer.Lost
 answer_found (step.Load i root) seat found = answer.Slot found
 answer_found (step.Shield i place slot) seat found = answer.Set
@@ -76,7 +82,8 @@ answer_found (step.Read i slot word) seat found = answer.Word found
 answer_found (step.Write i slot word value) seat found = answer.Written
 answer_found (step.Replace i root old new) seat found = if found == old then answer.Replaced else answer.Other
 answer_found (step.Scan i j place) seat found = found_under (slot_from found)
-answer_found (step.Give i) seat found = answer.Given (count_by (λ mark. mark) (given seat)) (count_by is_retired (after_give found seat).retired)
+answer_found (step.Give i) seat found = answer.Given (count_by (λ mark. mark) (given seat))
+    (count_by is_retired (after_give found seat).retired)
 
 abbrev pub act_on : {N A : Type 0} → (N → A → N) → Option A → N → N
 act_on after None note = note

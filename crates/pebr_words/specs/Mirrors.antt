@@ -1,5 +1,6 @@
 -- What a seat keeps at run time of what it knows.
-use Rattle.std.specs.Prelude.{◌≡◌, ◌≢◌, ℕ, ◌≤◌, ◌<◌, ◌^◌, Bool, true, false, List, length, count_by, Option, Some, None, if◌then◌else◌, slice_index, slice_index_or, slice_set}
+use Rattle.std.specs.Prelude.{◌≡◌, ◌≢◌, ℕ, ◌≤◌, ◌<◌, ◌^◌, Bool, true, false, List, length, count_by, Option, Some, None}
+use Rattle.std.specs.Prelude.{if◌then◌else◌, slice_index, slice_index_or, slice_set}
 use Rattle.pebr_core.specs.declared.kinds.Stance.{Stance}
 use Rattle.pebr_core.specs.declared.kinds.Stance.TheVariants as stance
 use Rattle.pebr_core.specs.declared.kinds.Answer.{Answer}
@@ -63,7 +64,8 @@ ejected_seat seat = record seat { status = stance.Ejected (epoch_of seat.status)
 
 -- the slots of a seat that has done nothing
 abbrev pub IsFirst : Shape → ℕ → Sets → Type 0
-IsFirst shape number slots = (slots.fresh ≡ (first_seat shape number).fresh) × (slots.retired ≡ (first_seat shape number).retired) × (slots.room ≡ slots_per_seat shape)
+IsFirst shape number slots = (slots.fresh ≡ (first_seat shape number).fresh)
+    × (slots.retired ≡ (first_seat shape number).retired) × (slots.room ≡ slots_per_seat shape)
 
 -- The slots let this one be retired and this fresh one be taken.
 pub record CanTake (slots : Sets) (old new : ℕ) : Type 0 where
@@ -76,9 +78,11 @@ pub record CanTake (slots : Sets) (old new : ℕ) : Type 0 where
 -- The slots let the slot under a shield be kept.
 abbrev pub CanKeep : Sets → Option ℕ → Type 0
 CanKeep slots None = Unit {0}
-CanKeep slots (Some slot) = (slot < length slots.retired) × (slice_index_or slots.retired slot retire.No ≢ retire.Untagged)
+CanKeep slots (Some slot) = (slot < length slots.retired)
+    × (slice_index_or slots.retired slot retire.No ≢ retire.Untagged)
 
 -- what is kept, once a shield was read
 abbrev pub kept_after : Sets → Option ℕ → List Bool
 kept_after slots None = slots.kept
-kept_after slots (Some slot) = if is_retired (slice_index_or slots.retired slot retire.No) then slice_set slots.kept slot true else slots.kept
+kept_after slots (Some slot) = if is_retired (slice_index_or slots.retired slot retire.No)
+    then slice_set slots.kept slot true else slots.kept

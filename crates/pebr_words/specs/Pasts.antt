@@ -1,5 +1,6 @@
 -- What a seat's steps were, so far as the seat remembers them.
-use Rattle.std.specs.Prelude.{ℕ, ◌+◌, Bool, true, false, ◌&&◌, ◌||◌, List, [], ◌∷◌, Option, Some, None, if◌then◌else◌, ◌==◌, max}
+use Rattle.std.specs.Prelude.{ℕ, ◌+◌, Bool, true, false, ◌&&◌, ◌||◌, List, [], ◌∷◌, Option, Some, None, if◌then◌else◌}
+use Rattle.std.specs.Prelude.{◌==◌, max}
 use Rattle.pebr_core.specs.declared.kinds.Retired.{Retired}
 use Rattle.pebr_core.specs.declared.kinds.Retired.TheVariants as retire
 use Rattle.pebr_core.specs.declared.kinds.Step.{Step}
@@ -27,7 +28,8 @@ pub record Read : Type 0 where
   pub word : ℕ
   pub value : ℕ
 
--- A try that other seats made futile: a check that found the seat ejected, or a replacement that found another slot in this root.
+-- A try that other seats made futile: a check that found the seat ejected, or a replacement that found another slot in
+-- this root.
 pub data Lost : Type 0 where
   was_ejected : Lost
   found_other : ℕ → Lost
@@ -112,7 +114,8 @@ shown_at (load ∷ loads) root = if load.root == root then Some load.slot else s
 -- what was last written into a word of a slot
 abbrev pub written_at : List Read → ℕ → ℕ → Option ℕ
 written_at [] slot word = None
-written_at (write ∷ writes) slot word = if write.slot == slot && write.word == word then Some write.value else written_at writes slot word
+written_at (write ∷ writes) slot word = if write.slot == slot && write.word == word then Some write.value
+    else written_at writes slot word
 
 -- whether this slot is the one that was shown
 abbrev pub is_shown : Option ℕ → ℕ → Bool
@@ -126,7 +129,8 @@ with_lost try past = if past.has_lost then past else record past { lost = try �
 -- What a step with this answer adds to the history of a seat that knew this.
 abbrev pub remembered : Step → Answer → Seat → History → History
 remembered (step.Note i) a seat past = record past { notes = past.notes + 1 }
-remembered (step.Pin i) a seat past = record past { pins = past.pins + 1; loads = []; reads = []; shown = []; has_lost = false }
+remembered (step.Pin i) a seat past =
+    record past { pins = past.pins + 1; loads = []; reads = []; shown = []; has_lost = false }
 remembered (step.Leave i) a seat past = past
 remembered (step.Advance i) a seat past = record past { advances = past.advances + 1 }
 remembered (step.Look i j) a seat past = past
@@ -144,12 +148,18 @@ remembered (step.Load i root) a seat past = record past {
 remembered (step.Shield i place slot) a seat past = past
 remembered (step.Check i) a seat past = if is_ejected a then with_lost was_ejected past else past
 remembered (step.Unshield i place) a seat past = past
-remembered (step.Read i slot word) a seat past = record past { reads = record { slot = slot; word = word; value = value_in a } ∷ past.reads }
-remembered (step.Write i slot word value) a seat past = record past { written = record { slot = slot; word = word; value = value } ∷ past.written }
+remembered (step.Read i slot word) a seat past =
+    record past { reads = record { slot = slot; word = word; value = value_in a } ∷ past.reads }
+remembered (step.Write i slot word value) a seat past =
+    record past { written = record { slot = slot; word = word; value = value } ∷ past.written }
 -- a root that had another slot is a lost try where the seat was shown the old one there
 remembered (step.Replace i root old new) a seat past =
     if is_replaced a
-    then record past { shown = record { root = root; slot = new } ∷ past.shown; written = without_slot new past.written }
+    then record past {
+      shown = record { root = root; slot = new } ∷ past.shown;
+      written =
+          without_slot new past.written;
+    }
     else (if is_shown (shown_at past.shown root) old then with_lost (found_other root) past else past)
 remembered (step.Scan i j place) a seat past = past
 remembered (step.Give i) a seat past = record past { gives = past.gives + 1 }

@@ -1,5 +1,6 @@
 -- The rule of the table: words and views show a core that is sound, and the protocol keeps.
-use Rattle.std.specs.Prelude.{◌≡◌, ◌≢◌, ℕ, ◌+◌, ◌<◌, ◌≤◌, true, false, List, [], ◌∷◌, ◌++◌, map, length, ◌==◌, Option, Some, nat_lt, cond, slice_index, slice_index_or, slice_set}
+use Rattle.std.specs.Prelude.{◌≡◌, ◌≢◌, ℕ, ◌+◌, ◌<◌, ◌≤◌, true, false, List, [], ◌∷◌, ◌++◌, map, length, ◌==◌, Option}
+use Rattle.std.specs.Prelude.{Some, nat_lt, cond, slice_index, slice_index_or, slice_set}
 use Rattle.std.specs.List.{range_with_len}
 use mathlib.Core.Option.{some}
 use lib.ListN.{get_elem?}
@@ -13,7 +14,8 @@ use Rattle.atomic_table.specs.Table as table
 use Rattle.pebr_words.specs.declared.views.Held.{Held}
 use Rattle.pebr_words.specs.Pasts.{Ejection, Read, History, no_history, past_after, shown_at, written_at}
 use Rattle.pebr_words.specs.Shown.{Show}
-use Rattle.pebr_words.specs.Making.{IsAsKnown, held_after, on_first, number_in, known_in, note_in, known_after, past_in, note_after, answer_found, IsStepOf}
+use Rattle.pebr_words.specs.Making.{IsAsKnown, held_after, on_first, number_in, known_in, note_in, known_after, past_in}
+use Rattle.pebr_words.specs.Making.{note_after, answer_found, IsStepOf}
 
 -- the words of the slot in each root
 abbrev pub contents : State → List (List ℕ)
@@ -30,14 +32,17 @@ once_below number seats = cond (nat_lt number seats) 1 0
 -- the ejection of a seat that was in with this epoch, by another, for a slot with a tag from that epoch on
 abbrev pub IsEjectionOf : State → ℕ → ℕ → Ejection → Type 0
 IsEjectionOf core other epoch e =
-    (e.other ≡ other) × (e.epoch ≡ epoch) × (e.by < core.shape.seats) × (e.by ≢ other) × (epoch ≤ e.tag) × (e.tag ≤ core.epoch)
+    (e.other ≡ other) × (e.epoch ≡ epoch) × (e.by < core.shape.seats) × (e.by ≢ other) × (epoch ≤ e.tag)
+    × (e.tag ≤ core.epoch)
 
 -- What a seat remembers is so.
 pub record Recalls (core : State) (number : ℕ) (past : History) : Type 0 where
   -- a read of a slot that the seat still uses has that slot's word
-  pub reads : (read : Read) → IsIn read past.reads → Uses (seat_at core number) read.slot → word_at core read.slot read.word ≡ read.value
+  pub reads : (read : Read) → IsIn read past.reads → Uses (seat_at core number) read.slot
+      → word_at core read.slot read.word ≡ read.value
   -- a word that it wrote is that of a slot that is still fresh at it
-  pub written : (slot word value : ℕ) → written_at past.written slot word ≡ Some value → (has (seat_at core number).fresh slot ≡ true) × (word_at core slot word ≡ value)
+  pub written : (slot word value : ℕ) → written_at past.written slot word ≡ Some value
+      → (has (seat_at core number).fresh slot ≡ true) × (word_at core slot word ≡ value)
   -- with one seat, a root has the slot that the seat was shown or left there, and no try is lost
   pub shown : core.shape.seats ≡ 1 → (root slot : ℕ) → shown_at past.shown root ≡ Some slot → root_at core root ≡ slot
   pub lost : core.shape.seats ≡ 1 → past.lost ≡ []
@@ -48,26 +53,33 @@ IsFreshNowhere core slot = (i : ℕ) → has (seat_at core i).fresh slot ≡ fal
 
 -- The content of each slot that no seat has fresh is whole.
 abbrev pub AreWhole : (List ℕ → Type 0) → State → Type 0
-AreWhole whole core = (slot : ℕ) → slot < slot_count core.shape → IsFreshNowhere core slot → whole (slice_index_or core.words slot [])
+AreWhole whole core = (slot : ℕ) → slot < slot_count core.shape → IsFreshNowhere core slot
+    → whole (slice_index_or core.words slot [])
 
 -- the words of a slot, so far as the seat read them, and so far as it wrote them
 abbrev pub HasRead : History → ℕ → List ℕ → Type 0
-HasRead past slot content = (read : Read) → IsIn read past.reads → read.slot ≡ slot → slice_index content read.word ≡ read.value
+HasRead past slot content = (read : Read) → IsIn read past.reads → read.slot ≡ slot
+    → slice_index content read.word ≡ read.value
 
 abbrev pub HasWritten : History → ℕ → List ℕ → Type 0
-HasWritten past slot content = (word value : ℕ) → written_at past.written slot word ≡ Some value → slice_index content word ≡ value
+HasWritten past slot content = (word value : ℕ) → written_at past.written slot word ≡ Some value
+    → slice_index content word ≡ value
 
 -- the seat keeps a read of each word of the slot, and these are the content
 abbrev pub HasReadWhole : Shape → History → ℕ → List ℕ → Type 0
 HasReadWhole shape past slot content =
-    (length content ≡ shape.width) × ((word : ℕ) → word < shape.width → (read : Read) × IsIn read past.reads × (read.slot ≡ slot) × (read.word ≡ word) × (read.value ≡ slice_index content word))
+    (length content ≡ shape.width)
+    × ((word : ℕ) → word < shape.width → (read : Read) × IsIn read past.reads × (read.slot ≡ slot) × (read.word ≡ word)
+    × (read.value ≡ slice_index content word))
 
 -- What the rule tells a seat of what it remembers, whatever other seats do.
 pub record IsSure (whole : List ℕ → Type 0) (shape : Shape) (known : Seat) (past : History) : Type 0 where
   -- under a valid shield, two reads of one word are equal
-  pub same : (read other : Read) → IsIn read past.reads → IsIn other past.reads → read.slot ≡ other.slot → read.word ≡ other.word → is_shielded known read.slot ≡ true → read.value ≡ other.value
+  pub same : (read other : Read) → IsIn read past.reads → IsIn other past.reads → read.slot ≡ other.slot
+      → read.word ≡ other.word → is_shielded known read.slot ≡ true → read.value ≡ other.value
   -- under a valid shield, a content that was read in full is whole
-  pub whole_is : (slot : ℕ) (content : List ℕ) → is_shielded known slot ≡ true → HasReadWhole shape past slot content → whole content
+  pub whole_is : (slot : ℕ) (content : List ℕ) → is_shielded known slot ≡ true → HasReadWhole shape past slot content
+      → whole content
   -- with one seat, no try is lost
   pub alone : shape.seats ≡ 1 → past.lost ≡ []
   -- it has an entry for each slot and shield
@@ -86,7 +98,8 @@ module _ {N : Type 0} where
 
   -- a view's list has the ejection
   abbrev pub IsListed : Ejection → List (List (Held N)) → Type 0
-  IsListed ejection views = (view : List (Held N)) × (held : Held N) × IsIn view views × IsIn held view × IsIn ejection held.past.ejections
+  IsListed ejection views = (view : List (Held N)) × (held : Held N) × IsIn view views × IsIn held view
+      × IsIn ejection held.past.ejections
 
   -- what a view has of a number is so
   pub record Fits (core : State) (notes : List N) (held : Held N) : Type 0 where
@@ -95,7 +108,8 @@ module _ {N : Type 0} where
     pub recalls : Recalls core held.number held.past
 
   -- The rule. It holds between any two steps, whatever the seats do in turn.
-  pub record Ruled (keeps : List (List ℕ) → List N → Type 0) (whole : List ℕ → Type 0) (shape : Shape) (s : table.State (Unit {0}) (List (Held N))) : Type 0 where
+  pub record Ruled (keeps : List (List ℕ) → List N → Type 0) (whole : List ℕ → Type 0) (shape : Shape)
+      (s : table.State (Unit {0}) (List (Held N))) : Type 0 where
     -- there is a core, and a note for each seat
     pub core : State
     pub notes : List N
@@ -110,7 +124,8 @@ module _ {N : Type 0} where
     -- what views know, note and remember is so
     pub fits : (view : List (Held N)) (held : Held N) → IsIn view s.views → IsIn held view → Fits core notes held
     -- each seat that is ejected was ejected by another, in whose history it stands
-    pub ejected : (other epoch : ℕ) → (seat_at core other).status ≡ stance.Ejected epoch → (e : Ejection) × IsEjectionOf core other epoch e × IsListed e s.views
+    pub ejected : (other epoch : ℕ) → (seat_at core other).status ≡ stance.Ejected epoch
+        → (e : Ejection) × IsEjectionOf core other epoch e × IsListed e s.views
     -- the protocol keeps
     pub many : length notes ≡ shape.seats
     pub kept : keeps (contents core) notes
@@ -147,8 +162,10 @@ module _ {N : Type 0} where
   united merged empty (held ∷ others) (held' ∷ others') =
       (record held { note = merged held.note held'.note }) ∷ others ++ (record held' { note = empty }) ∷ others'
 
-  -- what a step tells: the seat's part is changed by the number found, this was the step of a core, and what the rule tells the seat
-  abbrev pub Made : {A : Type 0} → (N → A → N) → (List ℕ → Type 0) → Shape → Step → Option A → table.Me (Unit {0}) (List (Held N)) → ℕ → table.Me (Unit {0}) (List (Held N)) → Type 0
+  -- what a step tells: the seat's part is changed by the number found, this was the step of a core, and what the rule
+  -- tells the seat
+  abbrev pub Made : {A : Type 0} → (N → A → N) → (List ℕ → Type 0) → Shape → Step → Option A
+      → table.Me (Unit {0}) (List (Held N)) → ℕ → table.Me (Unit {0}) (List (Held N)) → Type 0
   Made after whole shape step act m found m' =
       (m' ≡ (on_first (held_after after shape step act found) m.0, m.1))
       × IsStepOf shape step (answer_found step (known_in m.0) found) (known_in m.0) (known_in m'.0)
@@ -157,12 +174,17 @@ module _ {N : Type 0} where
   -- for all contents and notes that keep, in which this seat has its note, the changed note in its place keeps too
   abbrev pub CanNote : (List (List ℕ) → List N → Type 0) → ℕ → N → N → Type 0
   CanNote keeps number old new =
-      (contents : List (List ℕ)) (notes : List N) → keeps contents notes → get_elem? notes number ≡ some old → keeps contents (slice_set notes number new)
+      (contents : List (List ℕ)) (notes : List N) → keeps contents notes → get_elem? notes number ≡ some old
+      → keeps contents (slice_set notes number new)
 
-  -- The content under a seat's hold is replaced: for all contents and notes that keep, in which this root has a content as the seat read it and this seat has its note, each content as the seat wrote it is whole, and keeps in its place with the changed note.
-  abbrev pub CanReplace : (List (List ℕ) → List N → Type 0) → (List ℕ → Type 0) → Shape → History → ℕ → ℕ → ℕ → ℕ → N → N → Type 0
+  -- The content under a seat's hold is replaced: for all contents and notes that keep, in which this root has a content
+  -- as the seat read it and this seat has its note, each content as the seat wrote it is whole, and keeps in its place
+  -- with the changed note.
+  abbrev pub CanReplace : (List (List ℕ) → List N → Type 0) → (List ℕ → Type 0) → Shape → History → ℕ → ℕ → ℕ → ℕ → N
+      → N → Type 0
   CanReplace keeps whole shape past number root old new note changed =
-      (contents : List (List ℕ)) (notes : List N) (from to : List ℕ) → keeps contents notes → get_elem? contents root ≡ some from → get_elem? notes number ≡ some note
+      (contents : List (List ℕ)) (notes : List N) (from to : List ℕ) → keeps contents notes
+      → get_elem? contents root ≡ some from → get_elem? notes number ≡ some note
       → length from ≡ shape.width → length to ≡ shape.width → HasRead past old from → HasWritten past new to
       → whole to × keeps (slice_set contents root to) (slice_set notes number changed)
 
@@ -170,8 +192,10 @@ module _ {N : Type 0} where
 abbrev pub IsPicked : {A : Type 0} → Shape → Step → Option A → Shape → Step → Option A → Type 0
 IsPicked shape' step' act' shape step act = (shape' ≡ shape) × (step' ≡ step) × (act' ≡ act)
 
--- What a step tells of the seat that made it: what it knows and its note are changed by the number found, and this was the step of a core.
-pub record IsTold {N A : Type 0} (after_act : N → A → N) (whole : List ℕ → Type 0) (blank : N) (shape : Shape) (step : Step) (act : Option A) (found : ℕ) (me me' : table.Me (Unit {0}) (List (Held N))) : Type 0 where
+-- What a step tells of the seat that made it: what it knows and its note are changed by the number found, and this was
+-- the step of a core.
+pub record IsTold {N A : Type 0} (after_act : N → A → N) (whole : List ℕ → Type 0) (blank : N) (shape : Shape)
+    (step : Step) (act : Option A) (found : ℕ) (me me' : table.Me (Unit {0}) (List (Held N))) : Type 0 where
   pub live : 0 < length me'.0
   pub carried : me'.1 ≡ me.1
   pub number : number_in me'.0 ≡ number_in me.0

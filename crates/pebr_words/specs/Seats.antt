@@ -55,28 +55,37 @@ module _ {P N A F : Type 0} where
 
   -- the notes of the numbers that it absorbed are empty
   abbrev pub IsUnited : {g : _} → N → Seat P N A F g → Type 0
-  IsUnited empty seat = (place : ℕ) (held : Held N) → get_elem? (remaining seat.inner.me.0) place ≡ some held → held.note ≡ empty
+  IsUnited empty seat = (place : ℕ) (held : Held N) → get_elem? (remaining seat.inner.me.0) place ≡ some held
+      → held.note ≡ empty
 
   -- a seat of these words
   abbrev pub IsAt : {g : _} → Words P N A F → Seat P N A F g → Type 0
-  IsAt words seat = (seat.inner.table_id ≡ words.table.shared.table_id) × (seat.inner.me.1 ≡ []) × (0 < length seat.inner.me.0) × (seat.number < words.shape.seats) × (length seat.found.items ≡ words.shape.seats) × (seat.slots.room ≡ slots_per_seat words.shape) × IsSeatOfShape words.shape (known_of seat)
+  IsAt words seat = (seat.inner.table_id ≡ words.table.shared.table_id) × (seat.inner.me.1 ≡ [])
+      × (0 < length seat.inner.me.0) × (seat.number < words.shape.seats) × (length seat.found.items ≡ words.shape.seats)
+      × (seat.slots.room ≡ slots_per_seat words.shape) × IsSeatOfShape words.shape (known_of seat)
 
   -- A step was made: it is a seat of these words with the same numbers as before.
   abbrev pub IsStill : {g h : _} → Words P N A F → Seat P N A F g → Seat P N A F h → Type 0
   IsStill words old new =
-      IsAt words new × (new.number ≡ old.number) × (numbers_of new ≡ numbers_of old) × (count_of new ≡ count_of old) × (remaining new.inner.me.0 ≡ remaining old.inner.me.0)
+      IsAt words new × (new.number ≡ old.number) × (numbers_of new ≡ numbers_of old) × (count_of new ≡ count_of old)
+      × (remaining new.inner.me.0 ≡ remaining old.inner.me.0)
 
   -- a seat that was opened with this number
   abbrev pub IsOpenedSeat : {g : _} → Words P N A F → N → ℕ → Seat P N A F g → Type 0
   IsOpenedSeat words first i seat =
-      IsAt words seat × (seat.number ≡ i) × (known_of seat ≡ core.first_seat words.shape i) × (note_of first seat ≡ first) × (past_of seat ≡ no_history) × (numbers_of seat ≡ i ∷ []) × (count_of seat ≡ 1) × ((empty : N) → IsUnited empty seat)
+      IsAt words seat × (seat.number ≡ i) × (known_of seat ≡ core.first_seat words.shape i)
+      × (note_of first seat ≡ first) × (past_of seat ≡ no_history) × (numbers_of seat ≡ i ∷ []) × (count_of seat ≡ 1)
+      × ((empty : N) → IsUnited empty seat)
 
   -- one seat for each number
   abbrev pub AreOpened : {g : _} → Words P N A F → N → ℕ → List (Seat P N A F g) → Type 0
-  AreOpened words first count seats = (length seats ≡ count) × ((i : ℕ) (d : _) → i < count → IsOpenedSeat words first i (slice_index_or seats i d))
+  AreOpened words first count seats = (length seats ≡ count)
+      × ((i : ℕ) (d : _) → i < count → IsOpenedSeat words first i (slice_index_or seats i d))
 
-  -- The seat made one step, this one, of a sound core, and it answered this. So its history went on, and this is what the rule tells it of what it remembers.
-  pub record IsStep {g h : _} (whole : List ℕ → Type 0) (words : Words P N A F) (old : Seat P N A F g) (new : Seat P N A F h) (step : Step) (answer : Answer) : Type 0 where
+  -- The seat made one step, this one, of a sound core, and it answered this. So its history went on, and this is what
+  -- the rule tells it of what it remembers.
+  pub record IsStep {g h : _} (whole : List ℕ → Type 0) (words : Words P N A F) (old : Seat P N A F g)
+      (new : Seat P N A F h) (step : Step) (answer : Answer) : Type 0 where
     pub core : IsStepOf words.shape step answer (known_of old) (known_of new)
     pub past : past_of new ≡ past_after step answer (known_of old) (past_of old)
     pub sure : IsSure whole words.shape (known_of new) (past_of new)

@@ -1,6 +1,7 @@
 //! The end of the words.
 
-ghost use Rattle.std.specs.Prelude.{◌≡◌, ◌<◌, ◌≤◌, ◌++◌, ◌+◌, ◌*◌, ℕ, IfOk, OnOk, IsTrue, length, map, replicate, slice_index, slice_set};
+ghost use Rattle.std.specs.Prelude.{◌≡◌, ◌<◌, ◌≤◌, ◌++◌, ◌+◌, ◌*◌, ℕ, IfOk, OnOk, IsTrue, length, map, replicate};
+ghost use Rattle.std.specs.Prelude.{slice_index, slice_set};
 ghost use Rattle.std.specs.List.{range_with_len};
 ghost use Rattle.std.specs.Slots.{slots_items, slots_len, IsFull};
 ghost use Rattle.pebr_core.specs.State.{is_out, slot_count};
@@ -27,7 +28,8 @@ fn put_words(
 ) -> Result<(), NoMemory>
     requires whole { IsFull closed.now.words }
     requires within { from + count ≤ slots_len closed.now.words }
-    ensures { OnOk result (contents.new.items ≡ contents.old.items ++ map (λ word. slice_index (slots_items closed.now.words) (from + word)) (range_with_len 0 count)) }
+    ensures { OnOk result (contents.new.items ≡ contents.old.items
+        ++ map (λ word. slice_index (slots_items closed.now.words) (from + word)) (range_with_len 0 count)) }
 {
     for word in 0..count {
         let value = closed.word(from + word);
@@ -41,7 +43,8 @@ fn slot_place(closed: &Closed<(), Global>, shape: Shape, root: usize) -> usize
     requires limits { IsWithinLimits shape × (root < shape.roots) }
     requires whole { IsFull closed.now.words × (slots_len closed.now.words ≡ word_count shape) }
     requires below { slice_index (slots_items closed.now.words) (roots_from shape + root) < slot_count shape }
-    ensures place { result ≡ slots_from shape + slice_index (slots_items closed.now.words) (roots_from shape + root) * shape.width }
+    ensures place { result ≡ slots_from shape + slice_index (slots_items closed.now.words) (roots_from shape + root)
+        * shape.width }
     ensures within { result + shape.width ≤ word_count shape }
 {
     let roots_from = roots_from(shape);
@@ -59,7 +62,8 @@ fn put_root(
     requires limits { IsWithinLimits shape × (root < shape.roots) }
     requires whole { IsFull closed.now.words × (slots_len closed.now.words ≡ word_count shape) }
     requires below { slice_index (slots_items closed.now.words) (roots_from shape + root) < slot_count shape }
-    ensures { OnOk result (contents.new.items ≡ contents.old.items ++ row_at shape (slots_items closed.now.words) root) }
+    ensures { OnOk result (contents.new.items ≡ contents.old.items
+        ++ row_at shape (slots_items closed.now.words) root) }
 {
     let from = slot_place(closed, shape, root);
     put_words(contents, closed, from, shape.width)
@@ -69,7 +73,8 @@ fn put_root(
 fn gather(alloc: Global, closed: &Closed<(), Global>, shape: Shape) -> Result<Vec<u64>, NoMemory>
     requires limits { IsWithinLimits shape }
     requires whole { IsFull closed.now.words × (slots_len closed.now.words ≡ word_count shape) }
-    requires below { (root : ℕ) → root < shape.roots → slice_index (slots_items closed.now.words) (roots_from shape + root) < slot_count shape }
+    requires below { (root : ℕ) → root < shape.roots
+        → slice_index (slots_items closed.now.words) (roots_from shape + root) < slot_count shape }
     ensures { IfOk result (λ contents. contents.items ≡ gathered shape (slots_items closed.now.words)) }
 {
     let mut contents = Vec::new(alloc);
@@ -87,7 +92,8 @@ impl<P: RootProtocol> Words<P> {
         requires out { IsTrue (is_out (known_of seat).status) }
         requires whole { count_of seat ≡ (shape_of self).seats }
         requires united { IsUnited P.empty seat }
-        ensures length { IfOk result (λ contents. length contents.items ≡ (shape_of self).roots * (shape_of self).width) }
+        ensures length { IfOk result (λ contents. length contents.items
+            ≡ (shape_of self).roots * (shape_of self).width) }
         ensures keeps { IfOk result (λ contents. P.keeps (fixed_of self) (rows_of (shape_of self) contents.items)
             (slice_set (replicate (shape_of self).seats P.empty) (number_of seat) (note_of P.first seat))) }
     {

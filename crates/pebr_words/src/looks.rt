@@ -57,9 +57,11 @@ impl<P: RootProtocol> Words<P> {
         ensures still { IsStill self.now seat.old seat.new }
         ensures note { note_of P.first seat.new ≡ note_of P.first seat.old }
         ensures known { known_of seat.new ≡ looked_from other result (known_of seat.old) }
-        ensures step { IsStep P.whole self.now seat.old seat.new (step.Look (number_of seat.old) other) (answer_as result) }
+        ensures step { IsStep P.whole self.now seat.old seat.new (step.Look (number_of seat.old) other)
+            (answer_as result) }
         ensures passed { result ≡ Looked.Passed → has (scan_of (known_of seat.new)).passed other ≡ true }
-        ensures found { (epoch : ℕ) → result ≡ Looked.In epoch → found_at (scan_of (known_of seat.new)) other ≡ Some epoch }
+        ensures found { (epoch : ℕ) → result ≡ Looked.In epoch
+            → found_at (scan_of (known_of seat.new)) other ≡ Some epoch }
     {
         let word = status_place(other);
         let step = Step::Look(seat.number, other);
@@ -79,7 +81,8 @@ impl<P: RootProtocol> Words<P> {
         ensures still { IsStill self.now seat.old seat.new }
         ensures note { note_of P.first seat.new ≡ note_of P.first seat.old }
         ensures known { known_of seat.new ≡ after_pass other (known_of seat.old) }
-        ensures step { IsStep P.whole self.now seat.old seat.new (step.Eject (number_of seat.old) other) (if result then answer.Ejected else answer.Lost) }
+        ensures step { IsStep P.whole self.now seat.old seat.new (step.Eject (number_of seat.old) other)
+            (if result then answer.Ejected else answer.Lost) }
         ensures passed { has (scan_of (known_of seat.new)).passed other ≡ true }
     {
         let word = status_place(other);

@@ -1,6 +1,7 @@
 //! Opening: the words, the table and a seat for each number.
 
-ghost use Rattle.std.specs.Prelude.{◌≡◌, ℕ, ◌*◌, ◌+◌, ◌-◌, ◌^◌, ◌<◌, ◌≤◌, [], ◌∷◌, length, replicate, IfOk, OnOk, All, ◌++◌};
+ghost use Rattle.std.specs.Prelude.{◌≡◌, ℕ, ◌*◌, ◌+◌, ◌-◌, ◌^◌, ◌<◌, ◌≤◌, [], ◌∷◌, length, replicate, IfOk, OnOk, All};
+ghost use Rattle.std.specs.Prelude.{◌++◌};
 ghost use Rattle.std.specs.List.{range_with_len};
 ghost use Rattle.pebr_core.specs.Kept.{IsWithinLimits};
 ghost use Rattle.pebr_words.specs.Places.{roots_from, slots_from};
@@ -149,7 +150,8 @@ impl<P: RootProtocol> Words<P> {
         requires at { (seat.old.table_id ≡ self.now.table.shared.table_id) × (number < self.now.shape.seats) }
         requires view { seat.old.me ≡ (view_from self.now.shape P.first number (self.now.shape.seats - number), []) }
         ensures at { seat.new.table_id ≡ seat.old.table_id }
-        ensures view { seat.new.me ≡ (view_from self.now.shape P.first (number + 1) (self.now.shape.seats - (number + 1)), []) }
+        ensures view { seat.new.me
+            ≡ (view_from self.now.shape P.first (number + 1) (self.now.shape.seats - (number + 1)), []) }
         ensures opened { IsOpenedSeat self.now P.first number result }
     {
         let inner = self.table.shared.split_seat::<Parts>(seat);
@@ -191,7 +193,9 @@ impl<P: RootProtocol> Words<P> {
         requires whole { All P.whole (rows_of shape contents.now) }
         ensures words { IfOk result (λ r. (shape_of r.0 ≡ shape) × (fixed_of r.0 ≡ fixed)) }
         ensures seats { IfOk result (λ r. AreOpened r.0 P.first shape.seats r.1.items) }
-        ensures each { IfOk result (λ r. All (λ seat. IsAt r.0 seat × (count_of seat ≡ 1) × ((empty : P.Note) → IsUnited empty seat)) r.1.items) }
+        ensures each { IfOk result
+            (λ r. All (λ seat. IsAt r.0 seat × (count_of seat ≡ 1) × ((empty : P.Note) → IsUnited empty seat))
+            r.1.items) }
     {
         other_words_are_sound();
         let words = first_words(alloc, shape, contents)?;

@@ -29,7 +29,8 @@ impl<P: RootProtocol> Words<P> {
         ensures still { IsStill self.now seat.old seat.new }
         ensures note { note_of P.first seat.new ≡ note_of P.first seat.old }
         ensures known { known_of seat.new ≡ after_note (shape_of self.now) result (known_of seat.old) }
-        ensures step { IsStep P.whole self.now seat.old seat.new (step.Note (number_of seat.old)) (answer.Epoch result) }
+        ensures step { IsStep P.whole self.now seat.old seat.new (step.Note (number_of seat.old))
+            (answer.Epoch result) }
     {
         let step = Step::Note(seat.number);
         let epoch = self.load(&mut seat.inner, 0, step, None);
@@ -45,7 +46,8 @@ impl<P: RootProtocol> Words<P> {
         ensures still { IsStill self.now seat.old seat.new }
         ensures note { note_of P.first seat.new ≡ note_of P.first seat.old }
         ensures known { known_of seat.new ≡ after_pin (known_of seat.old) }
-        ensures step { IsStep P.whole self.now seat.old seat.new (step.Pin (number_of seat.old)) (answer.In (known_of seat.old).noted) }
+        ensures step { IsStep P.whole self.now seat.old seat.new (step.Pin (number_of seat.old))
+            (answer.In (known_of seat.old).noted) }
     {
         let word = status_place(seat.number);
         let status = 4 * seat.noted + 1;
@@ -57,7 +59,8 @@ impl<P: RootProtocol> Words<P> {
     pub fn leave(&self, seat: &mut Seat<P>, act: Option<P::Act>)
         requires at { IsAt self.now seat.old }
         requires not_out { is_out (known_of seat.old).status ≡ false }
-        requires keeps { CanNote (P.keeps (fixed_of self.now)) (number_of seat.old) (note_of P.first seat.old) (act_on P.after act (note_of P.first seat.old)) }
+        requires keeps { CanNote (P.keeps (fixed_of self.now)) (number_of seat.old) (note_of P.first seat.old)
+            (act_on P.after act (note_of P.first seat.old)) }
         ensures still { IsStill self.now seat.old seat.new }
         ensures note { note_of P.first seat.new ≡ act_on P.after act (note_of P.first seat.old) }
         ensures known { known_of seat.new ≡ after_leave (known_of seat.old) }
@@ -76,7 +79,8 @@ impl<P: RootProtocol> Words<P> {
         ensures still { IsStill self.now seat.old seat.new }
         ensures note { note_of P.first seat.new ≡ note_of P.first seat.old }
         ensures known { known_of seat.new ≡ known_of seat.old }
-        ensures step { IsStep P.whole self.now seat.old seat.new (step.Advance (number_of seat.old)) (if result then answer.Epoch ((known_of seat.old).noted + 1) else answer.Lost) }
+        ensures step { IsStep P.whole self.now seat.old seat.new (step.Advance (number_of seat.old))
+            (if result then answer.Epoch ((known_of seat.old).noted + 1) else answer.Lost) }
     {
         let noted = seat.noted;
         let step = Step::Advance(seat.number);

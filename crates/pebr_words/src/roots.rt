@@ -8,7 +8,8 @@ ghost use Rattle.pebr_core.specs.State.{has, is_out, slot_count};
 ghost use Rattle.pebr_core.specs.Steps.{is_shielded, after_load, after_replace};
 ghost use Rattle.pebr_core.specs.Kept.{IsWithinLimits};
 ghost use Rattle.pebr_words.specs.Places.{root_word, index};
-ghost use Rattle.pebr_words.specs.Seats.{IsAt, IsStill, IsStep, shape_of, known_of, number_of, note_of, past_of, fixed_of};
+ghost use Rattle.pebr_words.specs.Seats.{IsAt, IsStill, IsStep, shape_of, known_of, number_of, note_of, past_of};
+ghost use Rattle.pebr_words.specs.Seats.{fixed_of};
 ghost use Rattle.pebr_words.specs.Making.{act_on};
 ghost use Rattle.pebr_words.specs.Mirrors.{CanTake};
 ghost use Rattle.pebr_words.specs.Ruled.{CanReplace};
@@ -37,7 +38,8 @@ impl<P: RootProtocol> Words<P> {
         ensures still { IsStill self.now seat.old seat.new }
         ensures note { note_of P.first seat.new ≡ note_of P.first seat.old }
         ensures known { known_of seat.new ≡ after_load result (known_of seat.old) }
-        ensures step { IsStep P.whole self.now seat.old seat.new (step.Load (number_of seat.old) root) (answer.Slot result) }
+        ensures step { IsStep P.whole self.now seat.old seat.new (step.Load (number_of seat.old) root)
+            (answer.Slot result) }
         ensures slot { result < slot_count (shape_of self.now) }
         ensures seen { has (known_of seat.new).seen result ≡ true }
     {
@@ -62,11 +64,16 @@ impl<P: RootProtocol> Words<P> {
         requires not_out { is_out (known_of seat.old).status ≡ false }
         requires shielded { IsTrue (is_shielded (known_of seat.old) old) }
         requires fresh { has (known_of seat.old).fresh new ≡ true }
-        requires keeps { CanReplace (P.keeps (fixed_of self.now)) P.whole (shape_of self.now) (past_of seat.old) (number_of seat.old) root old new (note_of P.first seat.old) (act_on P.after act (note_of P.first seat.old)) }
+        requires keeps { CanReplace (P.keeps (fixed_of self.now)) P.whole (shape_of self.now) (past_of seat.old)
+            (number_of seat.old) root old new (note_of P.first seat.old)
+            (act_on P.after act (note_of P.first seat.old)) }
         ensures still { IsStill self.now seat.old seat.new }
-        ensures note { note_of P.first seat.new ≡ (if result then act_on P.after act (note_of P.first seat.old) else note_of P.first seat.old) }
-        ensures known { known_of seat.new ≡ (if result then after_replace old new (known_of seat.old) else known_of seat.old) }
-        ensures step { IsStep P.whole self.now seat.old seat.new (step.Replace (number_of seat.old) root old new) (if result then answer.Replaced else answer.Other) }
+        ensures note { note_of P.first seat.new ≡ (if result then act_on P.after act (note_of P.first seat.old)
+            else note_of P.first seat.old) }
+        ensures known { known_of seat.new ≡ (if result then after_replace old new (known_of seat.old)
+            else known_of seat.old) }
+        ensures step { IsStep P.whole self.now seat.old seat.new (step.Replace (number_of seat.old) root old new)
+            (if result then answer.Replaced else answer.Other) }
     {
         root_slots_are_alone();
         let place = root_place(self.shape, root);
@@ -82,7 +89,8 @@ impl<P: RootProtocol> Words<P> {
 fn take(slots: &mut SeatSlots, replaced: bool, old: usize, new: usize)
     requires { IsTrue replaced → CanTake slots.old old new }
     ensures fresh { slots.new.fresh ≡ (if replaced then slice_set slots.old.fresh new false else slots.old.fresh) }
-    ensures retired { slots.new.retired ≡ (if replaced then slice_set slots.old.retired old retire.Untagged else slots.old.retired) }
+    ensures retired { slots.new.retired ≡ (if replaced then slice_set slots.old.retired old retire.Untagged
+        else slots.old.retired) }
     ensures kept { slots.new.kept ≡ slots.old.kept }
     ensures room { slots.new.room ≡ slots.old.room }
 {

@@ -51,7 +51,8 @@ impl<P: RootProtocol> Words<P> {
         ensures still { IsStill self.now seat.old seat.new }
         ensures note { note_of P.first seat.new ≡ note_of P.first seat.old }
         ensures known { known_of seat.new ≡ after_scan other place result (known_of seat.old) }
-        ensures step { IsStep P.whole self.now seat.old seat.new (step.Scan (number_of seat.old) other place) (found_under result) }
+        ensures step { IsStep P.whole self.now seat.old seat.new (step.Scan (number_of seat.old) other place)
+            (found_under result) }
         ensures scanned { has_scanned (scan_of (known_of seat.new)) other place ≡ true }
     {
         let word = shield_place(self.shape, other, place);
@@ -66,12 +67,14 @@ impl<P: RootProtocol> Words<P> {
     pub fn give(&self, seat: &mut Seat<P>) -> (usize, usize)
         requires at { IsAt self.now seat.old }
         requires scanning { IsTrue (is_scanning (known_of seat.old)) }
-        requires complete { IsTrue (is_complete (shape_of self.now) (number_of seat.old) (scan_of (known_of seat.old))) }
+        requires complete { IsTrue
+            (is_complete (shape_of self.now) (number_of seat.old) (scan_of (known_of seat.old))) }
         requires down { IsTrue (list_all is_down (known_of seat.old).shields) }
         ensures still { IsStill self.now seat.old seat.new }
         ensures note { note_of P.first seat.new ≡ note_of P.first seat.old }
         ensures known { known_of seat.new ≡ after_give (known_of seat.new).noted (known_of seat.old) }
-        ensures step { IsStep P.whole self.now seat.old seat.new (step.Give (number_of seat.old)) (answer.Given result.0 result.1) }
+        ensures step { IsStep P.whole self.now seat.old seat.new (step.Give (number_of seat.old))
+            (answer.Given result.0 result.1) }
     {
         let step = Step::Give(seat.number);
         let epoch = self.load(&mut seat.inner, 0, step, None);

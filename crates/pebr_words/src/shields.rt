@@ -34,7 +34,8 @@ impl<P: RootProtocol> Words<P> {
         ensures still { IsStill self.now seat.old seat.new }
         ensures note { note_of P.first seat.new ≡ note_of P.first seat.old }
         ensures known { known_of seat.new ≡ after_shield place (shield.Set slot) (known_of seat.old) }
-        ensures step { IsStep P.whole self.now seat.old seat.new (step.Shield (number_of seat.old) place slot) answer.Set }
+        ensures step { IsStep P.whole self.now seat.old seat.new
+            (step.Shield (number_of seat.old) place slot) answer.Set }
         ensures set { shield_at (known_of seat.new) place ≡ shield.Set slot }
     {
         let word = shield_place(self.shape, seat.number, place);
@@ -49,9 +50,12 @@ impl<P: RootProtocol> Words<P> {
         requires not_out { is_out (known_of seat.old).status ≡ false }
         ensures still { IsStill self.now seat.old seat.new }
         ensures note { note_of P.first seat.new ≡ note_of P.first seat.old }
-        ensures known { known_of seat.new ≡ (if result then after_check (known_of seat.old) else ejected_seat (known_of seat.old)) }
-        ensures step { IsStep P.whole self.now seat.old seat.new (step.Check (number_of seat.old)) (if result then answer.Valid else answer.Ejected) }
-        ensures valid { IsTrue result → (place slot : ℕ) → shield_at (known_of seat.old) place ≡ shield.Set slot → has (known_of seat.old).seen slot ≡ true
+        ensures known { known_of seat.new ≡ (if result then after_check (known_of seat.old)
+            else ejected_seat (known_of seat.old)) }
+        ensures step { IsStep P.whole self.now seat.old seat.new (step.Check (number_of seat.old))
+            (if result then answer.Valid else answer.Ejected) }
+        ensures valid { IsTrue result → (place slot : ℕ) → shield_at (known_of seat.old) place ≡ shield.Set slot
+            → has (known_of seat.old).seen slot ≡ true
             → shield_at (known_of seat.new) place ≡ shield.Valid slot }
     {
         let word = status_place(seat.number);
@@ -66,7 +70,8 @@ impl<P: RootProtocol> Words<P> {
         ensures still { IsStill self.now seat.old seat.new }
         ensures note { note_of P.first seat.new ≡ note_of P.first seat.old }
         ensures known { known_of seat.new ≡ after_shield place shield.Down (known_of seat.old) }
-        ensures step { IsStep P.whole self.now seat.old seat.new (step.Unshield (number_of seat.old) place) answer.Cleared }
+        ensures step { IsStep P.whole self.now seat.old seat.new
+            (step.Unshield (number_of seat.old) place) answer.Cleared }
         ensures down { shield_at (known_of seat.new) place ≡ shield.Down }
     {
         let word = shield_place(self.shape, seat.number, place);

@@ -29,7 +29,8 @@ impl<P: RootProtocol> Words<P> {
         ensures still { IsStill self.now seat.old seat.new }
         ensures note { note_of P.first seat.new ≡ note_of P.first seat.old }
         ensures known { known_of seat.new ≡ known_of seat.old }
-        ensures step { IsStep P.whole self.now seat.old seat.new (step.Read (number_of seat.old) slot word) (answer.Word result) }
+        ensures step { IsStep P.whole self.now seat.old seat.new (step.Read (number_of seat.old) slot word)
+            (answer.Word result) }
     {
         let place = self.slot_place(slot, word);
         let step = Step::Read(seat.number, slot, word);
@@ -44,7 +45,8 @@ impl<P: RootProtocol> Words<P> {
         ensures still { IsStill self.now seat.old seat.new }
         ensures note { note_of P.first seat.new ≡ note_of P.first seat.old }
         ensures known { known_of seat.new ≡ known_of seat.old }
-        ensures step { IsStep P.whole self.now seat.old seat.new (step.Write (number_of seat.old) slot word value) answer.Written }
+        ensures step { IsStep P.whole self.now seat.old seat.new
+            (step.Write (number_of seat.old) slot word value) answer.Written }
     {
         let place = self.slot_place(slot, word);
         let step = Step::Write(seat.number, slot, word, value);

@@ -39,11 +39,15 @@ impl<P: RootProtocol> Words<P> {
         _act: Option<P::Act>,
     ) -> u64
         requires picked { IsPicked K.shape K.step K.act self.now.shape _step _act }
-        requires at { (seat.old.table_id ≡ self.now.table.shared.table_id) × (0 < length seat.old.me.0) × (number_in seat.old.me.0 ≡ seat_of _step) }
+        requires at { (seat.old.table_id ≡ self.now.table.shared.table_id) × (0 < length seat.old.me.0)
+            × (number_in seat.old.me.0 ≡ seat_of _step) }
         requires place { IsPlace self.now.shape (place_of _step) × (index self.now.shape (place_of _step) ≡ word) }
         requires made { IsMadeBy self.now.shape _step (seat_of _step) (known_in seat.old.me.0) (λ found. found) }
-        requires kept { IsKeptBy (P.keeps self.now.table.shared.key.fixed) P.whole P.after self.now.shape _step _act (seat_of _step) (known_in seat.old.me.0) (past_in seat.old.me.0) (note_in P.first seat.old.me.0) (λ found. found) }
-        requires recalled { IsRecalledBy self.now.shape _step (seat_of _step) (known_in seat.old.me.0) (past_in seat.old.me.0) (λ found. found) }
+        requires kept { IsKeptBy (P.keeps self.now.table.shared.key.fixed) P.whole P.after self.now.shape _step _act
+            (seat_of _step) (known_in seat.old.me.0) (past_in seat.old.me.0) (note_in P.first seat.old.me.0)
+            (λ found. found) }
+        requires recalled { IsRecalledBy self.now.shape _step (seat_of _step) (known_in seat.old.me.0)
+            (past_in seat.old.me.0) (λ found. found) }
         ensures at { seat.new.table_id ≡ seat.old.table_id }
         ensures told { IsTold P.after P.whole P.first self.now.shape _step _act result seat.old.me seat.new.me }
     {
@@ -59,11 +63,15 @@ impl<P: RootProtocol> Words<P> {
         step: Step,
         act: Option<P::Act>,
     ) -> u64
-        requires at { (seat.old.table_id ≡ self.now.table.shared.table_id) × (0 < length seat.old.me.0) × (number_in seat.old.me.0 ≡ seat_of step) }
+        requires at { (seat.old.table_id ≡ self.now.table.shared.table_id) × (0 < length seat.old.me.0)
+            × (number_in seat.old.me.0 ≡ seat_of step) }
         requires place { IsPlace self.now.shape (place_of step) × (index self.now.shape (place_of step) ≡ word) }
         requires made { IsMadeBy self.now.shape step (seat_of step) (known_in seat.old.me.0) (λ found. found) }
-        requires kept { IsKeptBy (P.keeps self.now.table.shared.key.fixed) P.whole P.after self.now.shape step act (seat_of step) (known_in seat.old.me.0) (past_in seat.old.me.0) (note_in P.first seat.old.me.0) (λ found. found) }
-        requires recalled { IsRecalledBy self.now.shape step (seat_of step) (known_in seat.old.me.0) (past_in seat.old.me.0) (λ found. found) }
+        requires kept { IsKeptBy (P.keeps self.now.table.shared.key.fixed) P.whole P.after self.now.shape step act
+            (seat_of step) (known_in seat.old.me.0) (past_in seat.old.me.0) (note_in P.first seat.old.me.0)
+            (λ found. found) }
+        requires recalled { IsRecalledBy self.now.shape step (seat_of step) (known_in seat.old.me.0)
+            (past_in seat.old.me.0) (λ found. found) }
         ensures at { seat.new.table_id ≡ seat.old.table_id }
         ensures told { IsTold P.after P.whole P.first self.now.shape step act result seat.old.me seat.new.me }
     {
@@ -79,13 +87,18 @@ impl<P: RootProtocol> Words<P> {
         _act: Option<P::Act>,
     )
         requires picked { IsPicked K.shape K.step K.act self.now.shape _step _act }
-        requires at { (seat.old.table_id ≡ self.now.table.shared.table_id) × (0 < length seat.old.me.0) × (number_in seat.old.me.0 ≡ seat_of _step) }
+        requires at { (seat.old.table_id ≡ self.now.table.shared.table_id) × (0 < length seat.old.me.0)
+            × (number_in seat.old.me.0 ≡ seat_of _step) }
         requires place { IsPlace self.now.shape (place_of _step) × (index self.now.shape (place_of _step) ≡ word) }
         requires made { IsMadeBy self.now.shape _step (seat_of _step) (known_in seat.old.me.0) (λ _. new) }
-        requires kept { IsKeptBy (P.keeps self.now.table.shared.key.fixed) P.whole P.after self.now.shape _step _act (seat_of _step) (known_in seat.old.me.0) (past_in seat.old.me.0) (note_in P.first seat.old.me.0) (λ _. new) }
-        requires recalled { IsRecalledBy self.now.shape _step (seat_of _step) (known_in seat.old.me.0) (past_in seat.old.me.0) (λ _. new) }
+        requires kept { IsKeptBy (P.keeps self.now.table.shared.key.fixed) P.whole P.after self.now.shape _step _act
+            (seat_of _step) (known_in seat.old.me.0) (past_in seat.old.me.0) (note_in P.first seat.old.me.0)
+            (λ _. new) }
+        requires recalled { IsRecalledBy self.now.shape _step (seat_of _step) (known_in seat.old.me.0)
+            (past_in seat.old.me.0) (λ _. new) }
         ensures at { seat.new.table_id ≡ seat.old.table_id }
-        ensures told { (found : ℕ) × IsTold P.after P.whole P.first self.now.shape _step _act found seat.old.me seat.new.me }
+        ensures told { (found : ℕ) × IsTold P.after P.whole P.first self.now.shape _step _act found seat.old.me
+            seat.new.me }
     {
         safe_steps();
         self.table.shared.store::<Stores<P, K>>(seat, word, new);
@@ -100,13 +113,17 @@ impl<P: RootProtocol> Words<P> {
         step: Step,
         act: Option<P::Act>,
     )
-        requires at { (seat.old.table_id ≡ self.now.table.shared.table_id) × (0 < length seat.old.me.0) × (number_in seat.old.me.0 ≡ seat_of step) }
+        requires at { (seat.old.table_id ≡ self.now.table.shared.table_id) × (0 < length seat.old.me.0)
+            × (number_in seat.old.me.0 ≡ seat_of step) }
         requires place { IsPlace self.now.shape (place_of step) × (index self.now.shape (place_of step) ≡ word) }
         requires made { IsMadeBy self.now.shape step (seat_of step) (known_in seat.old.me.0) (λ _. new) }
-        requires kept { IsKeptBy (P.keeps self.now.table.shared.key.fixed) P.whole P.after self.now.shape step act (seat_of step) (known_in seat.old.me.0) (past_in seat.old.me.0) (note_in P.first seat.old.me.0) (λ _. new) }
-        requires recalled { IsRecalledBy self.now.shape step (seat_of step) (known_in seat.old.me.0) (past_in seat.old.me.0) (λ _. new) }
+        requires kept { IsKeptBy (P.keeps self.now.table.shared.key.fixed) P.whole P.after self.now.shape step act
+            (seat_of step) (known_in seat.old.me.0) (past_in seat.old.me.0) (note_in P.first seat.old.me.0) (λ _. new) }
+        requires recalled { IsRecalledBy self.now.shape step (seat_of step) (known_in seat.old.me.0)
+            (past_in seat.old.me.0) (λ _. new) }
         ensures at { seat.new.table_id ≡ seat.old.table_id }
-        ensures told { (found : ℕ) × IsTold P.after P.whole P.first self.now.shape step act found seat.old.me seat.new.me }
+        ensures told { (found : ℕ) × IsTold P.after P.whole P.first self.now.shape step act found seat.old.me
+            seat.new.me }
     {
         self.store_as::<Brand>(seat, word, new, step, act);
     }
@@ -121,11 +138,16 @@ impl<P: RootProtocol> Words<P> {
         _act: Option<P::Act>,
     ) -> u64
         requires picked { IsPicked K.shape K.step K.act self.now.shape _step _act }
-        requires at { (seat.old.table_id ≡ self.now.table.shared.table_id) × (0 < length seat.old.me.0) × (number_in seat.old.me.0 ≡ seat_of _step) }
+        requires at { (seat.old.table_id ≡ self.now.table.shared.table_id) × (0 < length seat.old.me.0)
+            × (number_in seat.old.me.0 ≡ seat_of _step) }
         requires place { IsPlace self.now.shape (place_of _step) × (index self.now.shape (place_of _step) ≡ word) }
-        requires made { IsMadeBy self.now.shape _step (seat_of _step) (known_in seat.old.me.0) (λ found. either (found == old) new found) }
-        requires kept { IsKeptBy (P.keeps self.now.table.shared.key.fixed) P.whole P.after self.now.shape _step _act (seat_of _step) (known_in seat.old.me.0) (past_in seat.old.me.0) (note_in P.first seat.old.me.0) (λ found. either (found == old) new found) }
-        requires recalled { IsRecalledBy self.now.shape _step (seat_of _step) (known_in seat.old.me.0) (past_in seat.old.me.0) (λ found. either (found == old) new found) }
+        requires made { IsMadeBy self.now.shape _step (seat_of _step) (known_in seat.old.me.0)
+            (λ found. either (found == old) new found) }
+        requires kept { IsKeptBy (P.keeps self.now.table.shared.key.fixed) P.whole P.after self.now.shape _step _act
+            (seat_of _step) (known_in seat.old.me.0) (past_in seat.old.me.0) (note_in P.first seat.old.me.0)
+            (λ found. either (found == old) new found) }
+        requires recalled { IsRecalledBy self.now.shape _step (seat_of _step) (known_in seat.old.me.0)
+            (past_in seat.old.me.0) (λ found. either (found == old) new found) }
         ensures at { seat.new.table_id ≡ seat.old.table_id }
         ensures told { IsTold P.after P.whole P.first self.now.shape _step _act result seat.old.me seat.new.me }
     {
@@ -145,11 +167,16 @@ impl<P: RootProtocol> Words<P> {
         step: Step,
         act: Option<P::Act>,
     ) -> u64
-        requires at { (seat.old.table_id ≡ self.now.table.shared.table_id) × (0 < length seat.old.me.0) × (number_in seat.old.me.0 ≡ seat_of step) }
+        requires at { (seat.old.table_id ≡ self.now.table.shared.table_id) × (0 < length seat.old.me.0)
+            × (number_in seat.old.me.0 ≡ seat_of step) }
         requires place { IsPlace self.now.shape (place_of step) × (index self.now.shape (place_of step) ≡ word) }
-        requires made { IsMadeBy self.now.shape step (seat_of step) (known_in seat.old.me.0) (λ found. either (found == old) new found) }
-        requires kept { IsKeptBy (P.keeps self.now.table.shared.key.fixed) P.whole P.after self.now.shape step act (seat_of step) (known_in seat.old.me.0) (past_in seat.old.me.0) (note_in P.first seat.old.me.0) (λ found. either (found == old) new found) }
-        requires recalled { IsRecalledBy self.now.shape step (seat_of step) (known_in seat.old.me.0) (past_in seat.old.me.0) (λ found. either (found == old) new found) }
+        requires made { IsMadeBy self.now.shape step (seat_of step) (known_in seat.old.me.0)
+            (λ found. either (found == old) new found) }
+        requires kept { IsKeptBy (P.keeps self.now.table.shared.key.fixed) P.whole P.after self.now.shape step act
+            (seat_of step) (known_in seat.old.me.0) (past_in seat.old.me.0) (note_in P.first seat.old.me.0)
+            (λ found. either (found == old) new found) }
+        requires recalled { IsRecalledBy self.now.shape step (seat_of step) (known_in seat.old.me.0)
+            (past_in seat.old.me.0) (λ found. either (found == old) new found) }
         ensures at { seat.new.table_id ≡ seat.old.table_id }
         ensures told { IsTold P.after P.whole P.first self.now.shape step act result seat.old.me seat.new.me }
     {

@@ -2,7 +2,8 @@
 
 ghost use Rattle.std.specs.Prelude.{◌≡◌, ◌++◌, ◌+◌, true, IsTrue, None};
 ghost use Rattle.pebr_core.specs.State.{is_out};
-ghost use Rattle.pebr_words.specs.Seats.{IsAt, IsUnited, known_of, number_of, numbers_of, count_of, note_of, past_of, lost_of, ejections_of};
+ghost use Rattle.pebr_words.specs.Seats.{IsAt, IsUnited, known_of, number_of, numbers_of, count_of, note_of, past_of};
+ghost use Rattle.pebr_words.specs.Seats.{lost_of, ejections_of};
 
 use crate::protocol::RootProtocol;
 use crate::rule::Unites;

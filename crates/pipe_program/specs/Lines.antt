@@ -1,7 +1,9 @@
 -- The line of each way in which a run ends.
 use Rattle.std.specs.Prelude.{ℕ, List, codes}
 use Rattle.meter_program.specs.declared.status.Status.{Status}
-use Rattle.meter_program.specs.declared.status.Status.TheVariants.{Done, ReadFault, Usage, WriteFault, NotCapture, LinkUnknown, Damaged, TooLarge, NoMemory, NotStream, BadSchedule}
+use Rattle.meter_program.specs.declared.status.Status.TheVariants.{Done, ReadFault, Usage, WriteFault, NotCapture}
+use Rattle.meter_program.specs.declared.status.Status.TheVariants.{LinkUnknown, Damaged, TooLarge, NoMemory, NotStream}
+use Rattle.meter_program.specs.declared.status.Status.TheVariants.{BadSchedule}
 use Rattle.meter_program.specs.Statuses.{fault_line}
 
 -- The line of a status in the notes: that of `meter`, but for the words that this program takes.

@@ -8,19 +8,20 @@ use Rattle.meter_program.specs.Outcome.{Ends, IsComplete}
 use Rattle.pipe_program.specs.Lines.{pipe_line}
 use Rattle.pipe_program.specs.Words.{Piping, as_meter}
 
--- The words ask for nothing, or memory was out before they were read: nothing is read, nothing is written, and the notes
--- say so.
+-- The words ask for nothing, or memory was out before they were read: nothing is read, nothing is written, and the
+-- notes say so.
 pub record IsUsage (seen : Seen) (status : Status) : Type 0 where
   pub usage : (status ≡ Usage) ⊎ (status ≡ NoMemory)
   pub input : IsUntouched seen.input
   pub output : IsUntouched seen.output
   pub notes : HasTakenOrFailed seen.notes (pipe_line status)
 
--- What a run means, by what its words ask for: it ends as the command `meter` does. At a refusal the notes took the line of
--- the status.
+-- What a run means, by what its words ask for: it ends as the command `meter` does. At a refusal the notes took the
+-- line of the status.
 abbrev pub PipeMeans : Option Piping → Seen → Status → Type 0
 PipeMeans None seen status = IsUsage seen status
-PipeMeans (Some piping) seen status = Ends (as_meter piping) seen (HasTakenOrFailed seen.notes (pipe_line status)) status
+PipeMeans (Some piping) seen status = Ends (as_meter piping) seen
+    (HasTakenOrFailed seen.notes (pipe_line status)) status
 
 -- For an input that `meter` takes, where no call failed, the run is done, or memory is out.
 abbrev pub IsPipeComplete : Option Piping → Seen → Status → Type 0

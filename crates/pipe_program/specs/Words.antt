@@ -16,8 +16,8 @@ pipe_options =
     ∷ (option (codes "size") 116 65535 (Some 1400)
     ∷ []))))))
 
--- What a command line asks for: to meter with an idle time-out and an active time-out in seconds, by so many workers, with
--- so many sets of the cache, a queue of so many batches of at most so many bytes, and a message size in octets.
+-- What a command line asks for: to meter with an idle time-out and an active time-out in seconds, by so many workers,
+-- with so many sets of the cache, a queue of so many batches of at most so many bytes, and a message size in octets.
 pub data Piping : Type 0 where
   pipe : (idle active workers sets queue batch size : ℕ) → Piping
 
@@ -27,7 +27,8 @@ as_meter (pipe idle active workers sets queue batch size) = meter idle active wo
 
 abbrev pub pipe_with : List ℕ → Piping
 pipe_with values =
-    pipe (slice_index values 0) (slice_index values 1) (slice_index values 2) (slice_index values 3) (slice_index values 4) (slice_index values 5)
+    pipe (slice_index values 0) (slice_index values 1) (slice_index values 2) (slice_index values 3)
+    (slice_index values 4) (slice_index values 5)
     (slice_index values 6)
 
 -- What options ask for.
@@ -41,4 +42,5 @@ piping_by (name ∷ options) = if bytes_eq name (codes "pipe") then piping_with 
 
 -- What the settings say.
 abbrev pub piping : PipeSettings → Piping
-piping settings = pipe settings.idle settings.active settings.workers settings.sets settings.queue settings.batch settings.size
+piping settings = pipe settings.idle settings.active settings.workers settings.sets settings.queue settings.batch
+    settings.size

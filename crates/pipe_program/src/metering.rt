@@ -39,7 +39,8 @@ fn status_of(fault: MeterFault) -> Status
     }
 }
 
-/// Meters the capture that the input gives through a cache, by the reader and all workers at once, and closes the cache.
+/// Meters the capture that the input gives through a cache, by the reader and all workers at once, and closes the
+/// cache.
 fn metered<R: Threads + Wait + Sync, S: Source, M: Caches, G: Gate>(
     rt: &R,
     alloc: Global,
@@ -49,7 +50,8 @@ fn metered<R: Threads + Wait + Sync, S: Source, M: Caches, G: Gate>(
     caches: &mut M,
     gate: &G,
 ) -> Result<Counted, Status>
-    ensures kept { IfOk result (λ r. IsReadAndKept (side S.left S.faults input.old input.new) limits (M.metered caches.new) r.tally r.tail) }
+    ensures kept { IfOk result
+        (λ r. IsReadAndKept (side S.left S.faults input.old input.new) limits (M.metered caches.new) r.tally r.tail) }
     ensures refused { IfErr result (λ status. MeterRefuses (side S.left S.faults input.old input.new) status) }
 {
     sharing_out_stands();
@@ -85,7 +87,8 @@ fn gathered_from<R: Threads + Wait + Sync, S: Source, M: Caches, G: Gate>(
     caches: &mut M,
     gate: &G,
 ) -> Result<Gathered, Status>
-    ensures records { IfOk result (λ g. IsReadAndGathered (side S.left S.faults input.old input.new) settings.now.idle settings.now.active
+    ensures records { IfOk result
+        (λ g. IsReadAndGathered (side S.left S.faults input.old input.new) settings.now.idle settings.now.active
         (M.metered caches.new) g.records.items g.tally g.tail) }
     ensures refused { IfErr result (λ status. MeterRefuses (side S.left S.faults input.old input.new) status) }
 {
@@ -95,8 +98,8 @@ fn gathered_from<R: Threads + Wait + Sync, S: Source, M: Caches, G: Gate>(
     Ok(gathered)
 }
 
-/// Reads a capture from the input to its end, meters it through a cache of `caches`, writes the records of its flows to the
-/// output and notes the summary.
+/// Reads a capture from the input to its end, meters it through a cache of `caches`, writes the records of its flows to
+/// the output and notes the summary.
 pub fn piped<R: Threads + Wait + Sync, S: Source, K: Sink, N: Sink, M: Caches, G: Gate>(
     rt: &R,
     alloc: Global,

@@ -22,25 +22,26 @@ use std::thread::Threads;
 
 /// Meters the capture of the input as the words behind the program's name ask for, and tells how the run ended.
 ///
-/// Reads a capture of at most 2^30 bytes to its end, writes the stream of its flow records to `output`, and notes the summary,
-/// eleven lines. The capture is cut into batches of whole records, which wait in a queue; workers meter them while the next
-/// bytes are read. One cache of `caches` is opened, with a pass for each worker, one for the reader and one for what is left
-/// in the queue in the end, and closed; the records that are written regroup the fragments that `caches` then tells.
+/// Reads a capture of at most 2^30 bytes to its end, writes the stream of its flow records to `output`, and notes the
+/// summary, eleven lines. The capture is cut into batches of whole records, which wait in a queue; workers meter them
+/// while the next bytes are read. One cache of `caches` is opened, with a pass for each worker, one for the reader and
+/// one for what is left in the queue in the end, and closed; the records that are written regroup the fragments that
+/// `caches` then tells.
 ///
-/// The gate is told of each batch, by its number, before it is metered: by worker `k` as `k`, by the reader, which meters a
-/// batch that finds the queue full, as the number of workers, and of what is left in the queue as one more.
+/// The gate is told of each batch, by its number, before it is metered: by worker `k` as `k`, by the reader, which
+/// meters a batch that finds the queue full, as the number of workers, and of what is left in the queue as one more.
 ///
-/// This call may wait; what is said here holds if it returns. The input is read to its end before anything is written. At a
-/// refusal, any status but `Done` and `WriteFault`, nothing is written to `output`, and one line that names the refusal
-/// goes to `notes`; where that write fails, the status stays.
+/// This call may wait; what is said here holds if it returns. The input is read to its end before anything is written.
+/// At a refusal, any status but `Done` and `WriteFault`, nothing is written to `output`, and one line that names the
+/// refusal goes to `notes`; where that write fails, the status stays.
 ///
 /// - `Done`: all was read and written.
 /// - `ReadFault`: only where a read failed and the input counted it.
 /// - `Usage`: exactly where the words are no command line. Nothing is read.
 /// - `WriteFault`: only where a write failed and the output or the notes counted it. Both took a beginning of what they
 ///   were to take, the output all of it where none of its own writes failed.
-/// - `NotCapture`, `LinkUnknown`, `Damaged`: exactly where the bytes read are no capture, have another link type than 1, 101
-///   and 113, or a record that claims too much.
+/// - `NotCapture`, `LinkUnknown`, `Damaged`: exactly where the bytes read are no capture, have another link type than
+///   1, 101 and 113, or a record that claims too much.
 /// - `TooLarge`: exactly where more bytes came than the limit.
 /// - `NoMemory`: out of memory, at any point before the first write.
 ///
@@ -56,11 +57,16 @@ pub fn run_pipe<R: Threads + Wait + Sync, S: Source, K: Sink, N: Sink, M: Caches
     gate: &G,
 ) -> Status
     ensures usage { result ≡ Status.Usage → piping_by (map string_bytes words.now) ≡ None }
-    ensures nothing { piping_by (map string_bytes words.now) ≡ None → (result ≡ Status.Usage) ⊎ (result ≡ Status.NoMemory) }
-    ensures means { PipeMeans (piping_by (map string_bytes words.now)) (seen_of (side S.left S.faults input.old input.new)
-        (side K.held K.faults output.old output.new) (side N.held N.faults notes.old notes.new) (M.metered caches.new)) result }
-    ensures complete { IsPipeComplete (piping_by (map string_bytes words.now)) (seen_of (side S.left S.faults input.old input.new)
-        (side K.held K.faults output.old output.new) (side N.held N.faults notes.old notes.new) (M.metered caches.new)) result }
+    ensures nothing { piping_by (map string_bytes words.now) ≡ None
+        → (result ≡ Status.Usage) ⊎ (result ≡ Status.NoMemory) }
+    ensures means { PipeMeans (piping_by (map string_bytes words.now))
+        (seen_of (side S.left S.faults input.old input.new)
+        (side K.held K.faults output.old output.new) (side N.held N.faults notes.old notes.new) (M.metered caches.new))
+        result }
+    ensures complete { IsPipeComplete (piping_by (map string_bytes words.now))
+        (seen_of (side S.left S.faults input.old input.new)
+        (side K.held K.faults output.old output.new) (side N.held N.faults notes.old notes.new) (M.metered caches.new))
+        result }
     ensures read_fault { result ≡ Status.ReadFault → Rose (S.faults input.old) (S.faults input.new) }
     ensures write_fault { result ≡ Status.WriteFault
         → Rose (K.faults output.old) (K.faults output.new) ⊎ Rose (N.faults notes.old) (N.faults notes.new) }

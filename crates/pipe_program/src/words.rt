@@ -60,7 +60,8 @@ static PIPE: [OptionRule<'static>; 7] = [
 /// The settings that the options of `pipe` give.
 fn settings(alloc: Global, options: &[String]) -> Result<PipeSettings, OptionsError>
     ensures settings { IfOk result (λ s. piping_with (map string_bytes options.now) ≡ Some (piping s)) }
-    ensures refused { IfErr result (λ error. error ≡ OptionsError.NotOptions → piping_with (map string_bytes options.now) ≡ None) }
+    ensures refused { IfErr result (λ error. error ≡ OptionsError.NotOptions
+        → piping_with (map string_bytes options.now) ≡ None) }
 {
     let values = values_of(alloc, PIPE.as_slice(), options)?;
     let [idle, active, workers, sets, queue, batch, size] = values.as_slice() else {
@@ -93,7 +94,8 @@ fn settings(alloc: Global, options: &[String]) -> Result<PipeSettings, OptionsEr
 /// - `NoMemory`: out of memory.
 pub fn settings_of(alloc: Global, words: &[String]) -> Result<PipeSettings, OptionsError>
     ensures settings { IfOk result (λ s. piping_by (map string_bytes words.now) ≡ Some (piping s)) }
-    ensures refused { IfErr result (λ error. error ≡ OptionsError.NotOptions → piping_by (map string_bytes words.now) ≡ None) }
+    ensures refused { IfErr result (λ error. error ≡ OptionsError.NotOptions
+        → piping_by (map string_bytes words.now) ≡ None) }
 {
     let Some((name, options)) = words.split_first() else {
         return Err(OptionsError::NotOptions);

@@ -23,7 +23,8 @@ const LIMIT: u64 = 1 << 30;
 /// The smallest window.
 const SMALL: usize = 262_184;
 
-/// What comes of a capture: the tally of its records, how many bytes are left, and the packets and octets of all fragments.
+/// What comes of a capture: the tally of its records, how many bytes are left, and the packets and octets of all
+/// fragments.
 #[derive(Clone, Copy, Debug, PartialEq, Eq)]
 struct Outcome {
     tally: Tally,
@@ -32,8 +33,8 @@ struct Outcome {
     octets: u64,
 }
 
-/// How a capture is metered: with how many passes, in windows of which size, at most how many bytes of it, and which read of
-/// the source fails. With a room of 0 there is no queue, and a window is metered before the next is read.
+/// How a capture is metered: with how many passes, in windows of which size, at most how many bytes of it, and which
+/// read of the source fails. With a room of 0 there is no queue, and a window is metered before the next is read.
 #[derive(Clone, Copy)]
 struct Setting {
     passes: usize,
@@ -56,7 +57,8 @@ fn run<S: Source, C: FlowCache, G: Gate, R: Threads + Wait + Sync>(
     requires room { setting.room ≤ 64 }
     requires window { (262184 ≤ setting.window) × (setting.window ≤ 4194304) }
     requires limit { setting.limit ≤ 2 ^ 30 }
-    requires passes { (3 ≤ length passes.items) × (length passes.items ≤ 64) × All (λ p. C.is_of cache.now p × IsFresh (C.shown p)) passes.items }
+    requires passes { (3 ≤ length passes.items) × (length passes.items ≤ 64)
+        × All (λ p. C.is_of cache.now p × IsFresh (C.shown p)) passes.items }
     ensures own { IfOk result (λ r. C.is_of cache.now r.pass × ((C.shown r.pass).note.seats ≡ length passes.items)) }
     ensures parts { IfOk result (λ r. IsPermutation (C.shown r.pass).note.handed r.parts.items) }
 {

@@ -3,7 +3,8 @@ use Rattle.std.proofs.Common.{◌≡◌, ◌<◌, List, [], ◌∷◌, ◌++◌,
 use Rattle.std.specs.Prelude.{All, IfOk, Result, Ok}
 use Rattle.std.proofs.lemmas.List.Elements.{All-tail}
 
-pub first-item : {X : Type 0} (P : X → Type 0) (xs : List X) (x : X) → All P xs → 0 < length xs → x ≡ get_or xs 0 x → P x
+pub first-item : {X : Type 0} (P : X → Type 0) (xs : List X) (x : X) → All P xs → 0 < length xs → x ≡ get_or xs 0 x
+    → P x
 first-item P xs x all some is = subst P (sym is) (all 0 x some)
 
 pub others-all : {X : Type 0} (P : X → Type 0) (xs ys : List X) → All P xs → ys ≡ take 0 xs ++ drop 1 xs → All P ys

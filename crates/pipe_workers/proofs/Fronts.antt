@@ -1,8 +1,10 @@
 -- The whole records at the front of a part.
-use Rattle.std.proofs.Common.{◌≡◌, ℕ, ◌+◌, List, [], ◌∷◌, ◌++◌, length, take, drop, map, refl, sym, ap, ◌∙◌, arith, append-nil}
+use Rattle.std.proofs.Common.{◌≡◌, ℕ, ◌+◌, List, [], ◌∷◌, ◌++◌, length, take, drop, map, refl, sym, ap, ◌∙◌, arith}
+use Rattle.std.proofs.Common.{append-nil}
 use Rattle.std.specs.List.{concat, enumerate_from}
 use Rattle.pcap_reader.specs.Records as Recs
-use Rattle.pcap_reader.specs.Records.{PacketRecord, IsCutInto, parts_of, packet_record, records_of, rest_of, rest_offset, tail_of}
+use Rattle.pcap_reader.specs.Records.{PacketRecord, IsCutInto, parts_of, packet_record, records_of, rest_of}
+use Rattle.pcap_reader.specs.Records.{rest_offset, tail_of}
 use Rattle.pcap_reader.specs.Views.{part_of}
 use Rattle.pcap_reader.specs.declared.head.Head.{Head}
 use Rattle.pcap_reader.proofs.Cutting.{file_is_cut, file_is_cut_once}
@@ -27,7 +29,8 @@ front-bytes head bytes =
     let part = part_of head bytes in
     let cut = file_is_cut part (omega arith) in
     let place : rest_offset part ≡ length (concat (parts_of part)) = omega arith in
-    ap (λ (k : ℕ). take k bytes) place ∙ ap (take (length (concat (parts_of part)))) cut.together ∙ take-front (concat (parts_of part)) (rest_of part)
+    ap (λ (k : ℕ). take k bytes) place ∙ ap (take (length (concat (parts_of part)))) cut.together
+    ∙ take-front (concat (parts_of part)) (rest_of part)
 
 front-cut : (head : Head) (bytes front : List ℕ) → front ≡ concat (parts_of (part_of head bytes))
     → IsCutInto (part_of head front) (parts_of (part_of head bytes)) []

@@ -41,7 +41,8 @@ shown head window taken file more part at is = is ∙ part-of_file head file win
 
 pub next-of : (head : Head) (window : List ℕ) (taken base : ℕ) (file : CaptureFile) (more : List ℕ) (part : CaptureFile)
     → ((f : CaptureFile) (xs : List ℕ) → f.start ≤ length f.bytes → GoesOn f xs)
-    → IsAt head window 0 taken file more → part ≡ part_of head window → base ≡ length (records_of file) → IsNext head file more base part
+    → IsAt head window 0 taken file more → part ≡ part_of head window → base ≡ length (records_of file)
+    → IsNext head file more base part
 next-of head window taken base file more part goes at is counted =
     let same = shown head window taken file more part at is in
     let on = goes file more at.sound.long in
@@ -51,28 +52,35 @@ next-of head window taken base file more part goes at is counted =
           ∙ ap (λ (p : CaptureFile). answers_of file ++ answers_from base p) (sym same);
       count = ap (λ (k : ℕ). k + length (records_of part)) counted
           ∙ ap (λ (p : CaptureFile). length (records_of file) + length (records_of p)) same
-          ∙ sym (ap length on.records ∙ length-append (records_of file) (records_of (part_with file (rest_of file ++ more))));
+          ∙ sym (ap length on.records ∙ length-append (records_of file)
+          (records_of (part_with file (rest_of file ++ more))));
       long = omega (arith, at.sound.long, length-append file.bytes more);
     }
 
 pub sound-next : (head : Head) (window : List ℕ) (taken : ℕ) (file : CaptureFile) (more : List ℕ) (part : CaptureFile)
     → ((f : CaptureFile) (xs : List ℕ) → f.start ≤ length f.bytes → GoesOn f xs)
-    → ((xs ys : List ℕ) → 24 ≤ length xs → capture_file (xs ++ ys) ≡ option_map (λ (f : CaptureFile). grown f ys) (capture_file xs))
-    → IsAt head window 0 taken file more → part ≡ part_of head window → damage_of part ≡ None → IsSoundNext head file more part
+    → ((xs ys : List ℕ) → 24 ≤ length xs → capture_file (xs ++ ys)
+    ≡ option_map (λ (f : CaptureFile). grown f ys) (capture_file xs))
+    → IsAt head window 0 taken file more → part ≡ part_of head window → damage_of part ≡ None
+    → IsSoundNext head file more part
 sound-next head window taken file more part goes header at is undamaged =
     let same = shown head window taken file more part at is in
-    let next : Next file more = record { on = goes file more at.sound.long; is_file = header file.bytes more at.sound.header } in
+    let next : Next file more =
+    record { on = goes file more at.sound.long; is_file = header file.bytes more at.sound.header } in
     record {
-      sound = sound-grown head window 0 taken file more next at (subst (λ (p : CaptureFile). damage_of p ≡ None) same undamaged);
+      sound = sound-grown head window 0 taken file more next at
+          (subst (λ (p : CaptureFile). damage_of p ≡ None) same undamaged);
       rest = ap rest_of same ∙ sym next.on.rest;
     }
 
 -- so long a file has no more records
-pub few-records : (head : Head) (window : List ℕ) (taken limit base : ℕ) (file : CaptureFile) (more : List ℕ) (part : CaptureFile)
+pub few-records : (head : Head) (window : List ℕ) (taken limit base : ℕ) (file : CaptureFile) (more : List ℕ)
+    (part : CaptureFile)
     → IsAt head window 0 taken file more → IsNext head file more base part → taken ≤ limit → limit ≤ 2 ^ 30
     → base + length (records_of part) < 2 ^ 32
 few-records head window taken limit base file more part at next within small =
     let all = grown file more in
     let few = few_parts all next.long in
-    let records : length (records_of all) ≡ length (parts_of all) = length-map (parts_of all) (packet_record all.order) in
+    let records : length (records_of all) ≡ length (parts_of all) =
+    length-map (parts_of all) (packet_record all.order) in
     omega (arith, next.count, few, records, at.count, within, small)

@@ -16,8 +16,8 @@ use Rattle.batch_queue.specs.Passes.{IsPassOf, IsReaders, IsFresh, put_of, took_
 use Rattle.batch_workers.specs.Batched.{answers_in}
 use Rattle.batch_workers.specs.Sharing.{HasMetered}
 
--- The source gave an undamaged capture and has nothing left. Its records are those of the batches that were put and of these
--- apart, each once, and so many bytes are left behind its last record.
+-- The source gave an undamaged capture and has nothing left. Its records are those of the batches that were put and of
+-- these apart, each once, and so many bytes are left behind its last record.
 pub record IsBatched (source : Side) (limit : ℕ) (put apart : List Batch) (tail : ℕ) : Type 0 where
   pub bytes : List ℕ
   pub read : IsRead source limit bytes
@@ -36,7 +36,8 @@ pub record IsStill (old new : QueuePass) : Type 0 where
   pub took : took_of new ≡ took_of old
 
 -- The reader has read the whole capture: it put batches and metered the others itself.
-pub record HasRead {P : Type 0} (is_of : P → Type 0) (shown : P → PassMeans) (queue : BatchQueue) (source : Side) (limit : ℕ)
+pub record HasRead {P : Type 0} (is_of : P → Type 0) (shown : P → PassMeans) (queue : BatchQueue) (source : Side)
+    (limit : ℕ)
     (old new : QueuePass) (pass : P) (out : List Fragment) (tally : Tally) (tail : ℕ) : Type 0 where
   pub own : is_of pass
   pub of : IsPassOf queue new
@@ -48,7 +49,8 @@ pub record HasRead {P : Type 0} (is_of : P → Type 0) (shown : P → PassMeans)
   pub metered : HasMetered apart (shown pass) out tally
 
 -- The reader's pass before anything was read.
-pub record IsUnread {P : Type 0} (is_of : P → Type 0) (shown : P → PassMeans) (queue : BatchQueue) (pass : P) (seat : QueuePass)
+pub record IsUnread {P : Type 0} (is_of : P → Type 0) (shown : P → PassMeans) (queue : BatchQueue) (pass : P)
+    (seat : QueuePass)
     (out : List Fragment) (tally : Tally) : Type 0 where
   pub own : is_of pass
   pub of : IsPassOf queue seat

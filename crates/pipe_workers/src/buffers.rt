@@ -27,8 +27,8 @@ fn buffer_of<R: Wait>(
     }
 }
 
-/// The first `end` bytes of the window, in its own memory, and the input with another window, which begins with what stands
-/// behind them.
+/// The first `end` bytes of the window, in its own memory, and the input with another window, which begins with what
+/// stands behind them.
 pub(crate) fn cut_off<R: Wait>(
     rt: &R,
     alloc: Global,
@@ -42,7 +42,8 @@ pub(crate) fn cut_off<R: Wait>(
     requires large { (262184 ≤ size) × (size ≤ 4194304) }
     ensures front { IfOk result (λ r. r.0.items ≡ take end input.window.bytes) }
     ensures window { IfOk result (λ r. (r.1.window.bytes ≡ drop end input.window.bytes) × (r.1.window.size ≡ size)) }
-    ensures same { IfOk result (λ r. (r.1.taken ≡ input.taken) × (r.1.limit ≡ input.limit) × (r.1.ended ≡ input.ended)) }
+    ensures same { IfOk result (λ r. (r.1.taken ≡ input.taken) × (r.1.limit ≡ input.limit)
+        × (r.1.ended ≡ input.ended)) }
 {
     let CaptureInput {
         window,

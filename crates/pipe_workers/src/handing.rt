@@ -24,8 +24,8 @@ use pcap_reader::{Head, RecordIndex, parts_law};
 use std::alloc::Global;
 use std::sync::Wait;
 
-/// What the reader goes on with: its input, the memory of its index, the number of its next batch, and how many records stand
-/// before it.
+/// What the reader goes on with: its input, the memory of its index, the number of its next batch, and how many records
+/// stand before it.
 #[derive(Drop)]
 pub(crate) struct Going {
     pub(crate) input: CaptureInput,
@@ -34,8 +34,9 @@ pub(crate) struct Going {
     pub(crate) base: u64,
 }
 
-/// Puts a batch into the queue. The reader meters it itself where the queue has no room, and the gate is told of it before, by
-/// this number of a worker. It gives the memory of the index back. It must not have been said yet that no more batches come.
+/// Puts a batch into the queue. The reader meters it itself where the queue has no room, and the gate is told of it
+/// before, by this number of a worker. It gives the memory of the index back. It must not have been said yet that no
+/// more batches come.
 fn hand_over<C: FlowCache, G: Gate, R: Wait>(
     rt: &R,
     alloc: Global,
@@ -48,17 +49,23 @@ fn hand_over<C: FlowCache, G: Gate, R: Wait>(
     index: RecordIndex,
     gate: &G,
 ) -> Result<RecordIndex, NoMemory>
-    requires own { C.is_of cache.now share.old.pass × IsPassOf shared.now.queue share.old.seat × IsReaders share.old.seat }
+    requires own { C.is_of cache.now share.old.pass × IsPassOf shared.now.queue share.old.seat
+        × IsReaders share.old.seat }
     requires single { (C.shown share.old.pass).note.seats ≡ 1 }
     requires unsaid { is_said.now ≡ false }
-    requires ready { IsReadyAt batch.number batch.base (put_of share.old.seat) (C.shown share.old.pass).note.packets share.old.tally.captured }
+    requires ready { IsReadyAt batch.number batch.base (put_of share.old.seat)
+        (C.shown share.old.pass).note.packets share.old.tally.captured }
     requires tallied { IsTallied share.old.tally }
     ensures own { OnOk result (C.is_of cache.now share.new.pass × IsPassOf shared.now.queue share.new.seat) }
     ensures still { OnOk result (IsStill share.old.seat share.new.seat) }
     ensures single { OnOk result ((C.shown share.new.pass).note.seats ≡ 1) }
-    ensures ready { OnOk result (IsReadyAt (batch.number + 1) (batch.base + count_of batch) (put_of share.new.seat) (C.shown share.new.pass).note.packets share.new.tally.captured) }
+    ensures ready { OnOk result
+        (IsReadyAt (batch.number + 1) (batch.base + count_of batch) (put_of share.new.seat)
+        (C.shown share.new.pass).note.packets share.new.tally.captured) }
     ensures tallied { OnOk result (IsTallied share.new.tally) }
-    ensures handed { OnOk result (HandedOn (answers_by batch) (put_of share.old.seat) (put_of share.new.seat) (C.shown share.old.pass) (C.shown share.new.pass)
+    ensures handed { OnOk result
+        (HandedOn (answers_by batch) (put_of share.old.seat) (put_of share.new.seat) (C.shown share.old.pass)
+        (C.shown share.new.pass)
         share.old.parts.items share.new.parts.items share.old.tally share.new.tally) }
 {
     packets_law();
@@ -84,8 +91,8 @@ fn hand_over<C: FlowCache, G: Gate, R: Wait>(
     }
 }
 
-/// Hands on the whole records of the window, as one batch, where it has any. The next window begins with what is left behind
-/// them.
+/// Hands on the whole records of the window, as one batch, where it has any. The next window begins with what is left
+/// behind them.
 pub(crate) fn hand_window<C: FlowCache, G: Gate, R: Wait>(
     rt: &R,
     alloc: Global,
@@ -102,22 +109,33 @@ pub(crate) fn hand_window<C: FlowCache, G: Gate, R: Wait>(
     requires index { IsIndexOf going.index (part_of head going.input.window.bytes) }
     requires size { (going.input.window.size ≡ size) × (262184 ≤ size) × (size ≤ 4194304) }
     requires fits { length going.input.window.bytes ≤ size }
-    requires few { (going.number ≤ going.base) × (going.base + length (records_of (part_of head going.input.window.bytes)) < 2 ^ 32) }
-    requires own { C.is_of cache.now share.old.pass × IsPassOf shared.now.queue share.old.seat × IsReaders share.old.seat }
+    requires few { (going.number ≤ going.base)
+        × (going.base + length (records_of (part_of head going.input.window.bytes)) < 2 ^ 32) }
+    requires own { C.is_of cache.now share.old.pass × IsPassOf shared.now.queue share.old.seat
+        × IsReaders share.old.seat }
     requires single { (C.shown share.old.pass).note.seats ≡ 1 }
     requires unsaid { is_said.now ≡ false }
-    requires ready { IsReadyAt going.number going.base (put_of share.old.seat) (C.shown share.old.pass).note.packets share.old.tally.captured }
+    requires ready { IsReadyAt going.number going.base (put_of share.old.seat)
+        (C.shown share.old.pass).note.packets share.old.tally.captured }
     requires tallied { IsTallied share.old.tally }
-    ensures rest { IfOk result (λ r. (r.input.window.bytes ≡ rest_of (part_of head going.input.window.bytes)) × (r.input.window.size ≡ size)) }
-    ensures same { IfOk result (λ r. (r.input.taken ≡ going.input.taken) × (r.input.limit ≡ going.input.limit) × (r.input.ended ≡ going.input.ended)) }
-    ensures place { IfOk result (λ r. (r.number ≤ r.base) × (r.base ≡ going.base + length (records_of (part_of head going.input.window.bytes)))) }
+    ensures rest { IfOk result (λ r. (r.input.window.bytes ≡ rest_of (part_of head going.input.window.bytes))
+        × (r.input.window.size ≡ size)) }
+    ensures same { IfOk result (λ r. (r.input.taken ≡ going.input.taken) × (r.input.limit ≡ going.input.limit)
+        × (r.input.ended ≡ going.input.ended)) }
+    ensures place { IfOk result (λ r. (r.number ≤ r.base)
+        × (r.base ≡ going.base + length (records_of (part_of head going.input.window.bytes)))) }
     ensures own { OnOk result (C.is_of cache.now share.new.pass × IsPassOf shared.now.queue share.new.seat) }
     ensures still { OnOk result (IsStill share.old.seat share.new.seat) }
     ensures single { OnOk result ((C.shown share.new.pass).note.seats ≡ 1) }
-    ensures ready { IfOk result (λ r. IsReadyAt r.number r.base (put_of share.new.seat) (C.shown share.new.pass).note.packets share.new.tally.captured) }
+    ensures ready { IfOk result
+        (λ r. IsReadyAt r.number r.base (put_of share.new.seat)
+        (C.shown share.new.pass).note.packets share.new.tally.captured) }
     ensures tallied { OnOk result (IsTallied share.new.tally) }
-    ensures handed { OnOk result (HandedOn (answers_from going.base (part_of head going.input.window.bytes)) (put_of share.old.seat) (put_of share.new.seat)
-        (C.shown share.old.pass) (C.shown share.new.pass) share.old.parts.items share.new.parts.items share.old.tally share.new.tally) }
+    ensures handed { OnOk result
+        (HandedOn (answers_from going.base (part_of head going.input.window.bytes)) (put_of share.old.seat)
+        (put_of share.new.seat)
+        (C.shown share.old.pass) (C.shown share.new.pass) share.old.parts.items share.new.parts.items share.old.tally
+        share.new.tally) }
 {
     parts_law();
     let Going {

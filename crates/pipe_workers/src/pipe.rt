@@ -39,9 +39,12 @@ fn work_all<C: FlowCache, G: Gate, R: Threads + Wait + Sync>(
     gate: &G,
 ) -> Vec<BatchWorker<C>>
     requires some { 0 < length workers.old.items }
-    requires ready { All (λ w. IsReady (C.is_of cache.now) C.shown shared.now.queue w.pass w.seat w.out.items w.tally) workers.old.items }
+    requires ready { All (λ w. IsReady (C.is_of cache.now) C.shown shared.now.queue w.pass w.seat w.out.items w.tally)
+        workers.old.items }
     ensures same { length result.items ≡ length workers.old.items }
-    ensures worked { All (λ w. HasWorked (C.is_of cache.now) C.shown shared.now.queue w.pass w.seat w.out.items w.tally w.state) result.items }
+    ensures worked { All
+        (λ w. HasWorked (C.is_of cache.now) C.shown shared.now.queue w.pass w.seat w.out.items w.tally w.state)
+        result.items }
 {
     let ready = mem::replace(workers, Vec::new(alloc));
     worked(rt, alloc, shared, cache, ready, gate)
@@ -62,12 +65,17 @@ fn run_both<S: Source, C: FlowCache, G: Gate, R: Threads + Wait + Sync>(
 ) -> (Vec<BatchWorker<C>>, Result<u64, MeterFault>)
     requires size { (262184 ≤ size) × (size ≤ 4194304) }
     requires limit { limit ≤ 2 ^ 30 }
-    requires unread { IsUnread (C.is_of cache.now) C.shown shared.now.queue share.old.pass share.old.seat share.old.parts.items share.old.tally }
+    requires unread { IsUnread (C.is_of cache.now) C.shown shared.now.queue share.old.pass share.old.seat
+        share.old.parts.items share.old.tally }
     requires some { 0 < length workers.items }
-    requires ready { All (λ w. IsReady (C.is_of cache.now) C.shown shared.now.queue w.pass w.seat w.out.items w.tally) workers.items }
+    requires ready { All (λ w. IsReady (C.is_of cache.now) C.shown shared.now.queue w.pass w.seat w.out.items w.tally)
+        workers.items }
     ensures same { length result.0.items ≡ length workers.items }
-    ensures worked { All (λ w. HasWorked (C.is_of cache.now) C.shown shared.now.queue w.pass w.seat w.out.items w.tally w.state) result.0.items }
-    ensures read { IfOk result.1 (λ tail. HasRead (C.is_of cache.now) C.shown shared.now.queue (side S.left S.faults source.old source.new) limit
+    ensures worked { All
+        (λ w. HasWorked (C.is_of cache.now) C.shown shared.now.queue w.pass w.seat w.out.items w.tally w.state)
+        result.0.items }
+    ensures read { IfOk result.1
+        (λ tail. HasRead (C.is_of cache.now) C.shown shared.now.queue (side S.left S.faults source.old source.new) limit
         share.old.seat share.new.seat share.new.pass share.new.parts.items share.new.tally tail) }
     ensures refused { IfErr result.1 (λ fault. IsRefused (side S.left S.faults source.old source.new) limit fault) }
     ensures faults { HasFaults (side S.left S.faults source.old source.new) result.1 }
@@ -78,17 +86,26 @@ fn run_both<S: Source, C: FlowCache, G: Gate, R: Threads + Wait + Sync>(
         &mut move || -> Vec<BatchWorker<C>>
             requires sync { IsSync R.row }
             requires some { 0 < length workers.items }
-            requires ready { All (λ w. IsReady (C.is_of cache.now) C.shown shared.now.queue w.pass w.seat w.out.items w.tally) workers.items }
+            requires ready { All
+                (λ w. IsReady (C.is_of cache.now) C.shown shared.now.queue w.pass w.seat w.out.items w.tally)
+                workers.items }
             ensures same { length result.items ≡ length workers.entry.items }
-            ensures worked { All (λ w. HasWorked (C.is_of cache.entry.now) C.shown shared.entry.now.queue w.pass w.seat w.out.items w.tally w.state) result.items }
+            ensures worked { All
+                (λ w. HasWorked (C.is_of cache.entry.now) C.shown shared.entry.now.queue w.pass w.seat w.out.items
+                w.tally w.state) result.items }
         { work_all(rt, alloc, shared, cache, &mut workers, gate) },
         &mut || -> Result<u64, MeterFault>
             requires size { (262184 ≤ size) × (size ≤ 4194304) }
             requires limit { limit ≤ 2 ^ 30 }
-            requires unread { IsUnread (C.is_of cache.now) C.shown shared.now.queue share.now.pass share.now.seat share.now.parts.items share.now.tally }
-            ensures read { IfOk result (λ tail. HasRead (C.is_of cache.entry.now) C.shown shared.entry.now.queue (side S.left S.faults source.entry.now source.exit.now) limit
-                share.entry.now.seat share.exit.now.seat share.exit.now.pass share.exit.now.parts.items share.exit.now.tally tail) }
-            ensures refused { IfErr result (λ fault. IsRefused (side S.left S.faults source.entry.now source.exit.now) limit fault) }
+            requires unread { IsUnread (C.is_of cache.now) C.shown shared.now.queue share.now.pass share.now.seat
+                share.now.parts.items share.now.tally }
+            ensures read { IfOk result
+                (λ tail. HasRead (C.is_of cache.entry.now) C.shown shared.entry.now.queue
+                (side S.left S.faults source.entry.now source.exit.now) limit
+                share.entry.now.seat share.exit.now.seat share.exit.now.pass share.exit.now.parts.items
+                share.exit.now.tally tail) }
+            ensures refused { IfErr result
+                (λ fault. IsRefused (side S.left S.faults source.entry.now source.exit.now) limit fault) }
             ensures faults { HasFaults (side S.left S.faults source.entry.now source.exit.now) result }
         {
             read_all(
@@ -115,10 +132,16 @@ fn crew_of<C: FlowCache>(
     room: usize,
 ) -> Result<Crew<C>, NoMemory>
     requires room { (1 ≤ room) × (room ≤ 64) }
-    requires passes { (3 ≤ length passes.items) × (length passes.items ≤ 64) × All (λ p. C.is_of cache.now p × IsFresh (C.shown p)) passes.items }
-    ensures reader { IfOk result (λ r. IsUnread (C.is_of cache.now) C.shown r.shared.queue r.share.pass r.share.seat r.share.parts.items r.share.tally) }
-    ensures workers { IfOk result (λ r. All (λ w. IsReady (C.is_of cache.now) C.shown r.shared.queue w.pass w.seat w.out.items w.tally) r.workers.items) }
-    ensures many { IfOk result (λ r. (length r.workers.items + 2 ≡ length passes.items) × (others_of r.share.seat ≡ length r.workers.items)) }
+    requires passes { (3 ≤ length passes.items) × (length passes.items ≤ 64)
+        × All (λ p. C.is_of cache.now p × IsFresh (C.shown p)) passes.items }
+    ensures reader { IfOk result
+        (λ r. IsUnread (C.is_of cache.now) C.shown r.shared.queue r.share.pass r.share.seat r.share.parts.items
+        r.share.tally) }
+    ensures workers { IfOk result
+        (λ r. All (λ w. IsReady (C.is_of cache.now) C.shown r.shared.queue w.pass w.seat w.out.items w.tally)
+        r.workers.items) }
+    ensures many { IfOk result (λ r. (length r.workers.items + 2 ≡ length passes.items)
+        × (others_of r.share.seat ≡ length r.workers.items)) }
     ensures last { IfOk result (λ r. C.is_of cache.now r.last × ((C.shown r.last).note ≡ first_note)) }
 {
     let count = passes.len() - 2;
@@ -144,7 +167,8 @@ fn crew_of<C: FlowCache>(
     })
 }
 
-/// What all did together, once the reader has read and the workers have worked. What is left in the queue is metered here.
+/// What all did together, once the reader has read and the workers have worked. What is left in the queue is metered
+/// here.
 fn gathered<C: FlowCache, G: Gate, R: Wait>(
     rt: &R,
     alloc: Global,
@@ -153,15 +177,22 @@ fn gathered<C: FlowCache, G: Gate, R: Wait>(
     tail: u64,
     gate: &G,
 ) -> Result<WindowGathered<C>, NoMemory>
-    requires share { IsShare (C.is_of cache.now) C.shown crew.shared.queue crew.share.pass crew.share.seat crew.share.tally }
+    requires share { IsShare (C.is_of cache.now) C.shown crew.shared.queue crew.share.pass crew.share.seat
+        crew.share.tally }
     requires reader { IsReaders crew.share.seat × (seats_of crew.share.seat ≡ 1) × (took_of crew.share.seat ≡ []) }
-    requires seats { ((C.shown crew.share.pass).note.seats ≡ 1) × (others_of crew.share.seat ≡ length crew.workers.items) × (length crew.workers.items ≤ 62) }
-    requires workers { All (λ w. HasWorked (C.is_of cache.now) C.shown crew.shared.queue w.pass w.seat w.out.items w.tally w.state) crew.workers.items }
+    requires seats { ((C.shown crew.share.pass).note.seats ≡ 1)
+        × (others_of crew.share.seat ≡ length crew.workers.items) × (length crew.workers.items ≤ 62) }
+    requires workers { All
+        (λ w. HasWorked (C.is_of cache.now) C.shown crew.shared.queue w.pass w.seat w.out.items w.tally w.state)
+        crew.workers.items }
     requires last { C.is_of cache.now crew.last × ((C.shown crew.last).note ≡ first_note) }
-    ensures own { IfOk result (λ r. C.is_of cache.now r.pass × ((C.shown r.pass).note.seats ≡ length crew.workers.items + 2)) }
-    ensures metered { (source : Side) (limit : ℕ) (apart : List Batch) → IsBatched source limit (put_of crew.share.seat) apart tail
+    ensures own { IfOk result (λ r. C.is_of cache.now r.pass
+        × ((C.shown r.pass).note.seats ≡ length crew.workers.items + 2)) }
+    ensures metered { (source : Side) (limit : ℕ) (apart : List Batch)
+        → IsBatched source limit (put_of crew.share.seat) apart tail
         → HasMetered apart (C.shown crew.share.pass) crew.share.parts.items crew.share.tally
-        → IfOk result (λ r. IsMeteredWhole source limit (C.shown r.pass).note.packets r.tally r.tail × (r.parts.items ≡ (C.shown r.pass).note.handed)) }
+        → IfOk result (λ r. IsMeteredWhole source limit (C.shown r.pass).note.packets r.tally r.tail
+        × (r.parts.items ≡ (C.shown r.pass).note.handed)) }
 {
     packets_law();
     order_law();
@@ -188,18 +219,20 @@ fn gathered<C: FlowCache, G: Gate, R: Wait>(
     })
 }
 
-/// Meters a capture through a cache while it is read: the caller's thread reads it, in windows of `batch` bytes (262,184 to
-/// 4,194,304), into a queue that has room for `room` batches (1 to 64), and a thread for each worker takes them from it. The
-/// passes of the cache (3 to 64) are one for the reader, one for what is left in the queue at the end, and one for each worker.
+/// Meters a capture through a cache while it is read: the caller's thread reads it, in windows of `batch` bytes
+/// (262,184 to 4,194,304), into a queue that has room for `room` batches (1 to 64), and a thread for each worker takes
+/// them from it. The passes of the cache (3 to 64) are one for the reader, one for what is left in the queue at the
+/// end, and one for each worker.
 ///
-/// The gate is told of each batch by its number, before it is metered: by a worker's number, counted from 0, by the number of
-/// workers where the reader meters it, and by that and one more at the end. At most `limit` bytes may come, and at most 2^30.
-/// The united pass has metered just the packets of the capture, each once; `parts` are the fragments that it was handed; the
-/// tally is that of all records, and the source has nothing left. At most `room` + workers + 2 buffers of `batch` bytes exist.
+/// The gate is told of each batch by its number, before it is metered: by a worker's number, counted from 0, by the
+/// number of workers where the reader meters it, and by that and one more at the end. At most `limit` bytes may come,
+/// and at most 2^30. The united pass has metered just the packets of the capture, each once; `parts` are the fragments
+/// that it was handed; the tally is that of all records, and the source has nothing left. At most `room` + workers + 2
+/// buffers of `batch` bytes exist.
 ///
-/// Refusals in the order of [`MeterFault`]: where the input is no capture, of an unknown link type or damaged, it is read to
-/// its end first, so that `Failed` and `TooLarge` keep their place. `NoMemory` may come at any time. All workers have ended
-/// then.
+/// Refusals in the order of [`MeterFault`]: where the input is no capture, of an unknown link type or damaged, it is
+/// read to its end first, so that `Failed` and `TooLarge` keep their place. `NoMemory` may come at any time. All
+/// workers have ended then.
 pub fn meter_batches<S: Source, C: FlowCache, G: Gate, R: Threads + Wait + Sync>(
     rt: &R,
     alloc: Global,
@@ -214,9 +247,12 @@ pub fn meter_batches<S: Source, C: FlowCache, G: Gate, R: Threads + Wait + Sync>
     requires room { (1 ≤ room) × (room ≤ 64) }
     requires batch { (262184 ≤ batch) × (batch ≤ 4194304) }
     requires limit { limit ≤ 2 ^ 30 }
-    requires passes { (3 ≤ length passes.items) × (length passes.items ≤ 64) × All (λ p. C.is_of cache.now p × IsFresh (C.shown p)) passes.items }
+    requires passes { (3 ≤ length passes.items) × (length passes.items ≤ 64)
+        × All (λ p. C.is_of cache.now p × IsFresh (C.shown p)) passes.items }
     ensures own { IfOk result (λ r. C.is_of cache.now r.pass × ((C.shown r.pass).note.seats ≡ length passes.items)) }
-    ensures metered { IfOk result (λ r. IsMeteredWhole (side S.left S.faults source.old source.new) limit (C.shown r.pass).note.packets r.tally r.tail) }
+    ensures metered { IfOk result
+        (λ r. IsMeteredWhole (side S.left S.faults source.old source.new) limit
+        (C.shown r.pass).note.packets r.tally r.tail) }
     ensures parts { IfOk result (λ r. IsPermutation (C.shown r.pass).note.handed r.parts.items) }
     ensures refused { IfErr result (λ fault. IsRefused (side S.left S.faults source.old source.new) limit fault) }
     ensures faults { HasFaults (side S.left S.faults source.old source.new) result }

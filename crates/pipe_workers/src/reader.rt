@@ -1,6 +1,7 @@
 //! The reader.
 
-ghost use Rattle.std.specs.Prelude.{◌≡◌, ◌+◌, ◌^◌, ◌<◌, ◌≤◌, ℕ, [], List, Some, IfOk, IfErr, IsTrue, false, length, drop};
+ghost use Rattle.std.specs.Prelude.{◌≡◌, ◌+◌, ◌^◌, ◌<◌, ◌≤◌, ℕ, [], List, Some, IfOk, IfErr, IsTrue, false, length};
+ghost use Rattle.std.specs.Prelude.{drop};
 ghost use Rattle.std.specs.declared.option.Option.{Option};
 ghost use Rattle.std.specs.Io.KnownBytes.{Consumes, IsAtEnd};
 ghost use Rattle.meter_io.specs.Sides.{side};
@@ -28,8 +29,8 @@ use std::sync::Wait;
 /// The length of the file header, behind which the records of the first window begin.
 const FILE_HEADER: usize = 24;
 
-/// Reads an input on whose first window was read, and hands on the records of each window, of the first those behind the file
-/// header. How many bytes are left behind the last record.
+/// Reads an input on whose first window was read, and hands on the records of each window, of the first those behind
+/// the file header. How many bytes are left behind the last record.
 fn read_windows<S: Source, C: FlowCache, G: Gate, R: Wait>(
     rt: &R,
     alloc: Global,
@@ -44,7 +45,8 @@ fn read_windows<S: Source, C: FlowCache, G: Gate, R: Wait>(
     size: usize,
     gate: &G,
 ) -> Result<u64, MeterFault>
-    requires first { (capture_file going.input.window.bytes ≡ Some (headed_by head going.input.window.bytes)) × (24 ≤ length going.input.window.bytes) }
+    requires first { (capture_file going.input.window.bytes ≡ Some (headed_by head going.input.window.bytes))
+        × (24 ≤ length going.input.window.bytes) }
     requires whole { going.input.taken ≡ length going.input.window.bytes }
     requires size { (going.input.window.size ≡ size) × (262184 ≤ size) × (size ≤ 4194304) }
     requires fits { length going.input.window.bytes ≤ size }
@@ -52,11 +54,15 @@ fn read_windows<S: Source, C: FlowCache, G: Gate, R: Wait>(
     requires ended { IsTrue going.input.ended → IsAtEnd (S.left source.old) }
     requires place { (going.number ≡ 0) × (going.base ≡ 0) }
     requires unsaid { is_said.now ≡ false }
-    requires unread { IsUnread (C.is_of cache.now) C.shown shared.now.queue share.old.pass share.old.seat share.old.parts.items share.old.tally }
-    ensures read { IfOk result (λ tail. (before : Option (List ℕ)) → Consumes before (S.left source.old) going.input.window.bytes
-        → HasRead (C.is_of cache.now) C.shown shared.now.queue (began before (side S.left S.faults source.old source.new)) going.input.limit
+    requires unread { IsUnread (C.is_of cache.now) C.shown shared.now.queue share.old.pass share.old.seat
+        share.old.parts.items share.old.tally }
+    ensures read { IfOk result (λ tail. (before : Option (List ℕ))
+        → Consumes before (S.left source.old) going.input.window.bytes
+        → HasRead (C.is_of cache.now) C.shown shared.now.queue
+        (began before (side S.left S.faults source.old source.new)) going.input.limit
         share.old.seat share.new.seat share.new.pass share.new.parts.items share.new.tally tail) }
-    ensures refused { IfErr result (λ fault. (before : Option (List ℕ)) → Consumes before (S.left source.old) going.input.window.bytes
+    ensures refused { IfErr result (λ fault. (before : Option (List ℕ))
+        → Consumes before (S.left source.old) going.input.window.bytes
         → IsRefused (began before (side S.left S.faults source.old source.new)) going.input.limit fault) }
     ensures faults { HasFaults (side S.left S.faults source.old source.new) result }
 {
@@ -101,8 +107,8 @@ fn read_windows<S: Source, C: FlowCache, G: Gate, R: Wait>(
     }
 }
 
-/// Reads a capture to its end, in windows of `size` bytes, and hands on the records of each. How many bytes are left behind the
-/// last record.
+/// Reads a capture to its end, in windows of `size` bytes, and hands on the records of each. How many bytes are left
+/// behind the last record.
 fn read_capture<S: Source, C: FlowCache, G: Gate, R: Wait>(
     rt: &R,
     alloc: Global,
@@ -119,8 +125,10 @@ fn read_capture<S: Source, C: FlowCache, G: Gate, R: Wait>(
     requires size { (262184 ≤ size) × (size ≤ 4194304) }
     requires limit { limit ≤ 2 ^ 30 }
     requires unsaid { is_said.now ≡ false }
-    requires unread { IsUnread (C.is_of cache.now) C.shown shared.now.queue share.old.pass share.old.seat share.old.parts.items share.old.tally }
-    ensures read { IfOk result (λ tail. HasRead (C.is_of cache.now) C.shown shared.now.queue (side S.left S.faults source.old source.new) limit
+    requires unread { IsUnread (C.is_of cache.now) C.shown shared.now.queue share.old.pass share.old.seat
+        share.old.parts.items share.old.tally }
+    ensures read { IfOk result
+        (λ tail. HasRead (C.is_of cache.now) C.shown shared.now.queue (side S.left S.faults source.old source.new) limit
         share.old.seat share.new.seat share.new.pass share.new.parts.items share.new.tally tail) }
     ensures refused { IfErr result (λ fault. IsRefused (side S.left S.faults source.old source.new) limit fault) }
     ensures faults { HasFaults (side S.left S.faults source.old source.new) result }
@@ -159,8 +167,10 @@ pub(crate) fn read_all<S: Source, C: FlowCache, G: Gate, R: Wait>(
 ) -> Result<u64, MeterFault>
     requires size { (262184 ≤ size) × (size ≤ 4194304) }
     requires limit { limit ≤ 2 ^ 30 }
-    requires unread { IsUnread (C.is_of cache.now) C.shown shared.now.queue share.old.pass share.old.seat share.old.parts.items share.old.tally }
-    ensures read { IfOk result (λ tail. HasRead (C.is_of cache.now) C.shown shared.now.queue (side S.left S.faults source.old source.new) limit
+    requires unread { IsUnread (C.is_of cache.now) C.shown shared.now.queue share.old.pass share.old.seat
+        share.old.parts.items share.old.tally }
+    ensures read { IfOk result
+        (λ tail. HasRead (C.is_of cache.now) C.shown shared.now.queue (side S.left S.faults source.old source.new) limit
         share.old.seat share.new.seat share.new.pass share.new.parts.items share.new.tally tail) }
     ensures refused { IfErr result (λ fault. IsRefused (side S.left S.faults source.old source.new) limit fault) }
     ensures faults { HasFaults (side S.left S.faults source.old source.new) result }

@@ -25,7 +25,9 @@ pub(crate) fn workers_of<C: FlowCache>(
     requires passes { All (λ p. C.is_of cache.now p × IsFresh (C.shown p)) passes.items }
     requires seats { All (λ s. IsPassOf queue.now s × IsFreshSeat s × (others_of s ≡ 0)) seats.items }
     ensures many { IfOk result (λ workers. length workers.items ≡ length passes.items) }
-    ensures ready { IfOk result (λ workers. All (λ w. IsReady (C.is_of cache.now) C.shown queue.now w.pass w.seat w.out.items w.tally) workers.items) }
+    ensures ready { IfOk result
+        (λ workers. All (λ w. IsReady (C.is_of cache.now) C.shown queue.now w.pass w.seat w.out.items w.tally)
+        workers.items) }
 {
     let _ = cache;
     let _ = queue;

@@ -1,12 +1,15 @@
 -- What is joined and sorted is lawful.
-use Rattle.std.proofs.Common.{◌≡◌, ℕ, suc, ◌+◌, ◌-◌, ◌<◌, ◌≤◌, Bool, true, false, cond, Option, Some, None, List, [], ◌∷◌, length, get_or, drop, map, refl, sym, ap, ◌∙◌, subst, arith, All, IsPermutation, flat_map, unwrap_or}
+use Rattle.std.proofs.Common.{◌≡◌, ℕ, suc, ◌+◌, ◌-◌, ◌<◌, ◌≤◌, Bool, true, false, cond, Option, Some, None, List, []}
+use Rattle.std.proofs.Common.{◌∷◌, length, get_or, drop, map, refl, sym, ap, ◌∙◌, subst, arith, All, IsPermutation}
+use Rattle.std.proofs.Common.{flat_map, unwrap_or}
 use Rattle.std.specs.List.{AllZip}
 use Rattle.std.specs.List.Sorted.{IsSortedBy}
 use Rattle.std.specs.Ordering.{is_lt, is_eq, nat_cmp}
 use Rattle.std.specs.declared.cmp.Ordering.{Ordering}
 use Rattle.std.specs.declared.cmp.Ordering.TheVariants.{Less, Equal, Greater}
 use Rattle.std.proofs.lemmas.List.Elements.{All-cons, All-nil, All-tail, All-weaker, All-contains}
-use Rattle.std.proofs.lemmas.List.Sorted.{Contains-permutation, IsPermutation-sym, IsPermutation-refl, IsPermutation-trans, IsPermutation-map}
+use Rattle.std.proofs.lemmas.List.Sorted.{Contains-permutation, IsPermutation-sym, IsPermutation-refl}
+use Rattle.std.proofs.lemmas.List.Sorted.{IsPermutation-trans, IsPermutation-map}
 use Rattle.std.proofs.lemmas.Map.Keys.{IsDistinct-IsPermutation}
 use Rattle.flow_key.specs.declared.key.FlowKey.{FlowKey}
 use Rattle.flow_key.specs.Key.{key_order}
@@ -28,7 +31,11 @@ use Rattle.packet_accept.specs.Clock.{IsClock}
 use Rattle.record_ledger.specs.Lawful.{of_key, first_part, EachWithNext, StandsApart, HasReason, reason_of, IsLawful}
 use Rattle.record_ledger.specs.Laws.{HasNoTies}
 use Rattle.record_ledger.specs.Steps.{Reaches, Rises, NotAfter, NoneJoinable, next_of_key}
-use Rattle.record_ledger.proofs.Keyed.{part_of, first_not_less, second_less, first_less, both_tie, tie_from_test, less_numbers, less_from_greater, less_than_rest, less_otherwise, less_no_tie, tie_flips, rises_distinct, distinct_from_rises, rises_more, filter_contains, contains_filter, rises_filter, same_rising, pairs_from_rises, All-unmap, rises_unmap, rises_weaker}
+use Rattle.record_ledger.proofs.Keyed.{part_of, first_not_less, second_less, first_less, both_tie, tie_from_test}
+use Rattle.record_ledger.proofs.Keyed.{less_numbers, less_from_greater, less_than_rest, less_otherwise, less_no_tie}
+use Rattle.record_ledger.proofs.Keyed.{tie_flips, rises_distinct, distinct_from_rises, rises_more, filter_contains}
+use Rattle.record_ledger.proofs.Keyed.{contains_filter, rises_filter, same_rising, pairs_from_rises, All-unmap}
+use Rattle.record_ledger.proofs.Keyed.{rises_unmap, rises_weaker}
 use Rattle.record_ledger.proofs.Reaching.{grouped, grouped_start, shared}
 use Rattle.record_ledger.proofs.Rising.{gathering_total, written_total, written_weak, keys_tie, rises_from_sorted}
 
@@ -39,15 +46,20 @@ Beside R (r ∷ rest) = R r (next_of_key r.part (map part_of rest)) × Beside R 
 
 module _ (limits : Timeouts) where
   beside_reasons : (clock : ℕ) (T : List FlowRecord) (W : List Fragment) → map part_of T ≡ W
-      → ((k : ℕ) (d : FlowRecord) → k < length T → (get_or T k d).reason ≡ reason_of limits clock (get_or T k d).part (next_of_key (get_or T k d).part (drop (k + 1) W)))
+      → ((k : ℕ) (d : FlowRecord) → k < length T
+      → (get_or T k d).reason ≡ reason_of limits clock (get_or T k d).part
+      (next_of_key (get_or T k d).part (drop (k + 1) W)))
       → Beside (HasReason limits clock) T
   beside_reasons clock [] W e h = tt
   beside_reasons clock (r ∷ T) W e h =
-      let h' = subst (λ w. (k : ℕ) (d : FlowRecord) → k < length (r ∷ T) → (get_or (r ∷ T) k d).reason ≡ reason_of limits clock (get_or (r ∷ T) k d).part (next_of_key (get_or (r ∷ T) k d).part (drop (k + 1) w))) (sym e) h in (
+      let h' = subst (λ w. (k : ℕ) (d : FlowRecord) → k < length (r ∷ T)
+      → (get_or (r ∷ T) k d).reason ≡ reason_of limits clock (get_or (r ∷ T) k d).part
+      (next_of_key (get_or (r ∷ T) k d).part (drop (k + 1) w))) (sym e) h in (
         h' 0 r (omega arith),
         beside_reasons clock T (map part_of T) refl (λ k d l.
             let e' : suc k + 1 ≡ suc (k + 1) = omega arith in
-            subst (λ n. (get_or T k d).reason ≡ reason_of limits clock (get_or T k d).part (next_of_key (get_or T k d).part (drop n (r.part ∷ map part_of T)))) e' (h' (suc k) d (omega arith))),
+            subst (λ n. (get_or T k d).reason ≡ reason_of limits clock (get_or T k d).part
+            (next_of_key (get_or T k d).part (drop n (r.part ∷ map part_of T)))) e' (h' (suc k) d (omega arith))),
       )
 
   none_tail : (f : Fragment) (W : List Fragment) → NoneJoinable limits (f ∷ W) → NoneJoinable limits W
@@ -55,7 +67,8 @@ module _ (limits : Timeouts) where
       let e : suc (k + 1) ≡ suc k + 1 = omega arith in
       h (suc k) d (omega arith) (subst (λ n. IsJoinable limits (get_or W k d) (get_or (f ∷ W) n d)) e j)
 
-  apart_next : (r n : FlowRecord) (b : Bool) → ¬ IsJoinable limits r.part n.part → StandsApart limits r (cond b (Some n.part) None)
+  apart_next : (r n : FlowRecord) (b : Bool) → ¬ IsJoinable limits r.part n.part
+      → StandsApart limits r (cond b (Some n.part) None)
   apart_next r n true h = h
   apart_next r n false h = tt
 
@@ -68,32 +81,44 @@ module _ (limits : Timeouts) where
   )
 
   -- spans of fragments that stand for packets
-  short_at : (heaps : List (List Packet)) (F : List Fragment) → AllZip (IsHeap limits) heaps F → All (λ f. f.last - f.first ≤ limits.active) F
+  short_at : (heaps : List (List Packet)) (F : List Fragment) → AllZip (IsHeap limits) heaps F
+      → All (λ f. f.last - f.first ≤ limits.active) F
   short_at [] [] h = All-nil (λ f. f.last - f.first ≤ limits.active)
   short_at [] (f ∷ F) h = absurd h
   short_at (x ∷ heaps) [] h = absurd h
   short_at (x ∷ heaps) (f ∷ F) h = All-cons (λ f. f.last - f.first ≤ limits.active) f F h.0.short (short_at heaps F h.1)
 
   -- two of one key with one last time are joinable
-  ties_join : (f g : Fragment) → f.last - f.first ≤ limits.active → g.last - g.first ≤ limits.active → key_then_last g f ≡ Equal → IsJoinable limits f g
+  ties_join : (f g : Fragment) → f.last - f.first ≤ limits.active → g.last - g.first ≤ limits.active
+      → key_then_last g f ≡ Equal → IsJoinable limits f g
   ties_join f g a b e =
       let key = tied_keys g.key f.key (tied_first (key_order g.key f.key) (nat_cmp g.last f.last) e) in
       let last = tied_numbers g.last f.last (tied_second (key_order g.key f.key) (nat_cmp g.last f.last) e) in
       let low = f.spanned in
       let low' = g.spanned in
-      record { one_key = sym key; near = omega arith; short = omega arith; one_closed = λ closed. omega arith; other_closed = λ closed. omega arith }
+      record {
+        one_key = sym key;
+        near = omega arith;
+        short = omega arith;
+        one_closed =
+            λ closed. omega arith;
+        other_closed = λ closed. omega arith;
+      }
 
-  less_next : (f g : Fragment) → f.last - f.first ≤ limits.active → g.last - g.first ≤ limits.active → ¬ IsJoinable limits f g
+  less_next : (f g : Fragment) → f.last - f.first ≤ limits.active → g.last - g.first ≤ limits.active
+      → ¬ IsJoinable limits f g
       → (q : Ordering) → key_then_last g f ≡ q → is_lt q ≡ false → key_then_last f g ≡ Less
   less_next f g a b apart Less e h = absurd (let e' : true ≡ false = h in cc)
   less_next f g a b apart Equal e h = absurd (apart (ties_join f g a b e))
   less_next f g a b apart Greater e h = less_from_greater gathering_total f g e
 
-  strictly : (W : List Fragment) → Rises NotAfter W → NoneJoinable limits W → All (λ f. f.last - f.first ≤ limits.active) W → Rises (λ a b. key_then_last a b ≡ Less) W
+  strictly : (W : List Fragment) → Rises NotAfter W → NoneJoinable limits W
+      → All (λ f. f.last - f.first ≤ limits.active) W → Rises (λ a b. key_then_last a b ≡ Less) W
   strictly [] h k s = tt
   strictly (f ∷ []) h k s = (All-nil (λ b. key_then_last f b ≡ Less), tt)
   strictly (f ∷ g ∷ W) h k s = rises_more gathering_total f g W
-      (less_next f g (s 0 f (omega arith)) (s 1 f (omega arith)) (k 0 f (omega arith)) (key_then_last g f) refl (h.0 0 f (omega arith)))
+      (less_next f g (s 0 f (omega arith)) (s 1 f (omega arith)) (k 0 f (omega arith)) (key_then_last g f) refl
+      (h.0 0 f (omega arith)))
       (strictly (g ∷ W) h.1 (none_tail f (g ∷ W) k) (All-tail (λ f. f.last - f.first ≤ limits.active) f (g ∷ W) s))
 
 abbrev pub has_key : FlowKey → FlowRecord → Bool
@@ -103,7 +128,8 @@ pub key_from_test : (key : FlowKey) (r : FlowRecord) → has_key key r ≡ true 
 key_from_test key r e = tied_keys r.part.key key (tie_from_test (key_order r.part.key key) e)
 
 -- records of one key tie by key
-pub same_keys : (key : FlowKey) (a b : FlowRecord) → has_key key a ≡ true → has_key key b ≡ true → key_order a.part.key b.part.key ≡ Equal
+pub same_keys : (key : FlowKey) (a b : FlowRecord) → has_key key a ≡ true → has_key key b ≡ true
+    → key_order a.part.key b.part.key ≡ Equal
 same_keys key a b e f = keys_tie a.part.key b.part.key (key_from_test key a e ∙ sym (key_from_test key b f))
 
 none_left : (key : FlowKey) (xs : List FlowRecord) → All (λ m. has_key key m ≡ false) xs → of_key key xs ≡ []
@@ -113,10 +139,12 @@ none_left key (x ∷ xs) h =
     ∙ none_left key xs (All-tail (λ m. has_key key m ≡ false) x xs h)
 
 -- where the next record of a sorted list has another key, no later one has this one's
-none_later : (r n : FlowRecord) (rest : List FlowRecord) → NotAfter r.part n.part → All (NotAfter n.part) (map part_of rest) → has_key r.part.key n ≡ false
+none_later : (r n : FlowRecord) (rest : List FlowRecord) → NotAfter r.part n.part
+    → All (NotAfter n.part) (map part_of rest) → has_key r.part.key n ≡ false
     → All (λ m. has_key r.part.key m ≡ false) rest
 none_later r n rest h all e =
-    let less : key_order r.part.key n.part.key ≡ Less = less_otherwise key_order_total r.part.key n.part.key (key_order n.part.key r.part.key) refl
+    let less : key_order r.part.key n.part.key ≡ Less =
+    less_otherwise key_order_total r.part.key n.part.key (key_order n.part.key r.part.key) refl
     (first_not_less (key_order n.part.key r.part.key) (nat_cmp n.part.last r.part.last) h) e in
     All-weaker (λ m. NotAfter n.part m.part) (λ m. has_key r.part.key m ≡ false)
     (λ m k. less_no_tie key_order_total r.part.key m.part.key
@@ -124,12 +152,14 @@ none_later r n rest h all e =
     (first_not_less (key_order m.part.key n.part.key) (nat_cmp m.part.last n.part.last) k)))
     rest (All-unmap part_of (NotAfter n.part) rest all)
 
-next_is : (r n : FlowRecord) (rest : List FlowRecord) → (b : Bool) → has_key r.part.key n ≡ b → (b ≡ false → of_key r.part.key rest ≡ [])
+next_is : (r n : FlowRecord) (rest : List FlowRecord) → (b : Bool) → has_key r.part.key n ≡ b
+    → (b ≡ false → of_key r.part.key rest ≡ [])
     → cond b (Some n.part) None ≡ first_part (cond b (n ∷ of_key r.part.key rest) (of_key r.part.key rest))
 next_is r n rest true e none = refl
 next_is r n rest false e none = ap first_part (sym (none refl))
 
-next_first : (r : FlowRecord) (rest : List FlowRecord) → All (NotAfter r.part) (map part_of rest) → Rises NotAfter (map part_of rest)
+next_first : (r : FlowRecord) (rest : List FlowRecord) → All (NotAfter r.part) (map part_of rest)
+    → Rises NotAfter (map part_of rest)
     → next_of_key r.part (map part_of rest) ≡ first_part (of_key r.part.key rest)
 next_first r [] h k = refl
 next_first r (n ∷ rest) h k = next_is r n rest (has_key r.part.key n) refl
@@ -137,82 +167,108 @@ next_first r (n ∷ rest) h k = next_is r n rest (has_key r.part.key n) refl
 
 module _ (R : FlowRecord → Option Fragment → Type 0) where
   -- what holds of the records of a key with their next ones, where the first of a list may be of the key
-  pub head_holds : (r : FlowRecord) (F : List FlowRecord) (b : Bool) → b ≡ true → EachWithNext R (cond b (r ∷ F) F) → R r (first_part F)
+  pub head_holds : (r : FlowRecord) (F : List FlowRecord) (b : Bool) → b ≡ true → EachWithNext R (cond b (r ∷ F) F)
+      → R r (first_part F)
   head_holds r F true e h = h.0
   head_holds r F false e h = absurd (let e' : false ≡ true = e in cc)
 
-  pub tail_holds : (r : FlowRecord) (F : List FlowRecord) (b : Bool) → EachWithNext R (cond b (r ∷ F) F) → EachWithNext R F
+  pub tail_holds : (r : FlowRecord) (F : List FlowRecord) (b : Bool) → EachWithNext R (cond b (r ∷ F) F)
+      → EachWithNext R F
   tail_holds r F true h = h.1
   tail_holds r F false h = h
 
-  keyed_at : (key : FlowKey) (r : FlowRecord) (rest : List FlowRecord) → (b : Bool) → has_key key r ≡ b → (has_key key r ≡ true → R r (first_part (of_key key rest)))
+  keyed_at : (key : FlowKey) (r : FlowRecord) (rest : List FlowRecord) → (b : Bool) → has_key key r ≡ b
+      → (has_key key r ≡ true → R r (first_part (of_key key rest)))
       → EachWithNext R (of_key key rest) → EachWithNext R (cond b (r ∷ of_key key rest) (of_key key rest))
   keyed_at key r rest true e h k = (h e, k)
   keyed_at key r rest false e h k = k
 
   -- in a list that is sorted by key, the next record of a key is the next one of the list, where that has the key
-  keyed : (T : List FlowRecord) → Rises NotAfter (map part_of T) → Beside R T → (key : FlowKey) → EachWithNext R (of_key key T)
+  keyed : (T : List FlowRecord) → Rises NotAfter (map part_of T) → Beside R T → (key : FlowKey)
+      → EachWithNext R (of_key key T)
   keyed [] h b key = tt
   keyed (r ∷ T) h b key = keyed_at key r T (has_key key r) refl
-      (λ e. subst (λ k. R r (first_part (of_key k T))) (key_from_test key r e) (subst (R r) (next_first r T h.0 h.1) b.0))
+      (λ e. subst (λ k. R r (first_part (of_key k T))) (key_from_test key r e)
+      (subst (R r) (next_first r T h.0 h.1) b.0))
       (keyed T h.1 b.1 key)
 
 -- the records of one key rise by their last times, in either order
-up_gathered : (key : FlowKey) (T : List FlowRecord) → Rises (λ (a b : FlowRecord). key_then_last a.part b.part ≡ Less) T → Rises (λ (a b : FlowRecord). a.part.last < b.part.last) (of_key key T)
-up_gathered key T h = rises_filter (has_key key) (λ (a b : FlowRecord). key_then_last a.part b.part ≡ Less) (λ (a b : FlowRecord). a.part.last < b.part.last)
-    (λ a b e f l. less_numbers a.part.last b.part.last (second_less (key_order a.part.key b.part.key) (nat_cmp a.part.last b.part.last) (same_keys key a b e f) l)) T h
+up_gathered : (key : FlowKey) (T : List FlowRecord) → Rises (λ (a b : FlowRecord). key_then_last a.part b.part ≡ Less) T
+    → Rises (λ (a b : FlowRecord). a.part.last < b.part.last) (of_key key T)
+up_gathered key T h = rises_filter (has_key key) (λ (a b : FlowRecord). key_then_last a.part b.part ≡ Less)
+    (λ (a b : FlowRecord). a.part.last < b.part.last)
+    (λ a b e f l. less_numbers a.part.last b.part.last
+    (second_less (key_order a.part.key b.part.key) (nat_cmp a.part.last b.part.last) (same_keys key a b e f) l)) T h
 
-pub up_written : (key : FlowKey) (L : List FlowRecord) → Rises (λ (a b : FlowRecord). written_order a b ≡ Less) L → Rises (λ (a b : FlowRecord). a.part.last < b.part.last) (of_key key L)
-up_written key L h = rises_filter (has_key key) (λ (a b : FlowRecord). written_order a b ≡ Less) (λ (a b : FlowRecord). a.part.last < b.part.last)
-    (λ a b e f l. less_numbers a.part.last b.part.last (first_less (nat_cmp a.part.last b.part.last) (key_order a.part.key b.part.key) (same_keys key a b e f) l)) L h
+pub up_written : (key : FlowKey) (L : List FlowRecord) → Rises (λ (a b : FlowRecord). written_order a b ≡ Less) L
+    → Rises (λ (a b : FlowRecord). a.part.last < b.part.last) (of_key key L)
+up_written key L h = rises_filter (has_key key) (λ (a b : FlowRecord). written_order a b ≡ Less)
+    (λ (a b : FlowRecord). a.part.last < b.part.last)
+    (λ a b e f l. less_numbers a.part.last b.part.last
+    (first_less (nat_cmp a.part.last b.part.last) (key_order a.part.key b.part.key) (same_keys key a b e f) l)) L h
 
 -- what differs by key and last time differs in the written order
-no_tie : (a b : FlowRecord) → key_then_last a.part b.part ≡ Less → (q : Ordering) → written_order a b ≡ q → is_eq q ≡ false
+no_tie : (a b : FlowRecord) → key_then_last a.part b.part ≡ Less → (q : Ordering) → written_order a b ≡ q
+    → is_eq q ≡ false
 no_tie a b l Less e = refl
 no_tie a b l Greater e = refl
 no_tie a b l Equal e =
     let last = tied_first (nat_cmp a.part.last b.part.last) (key_order a.part.key b.part.key) e in
     let key = tied_second (nat_cmp a.part.last b.part.last) (key_order a.part.key b.part.key) e in
-    let tie : key_then_last a.part b.part ≡ Equal = both_tie (key_order a.part.key b.part.key) (nat_cmp a.part.last b.part.last) key last in
+    let tie : key_then_last a.part b.part ≡ Equal =
+    both_tie (key_order a.part.key b.part.key) (nat_cmp a.part.last b.part.last) key last in
     let never : Less ≡ Equal = sym l ∙ tie in
     cc
 
 -- the records sorted by key and last time, and in the written order
-module _ (T L : List FlowRecord) (perm : IsPermutation T L) (up : Rises (λ (a b : FlowRecord). key_then_last a.part b.part ≡ Less) T)
+module _ (T L : List FlowRecord) (perm : IsPermutation T L)
+    (up : Rises (λ (a b : FlowRecord). key_then_last a.part b.part ≡ Less) T)
     (sorted : IsSortedBy (λ (a b : FlowRecord). is_lt (written_order a b)) L) where
   written : Rises (λ (a b : FlowRecord). written_order a b ≡ Less) L
-  written = rises_distinct written_total L (rises_from_sorted (λ (a b : FlowRecord). is_lt (written_order a b)) written_weak L sorted)
+  written = rises_distinct written_total L
+      (rises_from_sorted (λ (a b : FlowRecord). is_lt (written_order a b)) written_weak L sorted)
       (IsDistinct-IsPermutation (λ (a b : FlowRecord). is_eq (written_order a b)) (tie_flips written_total) T L perm
-      (distinct_from_rises (λ (a b : FlowRecord). is_eq (written_order a b)) T (rises_weaker (λ (a b : FlowRecord). key_then_last a.part b.part ≡ Less) (λ (a b : FlowRecord). is_eq (written_order a b) ≡ false)
+      (distinct_from_rises (λ (a b : FlowRecord). is_eq (written_order a b)) T
+      (rises_weaker (λ (a b : FlowRecord). key_then_last a.part b.part ≡ Less)
+      (λ (a b : FlowRecord). is_eq (written_order a b) ≡ false)
       (λ a b l. no_tie a b l (written_order a b) refl) T up)))
 
   same_of_key : (key : FlowKey) → of_key key T ≡ of_key key L
-  same_of_key key = same_rising (λ (a b : FlowRecord). a.part.last < b.part.last) (λ a b l m. omega arith) (of_key key T) (of_key key L) (up_gathered key T up) (up_written key L written)
-      (λ z c. let k = filter_contains (has_key key) T z c in contains_filter (has_key key) L z (Contains-permutation T L z perm k.0) k.1)
-      (λ z c. let k = filter_contains (has_key key) L z c in contains_filter (has_key key) T z (Contains-permutation L T z (IsPermutation-sym T L perm) k.0) k.1)
+  same_of_key key = same_rising (λ (a b : FlowRecord). a.part.last < b.part.last) (λ a b l m. omega arith)
+      (of_key key T) (of_key key L) (up_gathered key T up) (up_written key L written)
+      (λ z c. let k = filter_contains (has_key key) T z c in
+      contains_filter (has_key key) L z (Contains-permutation T L z perm k.0) k.1)
+      (λ z c. let k = filter_contains (has_key key) L z c in
+      contains_filter (has_key key) T z (Contains-permutation L T z (IsPermutation-sym T L perm) k.0) k.1)
 
-each_record : (groups : List (List Fragment)) (T : List FlowRecord) → AllZip IsTogether groups (map part_of T) → AllZip (λ group (r : FlowRecord). IsTogether group r.part) groups T
+each_record : (groups : List (List Fragment)) (T : List FlowRecord) → AllZip IsTogether groups (map part_of T)
+    → AllZip (λ group (r : FlowRecord). IsTogether group r.part) groups T
 each_record [] [] h = h
 each_record [] (r ∷ T) h = absurd h
 each_record (x ∷ groups) [] h = absurd h
 each_record (x ∷ groups) (r ∷ T) h = (h.0, each_record groups T h.1)
 
 -- the records regroup the parts
-pub regrouped : (limits : Timeouts) (parts W : List Fragment) (T L : List FlowRecord) → map part_of T ≡ W → Reaches limits parts W → IsPermutation T L → Regroups parts L
+pub regrouped : (limits : Timeouts) (parts W : List Fragment) (T L : List FlowRecord) → map part_of T ≡ W
+    → Reaches limits parts W → IsPermutation T L → Regroups parts L
 regrouped limits parts W T L e r perm =
     let g = grouped limits parts parts W r (grouped_start parts) in
     let each = each_record g.groups T (subst (AllZip IsTogether g.groups) (sym e) g.each) in
     let z = AllZip-permutation (λ group (s : FlowRecord). IsTogether group s.part) g.groups T L each perm in
     record {
       groups = z.0;
-      whole = IsPermutation-trans parts (flat_map (λ (group : List Fragment). group) g.groups) (flat_map (λ (group : List Fragment). group) z.0) g.whole
+      whole = IsPermutation-trans parts (flat_map (λ (group : List Fragment). group) g.groups)
+          (flat_map (λ (group : List Fragment). group) z.0) g.whole
           (flat_map-permutation (λ (group : List Fragment). group) g.groups z.0 z.1);
       each = z.2;
     }
 
 -- the clock of packets is one
-clock_is : (packets : List Packet) (clock : Option ℕ) (c : ℕ) → IsClock packets clock → IsClock packets (Some c) → unwrap_or clock 0 ≡ c
-clock_is packets None c h k = absurd (let f = found (λ (p : Packet). p.time ≡ c) packets k.reached in let below = f.1.1 in let none = ap length h in omega arith)
+clock_is : (packets : List Packet) (clock : Option ℕ) (c : ℕ) → IsClock packets clock → IsClock packets (Some c)
+    → unwrap_or clock 0 ≡ c
+clock_is packets None c h k =
+    absurd (let f = found (λ (p : Packet). p.time ≡ c) packets k.reached in let below = f.1.1 in
+    let none = ap length h in omega arith)
 clock_is packets (Some b) c h k =
     let f = found (λ (p : Packet). p.time ≡ b) packets h.reached in
     let g = found (λ (p : Packet). p.time ≡ c) packets k.reached in
@@ -223,31 +279,39 @@ clock_is packets (Some b) c h k =
     omega arith
 
 -- the records are lawful for whatever packets the parts share out
-pub lawful : (limits : Timeouts) (clock : Option ℕ) (parts W : List Fragment) (T L : List FlowRecord) → map part_of T ≡ W → Reaches limits parts W
+pub lawful : (limits : Timeouts) (clock : Option ℕ) (parts W : List Fragment) (T L : List FlowRecord)
+    → map part_of T ≡ W → Reaches limits parts W
     → Rises NotAfter W → NoneJoinable limits W
-    → ((k : ℕ) (d : FlowRecord) → k < length T → (get_or T k d).reason ≡ reason_of limits (unwrap_or clock 0) (get_or T k d).part (next_of_key (get_or T k d).part (drop (k + 1) W)))
+    → ((k : ℕ) (d : FlowRecord) → k < length T
+    → (get_or T k d).reason ≡ reason_of limits (unwrap_or clock 0) (get_or T k d).part
+    (next_of_key (get_or T k d).part (drop (k + 1) W)))
     → IsPermutation T L → IsSortedBy (λ (a b : FlowRecord). is_lt (written_order a b)) L
     → (packets : List Packet) → SharesOut limits packets parts → IsClock packets clock → IsLawful limits packets L
 lawful limits clock parts W T L e r rises apart reasons perm sorted packets shares at =
     let shares' : SharesOut limits packets W = shared limits packets parts W r shares in
     let up = rises_unmap part_of (λ a b. key_then_last a b ≡ Less) T
-    (subst (Rises (λ a b. key_then_last a b ≡ Less)) (sym e) (strictly limits W rises apart (short_at limits shares'.heaps W shares'.each))) in
+    (subst (Rises (λ a b. key_then_last a b ≡ Less)) (sym e)
+    (strictly limits W rises apart (short_at limits shares'.heaps W shares'.each))) in
     let rises' = subst (Rises NotAfter) (sym e) rises in
     let same = same_of_key T L perm up sorted in
     record {
-      shared = permuted limits packets packets (map part_of T) (map part_of L) (IsPermutation-refl packets) (IsPermutation-map part_of T L perm)
+      shared = permuted limits packets packets (map part_of T) (map part_of L) (IsPermutation-refl packets)
+          (IsPermutation-map part_of T L perm)
           (subst (SharesOut limits packets) (sym e) shares');
       ordered = sorted;
       apart = λ key. subst (EachWithNext (StandsApart limits)) (same key)
           (keyed (StandsApart limits) T rises' (beside_apart limits T (subst (NoneJoinable limits) (sym e) apart)) key);
-      reasons = λ c is key. subst (λ n. EachWithNext (HasReason limits n) (of_key key L)) (clock_is packets clock c at is)
+      reasons = λ c is key. subst (λ n. EachWithNext (HasReason limits n) (of_key key L))
+          (clock_is packets clock c at is)
           (subst (EachWithNext (HasReason limits (unwrap_or clock 0))) (same key)
-          (keyed (HasReason limits (unwrap_or clock 0)) T rises' (beside_reasons limits (unwrap_or clock 0) T W e reasons) key));
+          (keyed (HasReason limits (unwrap_or clock 0)) T rises'
+          (beside_reasons limits (unwrap_or clock 0) T W e reasons) key));
     }
 
 -- lawful lists have no ties
 module _ (limits : Timeouts) where
-  apart_of_two : (a c : FlowRecord) (F : List FlowRecord) (b b' : Bool) → EachWithNext (StandsApart limits) (cond b (a ∷ cond b' (c ∷ F) F) (cond b' (c ∷ F) F))
+  apart_of_two : (a c : FlowRecord) (F : List FlowRecord) (b b' : Bool)
+      → EachWithNext (StandsApart limits) (cond b (a ∷ cond b' (c ∷ F) F) (cond b' (c ∷ F) F))
       → b ≡ true → b' ≡ true → ¬ IsJoinable limits a.part c.part
   apart_of_two a c F true true h e e' = h.0
   apart_of_two a c F true false h e e' = absurd (cc)
@@ -256,7 +320,8 @@ module _ (limits : Timeouts) where
   pub itself : (key : FlowKey) (r : FlowRecord) → r.part.key ≡ key → has_key key r ≡ true
   itself key r e = ap is_eq (keys_tie r.part.key key e)
 
-  less_written : (a c : FlowRecord) → a.part.last - a.part.first ≤ limits.active → c.part.last - c.part.first ≤ limits.active
+  less_written : (a c : FlowRecord) → a.part.last - a.part.first ≤ limits.active
+      → c.part.last - c.part.first ≤ limits.active
       → (key_then_last c.part a.part ≡ Equal → ¬ IsJoinable limits a.part c.part)
       → (q : Ordering) → written_order c a ≡ q → is_lt q ≡ false → written_order a c ≡ Less
   less_written a c s t apart Less e h = absurd (let e' : true ≡ false = h in cc)
@@ -264,24 +329,35 @@ module _ (limits : Timeouts) where
   less_written a c s t apart Equal e h =
       let last = tied_first (nat_cmp c.part.last a.part.last) (key_order c.part.key a.part.key) e in
       let key = tied_second (nat_cmp c.part.last a.part.last) (key_order c.part.key a.part.key) e in
-      let tie : key_then_last c.part a.part ≡ Equal = both_tie (key_order c.part.key a.part.key) (nat_cmp c.part.last a.part.last) key last in
+      let tie : key_then_last c.part a.part ≡ Equal =
+      both_tie (key_order c.part.key a.part.key) (nat_cmp c.part.last a.part.last) key last in
       absurd (apart tie (ties_join limits a.part c.part s t tie))
 
-  no_ties_at : (L : List FlowRecord) → Rises (λ (a b : FlowRecord). is_lt (written_order b a) ≡ false) L → ((key : FlowKey) → EachWithNext (StandsApart limits) (of_key key L))
-      → All (λ (r : FlowRecord). r.part.last - r.part.first ≤ limits.active) L → Rises (λ (a b : FlowRecord). written_order a b ≡ Less) L
+  no_ties_at : (L : List FlowRecord) → Rises (λ (a b : FlowRecord). is_lt (written_order b a) ≡ false) L
+      → ((key : FlowKey) → EachWithNext (StandsApart limits) (of_key key L))
+      → All (λ (r : FlowRecord). r.part.last - r.part.first ≤ limits.active) L
+      → Rises (λ (a b : FlowRecord). written_order a b ≡ Less) L
   no_ties_at [] h k s = tt
   no_ties_at (a ∷ []) h k s = (All-nil (λ (b : FlowRecord). written_order a b ≡ Less), tt)
   no_ties_at (a ∷ c ∷ L) h k s = rises_more written_total a c L
       (less_written a c (s 0 a (omega arith)) (s 1 a (omega arith))
-      (λ tie. apart_of_two a c (of_key a.part.key L) (has_key a.part.key a) (has_key a.part.key c) (k a.part.key) (itself a.part.key a refl)
-      (itself a.part.key c (tied_keys c.part.key a.part.key (tied_first (key_order c.part.key a.part.key) (nat_cmp c.part.last a.part.last) tie))))
+      (λ tie. apart_of_two a c (of_key a.part.key L) (has_key a.part.key a) (has_key a.part.key c) (k a.part.key)
+      (itself a.part.key a refl)
+      (itself a.part.key c
+      (tied_keys c.part.key a.part.key
+      (tied_first (key_order c.part.key a.part.key) (nat_cmp c.part.last a.part.last) tie))))
       (written_order c a) refl (h.0 0 a (omega arith)))
-      (no_ties_at (c ∷ L) h.1 (λ key. tail_holds (StandsApart limits) a (of_key key (c ∷ L)) (has_key key a) (k key)) (All-tail (λ (r : FlowRecord). r.part.last - r.part.first ≤ limits.active) a (c ∷ L) s))
+      (no_ties_at (c ∷ L) h.1 (λ key. tail_holds (StandsApart limits) a (of_key key (c ∷ L)) (has_key key a) (k key))
+      (All-tail (λ (r : FlowRecord). r.part.last - r.part.first ≤ limits.active) a (c ∷ L) s))
 
-pub rises_written : (limits : Timeouts) (packets : List Packet) (L : List FlowRecord) → IsLawful limits packets L → Rises (λ (a b : FlowRecord). written_order a b ≡ Less) L
+pub rises_written : (limits : Timeouts) (packets : List Packet) (L : List FlowRecord) → IsLawful limits packets L
+    → Rises (λ (a b : FlowRecord). written_order a b ≡ Less) L
 rises_written limits packets L lawful =
-    no_ties_at limits L (rises_from_sorted (λ (a b : FlowRecord). is_lt (written_order a b)) written_weak L lawful.ordered) lawful.apart
-    (All-unmap part_of (λ f. f.last - f.first ≤ limits.active) L (short_at limits lawful.shared.heaps (map part_of L) lawful.shared.each))
+    no_ties_at limits L
+    (rises_from_sorted (λ (a b : FlowRecord). is_lt (written_order a b)) written_weak L lawful.ordered) lawful.apart
+    (All-unmap part_of (λ f. f.last - f.first ≤ limits.active) L
+    (short_at limits lawful.shared.heaps (map part_of L) lawful.shared.each))
 
 pub no_ties : HasNoTies
-no_ties limits packets L lawful = pairs_from_rises (λ (a b : FlowRecord). written_order a b ≡ Less) L (rises_written limits packets L lawful)
+no_ties limits packets L lawful = pairs_from_rises (λ (a b : FlowRecord). written_order a b ≡ Less) L
+    (rises_written limits packets L lawful)

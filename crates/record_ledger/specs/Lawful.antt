@@ -1,5 +1,6 @@
 -- Lists of records that are lawful for a list of packets (after RFC 5470, section 5.1.1).
-use Rattle.std.specs.Prelude.{◌≡◌, ℕ, ◌+◌, List, [], ◌∷◌, Option, Some, None, MatchOption, filter, map, nat_lt, if◌then◌else◌, IsSorted, ⊤}
+use Rattle.std.specs.Prelude.{◌≡◌, ℕ, ◌+◌, List, [], ◌∷◌, Option, Some, None, MatchOption, filter, map, nat_lt}
+use Rattle.std.specs.Prelude.{if◌then◌else◌, IsSorted, ⊤}
 use Rattle.std.specs.Ordering.{is_eq}
 use Rattle.flow_key.specs.declared.key.FlowKey.{FlowKey}
 use Rattle.flow_key.specs.Key.{key_order}
@@ -36,24 +37,26 @@ abbrev pub StandsApart : Timeouts → FlowRecord → Option Fragment → Type 0
 StandsApart limits r next = MatchOption next ⊤ (λ n. ¬ IsJoinable limits r.part n)
 
 -- The reason why the flow of a fragment that isn't closed ended, by the next fragment of its key and the clock: 1 where
--- the flow was idle for longer than the idle time-out after it, 2 where the next one follows sooner, and 4 where nothing
--- is known.
+-- the flow was idle for longer than the idle time-out after it, 2 where the next one follows sooner, and 4 where
+-- nothing is known.
 abbrev pub open_reason : Timeouts → ℕ → Fragment → Option Fragment → ℕ
 open_reason limits clock part (Some next) = if nat_lt (part.last + limits.idle) next.first then 1 else 2
 open_reason limits clock part None = if nat_lt (part.last + limits.idle) clock then 1 else 4
 
 -- The reason why a fragment's flow ended: 3 where the fragment is closed.
 abbrev pub reason_of : Timeouts → ℕ → Fragment → Option Fragment → ℕ
-reason_of limits clock part next = if is_tcp_end part.key.protocol part.flags then 3 else open_reason limits clock part next
+reason_of limits clock part next = if is_tcp_end part.key.protocol part.flags then 3
+    else open_reason limits clock part next
 
 -- The record has that reason.
 abbrev pub HasReason : Timeouts → ℕ → FlowRecord → Option Fragment → Type 0
 HasReason limits clock r next = r.reason ≡ reason_of limits clock r.part next
 
--- The records are lawful for the packets: their fragments share out the packets, they stand in the written order, of the
--- records of one key no two neighbours are joinable, and each reason is right by the clock of the packets.
+-- The records are lawful for the packets: their fragments share out the packets, they stand in the written order, of
+-- the records of one key no two neighbours are joinable, and each reason is right by the clock of the packets.
 pub record IsLawful (limits : Timeouts) (packets : List Packet) (records : List FlowRecord) : Type 0 where
   pub shared : SharesOut limits packets (parts_of records)
   pub ordered : IsSorted written_order records
   pub apart : (key : FlowKey) → EachWithNext (StandsApart limits) (of_key key records)
-  pub reasons : (clock : ℕ) → IsClock packets (Some clock) → (key : FlowKey) → EachWithNext (HasReason limits clock) (of_key key records)
+  pub reasons : (clock : ℕ) → IsClock packets (Some clock) → (key : FlowKey)
+      → EachWithNext (HasReason limits clock) (of_key key records)

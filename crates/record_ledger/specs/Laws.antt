@@ -22,28 +22,36 @@ abbrev pub HasNoTies : Type 0
 HasNoTies = (limits : Timeouts) (packets : List Packet) (records : List FlowRecord)
     → IsLawful limits packets records → AllPairs (λ one other. written_order one other ≡ Less) records
 
--- Packets in order of key and time, cut wherever the next one has another key or is more than the idle time-out later, are
--- in sessions.
+-- Packets in order of key and time, cut wherever the next one has another key or is more than the idle time-out later,
+-- are in sessions.
 abbrev pub CutsAreSessions : Type 0
-CutsAreSessions = (idle : ℕ) (packets sorted : List Packet) → IsPermutation packets sorted → IsSorted key_then_time sorted
+CutsAreSessions = (idle : ℕ) (packets sorted : List Packet) → IsPermutation packets sorted
+    → IsSorted key_then_time sorted
     → IsSessions idle packets (cut idle sorted)
 
 -- Each list of packets has sessions.
 abbrev pub HaveSessions : Type 0
 HaveSessions = (idle : ℕ) (packets : List Packet) → (sessions : List (List Packet)) × IsSessions idle packets sessions
 
--- Where nothing cuts the sessions of the packets, each list that is lawful for the packets is the list of their records.
+-- Where nothing cuts the sessions of the packets, each list that is lawful for the packets is the list of their
+-- records.
 abbrev pub LawfulAreSessions : Type 0
-LawfulAreSessions = (limits : Timeouts) (packets : List Packet) (sessions : List (List Packet)) → IsSessions limits.idle packets sessions
-    → All (IsUncut limits) sessions → (records : List FlowRecord) → IsLawful limits packets records → AreRecordsOf limits packets sessions records
+LawfulAreSessions = (limits : Timeouts) (packets : List Packet) (sessions : List (List Packet))
+    → IsSessions limits.idle packets sessions
+    → All (IsUncut limits) sessions → (records : List FlowRecord) → IsLawful limits packets records
+    → AreRecordsOf limits packets sessions records
 
 -- Sessions have one list of records.
 abbrev pub RecordsAreOne : Type 0
-RecordsAreOne = (limits : Timeouts) (packets : List Packet) (sessions : List (List Packet)) → IsSessions limits.idle packets sessions
-    → (records others : List FlowRecord) → AreRecordsOf limits packets sessions records → AreRecordsOf limits packets sessions others → records ≡ others
+RecordsAreOne = (limits : Timeouts) (packets : List Packet) (sessions : List (List Packet))
+    → IsSessions limits.idle packets sessions
+    → (records others : List FlowRecord) → AreRecordsOf limits packets sessions records
+    → AreRecordsOf limits packets sessions others → records ≡ others
 
 -- Where nothing cuts the sessions of the packets, they have one lawful list.
 abbrev pub LawfulIsOne : Type 0
-LawfulIsOne = (limits : Timeouts) (packets : List Packet) (sessions : List (List Packet)) → IsSessions limits.idle packets sessions
-    → All (IsUncut limits) sessions → (records others : List FlowRecord) → IsLawful limits packets records → IsLawful limits packets others
+LawfulIsOne = (limits : Timeouts) (packets : List Packet) (sessions : List (List Packet))
+    → IsSessions limits.idle packets sessions
+    → All (IsUncut limits) sessions → (records others : List FlowRecord) → IsLawful limits packets records
+    → IsLawful limits packets others
     → records ≡ others

@@ -1,6 +1,7 @@
--- The code's own: how the fragments of the parts become those of the records, by permuting and joining, and in which order
--- they then stand. No law and no contract of a public call speaks of these.
-use Rattle.std.specs.Prelude.{◌≡◌, ℕ, ◌+◌, ◌<◌, List, [], ◌∷◌, Option, Some, None, if◌then◌else◌, IsPermutation, slice_index_or, length, All, false, ⊤}
+-- The code's own: how the fragments of the parts become those of the records, by permuting and joining, and in which
+-- order they then stand. No law and no contract of a public call speaks of these.
+use Rattle.std.specs.Prelude.{◌≡◌, ℕ, ◌+◌, ◌<◌, List, [], ◌∷◌, Option, Some, None, if◌then◌else◌, IsPermutation}
+use Rattle.std.specs.Prelude.{slice_index_or, length, All, false, ⊤}
 use Rattle.std.specs.Ordering.{is_eq, is_lt}
 use Rattle.flow_key.specs.Key.{key_order}
 use Rattle.flow_parts.specs.declared.fragment.Fragment.{Fragment}

@@ -27,8 +27,8 @@ use std::alloc::Global;
 /// [`FORCED_END`](crate::FORCED_END). The records stand in the written order, by last time, then by key. `clock` is the
 /// time of the latest packet of all, in milliseconds; `None` without a packet.
 ///
-/// It takes the time of sorting. Beside `parts` it holds the list of records alone: the parts are copied into it, and it is
-/// sorted, joined and sorted again in place.
+/// It takes the time of sorting. Beside `parts` it holds the list of records alone: the parts are copied into it, and
+/// it is sorted, joined and sorted again in place.
 ///
 /// # Errors
 ///

@@ -1,6 +1,7 @@
 //! Joining: records of one key that follow each other, as long as they are joinable, in place.
 
-ghost use Rattle.std.specs.Prelude.{◌≡◌, ◌+◌, ◌-◌, ◌<◌, ◌≤◌, ◌^◌, [], ◌∷◌, ◌++◌, length, IfSome, IfNone, sum_by, take, All, slice_index_or};
+ghost use Rattle.std.specs.Prelude.{◌≡◌, ◌+◌, ◌-◌, ◌<◌, ◌≤◌, ◌^◌, [], ◌∷◌, ◌++◌, length, IfSome, IfNone, sum_by, take};
+ghost use Rattle.std.specs.Prelude.{All, slice_index_or};
 ghost use Rattle.flow_parts.specs.declared.fragment.Fragment.{Fragment};
 ghost use Rattle.flow_parts.specs.Joining.{IsJoinable};
 ghost use Rattle.record_ledger.specs.Lawful.{parts_of};
@@ -40,14 +41,15 @@ pub fn join_neighbours(records: &mut Vec<FlowRecord>, timeouts: &Timeouts)
     records.truncate(apart);
 }
 
-/// The part joined with the last of the records as long as the two are joinable, since a join may make the one before the
-/// last joinable.
+/// The part joined with the last of the records as long as the two are joinable, since a join may make the one before
+/// the last joinable.
 fn settle(stack: &[FlowRecord], part: Fragment, timeouts: &Timeouts) -> Joined
     requires packets { part.packets + sum_by (λ (f : Fragment). f.packets) (parts_of stack.now) < 2 ^ 64 }
     requires octets { part.octets + sum_by (λ (f : Fragment). f.octets) (parts_of stack.now) < 2 ^ 64 }
     requires latest { All (λ (f : Fragment). f.key ≡ part.key → f.last ≤ part.last) (parts_of stack.now) }
     ensures left { result.left ≤ length stack.now }
-    ensures reached { Reaches timeouts.now (part ∷ parts_of stack.now) (result.whole ∷ take result.left (parts_of stack.now)) }
+    ensures reached { Reaches timeouts.now (part ∷ parts_of stack.now)
+        (result.whole ∷ take result.left (parts_of stack.now)) }
     ensures key { result.whole.key ≡ part.key }
     ensures last { result.whole.last ≡ part.last }
     ensures apart { (d : Fragment) → 0 < result.left
@@ -64,7 +66,8 @@ fn settle(stack: &[FlowRecord], part: Fragment, timeouts: &Timeouts) -> Joined
 
 /// The fragment of the last record, where there is one that is joinable with the fragment.
 fn joinable_top(stack: &[FlowRecord], whole: &Fragment, timeouts: &Timeouts) -> Option<Fragment>
-    ensures some { IfSome result (λ top. (0 < length stack.now) × (slice_index_or (parts_of stack.now) (length stack.now - 1) top ≡ top)
+    ensures some { IfSome result (λ top. (0 < length stack.now)
+        × (slice_index_or (parts_of stack.now) (length stack.now - 1) top ≡ top)
         × IsJoinable timeouts.now top whole.now) }
     ensures none { IfNone result ((d : Fragment) → 0 < length stack.now
         → ¬ IsJoinable timeouts.now (slice_index_or (parts_of stack.now) (length stack.now - 1) d) whole.now) }

@@ -1,15 +1,16 @@
 //! Laws about lawful lists, for any packets and records. These functions do nothing; each contract is a law.
-ghost use Rattle.record_ledger.specs.Laws.{TiesJoin, HasNoTies, CutsAreSessions, HaveSessions, LawfulAreSessions, RecordsAreOne, LawfulIsOne};
+ghost use Rattle.record_ledger.specs.Laws.{TiesJoin, HasNoTies, CutsAreSessions, HaveSessions, LawfulAreSessions};
+ghost use Rattle.record_ledger.specs.Laws.{RecordsAreOne, LawfulIsOne};
 
-/// Two fragments of one key with the same last time are always joinable, where each stands for packets of its own. So no
-/// two records of a lawful list tie in the written order.
+/// Two fragments of one key with the same last time are always joinable, where each stands for packets of its own. So
+/// no two records of a lawful list tie in the written order.
 pub fn lawful_lists_have_no_ties()
     ensures ties_join { TiesJoin }
     ensures no_ties { HasNoTies }
 {}
 
-/// Each list of packets has sessions. Where neither the active time-out nor a packet that ends its flow cuts one of them,
-/// each list that is lawful for the packets is the list of their records, and there is one such list.
+/// Each list of packets has sessions. Where neither the active time-out nor a packet that ends its flow cuts one of
+/// them, each list that is lawful for the packets is the list of their records, and there is one such list.
 pub fn lawful_lists_are_sessions()
     ensures cuts { CutsAreSessions }
     ensures sessions { HaveSessions }

@@ -226,8 +226,8 @@ fn web_exchange(rt: HostRuntime) -> Result<(), Fail> {
     Ok(())
 }
 
-/// Takes packets of these times and flags of one key in file order, each into the latest fragment where it fits, gathers
-/// them, and compares packets, first, last and reason of each record.
+/// Takes packets of these times and flags of one key in file order, each into the latest fragment where it fits,
+/// gathers them, and compares packets, first, last and reason of each record.
 fn ended(
     rt: &impl Abort,
     alloc: Global,

@@ -1,5 +1,5 @@
-//! The program `romtyalig-pair`: the command line's words, the standard streams, and the exit status. It reads a stream of
-//! flow records, as `romtyalig meter` writes it, and writes the stream of their biflows.
+//! The program `romtyalig-pair`: the command line's words, the standard streams, and the exit status. It reads a stream
+//! of flow records, as `romtyalig meter` writes it, and writes the stream of their biflows.
 #![tactic(auto)]
 
 use biflow_pair::{PairStatus, run_pair};

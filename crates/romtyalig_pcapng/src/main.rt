@@ -1,5 +1,5 @@
-//! The program `romtyalig-pcapng`: the command line's words, the standard streams, and the exit status. It reads a pcapng
-//! file and writes its packets as a classic capture, for `romtyalig meter` to read.
+//! The program `romtyalig-pcapng`: the command line's words, the standard streams, and the exit status. It reads a
+//! pcapng file and writes its packets as a classic capture, for `romtyalig meter` to read.
 #![tactic(auto)]
 
 use meter_io::{StdSink, StdSource};

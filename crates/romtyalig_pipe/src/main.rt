@@ -1,5 +1,5 @@
-//! The program `romtyalig-pipe`: the command line's words, the standard streams, and the exit status. It meters a capture
-//! while it reads it.
+//! The program `romtyalig-pipe`: the command line's words, the standard streams, and the exit status. It meters a
+//! capture while it reads it.
 #![tactic(auto)]
 
 use flow_cache::PebrCaches;

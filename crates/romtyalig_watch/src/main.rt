@@ -1,5 +1,5 @@
-//! The program `romtyalig-watch`: the command line's words, the standard streams, and the exit status. It meters a capture, and
-//! asks for open flows meanwhile.
+//! The program `romtyalig-watch`: the command line's words, the standard streams, and the exit status. It meters a
+//! capture, and asks for open flows meanwhile.
 #![tactic(auto)]
 
 use meter_io::{StdSink, StdSource};

@@ -18,8 +18,8 @@ mod same;
 /// A capture's header: little-endian, microseconds, Ethernet.
 const HEADER: &str = "d4c3b2a1 02000400 00000000 00000000 00000400 01000000";
 
-/// A record of a frame of 42 bytes at 1000 s, and its like at 1001 s: UDP over IPv4 from port 4000 of 192.0.2.1 to port 53 of
-/// 192.0.2.2.
+/// A record of a frame of 42 bytes at 1000 s, and its like at 1001 s: UDP over IPv4 from port 4000 of 192.0.2.1 to port
+/// 53 of 192.0.2.2.
 static TWO_PACKETS: [&str; 2] = [
     "e8030000 00000000 2a000000 2a000000 \
     020000000002 020000000001 0800 4500001c 00000000 40110000 c0000201 c0000202 0fa0 0035 0008 0000",

@@ -1,4 +1,5 @@
-//! Frames, headers and keys, and octets written in hexadecimal, that the tests of several crates share. No program stands on it.
+//! Frames, headers and keys, and octets written in hexadecimal, that the tests of several crates share. No program
+//! stands on it.
 #![tactic(auto)]
 
 pub mod frames;

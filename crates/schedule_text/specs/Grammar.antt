@@ -1,5 +1,7 @@
--- The text of a schedule: a line for the shape of a core, and a line for each step. Each line ends with the byte 10; words and numbers of a line have one space between them.
-use Rattle.std.specs.Prelude.{ℕ, ◌+◌, Bool, ◌&&◌, List, [], ◌∷◌, Option, Some, None, Result, Ok, Err, option_and_then, if◌then◌else◌, nat_le, bytes_eq, codes}
+-- The text of a schedule: a line for the shape of a core, and a line for each step. Each line ends with the byte 10;
+-- words and numbers of a line have one space between them.
+use Rattle.std.specs.Prelude.{ℕ, ◌+◌, Bool, ◌&&◌, List, [], ◌∷◌, Option, Some, None, Result, Ok, Err, option_and_then}
+use Rattle.std.specs.Prelude.{if◌then◌else◌, nat_le, bytes_eq, codes}
 use Rattle.pebr_core.specs.declared.kinds.Shape.{Shape}
 use Rattle.pebr_core.specs.declared.kinds.Step.{Step}
 use Rattle.pebr_core.specs.declared.kinds.Step.TheVariants as step
@@ -49,7 +51,8 @@ step_with name [] = None
 step_with name (i ∷ []) = if is_small i then step_of_one name i else None
 step_with name (i ∷ j ∷ []) = if is_small i && is_small j then step_of_two name i j else None
 step_with name (i ∷ j ∷ k ∷ []) = if is_small i && is_small j && is_small k then step_of_three name i j k else None
-step_with name (i ∷ j ∷ k ∷ value ∷ []) = if is_small i && is_small j && is_small k then step_of_four name i j k value else None
+step_with name (i ∷ j ∷ k ∷ value ∷ []) =
+    if is_small i && is_small j && is_small k then step_of_four name i j k value else None
 step_with name (i ∷ j ∷ k ∷ value ∷ more ∷ others) = None
 
 -- the numbers of the first line, within their limits
@@ -61,7 +64,8 @@ shape_with name (roots ∷ seats ∷ shields ∷ []) = None
 shape_with name (roots ∷ seats ∷ shields ∷ batch ∷ []) = None
 shape_with name (roots ∷ seats ∷ shields ∷ batch ∷ width ∷ []) =
     if bytes_eq name (codes "core")
-    && (nat_le 1 roots && nat_le roots 64) && (nat_le 1 seats && nat_le seats 16) && (nat_le 1 shields && nat_le shields 8)
+    && (nat_le 1 roots && nat_le roots 64) && (nat_le 1 seats && nat_le seats 16) &&
+    (nat_le 1 shields && nat_le shields 8)
     && (nat_le 1 batch && nat_le batch 64) && (nat_le 1 width && nat_le width 10)
     then Some (record { roots = roots; seats = seats; shields = shields; batch = batch; width = width })
     else None
@@ -91,7 +95,8 @@ abbrev pub ended : List ℕ → ℕ → Result (List Step) ℕ
 ended [] number = Ok []
 ended (byte ∷ bytes) number = Err number
 
--- The steps of the lines from this number on, of which the last piece is what follows the last line end; or the number of the first line that is none of a step.
+-- The steps of the lines from this number on, of which the last piece is what follows the last line end; or the number
+-- of the first line that is none of a step.
 abbrev pub steps_of : ℕ → List (List ℕ) → Result (List Step) ℕ
 steps_of number [] = Err number
 steps_of number (last ∷ []) = ended last number

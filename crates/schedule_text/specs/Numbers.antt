@@ -1,5 +1,6 @@
 -- Lines, words and numbers of a schedule.
-use Rattle.std.specs.Prelude.{ℕ, ◌+◌, ◌*◌, ◌-◌, ◌^◌, Bool, false, not, ◌&&◌, List, [], ◌∷◌, Option, Some, None, option_map, option_and_then, if◌then◌else◌, ◌==◌, nat_lt, nat_le, fold}
+use Rattle.std.specs.Prelude.{ℕ, ◌+◌, ◌*◌, ◌-◌, ◌^◌, Bool, false, not, ◌&&◌, List, [], ◌∷◌, Option, Some, None}
+use Rattle.std.specs.Prelude.{option_map, option_and_then, if◌then◌else◌, ◌==◌, nat_lt, nat_le, fold}
 use Rattle.std.specs.List.{list_all}
 
 -- byte is 0 to 9 in ASCII
@@ -23,7 +24,8 @@ number_of word = if is_numeral word && nat_lt (value_of word) (2 ^ 64) then Some
 -- the words are numbers
 abbrev pub numbers_of : List (List ℕ) → Option (List ℕ)
 numbers_of [] = Some []
-numbers_of (word ∷ words) = option_and_then (λ number. option_map (λ numbers. number ∷ numbers) (numbers_of words)) (number_of word)
+numbers_of (word ∷ words) = option_and_then (λ number. option_map (λ numbers. number ∷ numbers) (numbers_of words))
+    (number_of word)
 
 -- a byte before some pieces belongs to the first of them
 abbrev pub with_front : ℕ → List (List ℕ) → List (List ℕ)

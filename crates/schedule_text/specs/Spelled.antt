@@ -88,7 +88,8 @@ abbrev pub step_text : Step → List ℕ
 step_text s = name_of s ++ numbers_text (numbers_in s)
 
 abbrev pub shape_text : Shape → List ℕ
-shape_text shape = codes "core" ++ numbers_text (shape.roots ∷ shape.seats ∷ shape.shields ∷ shape.batch ∷ shape.width ∷ [])
+shape_text shape = codes "core" ++ numbers_text
+    (shape.roots ∷ shape.seats ∷ shape.shields ∷ shape.batch ∷ shape.width ∷ [])
 
 -- the one text of a schedule
 abbrev pub spelled : Shape → List Step → List ℕ

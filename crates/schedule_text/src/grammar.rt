@@ -2,7 +2,8 @@
 
 ghost use Rattle.std.specs.Prelude.{◌≡◌, ◌&&◌, nat_le, IfOk, IfSome};
 ghost use Rattle.pebr_core.specs.Kept.{IsWithinLimits};
-ghost use Rattle.schedule_text.specs.Grammar.{is_small, step_of_one, step_of_two, step_of_three, step_of_four, step_with, shape_with, step_of, shape_of};
+ghost use Rattle.schedule_text.specs.Grammar.{is_small, step_of_one, step_of_two, step_of_three, step_of_four};
+ghost use Rattle.schedule_text.specs.Grammar.{step_with, shape_with, step_of, shape_of};
 
 use crate::words::{cut, numbers};
 use pebr_core::{NoMemory, Shape, Step};

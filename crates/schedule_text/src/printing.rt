@@ -3,7 +3,9 @@
 ghost use Rattle.std.specs.Prelude.{◌≡◌, ℕ, ◌<◌, ◌++◌, decimal, flat_map, codes, IfOk, OnOk, [], if◌then◌else◌};
 ghost use Rattle.std.specs.List.{range_with_len};
 ghost use Rattle.pebr_core.specs.State.{slot_count, seat_at};
-ghost use Rattle.schedule_text.specs.Printed.{answer_text, line, status_text, fresh_item, retired_item, shield_item, fresh_list, retired_list, shield_list, root_line, seat_line, state_text, printed};
+ghost use Rattle.schedule_text.specs.Printed.{answer_text, line, status_text, fresh_item, retired_item, shield_item};
+ghost use Rattle.schedule_text.specs.Printed.{fresh_list, retired_list, shield_list, root_line, seat_line, state_text};
+ghost use Rattle.schedule_text.specs.Printed.{printed};
 
 use pebr_core::{Answer, Core, NoMemory, Replayed, Retired, ShieldAt, Stance};
 use plain_text::{append, append_numbered};
@@ -75,7 +77,8 @@ fn put_shield(out: &mut Vec<u8>, shield: ShieldAt) -> Result<(), NoMemory>
 
 /// Adds a line for each answer.
 fn put_answers(out: &mut Vec<u8>, answers: &[Answer]) -> Result<(), NoMemory>
-    ensures { OnOk result (out.new.items ≡ out.old.items ++ flat_map (λ answer. line (answer_text answer)) answers.now) }
+    ensures { OnOk result (out.new.items ≡ out.old.items
+        ++ flat_map (λ answer. line (answer_text answer)) answers.now) }
 {
     for answer in answers {
         put_answer(out, *answer)?;
@@ -98,7 +101,8 @@ fn put_fresh_item(out: &mut Vec<u8>, slot: usize, is_fresh: bool) -> Result<(), 
 /// Adds the fresh slots of a seat.
 fn put_fresh(out: &mut Vec<u8>, core: &Core, seat: usize) -> Result<(), NoMemory>
     requires { seat < core.now.shape.seats }
-    ensures { OnOk result (out.new.items ≡ out.old.items ++ fresh_list (slot_count core.now.shape) (seat_at core.now seat)) }
+    ensures { OnOk result (out.new.items ≡ out.old.items
+        ++ fresh_list (slot_count core.now.shape) (seat_at core.now seat)) }
 {
     for slot in 0..core.slot_count() {
         put_fresh_item(out, slot, core.is_fresh(seat, slot))?;
@@ -109,7 +113,8 @@ fn put_fresh(out: &mut Vec<u8>, core: &Core, seat: usize) -> Result<(), NoMemory
 /// Adds the retired slots of a seat.
 fn put_retired_list(out: &mut Vec<u8>, core: &Core, seat: usize) -> Result<(), NoMemory>
     requires { seat < core.now.shape.seats }
-    ensures { OnOk result (out.new.items ≡ out.old.items ++ retired_list (slot_count core.now.shape) (seat_at core.now seat)) }
+    ensures { OnOk result (out.new.items ≡ out.old.items
+        ++ retired_list (slot_count core.now.shape) (seat_at core.now seat)) }
 {
     for slot in 0..core.slot_count() {
         put_retired(out, slot, core.retired(seat, slot))?;
@@ -120,7 +125,8 @@ fn put_retired_list(out: &mut Vec<u8>, core: &Core, seat: usize) -> Result<(), N
 /// Adds the shields of a seat.
 fn put_shields(out: &mut Vec<u8>, core: &Core, seat: usize) -> Result<(), NoMemory>
     requires { seat < core.now.shape.seats }
-    ensures { OnOk result (out.new.items ≡ out.old.items ++ shield_list core.now.shape.shields (seat_at core.now seat)) }
+    ensures { OnOk result (out.new.items ≡ out.old.items
+        ++ shield_list core.now.shape.shields (seat_at core.now seat)) }
 {
     for place in 0..core.shape().shields {
         put_shield(out, core.shield(seat, place))?;
@@ -158,7 +164,8 @@ fn put_root(out: &mut Vec<u8>, core: &Core, root: usize) -> Result<(), NoMemory>
 
 /// Adds the lines of all roots.
 fn put_roots(out: &mut Vec<u8>, core: &Core) -> Result<(), NoMemory>
-    ensures { OnOk result (out.new.items ≡ out.old.items ++ flat_map (root_line core.now) (range_with_len 0 core.now.shape.roots)) }
+    ensures { OnOk result (out.new.items ≡ out.old.items
+        ++ flat_map (root_line core.now) (range_with_len 0 core.now.shape.roots)) }
 {
     for root in 0..core.shape().roots {
         put_root(out, core, root)?;
@@ -168,7 +175,8 @@ fn put_roots(out: &mut Vec<u8>, core: &Core) -> Result<(), NoMemory>
 
 /// Adds the lines of all seats.
 fn put_seats(out: &mut Vec<u8>, core: &Core) -> Result<(), NoMemory>
-    ensures { OnOk result (out.new.items ≡ out.old.items ++ flat_map (seat_line core.now) (range_with_len 0 core.now.shape.seats)) }
+    ensures { OnOk result (out.new.items ≡ out.old.items
+        ++ flat_map (seat_line core.now) (range_with_len 0 core.now.shape.seats)) }
 {
     for seat in 0..core.shape().seats {
         put_seat(out, core, seat)?;

@@ -49,8 +49,10 @@ pub fn read_schedule(alloc: Global, text: &[u8]) -> Result<Schedule, ScheduleErr
     ensures spelled { IfOk result (λ schedule. text.now ≡ spelled schedule.shape schedule.steps.items) }
     ensures printable { IfOk result (λ schedule. IsPrintable schedule.shape) }
     ensures writable { IfOk result (λ schedule. AreWritable schedule.steps.items) }
-    ensures only { (shape : Shape) (steps : List Step) → IsPrintable shape → AreWritable steps → text.now ≡ spelled shape steps
-        → MatchResult result (λ schedule. (schedule.shape ≡ shape) × (schedule.steps.items ≡ steps)) (λ error. error ≡ ScheduleError.NoMemory) }
+    ensures only { (shape : Shape) (steps : List Step) → IsPrintable shape → AreWritable steps
+        → text.now ≡ spelled shape steps
+        → MatchResult result (λ schedule. (schedule.shape ≡ shape) × (schedule.steps.items ≡ steps))
+        (λ error. error ≡ ScheduleError.NoMemory) }
     ensures limits { IfOk result (λ schedule. IsWithinLimits schedule.shape) }
 {
     read_lines(alloc, text)
@@ -78,7 +80,8 @@ fn read_lines(alloc: Global, text: &[u8]) -> Result<Schedule, ScheduleError>
 /// Reads the lines of steps, which begin with line 2.
 fn read_steps(alloc: Global, text: &[u8]) -> Result<Vec<Step>, ScheduleError>
     ensures read { IfOk result (λ steps. steps_of 2 (pieces_of 10 text.now) ≡ Ok steps.items) }
-    ensures bad { (number : ℕ) → result ≡ Err (ScheduleError.BadLine number) → steps_of 2 (pieces_of 10 text.now) ≡ Err number }
+    ensures bad { (number : ℕ) → result ≡ Err (ScheduleError.BadLine number)
+        → steps_of 2 (pieces_of 10 text.now) ≡ Err number }
 {
     let mut steps = Vec::new(alloc);
     let mut number = 2u64;

@@ -1,6 +1,7 @@
 //! Pieces of a text, and numbers.
 
-ghost use Rattle.std.specs.Prelude.{◌≡◌, ℕ, ◌+◌, ◌-◌, ◌*◌, ◌^◌, ◌<◌, ◌≤◌, ◌∷◌, ◌++◌, [], OnOk, IfOk, IfSome, MatchOption, option_copied, option_map, length};
+ghost use Rattle.std.specs.Prelude.{◌≡◌, ℕ, ◌+◌, ◌-◌, ◌*◌, ◌^◌, ◌<◌, ◌≤◌, ◌∷◌, ◌++◌, [], OnOk, IfOk, IfSome};
+ghost use Rattle.std.specs.Prelude.{MatchOption, option_copied, option_map, length};
 ghost use Rattle.schedule_text.specs.Numbers.{is_digit, is_numeral, number_of, numbers_of, pieces_of};
 ghost use Rattle.schedule_text.specs.Rest.{pieces_after};
 
@@ -66,7 +67,8 @@ fn shifted(number: u64, digit: u8) -> Option<u64>
 
 /// The numbers that the words of a text stand for, with one space between them.
 pub fn numbers(alloc: Global, text: Option<&[u8]>) -> Result<Option<Vec<u64>>, NoMemory>
-    ensures { IfOk result (λ found. option_map (λ numbers. numbers.items) found ≡ numbers_of (pieces_after 32 (option_copied text.entry))) }
+    ensures { IfOk result (λ found. option_map (λ numbers. numbers.items) found
+        ≡ numbers_of (pieces_after 32 (option_copied text.entry))) }
 {
     let mut numbers = Vec::new(alloc);
     let mut rest = text;

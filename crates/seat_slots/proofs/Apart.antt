@@ -1,5 +1,6 @@
 -- A slot that stands at most once, and only below a bound.
-use Rattle.std.proofs.Common.{◌≡◌, ℕ, ◌+◌, ◌<◌, ◌≤◌, ◌⊎◌, inl, inr, Bool, true, false, not, ◌&&◌, ◌||◌, cond, refl, sym, ap, ◌∙◌, arith, eqb}
+use Rattle.std.proofs.Common.{◌≡◌, ℕ, ◌+◌, ◌<◌, ◌≤◌, ◌⊎◌, inl, inr, Bool, true, false, not, ◌&&◌, ◌||◌, cond, refl, sym}
+use Rattle.std.proofs.Common.{ap, ◌∙◌, arith, eqb}
 use Rattle.std.specs.Prelude.{nat_lt}
 use Rattle.std.proofs.lemmas.Bool.{cases_lt}
 use Rattle.std.proofs.lemmas.Bool.Decides.{nat_tests}
@@ -31,8 +32,10 @@ one_of_few n h = pick (cases_lt 0 n)
 
 -- what a Give makes of how often a slot stands in lists: fresh, without a tag, given, with a tag
 
-pub given_once : (f a g b : ℕ) (kept : Bool) → f + a + b ≤ 1 → cond kept 1 0 + g ≡ b → nat_lt 0 (f + a + g) ≡ (nat_lt 0 f || (nat_lt 0 (a + b) && not kept))
-given_once f a g b true few parts = in_none (f + a + g) (omega (arith, few, parts)) ∙ sym (or_and_false (nat_lt 0 f) (nat_lt 0 (a + b)) (in_none f (omega (arith, few, parts))))
+pub given_once : (f a g b : ℕ) (kept : Bool) → f + a + b ≤ 1 → cond kept 1 0 + g ≡ b
+    → nat_lt 0 (f + a + g) ≡ (nat_lt 0 f || (nat_lt 0 (a + b) && not kept))
+given_once f a g b true few parts = in_none (f + a + g) (omega (arith, few, parts))
+    ∙ sym (or_and_false (nat_lt 0 f) (nat_lt 0 (a + b)) (in_none f (omega (arith, few, parts))))
   where
     or_and_false : (x y : Bool) → x ≡ false → (x || (y && false)) ≡ false
     or_and_false x true e = ap (λ b. b || false) e
@@ -47,17 +50,21 @@ given_once f a g b false few parts = pick (cases_lt 0 f)
     same = omega (arith, parts)
 
     pick : ((0 < f) ⊎ (f ≤ 0)) → nat_lt 0 (f + a + g) ≡ (nat_lt 0 f || (nat_lt 0 (a + b) && true))
-    pick (inl some) = in_some (f + a + g) (omega (arith, some)) ∙ ap (λ x. x || (nat_lt 0 (a + b) && true)) (sym (in_some f some))
+    pick (inl some) = in_some (f + a + g) (omega (arith, some))
+        ∙ ap (λ x. x || (nat_lt 0 (a + b) && true)) (sym (in_some f some))
     pick (inr none) = ap (nat_lt 0) (let e : f + a + g ≡ a + b = omega (arith, none, same) in e)
-        ∙ (sym (and_true (nat_lt 0 (a + b))) ∙ ap (λ x. x || (nat_lt 0 (a + b) && true)) (sym (in_none f (omega (arith, none)))))
+        ∙ (sym (and_true (nat_lt 0 (a + b))) ∙ ap (λ x. x || (nat_lt 0 (a + b) && true))
+        (sym (in_none f (omega (arith, none)))))
 
-pub given_count : (a g b : ℕ) (kept : Bool) → a + b ≤ 1 → cond kept 1 0 + g ≡ b → cond (nat_lt 0 (a + b) && not kept) 1 0 ≡ a + g
+pub given_count : (a g b : ℕ) (kept : Bool) → a + b ≤ 1 → cond kept 1 0 + g ≡ b
+    → cond (nat_lt 0 (a + b) && not kept) 1 0 ≡ a + g
 given_count a g b true few parts = none_if (and_false (nat_lt 0 (a + b))) ∙ omega (arith, few, parts)
   where
     and_false : (y : Bool) → (y && false) ≡ false
     and_false true = refl
     and_false false = refl
-given_count a g b false few parts = ap (λ c. cond c 1 0) (and_true (nat_lt 0 (a + b))) ∙ (one_of_few (a + b) few ∙ omega (arith, parts))
+given_count a g b false few parts = ap (λ c. cond c 1 0) (and_true (nat_lt 0 (a + b)))
+    ∙ (one_of_few (a + b) few ∙ omega (arith, parts))
   where
     and_true : (y : Bool) → (y && true) ≡ y
     and_true true = refl

@@ -1,5 +1,6 @@
 -- The newest tag of the table is that of the list.
-use Rattle.std.proofs.Common.{◌≡◌, ◌≢◌, ℕ, zero, suc, ◌+◌, ◌<◌, ◌≤◌, Bool, true, false, ◌&&◌, cond, List, [], ◌∷◌, length, get_or, set, map, refl, sym, ap, ◌∙◌, arith, ltb, eqb}
+use Rattle.std.proofs.Common.{◌≡◌, ◌≢◌, ℕ, zero, suc, ◌+◌, ◌<◌, ◌≤◌, Bool, true, false, ◌&&◌, cond, List, [], ◌∷◌}
+use Rattle.std.proofs.Common.{length, get_or, set, map, refl, sym, ap, ◌∙◌, arith, ltb, eqb}
 use Rattle.std.specs.Prelude.{nat_lt}
 use Rattle.std.specs.List.{range_with_len, list_all}
 use Rattle.std.proofs.lemmas.Bool.{eq-eqb, ne_eqb}
@@ -30,31 +31,45 @@ and_three true b c = refl
 and_three false b c = refl
 
 -- one slot more with a tag
-above_tagged : (slots : List Retired) (k tag epoch : ℕ) → k < length slots → get_or slots k retire.No ≡ retire.No → above (set slots k (retire.Tagged tag)) epoch ≡ (above slots epoch && ltb tag epoch)
+above_tagged : (slots : List Retired) (k tag epoch : ℕ) → k < length slots → get_or slots k retire.No ≡ retire.No
+    → above (set slots k (retire.Tagged tag)) epoch ≡ (above slots epoch && ltb tag epoch)
 above_tagged [] k tag epoch inside e = absurd (omega (arith, inside))
 above_tagged (retire.No ∷ slots) zero tag epoch inside e = and_swap (ltb tag epoch) (above slots epoch)
 above_tagged (retire.Untagged ∷ slots) zero tag epoch inside e = absurd cc
 above_tagged (retire.Tagged other ∷ slots) zero tag epoch inside e = absurd cc
 above_tagged (retire.No ∷ slots) (suc k) tag epoch inside e = above_tagged slots k tag epoch (omega (arith, inside)) e
-above_tagged (retire.Untagged ∷ slots) (suc k) tag epoch inside e = above_tagged slots k tag epoch (omega (arith, inside)) e
-above_tagged (retire.Tagged other ∷ slots) (suc k) tag epoch inside e = ap (λ b. ltb other epoch && b) (above_tagged slots k tag epoch (omega (arith, inside)) e) ∙ and_three (ltb other epoch) (above slots epoch) (ltb tag epoch)
+above_tagged (retire.Untagged ∷ slots) (suc k) tag epoch inside e =
+    above_tagged slots k tag epoch (omega (arith, inside)) e
+above_tagged (retire.Tagged other ∷ slots) (suc k) tag epoch inside e =
+    ap (λ b. ltb other epoch && b) (above_tagged slots k tag epoch (omega (arith, inside)) e)
+    ∙ and_three (ltb other epoch) (above slots epoch) (ltb tag epoch)
 
-above_plain : (b : Bool) (slots : List Retired) (epoch : ℕ) → above (cond b retire.Untagged retire.No ∷ slots) epoch ≡ above slots epoch
+above_plain : (b : Bool) (slots : List Retired) (epoch : ℕ)
+    → above (cond b retire.Untagged retire.No ∷ slots) epoch ≡ above slots epoch
 above_plain true slots epoch = refl
 above_plain false slots epoch = refl
 
 above_none : (untagged xs : List ℕ) (epoch : ℕ) → above (map (retired_as untagged []) xs) epoch ≡ true
 above_none untagged [] epoch = refl
-above_none untagged (x ∷ xs) epoch = above_plain (is_in x untagged) (map (retired_as untagged []) xs) epoch ∙ above_none untagged xs epoch
+above_none untagged (x ∷ xs) epoch = above_plain (is_in x untagged) (map (retired_as untagged []) xs) epoch
+    ∙ above_none untagged xs epoch
 
-pub above_table : (epoch slots : ℕ) (untagged : List ℕ) (tagged : List TaggedSlot) → ((slot : ℕ) → times slot untagged + times slot (slots_of tagged) ≤ cond (nat_lt slot slots) 1 0)
-    → above (map (retired_as untagged tagged) (range_with_len 0 slots)) epoch ≡ list_all (λ (entry : TaggedSlot). nat_lt entry.tag epoch) tagged
+pub above_table : (epoch slots : ℕ) (untagged : List ℕ) (tagged : List TaggedSlot)
+    → ((slot : ℕ) → times slot untagged + times slot (slots_of tagged) ≤ cond (nat_lt slot slots) 1 0)
+    → above (map (retired_as untagged tagged) (range_with_len 0 slots)) epoch
+    ≡ list_all (λ (entry : TaggedSlot). nat_lt entry.tag epoch) tagged
 above_table epoch slots untagged [] once = above_none untagged (range_with_len 0 slots) epoch
 above_table epoch slots untagged (e ∷ es) once =
-    ap (λ l. above l epoch) (table_set (retired_as untagged es) (retired_as untagged (e ∷ es)) slots e.slot (retire.Tagged e.tag) here else)
-    ∙ (above_tagged table e.slot e.tag epoch (let l = length-map-range_with_len (retired_as untagged es) 0 slots in omega (arith, l, low))
-    (get_or-map-range_with_len (retired_as untagged es) 0 slots e.slot e.slot retire.No low (omega arith) ∙ (if_false retire.Untagged (tag_at es e.slot) out ∙ found_absent tag_of retire.No es e.slot (let c = count in omega (arith, c))))
-    ∙ (ap (λ b. b && ltb e.tag epoch) (above_table epoch slots untagged es (λ slot. let h = once slot in let c = times_cons slot e.slot (slots_of es) in omega (arith, h, c)))
+    ap (λ l. above l epoch)
+    (table_set (retired_as untagged es) (retired_as untagged (e ∷ es)) slots e.slot (retire.Tagged e.tag) here else)
+    ∙ (above_tagged table e.slot e.tag epoch
+    (let l = length-map-range_with_len (retired_as untagged es) 0 slots in omega (arith, l, low))
+    (get_or-map-range_with_len (retired_as untagged es) 0 slots e.slot e.slot retire.No low (omega arith)
+    ∙ (if_false retire.Untagged (tag_at es e.slot) out
+    ∙ found_absent tag_of retire.No es e.slot (let c = count in omega (arith, c))))
+    ∙ (ap (λ b. b && ltb e.tag epoch)
+    (above_table epoch slots untagged es (λ slot. let h = once slot in let c = times_cons slot e.slot (slots_of es) in
+    omega (arith, h, c)))
     ∙ and_swap (list_all (λ (entry : TaggedSlot). nat_lt entry.tag epoch) es) (ltb e.tag epoch)))
   where
     table : List Retired
@@ -79,17 +94,20 @@ above_table epoch slots untagged (e ∷ es) once =
     here = if_false retire.Untagged (tag_at (e ∷ es) e.slot) out ∙ if_true (retire.Tagged e.tag) (tag_at es e.slot) same
 
     else : (other : ℕ) → other ≢ e.slot → retired_as untagged (e ∷ es) other ≡ retired_as untagged es other
-    else other apart = ap (λ r. cond (is_in other untagged) retire.Untagged r) (if_false (retire.Tagged e.tag) (tag_at es other) (ne_eqb e.slot other (λ h. apart (sym h))))
+    else other apart = ap (λ r. cond (is_in other untagged) retire.Untagged r)
+        (if_false (retire.Tagged e.tag) (tag_at es other) (ne_eqb e.slot other (λ h. apart (sym h))))
 
 -- where all have the same tag
-pub all_same : (tag epoch : ℕ) (slots : List ℕ) → 0 < length slots → list_all (λ (entry : TaggedSlot). nat_lt entry.tag epoch) (map (tagged_with tag) slots) ≡ nat_lt tag epoch
+pub all_same : (tag epoch : ℕ) (slots : List ℕ) → 0 < length slots
+    → list_all (λ (entry : TaggedSlot). nat_lt entry.tag epoch) (map (tagged_with tag) slots) ≡ nat_lt tag epoch
 all_same tag epoch [] some = absurd (omega (arith, some))
 all_same tag epoch (x ∷ []) some = and_true (nat_lt tag epoch)
   where
     and_true : (b : Bool) → (b && true) ≡ b
     and_true true = refl
     and_true false = refl
-all_same tag epoch (x ∷ y ∷ xs) some = ap (λ b. nat_lt tag epoch && b) (all_same tag epoch (y ∷ xs) (omega arith)) ∙ twice (nat_lt tag epoch)
+all_same tag epoch (x ∷ y ∷ xs) some = ap (λ b. nat_lt tag epoch && b) (all_same tag epoch (y ∷ xs) (omega arith))
+    ∙ twice (nat_lt tag epoch)
   where
     twice : (b : Bool) → (b && b) ≡ b
     twice true = refl

@@ -1,4 +1,5 @@
--- The slots of a seat: for each slot, whether it is fresh, whether it is retired and with which tag, and whether the scan keeps it.
+-- The slots of a seat: for each slot, whether it is fresh, whether it is retired and with which tag, and whether the
+-- scan keeps it.
 use Rattle.std.specs.Prelude.{ℕ, suc, Bool, true, false, List, [], ◌∷◌, Option, Some, None, nat_lt, map}
 use Rattle.pebr_core.specs.declared.kinds.Retired.{Retired}
 use Rattle.pebr_core.specs.State.{is_retired}

@@ -1,5 +1,6 @@
 -- The code's own: what the short lists of a seat say of each slot of the table.
-use Rattle.std.specs.Prelude.{◌≡◌, ℕ, ◌+◌, ◌<◌, ◌≤◌, nat_lt, not, if◌then◌else◌, Bool, true, false, List, [], ◌∷◌, Option, map, length, count_by, cond, ◌==◌, slice_index}
+use Rattle.std.specs.Prelude.{◌≡◌, ℕ, ◌+◌, ◌<◌, ◌≤◌, nat_lt, not, if◌then◌else◌, Bool, true, false, List, [], ◌∷◌}
+use Rattle.std.specs.Prelude.{Option, map, length, count_by, cond, ◌==◌, slice_index}
 use Rattle.std.specs.List.{range_with_len, list_all}
 use Rattle.pebr_core.specs.declared.kinds.Retired.{Retired}
 use Rattle.pebr_core.specs.declared.kinds.Retired.TheVariants as retire
@@ -44,7 +45,8 @@ found value none [] slot = none
 found value none (entry ∷ entries) slot = if entry.slot == slot then value entry else found value none entries slot
 
 abbrev pub retired_as : List ℕ → List TaggedSlot → ℕ → Retired
-retired_as untagged tagged slot = if is_in slot untagged then retire.Untagged else found (λ entry. retire.Tagged entry.tag) retire.No tagged slot
+retired_as untagged tagged slot = if is_in slot untagged then retire.Untagged
+    else found (λ entry. retire.Tagged entry.tag) retire.No tagged slot
 
 -- the sets of a table with so many slots
 abbrev pub sets_of : ℕ → ℕ → List ℕ → List ℕ → List TaggedSlot → Sets
@@ -55,9 +57,11 @@ sets_of slots room fresh untagged tagged = record {
   room = room;
 }
 
--- Each list has slots of the table alone, each slot stands once in one of them, and there are as many as there is room for.
+-- Each list has slots of the table alone, each slot stands once in one of them, and there are as many as there is room
+-- for.
 pub record AreApart (slots room : ℕ) (fresh untagged : List ℕ) (tagged : List TaggedSlot) : Type 0 where
-  pub once : (slot : ℕ) → times slot fresh + times slot untagged + times slot (slots_of tagged) ≤ cond (nat_lt slot slots) 1 0
+  pub once : (slot : ℕ) → times slot fresh + times slot untagged + times slot (slots_of tagged)
+      ≤ cond (nat_lt slot slots) 1 0
   pub many : length fresh + length untagged + length tagged ≡ room
 
 -- this is the newest tag

@@ -37,7 +37,8 @@ pub fn let_fall(fresh: &mut Vec<usize>)
 #[inline]
 pub fn take_out(fresh: &mut Vec<usize>, slot: usize)
     requires { 0 < times slot fresh.old.items }
-    ensures slots { (place : ℕ) × (place < length fresh.old.items) × (slice_index fresh.old.items place ≡ slot) × (fresh.new.items ≡ remove fresh.old.items place) }
+    ensures slots { (place : ℕ) × (place < length fresh.old.items) × (slice_index fresh.old.items place ≡ slot)
+        × (fresh.new.items ≡ remove fresh.old.items place) }
     ensures room { vec_capacity fresh.new ≡ vec_capacity fresh.old }
 {
     let place = place_of(fresh, slot);

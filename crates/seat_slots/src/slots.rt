@@ -1,6 +1,8 @@
 //! The slots of one seat.
 
-ghost use Rattle.std.specs.Prelude.{◌≡◌, ◌≢◌, ◌<◌, ◌≤◌, ◌+◌, ◌++◌, ◌^◌, ◌&&◌, ℕ, IfOk, map, replicate, length, count_by, false, true, nat_lt, slice_set, slice_index_or, if◌then◌else◌, vec_capacity};
+ghost use Rattle.std.specs.Prelude.{◌≡◌, ◌≢◌, ◌<◌, ◌≤◌, ◌+◌, ◌++◌, ◌^◌, ◌&&◌, ℕ, IfOk, map, replicate, length};
+ghost use Rattle.std.specs.Prelude.{count_by, false, true, nat_lt, slice_set, slice_index_or, if◌then◌else◌};
+ghost use Rattle.std.specs.Prelude.{vec_capacity};
 ghost use Rattle.pebr_core.specs.declared.kinds.Retired.TheVariants as retire;
 ghost use Rattle.pebr_core.specs.State.{has, is_retired, first_seat, slot_count, slots_per_seat};
 ghost use Rattle.pebr_core.specs.Steps.{tag_with, is_above_tags, united, released};
@@ -47,7 +49,8 @@ impl Model for SeatSlots {
 
     ghost view = { λ s. sets_of s.slots s.room s.fresh.items s.untagged.items s.tagged.items };
 
-    ghost invariant = { λ s. AreApart s.slots s.room s.fresh.items s.untagged.items s.tagged.items × AreFalling s.fresh.items × IsNewest s.newest s.tagged.items × IsSignOf s.some_kept s.tagged.items
+    ghost invariant = { λ s. AreApart s.slots s.room s.fresh.items s.untagged.items s.tagged.items
+        × AreFalling s.fresh.items × IsNewest s.newest s.tagged.items × IsSignOf s.some_kept s.tagged.items
         × (s.room ≤ vec_capacity s.fresh) × (s.room ≤ vec_capacity s.untagged) × (s.room ≤ vec_capacity s.tagged) };
 }
 
@@ -119,7 +122,8 @@ impl SeatSlots {
 
     /// The newest tag of a retired slot.
     pub fn newest(&self) -> Option<u64>
-        ensures { (epoch : ℕ) → is_above_tags (map is_retired self.now.retired) self.now.retired epoch ≡ is_above result epoch }
+        ensures { (epoch : ℕ) → is_above_tags (map is_retired self.now.retired) self.now.retired epoch
+            ≡ is_above result epoch }
     {
         self.newest
     }
@@ -141,7 +145,8 @@ impl SeatSlots {
     /// A replacement: the new slot isn't fresh any more, and the old one is retired without a tag.
     #[inline]
     pub fn replace(&mut self, old: usize, new: usize)
-        requires apart { (slice_index_or self.old.retired old retire.No ≡ retire.No) × (has self.old.fresh old ≡ false) }
+        requires apart { (slice_index_or self.old.retired old retire.No ≡ retire.No)
+            × (has self.old.fresh old ≡ false) }
         requires fresh { has self.old.fresh new ≡ true }
         requires range { old < length self.old.retired }
         requires room { count_by is_retired self.old.retired < self.old.room }
@@ -160,7 +165,8 @@ impl SeatSlots {
         requires tagged { slice_index_or self.old.retired slot retire.No ≢ retire.Untagged }
         ensures fresh { self.new.fresh ≡ self.old.fresh }
         ensures retired { self.new.retired ≡ self.old.retired }
-        ensures kept { self.new.kept ≡ (if is_retired (slice_index_or self.old.retired slot retire.No) then slice_set self.old.kept slot true else self.old.kept) }
+        ensures kept { self.new.kept ≡ (if is_retired (slice_index_or self.old.retired slot retire.No)
+            then slice_set self.old.kept slot true else self.old.kept) }
         ensures room { self.new.room ≡ self.old.room }
     {
         keep_slot(&mut self.tagged, slot);

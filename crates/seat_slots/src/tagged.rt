@@ -115,7 +115,8 @@ pub fn newest_of(tagged: &[TaggedSlot]) -> Option<u64>
 
 /// The newest tag, once these slots have this one.
 pub fn noted(newest: Option<u64>, slots: &[usize], tag: u64) -> Option<u64>
-    ensures { (epoch : ℕ) → is_above result epoch ≡ (is_above newest epoch && list_all (λ entry. nat_lt entry.tag epoch) (map (tagged_with tag) slots.now)) }
+    ensures { (epoch : ℕ) → is_above result epoch
+        ≡ (is_above newest epoch && list_all (λ entry. nat_lt entry.tag epoch) (map (tagged_with tag) slots.now)) }
 {
     if slots.is_empty() {
         newest

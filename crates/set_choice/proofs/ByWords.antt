@@ -1,5 +1,6 @@
 -- Contents of a key, by their words.
-use Rattle.std.proofs.Common.{◌≡◌, ◌≢◌, ◌⊎◌, inl, inr, ℕ, zero, suc, ◌+◌, ◌<◌, List, [], ◌∷◌, length, get_or, take, Some, refl, ap, sym, ◌∙◌, subst, arith}
+use Rattle.std.proofs.Common.{◌≡◌, ◌≢◌, ◌⊎◌, inl, inr, ℕ, zero, suc, ◌+◌, ◌<◌, List, [], ◌∷◌, length, get_or, take}
+use Rattle.std.proofs.Common.{Some, refl, ap, sym, ◌∙◌, subst, arith}
 use Rattle.std.specs.Prelude.{map}
 use Rattle.std.proofs.lemmas.Bool.{cases_eq}
 use Rattle.flow_key.specs.declared.key.FlowKey.{FlowKey}
@@ -24,7 +25,8 @@ key_words content key (inr whole) has =
 -- a whole content that isn't empty shows the fragment of its numbers, and of the key whose words it has
 pub shows_of_key : (content : List ℕ) (made : Fragment) → IsWhole content → take 5 content ≡ words_of made.key
     → get_or content 5 0 ≢ 0 → made.packets ≡ get_or content 5 0 → made.octets ≡ get_or content 6 0
-    → made.first ≡ get_or content 7 0 → made.last ≡ get_or content 8 0 → made.flags ≡ get_or content 9 0 → Some made ≡ entry_of content
+    → made.first ≡ get_or content 7 0 → made.last ≡ get_or content 8 0 → made.flags ≡ get_or content 9 0
+    → Some made ≡ entry_of content
 shows_of_key content made (inl empty) words counted p o f l g = absurd (counted empty)
 shows_of_key content made (inr whole) words counted p o f l g =
     let old : Fragment = whole.0 in
@@ -44,7 +46,8 @@ entry_here (content ∷ contents) (suc place) low = entry_here contents place (o
 -- four contents one by one
 pub four_here : (contents : List (List ℕ)) → length contents ≡ 4
     → map entry_of contents
-    ≡ entry_of (get_or contents 0 []) ∷ entry_of (get_or contents 1 []) ∷ entry_of (get_or contents 2 []) ∷ entry_of (get_or contents 3 []) ∷ []
+    ≡ entry_of (get_or contents 0 []) ∷ entry_of (get_or contents 1 []) ∷ entry_of (get_or contents 2 [])
+    ∷ entry_of (get_or contents 3 []) ∷ []
 four_here [] e = absurd (omega (arith, e))
 four_here (a ∷ []) e = absurd (omega (arith, e))
 four_here (a ∷ b ∷ []) e = absurd (omega (arith, e))

@@ -1,5 +1,6 @@
 -- Contents where none shows a fragment of the key: empty ones, and last times.
-use Rattle.std.proofs.Common.{◌≡◌, inl, inr, ℕ, ◌<◌, List, [], length, get_or, Option, Some, None, IsNone, IfSome, refl, ap, sym, ◌∙◌, subst}
+use Rattle.std.proofs.Common.{◌≡◌, inl, inr, ℕ, ◌<◌, List, [], length, get_or, Option, Some, None, IsNone, IfSome, refl}
+use Rattle.std.proofs.Common.{ap, sym, ◌∙◌, subst}
 use Rattle.std.specs.Prelude.{map}
 use Rattle.flow_parts.specs.declared.fragment.Fragment.{Fragment}
 use Rattle.cache_face.specs.Choice.{entry_at}
@@ -28,7 +29,8 @@ empty_there contents place low whole none =
     empty_where (get_or contents place []) whole (subst IsNone (entry_here contents place low) none)
 
 -- the ninth word of a whole content is the last time of the fragment that it shows
-last_shown : (content : List ℕ) (old : Fragment) → IsWhole content → entry_of content ≡ Some old → get_or content 8 0 ≡ old.last
+last_shown : (content : List ℕ) (old : Fragment) → IsWhole content → entry_of content ≡ Some old
+    → get_or content 8 0 ≡ old.last
 last_shown content old (inl empty) shown =
     let none : None ≡ Some old = sym (empty_shows content empty) ∙ shown in
     cc

@@ -1,5 +1,6 @@
 -- What is put out, by the rule of the choice.
-use Rattle.std.proofs.Common.{◌≡◌, inl, inr, ℕ, ◌<◌, List, [], length, get_or, Option, Some, None, MatchOption, refl, sym, subst}
+use Rattle.std.proofs.Common.{◌≡◌, inl, inr, ℕ, ◌<◌, List, [], length, get_or, Option, Some, None, MatchOption, refl}
+use Rattle.std.proofs.Common.{sym, subst}
 use Rattle.std.specs.Prelude.{map}
 use Rattle.std.proofs.lemmas.List.{length-map}
 use Rattle.flow_parts.specs.declared.fragment.Fragment.{Fragment}
@@ -44,12 +45,14 @@ joins_key limits own (Some old) joins = joins.one_key
 
 -- the lowest content of the key takes the fragment in, where it can be one with it
 pub joins_there : (limits : Timeouts) (contents : List (List ℕ)) (own kept : Fragment) (place : ℕ)
-    → place < length contents → ((lower : ℕ) → lower < place → ¬ HasKey own.key (entry_at (map entry_of contents) lower))
+    → place < length contents
+    → ((lower : ℕ) → lower < place → ¬ HasKey own.key (entry_at (map entry_of contents) lower))
     → CanJoin limits own (entry_of (get_or contents place []))
     → MatchOption (entry_of (get_or contents place [])) ⊥ (λ old. IsJoined old own kept)
     → Joins limits (map entry_of contents) own place None kept
 joins_there limits contents own kept place low below joins joined =
-    let here : entry_of (get_or contents place []) ≡ entry_at (map entry_of contents) place = sym (entry_here contents place low) in
+    let here : entry_of (get_or contents place []) ≡ entry_at (map entry_of contents) place =
+    sym (entry_here contents place low) in
     record {
       lowest = record {
         below = rw length-map low;

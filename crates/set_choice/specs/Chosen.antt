@@ -15,8 +15,8 @@ out_of Opened entry = None
 out_of Replaced entry = entry
 out_of PassedBy entry = None
 
--- The fragment was put into one of the entries that the contents show, as `IsChoice` says, and the content at that place
--- is to have these words.
+-- The fragment was put into one of the entries that the contents show, as `IsChoice` says, and the content at that
+-- place is to have these words.
 abbrev pub IsChosen : Timeouts → List (List ℕ) → Fragment → How → ℕ → List ℕ → Type 0
 IsChosen limits contents own how place words =
     (kept : Fragment) × (part_words kept ≡ words)

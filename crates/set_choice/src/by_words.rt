@@ -1,6 +1,7 @@
 //! The entry of a key is found by its words.
 
-ghost use Rattle.std.specs.Prelude.{◌≡◌, ◌<◌, ◌↔◌, ℕ, [], map, take, All, IsTrue, IsNone, IfSome, Some, MatchOption, slice_index_or};
+ghost use Rattle.std.specs.Prelude.{◌≡◌, ◌<◌, ◌↔◌, ℕ, [], map, take, All, IsTrue, IsNone, IfSome, Some, MatchOption};
+ghost use Rattle.std.specs.Prelude.{slice_index_or};
 ghost use Rattle.flow_key.specs.Key.{words_of};
 ghost use Rattle.cache_face.specs.Choice.{CanJoin, HasKey, HasNone, IsLowest, IsOldest, entry_at};
 ghost use Rattle.flow_parts.specs.Parts.{IsJoined};
@@ -39,12 +40,13 @@ fn has_words(content: &[u64; 10], words: &[u64; 5]) -> bool
     true
 }
 
-/// The lowest content that has the words of a key. Those below it show no fragment of the key, and where none has them none
-/// does.
+/// The lowest content that has the words of a key. Those below it show no fragment of the key, and where none has them
+/// none does.
 fn lowest_with_words(contents: &[[u64; 10]; 4], _key: &FlowKey, words: &[u64; 5]) -> Option<usize>
     requires whole { All IsWhole contents.now }
     requires words { words.now ≡ words_of _key.now }
-    ensures some { IfSome result (λ place. (place < 4) × (take 5 (slice_index_or contents.now place []) ≡ words_of _key.now)
+    ensures some { IfSome result (λ place. (place < 4)
+        × (take 5 (slice_index_or contents.now place []) ≡ words_of _key.now)
         × ((lower : ℕ) → lower < place → ¬ HasKey _key.now (entry_at (map entry_of contents.now) lower))) }
     ensures none { IsNone result → HasNone (HasKey _key.now) (map entry_of contents.now) }
 {
@@ -75,8 +77,8 @@ fn entry_of_key(content: &[u64; 10], key: FlowKey) -> Option<Fragment>
     })
 }
 
-/// The fragment that stands at the place as one with the given one, where they can be one. The content has the words of its
-/// key.
+/// The fragment that stands at the place as one with the given one, where they can be one. The content has the words of
+/// its key.
 fn joined(timeouts: &Timeouts, content: &[u64; 10], own: &Fragment) -> Option<Fragment>
     requires whole { IsWhole content.now }
     requires words { take 5 content.now ≡ words_of own.now.key }
@@ -177,8 +179,8 @@ fn choose_among(timeouts: Timeouts, contents: &[[u64; 10]; 4], own: &Fragment) -
     }
 }
 
-/// The choice where no content shows a fragment of the key: the lowest that shows none is opened; else the one with the least
-/// last time, the lowest among equals, is opened anew.
+/// The choice where no content shows a fragment of the key: the lowest that shows none is opened; else the one with the
+/// least last time, the lowest among equals, is opened anew.
 fn choose_else(contents: &[[u64; 10]; 4], own: &Fragment) -> WordChoice
     requires whole { All IsWhole contents.now }
     requires none_of_key { HasNone (HasKey own.now.key) (map entry_of contents.now) }

@@ -98,8 +98,8 @@ fn choices_by_words(rt: HostRuntime) {
     assert!(rt; is(oldest, How::Replaced, 1, own, one_out));
 }
 
-/// Among equals the lowest: of two entries that end at once, and of two of one key that don't take the fragment in. Of those
-/// of one key the lowest that takes it in.
+/// Among equals the lowest: of two entries that end at once, and of two of one key that don't take the fragment in. Of
+/// those of one key the lowest that takes it in.
 #[test]
 fn lowest_among_equals(rt: HostRuntime) {
     let old = part(1, 100, 100);

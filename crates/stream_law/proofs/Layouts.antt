@@ -1,5 +1,6 @@
 -- The layout of flow records decodes to them.
-use Rattle.std.proofs.Common.{◌≡◌, ◌<◌, ◌≤◌, ◌^◌, ℕ, Bool, true, false, List, [], ◌∷◌, ◌++◌, map, if◌then◌else◌, Some, Ok, refl, ap, ◌∙◌, arith, lit<}
+use Rattle.std.proofs.Common.{◌≡◌, ◌<◌, ◌≤◌, ◌^◌, ℕ, Bool, true, false, List, [], ◌∷◌, ◌++◌, map, if◌then◌else◌, Some}
+use Rattle.std.proofs.Common.{Ok, refl, ap, ◌∙◌, arith, lit<}
 use Rattle.std.specs.Option.{option_and_then}
 use Rattle.std.specs.Result.{result_ok}
 use Rattle.record_ledger.specs.declared.record.FlowRecord.{FlowRecord}
@@ -35,8 +36,10 @@ templates-read : template_records false 1 [] (record { at = 20; bytes = both }) 
 unfolding template_record field_specifier template_fields number_at with_template
 templates-read =
     let second : Part = record { at = 68; bytes = template_record v6_template v6_fields } in
-    template_records-next false 1 [] (record { at = 20; bytes = both }) (record { fields = v4_fields; rest = second }) (omega arith) refl
-    ∙ template_records-next false 1 (((1, v4_template), v4_fields) ∷ []) second (record { fields = v6_fields; rest = record { at = 116; bytes = [] } }) (omega arith) refl
+    template_records-next false 1 [] (record { at = 20; bytes = both }) (record { fields = v4_fields; rest = second })
+    (omega arith) refl
+    ∙ template_records-next false 1 (((1, v4_template), v4_fields) ∷ []) second
+    (record { fields = v6_fields; rest = record { at = 116; bytes = [] } }) (omega arith) refl
     ∙ template_records-end false 1 known (record { at = 116; bytes = [] }) (omega arith)
 
 -- the facts on both templates
@@ -84,12 +87,16 @@ flow-read_as flow =
       gives = refl;
     }
 
-layout-decoded : (flows : List FlowRecord) (bytes : List ℕ) (size time : ℕ) → size ≤ 65535 → IsLayout size time flows bytes → decode bytes ≡ Ok (map data_of flows)
+layout-decoded : (flows : List FlowRecord) (bytes : List ℕ) (size time : ℕ) → size ≤ 65535
+    → IsLayout size time flows bytes → decode bytes ≡ Ok (map data_of flows)
 unfolding template_message
 layout-decoded flows bytes size time small layout =
-    stream-decoded known encode_flow data_of both flows bytes size time flow-read_as (omega (arith, length-template_records)) templates-read small layout
+    stream-decoded known encode_flow data_of both flows bytes size time flow-read_as
+    (omega (arith, length-template_records)) templates-read small layout
 
-pub layout-flows : (flows : List FlowRecord) (bytes : List ℕ) (size time : ℕ) → size ≤ 65535 → IsLayout size time flows bytes → flows_of bytes ≡ Some flows
+pub layout-flows : (flows : List FlowRecord) (bytes : List ℕ) (size time : ℕ) → size ≤ 65535
+    → IsLayout size time flows bytes → flows_of bytes ≡ Some flows
 unfolding flows_of
 layout-flows flows bytes size time small layout =
-    ap (λ read. option_and_then flows_in (result_ok read)) (layout-decoded flows bytes size time small layout) ∙ flows_in-data_of flows
+    ap (λ read. option_and_then flows_in (result_ok read)) (layout-decoded flows bytes size time small layout)
+    ∙ flows_in-data_of flows

@@ -24,6 +24,7 @@ unfolding number_at
 number-front n x rest fits = big_number-reads_back n x rest fits
 
 -- a number behind some octets
-pub number-behind : (front rest : List ℕ) (place n : ℕ) → number_at (length front + place) n (front ++ rest) ≡ number_at place n rest
+pub number-behind : (front rest : List ℕ) (place n : ℕ)
+    → number_at (length front + place) n (front ++ rest) ≡ number_at place n rest
 unfolding number_at
 number-behind front rest place n = ap (big_number n) (drop-append-add front rest place)

@@ -1,5 +1,6 @@
 -- What a pass is told of the fragment that it put in, or that was passed by.
-use Rattle.std.proofs.Common.{◌≡◌, ◌≢◌, ℕ, zero, suc, ◌<◌, List, ◌++◌, length, map, replicate, Option, Some, ◌∷◌, refl, ap, ◌∙◌, subst, arith, All}
+use Rattle.std.proofs.Common.{◌≡◌, ◌≢◌, ℕ, zero, suc, ◌<◌, List, ◌++◌, length, map, replicate, Option, Some, ◌∷◌, refl}
+use Rattle.std.proofs.Common.{ap, ◌∙◌, subst, arith, All}
 use Rattle.std.proofs.lemmas.List.{length-replicate, map-append}
 use Rattle.std.proofs.lemmas.List.Elements.{All-nil, All-cons}
 use Rattle.packet_accept.specs.declared.packet.Packet.{Packet}
@@ -16,7 +17,8 @@ use Rattle.turn_cache.specs.Shown.{IsTryOf}
 
 -- what a seat's knowledge means
 abbrev pub hand_means : Hand → PassMeans
-hand_means hand = record { note = hand.note; lost = map turn_taken hand.lost; set = hand.set; entries = entries_of hand.read }
+hand_means hand =
+    record { note = hand.note; lost = map turn_taken hand.lost; set = hand.set; entries = entries_of hand.read }
 
 -- so many tries that were lost at a set
 tries_at : ℕ → ℕ → List LostTry
@@ -25,35 +27,65 @@ tries_at tries set = replicate tries (turn_taken set)
 all_at_set : (tries set : ℕ) → All (IsTryOf set) (tries_at tries set)
 unfolding tries_at
 all_at_set zero set = All-nil (IsTryOf set)
-all_at_set (suc tries) set = All-cons (IsTryOf set) (turn_taken set) (replicate tries (turn_taken set)) refl (all_at_set tries set)
+all_at_set (suc tries) set = All-cons (IsTryOf set) (turn_taken set) (replicate tries (turn_taken set)) refl
+    (all_at_set tries set)
 
 as_tries : (tries set : ℕ) → map turn_taken (replicate tries set) ≡ tries_at tries set
 unfolding tries_at
 as_tries zero set = refl
 as_tries (suc tries) set = ap (λ l. turn_taken set ∷ l) (as_tries tries set)
 
-listed : (lost : List ℕ) (tries set : ℕ) → map turn_taken (replicate tries set ++ lost) ≡ tries_at tries set ++ map turn_taken lost
-listed lost tries set = map-append turn_taken (replicate tries set) lost ∙ ap (λ l. l ++ map turn_taken lost) (as_tries tries set)
+listed : (lost : List ℕ) (tries set : ℕ)
+    → map turn_taken (replicate tries set ++ lost) ≡ tries_at tries set ++ map turn_taken lost
+listed lost tries set = map-append turn_taken (replicate tries set) lost
+    ∙ ap (λ l. l ++ map turn_taken lost) (as_tries tries set)
 
 so_many : (tries set : ℕ) → length (tries_at tries set) ≡ tries
 unfolding tries_at
 so_many tries set = length-replicate {A = LostTry} tries (turn_taken set)
 
-answer_is : (cache : CacheMeans) (old new : PassMeans) (own : Fragment) (out : Option Fragment) (place : ℕ) (kept : Fragment) (by : How) (tries : List LostTry)
-    → new.set ≡ set_number own.key cache.sets → length new.entries ≡ 4 → IsChoice cache.limits new.entries own by place out kept
+answer_is : (cache : CacheMeans) (old new : PassMeans) (own : Fragment) (out : Option Fragment) (place : ℕ)
+    (kept : Fragment) (by : How) (tries : List LostTry)
+    → new.set ≡ set_number own.key cache.sets → length new.entries ≡ 4
+    → IsChoice cache.limits new.entries own by place out kept
     → HasLost IsTryOf (set_number own.key cache.sets) old new tries → length tries < 3
     → IsAnswer cache IsTryOf old new own by out
-answer_is cache old new own out place kept how.Joined tries set four chosen lost few = record { chosen = record { set = set; four = four; place = place; kept = kept; chosen = chosen }; tries = tries; lost = lost; few = few }
-answer_is cache old new own out place kept how.Opened tries set four chosen lost few = record { chosen = record { set = set; four = four; place = place; kept = kept; chosen = chosen }; tries = tries; lost = lost; few = few }
-answer_is cache old new own out place kept how.Replaced tries set four chosen lost few = record { chosen = record { set = set; four = four; place = place; kept = kept; chosen = chosen }; tries = tries; lost = lost; few = few }
+answer_is cache old new own out place kept how.Joined tries set four chosen lost few =
+    record {
+      chosen = record { set = set; four = four; place = place; kept = kept; chosen = chosen };
+      tries =
+          tries;
+      lost = lost;
+      few = few;
+    }
+answer_is cache old new own out place kept how.Opened tries set four chosen lost few =
+    record {
+      chosen = record { set = set; four = four; place = place; kept = kept; chosen = chosen };
+      tries =
+          tries;
+      lost = lost;
+      few = few;
+    }
+answer_is cache old new own out place kept how.Replaced tries set four chosen lost few =
+    record {
+      chosen = record { set = set; four = four; place = place; kept = kept; chosen = chosen };
+      tries =
+          tries;
+      lost = lost;
+      few = few;
+    }
 answer_is cache old new own out place kept how.PassedBy tries set four chosen lost few = absurd chosen
 
-pub answered : (cache : CacheMeans) (hand : Hand) (own : Fragment) (out : Option Fragment) (place : ℕ) (kept : Fragment) (by : How) (set tries : ℕ) (words : List ℕ) (packets : List Packet)
+pub answered : (cache : CacheMeans) (hand : Hand) (own : Fragment) (out : Option Fragment) (place : ℕ) (kept : Fragment)
+    (by : How) (set tries : ℕ) (words : List ℕ) (packets : List Packet)
     → set ≡ set_number own.key cache.sets → tries < 3 → IsChoice cache.limits (entries_of words) own by place out kept
-    → IsAnswer cache IsTryOf (hand_means hand) (hand_means (filled words packets out (after_tries set tries hand))) own by out
+    → IsAnswer cache IsTryOf (hand_means hand)
+    (hand_means (filled words packets out (after_tries set tries hand))) own by out
 answered cache hand own out place kept by set tries words packets is_set few chosen =
-    answer_is cache (hand_means hand) (hand_means (filled words packets out (after_tries set tries hand))) own out place kept by (tries_at tries set) is_set refl chosen
-    (listed hand.lost tries set, subst (λ n. All (IsTryOf n) (tries_at tries set)) is_set (all_at_set tries set)) (let many = so_many tries set in omega (arith, many, few))
+    answer_is cache (hand_means hand) (hand_means (filled words packets out (after_tries set tries hand))) own out place
+    kept by (tries_at tries set) is_set refl chosen
+    (listed hand.lost tries set, subst (λ n. All (IsTryOf n) (tries_at tries set)) is_set (all_at_set tries set))
+    (let many = so_many tries set in omega (arith, many, few))
 
 pub passed : (cache : CacheMeans) (hand : Hand) (own : Fragment) (set : ℕ) (packets : List Packet)
     → set ≡ set_number own.key cache.sets → cache.seats ≢ 1

@@ -1,5 +1,6 @@
 -- The last state of a table, of which one pass stands for all seats.
-use Rattle.std.proofs.Common.{◌≡◌, ◌≢◌, ℕ, zero, suc, ◌+◌, ◌*◌, ◌<◌, ◌≤◌, List, [], ◌∷◌, ◌++◌, length, map, get_or, take, option_to_list, Result, Ok, Err, IfOk, sym, refl, ap, ◌∙◌, subst, arith}
+use Rattle.std.proofs.Common.{◌≡◌, ◌≢◌, ℕ, zero, suc, ◌+◌, ◌*◌, ◌<◌, ◌≤◌, List, [], ◌∷◌, ◌++◌, length, map, get_or}
+use Rattle.std.proofs.Common.{take, option_to_list, Result, Ok, Err, IfOk, sym, refl, ap, ◌∙◌, subst, arith}
 use Rattle.std.proofs.lemmas.List.Concat.{flat_map-append}
 use Rattle.std.proofs.lemmas.Grind.{same_number_lists}
 use mathlib.Core.Logic.{dite}
@@ -30,8 +31,11 @@ if_ok (Ok a) F G f h = f a h
 if_ok (Err e) F G f h = h
 
 -- the next four contents
-pub next_parts : (words : List ℕ) (n : ℕ) → parts_in (contents_at words n) ++ parts_in (four_at words n) ≡ parts_in (contents_at words (n + 1))
-next_parts words n = sym (flat_map-append (λ (content : List ℕ). option_to_list (entry_of content)) (contents_at words n) (four_at words n))
+pub next_parts : (words : List ℕ) (n : ℕ)
+    → parts_in (contents_at words n) ++ parts_in (four_at words n) ≡ parts_in (contents_at words (n + 1))
+next_parts words n =
+    sym (flat_map-append (λ (content : List ℕ). option_to_list (entry_of content)) (contents_at words n)
+    (four_at words n))
     ∙ ap (λ m. parts_in (contents_at words m)) (let e : suc n ≡ n + 1 = omega arith in e)
 
 -- so much of a list as is known
@@ -40,15 +44,20 @@ take_one [] k low = absurd (omega (arith, low))
 take_one (x ∷ xs) zero low = refl
 take_one (x ∷ xs) (suc k) low = ap (λ l. x ∷ l) (take_one xs k (omega (arith, low)))
 
-take_four : (xs : List (List ℕ)) (k : ℕ) → k + 3 < length xs → take (4 + k) xs ≡ take k xs ++ get_or xs k [] ∷ get_or xs (k + 1) [] ∷ get_or xs (k + 2) [] ∷ get_or xs (k + 3) [] ∷ []
+take_four : (xs : List (List ℕ)) (k : ℕ) → k + 3 < length xs
+    → take (4 + k) xs ≡ take k xs ++ get_or xs k [] ∷ get_or xs (k + 1) [] ∷ get_or xs (k + 2) []
+    ∷ get_or xs (k + 3) [] ∷ []
 take_four [] k low = absurd (omega (arith, low))
 take_four (a ∷ []) zero low = absurd (omega (arith, low))
 take_four (a ∷ b ∷ []) zero low = absurd (omega (arith, low))
 take_four (a ∷ b ∷ c ∷ []) zero low = absurd (omega (arith, low))
 take_four (a ∷ b ∷ c ∷ d ∷ xs) zero low = refl
 take_four (x ∷ xs) (suc k) low =
-    ap (λ n. take n (x ∷ xs)) (let e : 4 + suc k ≡ suc (4 + k) = omega arith in e) ∙ (ap (λ l. x ∷ l) (take_four xs k (omega (arith, low)))
-    ∙ (λ i. x ∷ (take k xs ++ get_or xs k [] ∷ get_or (x ∷ xs) (one i) [] ∷ get_or (x ∷ xs) (two i) [] ∷ get_or (x ∷ xs) (three i) [] ∷ [])))
+    ap (λ n. take n (x ∷ xs)) (let e : 4 + suc k ≡ suc (4 + k) = omega arith in e)
+    ∙ (ap (λ l. x ∷ l) (take_four xs k (omega (arith, low)))
+    ∙ (λ i. x
+    ∷ (take k xs ++ get_or xs k [] ∷ get_or (x ∷ xs) (one i) [] ∷ get_or (x ∷ xs) (two i) []
+    ∷ get_or (x ∷ xs) (three i) [] ∷ [])))
   where
     one : suc (k + 1) ≡ suc k + 1
     one = omega arith
@@ -60,7 +69,8 @@ take_four (x ∷ xs) (suc k) low =
     three = omega arith
 
 -- ten words one by one
-ten_words : (words : List ℕ) (at_set place k : ℕ) → k < 10 → get_or (content_at words at_set place) k 0 ≡ get_or words (set_word at_set (10 * place + k)) 0
+ten_words : (words : List ℕ) (at_set place k : ℕ) → k < 10
+    → get_or (content_at words at_set place) k 0 ≡ get_or words (set_word at_set (10 * place + k)) 0
 ten_words words at_set place zero low = refl
 ten_words words at_set place (suc zero) low = refl
 ten_words words at_set place (suc (suc zero)) low = refl
@@ -71,10 +81,12 @@ ten_words words at_set place (suc (suc (suc (suc (suc (suc zero)))))) low = refl
 ten_words words at_set place (suc (suc (suc (suc (suc (suc (suc zero))))))) low = refl
 ten_words words at_set place (suc (suc (suc (suc (suc (suc (suc (suc zero)))))))) low = refl
 ten_words words at_set place (suc (suc (suc (suc (suc (suc (suc (suc (suc zero))))))))) low = refl
-ten_words words at_set place (suc (suc (suc (suc (suc (suc (suc (suc (suc (suc k)))))))))) low = absurd (omega (arith, low))
+ten_words words at_set place (suc (suc (suc (suc (suc (suc (suc (suc (suc (suc k)))))))))) low =
+    absurd (omega (arith, low))
 
 -- who stands for no seat is idle
-idle_where : (sets : ℕ) (words : List ℕ) (contents : List (List ℕ)) (u : Hand) → Fits sets words contents u → u.note.seats ≡ 0 → (q p : ℕ) → at_work q p u.turn ≡ 0
+idle_where : (sets : ℕ) (words : List ℕ) (contents : List (List ℕ)) (u : Hand) → Fits sets words contents u
+    → u.note.seats ≡ 0 → (q p : ℕ) → at_work q p u.turn ≡ 0
 idle_where sets words contents u f no_seat q p = off u.turn f.live
   where
     off : (t : Turn) → LiveAt (length u.numbers) t → at_work q p t ≡ 0
@@ -82,36 +94,47 @@ idle_where sets words contents u f no_seat q p = off u.turn f.live
     off (reading x) l = refl
     off (writing x y new now) l = absurd (let s = f.seats in omega (arith, l, s, no_seat))
 
-module _ (told : Told) (s : State (Unit {0}) Hand) (h : Ruled told s) (id : ℕ) (v : Hand) (at : get_elem? s.views id ≡ some v) (no_turn : v.turn ≡ idle) (all : v.note.seats ≡ told.seats) where
+module _ (told : Told) (s : State (Unit {0}) Hand) (h : Ruled told s) (id : ℕ) (v : Hand)
+    (at : get_elem? s.views id ≡ some v) (no_turn : v.turn ≡ idle) (all : v.note.seats ≡ told.seats) where
   -- the others stand for no seat
   others_none : (j : ℕ) (u : Hand) → j ≢ id → get_elem? s.views j ≡ some u → u.note.seats ≡ 0
-  others_none j u ne e = let t = total-two (λ hand. hand.note.seats) s.views id j v u ne at e in let o = h.seats in omega (arith, t, o, all)
+  others_none j u ne e = let t = total-two (λ hand. hand.note.seats) s.views id j v u ne at e in let o = h.seats in
+      omega (arith, t, o, all)
 
   nobody_writes : (q p : ℕ) → total (λ hand. at_work q p hand.turn) s.views ≡ 0
   nobody_writes q p = none_all (λ hand. at_work q p hand.turn) s.views (λ j u e. dite (ℕ_discrete j id)
-      (λ same. (let is : u ≡ v = some-injective u v (sym e ∙ (ap (get_elem? s.views) same ∙ at)) in ap (λ (x : Hand). at_work q p x.turn) is ∙ ap (at_work q p) no_turn))
+      (λ same. (let is : u ≡ v = some-injective u v (sym e ∙ (ap (get_elem? s.views) same ∙ at)) in
+      ap (λ (x : Hand). at_work q p x.turn) is ∙ ap (at_work q p) no_turn))
       (λ ne. idle_where told.sets s.words h.contents u (h.each j u e) (others_none j u ne e) q p))
 
   content_is : (q p : ℕ) → q < told.sets → p < 4 → get_or h.contents (content_place q p) [] ≡ content_at s.words q p
   content_is q p low low' =
       let ten = h.ten (content_place q p) (omega (arith, low, low')) in
       same_number_lists (get_or h.contents (content_place q p) []) (content_at s.words q p) ten
-      (λ k below. h.settled q p k low low' (omega (arith, below, ten)) (nobody_writes q p) ∙ sym (ten_words s.words q p k (omega (arith, below, ten))))
+      (λ k below. h.settled q p k low low' (omega (arith, below, ten)) (nobody_writes q p)
+      ∙ sym (ten_words s.words q p k (omega (arith, below, ten))))
 
   shown : (n : ℕ) → n ≤ told.sets → take (4 * n) h.contents ≡ contents_at s.words n
   shown zero low = refl
   shown (suc n) low =
       let many = h.many in
-      ap (λ m. take m h.contents) (let e : 4 * suc n ≡ 4 + 4 * n = omega arith in e) ∙ (take_four h.contents (4 * n) (omega (arith, many, low))
-      ∙ (λ i. shown n (omega (arith, low)) i ++ (ap (λ m. get_or h.contents m []) (let e : 4 * n ≡ 4 * n + 0 = omega arith in e) ∙ content_is n 0 (omega (arith, low)) (omega arith)) i
-      ∷ content_is n 1 (omega (arith, low)) (omega arith) i ∷ content_is n 2 (omega (arith, low)) (omega arith) i ∷ content_is n 3 (omega (arith, low)) (omega arith) i ∷ []))
+      ap (λ m. take m h.contents) (let e : 4 * suc n ≡ 4 + 4 * n = omega arith in e)
+      ∙ (take_four h.contents (4 * n) (omega (arith, many, low))
+      ∙ (λ i. shown n (omega (arith, low)) i
+      ++ (ap (λ m. get_or h.contents m []) (let e : 4 * n ≡ 4 * n + 0 = omega arith in e)
+      ∙ content_is n 0 (omega (arith, low)) (omega arith)) i
+      ∷ content_is n 1 (omega (arith, low)) (omega arith) i ∷ content_is n 2 (omega (arith, low)) (omega arith) i
+      ∷ content_is n 3 (omega (arith, low)) (omega arith) i ∷ []))
 
   pub closes : SharesOut told.timeouts v.note.packets (parts_in (contents_at s.words told.sets) ++ v.note.handed)
   closes =
-      let whole : h.contents ≡ contents_at s.words told.sets = sym (take_whole h.contents (4 * told.sets) h.many) ∙ shown told.sets (omega arith) in
+      let whole : h.contents ≡ contents_at s.words told.sets =
+      sym (take_whole h.contents (4 * told.sets) h.many) ∙ shown told.sets (omega arith) in
       subst (λ cs. SharesOut told.timeouts v.note.packets (parts_in cs ++ v.note.handed)) whole
-      (kept_at_end told.timeouts h.contents (map (λ (hand : Hand). hand.note) s.views) id v.note h.kept (at_map (λ (hand : Hand). hand.note) s.views id v at)
-      (λ j note ne e. let found = from_map s.views j note e in subst IsUnused found.2 ((h.each j found.0 found.1).gone (others_none j found.0 ne found.1))))
+      (kept_at_end told.timeouts h.contents (map (λ (hand : Hand). hand.note) s.views) id v.note h.kept
+      (at_map (λ (hand : Hand). hand.note) s.views id v at)
+      (λ j note ne e. let found = from_map s.views j note e in
+      subst IsUnused found.2 ((h.each j found.0 found.1).gone (others_none j found.0 ne found.1))))
     where
       take_whole : (xs : List (List ℕ)) (k : ℕ) → length xs ≡ k → take k xs ≡ xs
       take_whole [] zero e = refl
@@ -119,7 +142,9 @@ module _ (told : Told) (s : State (Unit {0}) Hand) (h : Ruled told s) (id : ℕ)
       take_whole (x ∷ xs) zero e = absurd (omega (arith, e))
       take_whole (x ∷ xs) (suc k) e = ap (λ l. x ∷ l) (take_whole xs k (omega (arith, e)))
 
-      from_map : (views : List Hand) (j : ℕ) (note : Note) → get_elem? (map (λ (hand : Hand). hand.note) views) j ≡ some note → (u : Hand) × (get_elem? views j ≡ some u) × (u.note ≡ note)
+      from_map : (views : List Hand) (j : ℕ) (note : Note)
+          → get_elem? (map (λ (hand : Hand). hand.note) views) j ≡ some note
+          → (u : Hand) × (get_elem? views j ≡ some u) × (u.note ≡ note)
       from_map [] j note e = absurd (some-ne-none note (sym e))
       from_map (x ∷ xs) zero note e = (x, refl, some-injective x.note note e)
       from_map (x ∷ xs) (suc j) note e = from_map xs j note e

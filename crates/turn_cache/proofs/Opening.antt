@@ -1,5 +1,6 @@
 -- The table at the start.
-use Rattle.std.proofs.Common.{◌≡◌, ℕ, zero, suc, ◌+◌, ◌*◌, ◌<◌, ◌≤◌, cond, eqb, List, [], ◌∷◌, length, get_or, replicate, sym, refl, ap, ◌∙◌, subst, arith, All}
+use Rattle.std.proofs.Common.{◌≡◌, ℕ, zero, suc, ◌+◌, ◌*◌, ◌<◌, ◌≤◌, cond, eqb, List, [], ◌∷◌, length, get_or}
+use Rattle.std.proofs.Common.{replicate, sym, refl, ap, ◌∙◌, subst, arith, All}
 use Rattle.std.specs.List.{range_with_len}
 use Rattle.std.proofs.lemmas.List.{length-replicate}
 use Rattle.std.proofs.lemmas.List.Elements.{All-nil, All-cons}
@@ -47,14 +48,16 @@ in_range x a (suc n) low = dite (ℕ_discrete a x)
     let last : once_below x (a + suc n) ≡ 1 = grind (arith, common_steps) in omega (arith, rest, first, last))
     (λ other. let rest = in_range x (a + 1) n (omega (arith, low, other)) in
     let first : ◌≡◌ {A = ℕ} (cond (eqb a x) 1 0) 0 = grind (arith, common_steps) in
-    let last : once_below x (a + suc n) ≡ once_below x (a + 1 + n) = ap (once_below x) (let e : a + suc n ≡ a + 1 + n = omega arith in e) in omega (arith, rest, first, last))
+    let last : once_below x (a + suc n) ≡ once_below x (a + 1 + n) =
+    ap (once_below x) (let e : a + suc n ≡ a + 1 + n = omega arith in e) in omega (arith, rest, first, last))
 
 pub length_range : (a n : ℕ) → length (range_with_len a n) ≡ n
 length_range a zero = refl
 length_range a (suc n) = ap suc (length_range (a + 1) n)
 
 pub opens : (told : Told) → 1 ≤ told.sets → told.sets ≤ 65536 → told.seats ≤ 64
-    → Ruled told (opening (replicate (64 * told.sets) 0) [] (new_hand (range_with_len 0 told.seats) (unused told.seats)))
+    → Ruled told
+    (opening (replicate (64 * told.sets) 0) [] (new_hand (range_with_len 0 told.seats) (unused told.seats)))
 opens told some_sets few_sets few_seats =
     let row : List ℕ = replicate 10 0 in
     let contents : List (List ℕ) = replicate (4 * told.sets) row in
@@ -68,17 +71,27 @@ opens told some_sets few_sets few_seats =
       ten = λ c low. ap length (row_at (4 * told.sets) c row low);
       turns = λ q low. (let z = zero_at (64 * told.sets) (64 * q) in omega (arith, z));
       once = λ q. omega arith;
-      settled = λ q p k low low' low'' none. ap (λ r. get_or r k 0) (row_at (4 * told.sets) (4 * q + p) row (omega (arith, low, low'))) ∙ (zero_at 10 k ∙ sym (zero_at (64 * told.sets) (64 * q + 16 + (10 * p + k))));
-      numbers = λ n. (let r : times n (range_with_len 0 told.seats) ≡ once_below n (0 + told.seats) = in_range n 0 told.seats (omega arith) in
-          let e : once_below n (0 + told.seats) ≡ once_below n told.seats = ap (once_below n) (let z : 0 + told.seats ≡ told.seats = omega arith in z) in omega (arith, r, e));
+      settled = λ q p k low low' low'' none. ap (λ r. get_or r k 0)
+          (row_at (4 * told.sets) (4 * q + p) row (omega (arith, low, low')))
+          ∙ (zero_at 10 k ∙ sym (zero_at (64 * told.sets) (64 * q + 16 + (10 * p + k))));
+      numbers =
+          λ n. (let r : times n (range_with_len 0 told.seats) ≡ once_below n (0 + told.seats) =
+          in_range n 0 told.seats (omega arith) in
+          let e : once_below n (0 + told.seats) ≡ once_below n told.seats =
+          ap (once_below n) (let z : 0 + told.seats ≡ told.seats = omega arith in z) in omega (arith, r, e));
       seats = omega arith;
       each = λ j u e. first_fits hand long j u e;
-      kept = keeps_opening told.timeouts contents (unused told.seats ∷ []) (all_rows IsEmptyContent (4 * told.sets) row refl) (All-cons IsUnused (unused told.seats) [] (refl, refl) (All-nil IsUnused))
+      kept = keeps_opening told.timeouts contents (unused told.seats ∷ [])
+          (all_rows IsEmptyContent (4 * told.sets) row refl)
+          (All-cons IsUnused (unused told.seats) [] (refl, refl) (All-nil IsUnused))
           (let s = sum_by-cons (λ (note : Note). note.seats) (unused told.seats) [] in omega (arith, s, few_seats));
     }
   where
-    first_fits : (hand : Hand) → length (range_with_len 0 told.seats) ≡ told.seats → (j : ℕ) (u : Hand) → get_elem? (new_hand (range_with_len 0 told.seats) (unused told.seats) ∷ []) j ≡ some u
+    first_fits : (hand : Hand) → length (range_with_len 0 told.seats) ≡ told.seats → (j : ℕ) (u : Hand)
+        → get_elem? (new_hand (range_with_len 0 told.seats) (unused told.seats) ∷ []) j ≡ some u
         → Fits told.sets (replicate (64 * told.sets) 0) (replicate (4 * told.sets) (replicate 10 0)) u
-    first_fits hand long zero u e = subst (Fits told.sets (replicate (64 * told.sets) 0) (replicate (4 * told.sets) (replicate 10 0))) (some-injective (new_hand (range_with_len 0 told.seats) (unused told.seats)) u e)
+    first_fits hand long zero u e =
+        subst (Fits told.sets (replicate (64 * told.sets) 0) (replicate (4 * told.sets) (replicate 10 0)))
+        (some-injective (new_hand (range_with_len 0 told.seats) (unused told.seats)) u e)
         record { seats = sym long; gone = λ none. (refl, refl); live = tt; turn = tt }
     first_fits hand long (suc j) u e = absurd (some-ne-none u (sym e))

@@ -1,5 +1,6 @@
 -- A seat is split off.
-use Rattle.std.proofs.Common.{◌≡◌, ◌≢◌, ⊎_elim, ℕ, suc, ◌+◌, List, [], ◌∷◌, ◌++◌, length, map, set, sym, refl, ap, ◌∙◌, subst, arith}
+use Rattle.std.proofs.Common.{◌≡◌, ◌≢◌, ⊎_elim, ℕ, suc, ◌+◌, List, [], ◌∷◌, ◌++◌, length, map, set, sym, refl, ap, ◌∙◌}
+use Rattle.std.proofs.Common.{subst, arith}
 use Rattle.std.proofs.lemmas.List.{map-set, map-append}
 use mathlib.Core.Option.{some}
 use lib.ListN.{get_elem?}
@@ -16,7 +17,8 @@ use Rattle.turn_cache.proofs.Totals.{total-set, total-snoc}
 abbrev note_of : Hand → Note
 note_of hand = hand.note
 
-pub splits : (told : Told) (id number : ℕ) (numbers : List ℕ) → let v : Hand = new_hand (number ∷ numbers) (unused (suc (length numbers))) in Splits (Ruled told) id v (remaining v) (split_off v)
+pub splits : (told : Told) (id number : ℕ) (numbers : List ℕ) → let v : Hand =
+    new_hand (number ∷ numbers) (unused (suc (length numbers))) in Splits (Ruled told) id v (remaining v) (split_off v)
 splits told id number numbers s h at =
     let v : Hand = new_hand (number ∷ numbers) (unused (suc (length numbers))) in
     let left : Hand = remaining v in
@@ -24,11 +26,16 @@ splits told id number numbers s h at =
     let views' : List Hand = set s.views id left ++ right ∷ [] in
     let fewer : left.note.seats ≡ length numbers = omega arith in
     let sum : (F : Hand → ℕ) → F left + F right ≡ F v → total F views' ≡ total F s.views
-    = λ F e. (let t = total-set F s.views id v left at in let u = total-snoc F (set s.views id left) right in omega (arith, t, u, e)) in
-    let fits_left : Fits told.sets s.words h.contents left = record { seats = fewer; gone = λ none. (refl, refl); live = tt; turn = tt } in
-    let fits_right : Fits told.sets s.words h.contents right = record { seats = refl; gone = λ none. (refl, refl); live = tt; turn = tt } in
+    = λ F e. (let t = total-set F s.views id v left at in let u = total-snoc F (set s.views id left) right in
+    omega (arith, t, u, e)) in
+    let fits_left : Fits told.sets s.words h.contents left =
+    record { seats = fewer; gone = λ none. (refl, refl); live = tt; turn = tt } in
+    let fits_right : Fits told.sets s.words h.contents right =
+    record { seats = refl; gone = λ none. (refl, refl); live = tt; turn = tt } in
     let notes : map note_of views' ≡ set (map note_of s.views) id (unused (length numbers)) ++ first_note ∷ []
-    = map-append note_of (set s.views id left) (right ∷ []) ∙ (ap (λ ns. ns ++ first_note ∷ []) (map-set note_of s.views id left) ∙ ap (λ n. set (map note_of s.views) id (unused n) ++ first_note ∷ []) fewer) in
+    = map-append note_of (set s.views id left) (right ∷ [])
+    ∙ (ap (λ ns. ns ++ first_note ∷ []) (map-set note_of s.views id left)
+    ∙ ap (λ n. set (map note_of s.views) id (unused n) ++ first_note ∷ []) fewer) in
     record {
       contents = h.contents;
       small = h.small;
@@ -37,12 +44,15 @@ splits told id number numbers s h at =
       ten = h.ten;
       turns = λ q low. sum (claim q) refl ∙ h.turns q low;
       once = λ q. (let e = sum (holding q) refl in let o = h.once q in omega (arith, e, o));
-      settled = λ q p k low low' low'' none. h.settled q p k low low' low'' (sym (sum (λ hand. at_work q p hand.turn) refl) ∙ none);
+      settled = λ q p k low low' low'' none. h.settled q p k low low' low''
+          (sym (sum (λ hand. at_work q p hand.turn) refl) ∙ none);
       numbers = λ n. sum (λ hand. times n hand.numbers) (omega arith) ∙ h.numbers n;
       seats = sum (λ hand. hand.note.seats) (omega arith) ∙ h.seats;
-      each = λ j u e. ⊎_elim (λ x. ⊎_elim (λ (y : (j ≡ id) × (left ≡ u)). subst (Fits told.sets s.words h.contents) y.1 fits_left)
+      each = λ j u e. ⊎_elim
+          (λ x. ⊎_elim (λ (y : (j ≡ id) × (left ≡ u)). subst (Fits told.sets s.words h.contents) y.1 fits_left)
           (λ (y : (j ≢ id) × (get_elem? s.views j ≡ some u)). h.each j u y.1) (at_set s.views id j left u x))
           (λ x. subst (Fits told.sets s.words h.contents) x fits_right) (at_snoc (set s.views id left) right u j e);
       kept = subst (Keeps told.timeouts h.contents) (sym notes)
-          (keeps_split told.timeouts h.contents (map note_of s.views) id (length numbers) h.kept (at_map note_of s.views id v at));
+          (keeps_split told.timeouts h.contents (map note_of s.views) id (length numbers) h.kept
+          (at_map note_of s.views id v at));
     }

@@ -1,5 +1,7 @@
 -- The turn of a set is taken, or a try is lost.
-use Rattle.std.proofs.Common.{◌≡◌, ◌≢◌, ℕ, zero, suc, ◌+◌, ◌*◌, ◌<◌, ◌≤◌, Bool, true, false, cond, eqb, List, [], ◌∷◌, length, map, get_or, set, sym, refl, ap, ◌∙◌, subst, arith, eq-eqb, ne_eqb, Some, if◌then◌else◌}
+use Rattle.std.proofs.Common.{◌≡◌, ◌≢◌, ℕ, zero, suc, ◌+◌, ◌*◌, ◌<◌, ◌≤◌, Bool, true, false, cond, eqb, List, [], ◌∷◌}
+use Rattle.std.proofs.Common.{length, map, get_or, set, sym, refl, ap, ◌∙◌, subst, arith, eq-eqb, ne_eqb, Some}
+use Rattle.std.proofs.Common.{if◌then◌else◌}
 use Rattle.std.proofs.lemmas.List.{set-get_or, get_or-set_same, get_or-set_other}
 use mathlib.Core.Logic.{dite}
 use native.Mathlib.Decide.{ℕ_discrete}
@@ -14,7 +16,8 @@ use Rattle.cache_face.specs.Keeping.{Keeps}
 use Rattle.cache_face.specs.Notes.{Note, metering}
 use Rattle.cache_face.proofs.Keeping.{keeps_passed}
 use Rattle.turn_cache.specs.declared.rule.Told.{Told}
-use Rattle.turn_cache.specs.Hands.{Hand, Turn, idle, reading, writing, number_of, is_at, holding, claim, at_work, times, total}
+use Rattle.turn_cache.specs.Hands.{Hand, Turn, idle, reading, writing, number_of, is_at, holding, claim, at_work, times}
+use Rattle.turn_cache.specs.Hands.{total}
 use Rattle.turn_cache.specs.Moves.{Sat, Move, Takes, taken, lost, trying, IsOwn}
 use Rattle.turn_cache.specs.Places.{turn_word, set_word}
 use Rattle.turn_cache.specs.Ruled.{Ruled, Fits, FitsTurn, LiveAt}
@@ -37,13 +40,16 @@ module _ (at_set : ℕ) where
   -- who has the turn says so
   holding_few : (vs : List Hand) → total (holding at_set) vs ≤ total (claim at_set) vs
   holding_few [] = omega arith
-  holding_few (x ∷ xs) = let a = few (is_at at_set x.turn) (number_of x.numbers) in let b = holding_few xs in omega (arith, a, b)
+  holding_few (x ∷ xs) = let a = few (is_at at_set x.turn) (number_of x.numbers) in let b = holding_few xs in
+      omega (arith, a, b)
 
   no_claims : (vs : List Hand) → total (holding at_set) vs ≡ 0 → total (claim at_set) vs ≡ 0
   no_claims [] e = refl
-  no_claims (x ∷ xs) e = let a = none_few (is_at at_set x.turn) (number_of x.numbers) (omega (arith, e)) in let b = no_claims xs (omega (arith, e)) in omega (arith, a, b)
+  no_claims (x ∷ xs) e = let a = none_few (is_at at_set x.turn) (number_of x.numbers) (omega (arith, e)) in
+      let b = no_claims xs (omega (arith, e)) in omega (arith, a, b)
 
-  pub one_claim : (vs : List Hand) (j : ℕ) (u : Hand) → total (holding at_set) vs ≤ 1 → get_elem? vs j ≡ some u → holding at_set u ≡ 1 → total (claim at_set) vs ≡ claim at_set u
+  pub one_claim : (vs : List Hand) (j : ℕ) (u : Hand) → total (holding at_set) vs ≤ 1 → get_elem? vs j ≡ some u
+      → holding at_set u ≡ 1 → total (claim at_set) vs ≡ claim at_set u
   one_claim [] j u few e one = absurd (some-ne-none u (sym e))
   one_claim (x ∷ xs) zero u few e one =
       let is : holding at_set x ≡ holding at_set u = ap (holding at_set) (some-injective x u e) in
@@ -52,7 +58,8 @@ module _ (at_set : ℕ) where
   one_claim (x ∷ xs) (suc j) u few e one =
       let least = total-at (holding at_set) xs j u e in
       let rest = one_claim xs j u (omega (arith, few)) e one in
-      let none = none_few (is_at at_set x.turn) (number_of x.numbers) (omega (arith, few, least, one)) in omega (arith, rest, none)
+      let none = none_few (is_at at_set x.turn) (number_of x.numbers) (omega (arith, few, least, one)) in
+      omega (arith, rest, none)
 
 -- who has a turn is live
 alive : (at_set count : ℕ) (t : Turn) → is_at at_set t ≡ true → LiveAt count t → 0 < count
@@ -65,7 +72,8 @@ first_times [] h = absurd (omega (arith, h))
 first_times (x ∷ xs) h = times_here x xs
 
 -- two live seats act as two numbers
-apart_numbers : (told : Told) (s : State (Unit {0}) Hand) (id j : ℕ) (v u : Hand) → Ruled told s → j ≢ id → get_elem? s.views id ≡ some v → get_elem? s.views j ≡ some u
+apart_numbers : (told : Told) (s : State (Unit {0}) Hand) (id j : ℕ) (v u : Hand) → Ruled told s → j ≢ id
+    → get_elem? s.views id ≡ some v → get_elem? s.views j ≡ some u
     → 0 < length v.numbers → 0 < length u.numbers → number_of u.numbers ≢ number_of v.numbers
 apart_numbers told s id j v u h ne at at' live live' same =
     let number = number_of v.numbers in
@@ -75,18 +83,22 @@ apart_numbers told s id j v u h ne at at' live live' same =
     let sum = h.numbers number in
     let most = once_few number told.seats in omega (arith, two, one, other, sum, most)
 
-number_low : (told : Told) (s : State (Unit {0}) Hand) (id : ℕ) (v : Hand) → Ruled told s → get_elem? s.views id ≡ some v → 0 < length v.numbers → number_of v.numbers < told.seats
+number_low : (told : Told) (s : State (Unit {0}) Hand) (id : ℕ) (v : Hand) → Ruled told s
+    → get_elem? s.views id ≡ some v → 0 < length v.numbers → number_of v.numbers < told.seats
 number_low told s id v h at live =
     let number = number_of v.numbers in
     let least = total-at (λ hand. times number hand.numbers) s.views id v at in
     let one = first_times v.numbers live in
     let sum = h.numbers number in once_in number told.seats (omega (arith, least, one, sum))
 
-noted_seats : (last : Bool) (note : Note) (packets : List Packet) (own : Fragment) → (if last then metering note packets (Some own) else note).seats ≡ note.seats
+noted_seats : (last : Bool) (note : Note) (packets : List Packet) (own : Fragment)
+    → (if last then metering note packets (Some own) else note).seats ≡ note.seats
 noted_seats true note packets own = refl
 noted_seats false note packets own = refl
 
-module _ (told : Told) (id number at_set : ℕ) (packets : List Packet) (own : Fragment) (last : Bool) (me : Sat) (no_turn : me.0.turn ≡ idle) (live : 0 < length me.0.numbers) (numbered : number_of me.0.numbers ≡ number) (low : at_set < told.sets) (owned : IsOwn told.timeouts me.0.note packets own)
+module _ (told : Told) (id number at_set : ℕ) (packets : List Packet) (own : Fragment) (last : Bool) (me : Sat)
+    (no_turn : me.0.turn ≡ idle) (live : 0 < length me.0.numbers) (numbered : number_of me.0.numbers ≡ number)
+    (low : at_set < told.sets) (owned : IsOwn told.timeouts me.0.note packets own)
     (s : State (Unit {0}) Hand) (h : Ruled told s) (at : get_elem? s.views id ≡ some me.0) where
   v : Hand
   v = me.0
@@ -119,32 +131,58 @@ module _ (told : Told) (id number at_set : ℕ) (packets : List Packet) (own : F
   inside : turn_word at_set < length s.words
   inside = let x = h.wide in omega (arith, x, low)
 
-  took : get_or s.words (turn_word at_set) 0 ≡ 0 → Ruled told (stepped s (turn_word at_set) (number + 1) id me.1 (taken at_set me.0) keeps)
+  took : get_or s.words (turn_word at_set) 0 ≡ 0
+      → Ruled told (stepped s (turn_word at_set) (number + 1) id me.1 (taken at_set me.0) keeps)
   took free =
       let w : Hand = taken at_set me.0 in
       let f = h.each id me.0 at in
       build told s h id me.0 w at refl refl (turn_word at_set) (number + 1) me.1 h.contents h.many h.ten
       (λ q lower. dite (ℕ_discrete at_set q)
       (λ same. (let a = claim_here q same in let b = no_claim q in
-      let new : get_or (set s.words (turn_word at_set) (number + 1)) (turn_word q) 0 ≡ number + 1 = ap (λ x. get_or (set s.words (turn_word at_set) (number + 1)) (turn_word x) 0) (sym same) ∙ get_or-set_same s.words (turn_word at_set) (number + 1) 0 inside in
-      let old : get_or s.words (turn_word q) 0 ≡ 0 = ap (λ x. get_or s.words (turn_word x) 0) (sym same) ∙ free in omega (arith, a, b, new, old, numbered)))
+      let new : get_or (set s.words (turn_word at_set) (number + 1)) (turn_word q) 0 ≡ number + 1 =
+      ap (λ x. get_or (set s.words (turn_word at_set) (number + 1)) (turn_word x) 0) (sym same)
+      ∙ get_or-set_same s.words (turn_word at_set) (number + 1) 0 inside in
+      let old : get_or s.words (turn_word q) 0 ≡ 0 = ap (λ x. get_or s.words (turn_word x) 0) (sym same) ∙ free in
+      omega (arith, a, b, new, old, numbered)))
       (λ other. (let a = claim_else q other in let b = no_claim q in
-      let keep : get_or (set s.words (turn_word at_set) (number + 1)) (turn_word q) 0 ≡ get_or s.words (turn_word q) 0 = get_or-set_other s.words (turn_word at_set) (turn_word q) (number + 1) 0 (λ e. other (omega (arith, e))) in omega (arith, a, b, keep))))
+      let keep : get_or (set s.words (turn_word at_set) (number + 1)) (turn_word q) 0 ≡ get_or s.words (turn_word q) 0 =
+      get_or-set_other s.words (turn_word at_set) (turn_word q) (number + 1) 0 (λ e. other (omega (arith, e))) in
+      omega (arith, a, b, keep))))
       (λ q. dite (ℕ_discrete at_set q)
-      (λ same. (let t = total-set (holding q) s.views id me.0 w at in let a = no_hold q in let b = hold_here q in let fewer = holding_few q s.views in
-      let none : total (claim q) s.views ≡ 0 = subst (λ x. total (claim x) s.views ≡ 0) same (h.turns at_set low ∙ free) in omega (arith, t, a, b, fewer, none)))
-      (λ other. (let t = total-set (holding q) s.views id me.0 w at in let a = no_hold q in let b = hold_else q other in let o = h.once q in omega (arith, t, a, b, o))))
-      (λ q place k lower lower' lower'' none. h.settled q place k lower lower' lower'' (let t = total-set (λ hand. at_work q place hand.turn) s.views id me.0 w at in let a = no_work q place in omega (arith, t, none, a))
-      ∙ sym (get_or-set_other s.words (turn_word at_set) (set_word q (10 * place + k)) (number + 1) 0 (λ e. omega (arith, e, lower', lower''))))
+      (λ same. (let t = total-set (holding q) s.views id me.0 w at in let a = no_hold q in let b = hold_here q in
+      let fewer = holding_few q s.views in
+      let none : total (claim q) s.views ≡ 0 =
+      subst (λ x. total (claim x) s.views ≡ 0) same (h.turns at_set low ∙ free) in omega (arith, t, a, b, fewer, none)))
+      (λ other. (let t = total-set (holding q) s.views id me.0 w at in let a = no_hold q in let b = hold_else q other in
+      let o = h.once q in omega (arith, t, a, b, o))))
+      (λ q place k lower lower' lower'' none. h.settled q place k lower lower' lower''
+      (let t = total-set (λ hand. at_work q place hand.turn) s.views id me.0 w at in let a = no_work q place in
+      omega (arith, t, none, a))
+      ∙ sym (get_or-set_other s.words (turn_word at_set) (set_word q (10 * place + k)) (number + 1) 0
+      (λ e. omega (arith, e, lower', lower''))))
       (λ j u ne e. frame_turn told.sets (number + 1) at_set s.words h.contents u (h.each j u e))
-      record { seats = f.seats; gone = f.gone; live = live; turn = (low, omega arith, λ k below. absurd (omega (arith, below))) }
+      record {
+        seats = f.seats;
+        gone = f.gone;
+        live = live;
+        turn =
+            (low, omega arith, λ k below. absurd (omega (arith, below)));
+      }
       (subst (Keeps told.timeouts h.contents) (sym (notes_same s.views id me.0 w at refl)) h.kept)
 
-  kept_lost : (b : Bool) → Keeps told.timeouts h.contents (set (map (λ (hand : Hand). hand.note) s.views) id (if b then metering me.0.note packets (Some own) else me.0.note))
-  kept_lost true = keeps_passed told.timeouts h.contents (map (λ (hand : Hand). hand.note) s.views) id me.0.note packets own h.kept (at_map (λ (hand : Hand). hand.note) s.views id me.0 at) owned.can owned.shares
-  kept_lost false = subst (Keeps told.timeouts h.contents) (sym (notes_same s.views id me.0 me.0 at refl) ∙ notes_set s.views id me.0) h.kept
+  kept_lost : (b : Bool) → Keeps told.timeouts h.contents
+      (set (map (λ (hand : Hand). hand.note) s.views) id
+      (if b then metering me.0.note packets (Some own) else me.0.note))
+  kept_lost true = keeps_passed told.timeouts h.contents
+      (map (λ (hand : Hand). hand.note) s.views) id me.0.note packets own h.kept
+      (at_map (λ (hand : Hand). hand.note) s.views id me.0 at) owned.can owned.shares
+  kept_lost false = subst (Keeps told.timeouts h.contents)
+      (sym (notes_same s.views id me.0 me.0 at refl) ∙ notes_set s.views id me.0) h.kept
 
-  missed : (seats : ℕ) → Ruled told (stepped s (turn_word at_set) (get_or s.words (turn_word at_set) 0) id me.1 (lost (trying seats at_set packets own last) me.0) keeps)
+  missed : (seats : ℕ)
+      → Ruled told
+      (stepped s (turn_word at_set) (get_or s.words (turn_word at_set) 0) id me.1
+      (lost (trying seats at_set packets own last) me.0) keeps)
   missed seats =
       let n : ℕ = get_or s.words (turn_word at_set) 0 in
       let w : Hand = lost (trying seats at_set packets own last) me.0 in
@@ -154,21 +192,33 @@ module _ (told : Told) (id number at_set : ℕ) (packets : List Packet) (own : F
       build told s h id me.0 w at refl count (turn_word at_set) n me.1 h.contents h.many h.ten
       (λ q lower. ap (λ ws. claim q me.0 + get_or ws (turn_word q) 0) (sym same))
       (λ q. (let t = total-set (holding q) s.views id me.0 w at in let o = h.once q in omega (arith, t, o)))
-      (λ q place k lower lower' lower'' none. h.settled q place k lower lower' lower'' (let t = total-set (λ hand. at_work q place hand.turn) s.views id me.0 w at in omega (arith, t, none)) ∙ ap (λ ws. get_or ws (set_word q (10 * place + k)) 0) (sym same))
+      (λ q place k lower lower' lower'' none. h.settled q place k lower lower' lower''
+      (let t = total-set (λ hand. at_work q place hand.turn) s.views id me.0 w at in omega (arith, t, none))
+      ∙ ap (λ ws. get_or ws (set_word q (10 * place + k)) 0) (sym same))
       (λ j u ne e. subst (λ ws. Fits told.sets ws h.contents u) (sym same) (h.each j u e))
-      record { seats = count ∙ f.seats; gone = λ none. absurd (let one = owned.can.single in omega (arith, none, one, count)); live = f.live; turn = subst (FitsTurn told.sets (set s.words (turn_word at_set) n) h.contents me.0.read) (sym no_turn) tt }
+      record {
+        seats = count ∙ f.seats;
+        gone =
+            λ none. absurd (let one = owned.can.single in omega (arith, none, one, count));
+        live = f.live;
+        turn = subst (FitsTurn told.sets (set s.words (turn_word at_set) n) h.contents me.0.read) (sym no_turn) tt;
+      }
       (subst (Keeps told.timeouts h.contents) (sym (notes_set s.views id w)) (kept_lost last))
 
   tells : (seats : ℕ) → seats ≡ told.seats → get_or s.words (turn_word at_set) 0 ≢ 0
-      → (other : ℕ) × (get_or s.words (turn_word at_set) 0 ≡ suc other) × (other < seats) × (other ≢ number_of me.0.numbers) × (seats ≢ 1)
+      → (other : ℕ) × (get_or s.words (turn_word at_set) 0 ≡ suc other) × (other < seats)
+      × (other ≢ number_of me.0.numbers) × (seats ≢ 1)
   tells seats all nz =
       let sum = h.turns at_set low in
       let one = some_one (claim at_set) s.views (omega (arith, sum, nz)) in
       let j : ℕ = one.0 in let u : Hand = one.1 in
       let holds_it : is_at at_set u.turn ≡ true = holds (is_at at_set u.turn) (number_of u.numbers) one.3 in
-      let other : j ≢ id = λ same. (let is_u : u ≡ me.0 = some-injective u me.0 (sym one.2 ∙ (ap (get_elem? s.views) same ∙ at)) in let z : claim at_set u ≡ 0 = ap (claim at_set) is_u ∙ no_claim at_set in let p = one.3 in omega (arith, z, p)) in
+      let other : j ≢ id =
+      λ same. (let is_u : u ≡ me.0 = some-injective u me.0 (sym one.2 ∙ (ap (get_elem? s.views) same ∙ at)) in
+      let z : claim at_set u ≡ 0 = ap (claim at_set) is_u ∙ no_claim at_set in let p = one.3 in omega (arith, z, p)) in
       let holding_u : holding at_set u ≡ 1 = ap (λ (b : Bool). let n : ℕ = cond b 1 0 in n) holds_it in
-      let claim_u : claim at_set u ≡ suc (number_of u.numbers) = ap (λ (b : Bool). let n : ℕ = cond b (suc (number_of u.numbers)) 0 in n) holds_it in
+      let claim_u : claim at_set u ≡ suc (number_of u.numbers) =
+      ap (λ (b : Bool). let n : ℕ = cond b (suc (number_of u.numbers)) 0 in n) holds_it in
       let all_claims = one_claim at_set s.views j u (h.once at_set) one.2 holding_u in
       let live_u = alive at_set (length u.numbers) u.turn holds_it (h.each j u one.2).live in
       let ne = apart_numbers told s id j me.0 u h other at one.2 live live_u in (
@@ -176,17 +226,24 @@ module _ (told : Told) (id number at_set : ℕ) (packets : List Packet) (own : F
         sym sum ∙ (all_claims ∙ claim_u),
         (let b = number_low told s j u h one.2 live_u in omega (arith, b, all)),
         ne,
-        λ single. ne (let a = number_low told s id me.0 h at live in let b = number_low told s j u h one.2 live_u in omega (arith, a, b, single, all)),
+        λ single. ne (let a = number_low told s id me.0 h at live in let b = number_low told s j u h one.2 live_u in
+            omega (arith, a, b, single, all)),
       )
 
-pub takes : (told : Told) (slots id number at_set seats : ℕ) (packets : List Packet) (own : Fragment) (last : Bool) (me : Sat) → seats ≡ told.seats
-    → me.0.turn ≡ idle → 0 < length me.0.numbers → number_of me.0.numbers ≡ number → at_set < told.sets → IsOwn told.timeouts me.0.note packets own
-    → Allows (Ruled told) slots id me (64 * at_set) (λ n. either (eqb n 0) (number + 1) n) (Takes (trying seats at_set packets own last) (step slots (64 * at_set) 0 (number + 1) none) me)
+pub takes : (told : Told) (slots id number at_set seats : ℕ) (packets : List Packet) (own : Fragment) (last : Bool)
+    (me : Sat) → seats ≡ told.seats
+    → me.0.turn ≡ idle → 0 < length me.0.numbers → number_of me.0.numbers ≡ number → at_set < told.sets
+    → IsOwn told.timeouts me.0.note packets own
+    → Allows (Ruled told) slots id me (64 * at_set) (λ n. either (eqb n 0) (number + 1) n)
+    (Takes (trying seats at_set packets own last) (step slots (64 * at_set) 0 (number + 1) none) me)
 takes told slots id number at_set seats packets own last me all no_turn live numbered low owned s h wide at fits =
     let n : ℕ = get_or s.words (64 * at_set) 0 in
     let move : Move = trying seats at_set packets own last in
-    let Goal : Bool → Type 0 = λ b. (w : Hand) × (a : Act (Unit {0})) × Valid s.homes me.1 a × Ruled told (stepped s (64 * at_set) (either b (number + 1) n) id me.1 w a)
-    × ((64 * at_set ≡ turn_word at_set) × ((◌≡◌ {A = Sat} (w, carried_after me.1 a) (if b then taken at_set me.0 else lost move me.0, me.1)) × (n ≢ 0 → (other : ℕ) × (n ≡ suc other) × (other < seats) × (other ≢ number_of me.0.numbers) × (seats ≢ 1)))) in
+    let Goal : Bool → Type 0 = λ b. (w : Hand) × (a : Act (Unit {0})) × Valid s.homes me.1 a
+    × Ruled told (stepped s (64 * at_set) (either b (number + 1) n) id me.1 w a)
+    × ((64 * at_set ≡ turn_word at_set)
+    × ((◌≡◌ {A = Sat} (w, carried_after me.1 a) (if b then taken at_set me.0 else lost move me.0, me.1))
+    × (n ≢ 0 → (other : ℕ) × (n ≡ suc other) × (other < seats) × (other ≢ number_of me.0.numbers) × (seats ≢ 1)))) in
     dite (ℕ_discrete n 0)
     (λ free. subst Goal (sym (eq-eqb n 0 free)) (
       taken at_set me.0,

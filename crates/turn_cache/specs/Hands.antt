@@ -1,18 +1,19 @@
 -- What a seat knows.
-use Rattle.std.specs.Prelude.{ℕ, suc, ◌+◌, ◌-◌, Bool, false, ◌==◌, ◌&&◌, cond, List, [], ◌∷◌, ◌++◌, Option, take, drop, nat_lt, slice_index_or}
+use Rattle.std.specs.Prelude.{ℕ, suc, ◌+◌, ◌-◌, Bool, false, ◌==◌, ◌&&◌, cond, List, [], ◌∷◌, ◌++◌, Option, take, drop}
+use Rattle.std.specs.Prelude.{nat_lt, slice_index_or}
 use Rattle.flow_parts.specs.declared.fragment.Fragment.{Fragment}
 use Rattle.cache_face.specs.Keeping.{entry_of}
 use Rattle.cache_face.specs.Notes.{Note, unused, first_note, empty_note, merged}
 
--- What a seat is at: at no set; or it holds the turn of a set and reads its words; or, with the turn, it writes one entry of
--- the set, whose new ten words it keeps, and these words as they stand.
+-- What a seat is at: at no set; or it holds the turn of a set and reads its words; or, with the turn, it writes one
+-- entry of the set, whose new ten words it keeps, and these words as they stand.
 pub data Turn : Type 0 where
   idle : Turn
   reading : ℕ → Turn
   writing : ℕ → ℕ → List ℕ → List ℕ → Turn
 
--- The numbers that a seat stands for, of which it acts as the first; its note; the sets at which it lost a try, newest first;
--- what it is at; the set that its last try read, and the content words that it read there.
+-- The numbers that a seat stands for, of which it acts as the first; its note; the sets at which it lost a try, newest
+-- first; what it is at; the set that its last try read, and the content words that it read there.
 pub record Hand : Type 0 where
   pub numbers : List ℕ
   pub note : Note
@@ -69,7 +70,8 @@ total f (hand ∷ hands) = f hand + total f hands
 
 -- The four entries that forty words show.
 abbrev pub entries_of : List ℕ → List (Option Fragment)
-entries_of words = entry_of (take 10 words) ∷ entry_of (take 10 (drop 10 words)) ∷ entry_of (take 10 (drop 20 words)) ∷ entry_of (take 10 (drop 30 words)) ∷ []
+entries_of words = entry_of (take 10 words) ∷ entry_of (take 10 (drop 10 words)) ∷ entry_of (take 10 (drop 20 words))
+    ∷ entry_of (take 10 (drop 30 words)) ∷ []
 
 -- At a split the new seat gets the first number, and the other keeps the rest.
 abbrev pub rest_of : List ℕ → List ℕ
@@ -84,4 +86,10 @@ split_off hand = new_hand (number_of hand.numbers ∷ []) first_note
 
 -- Two seats as one, which acts as the first.
 abbrev pub united : Hand → Hand → Hand
-united one other = record one { numbers = one.numbers ++ other.numbers; note = merged one.note other.note; lost = one.lost ++ other.lost }
+united one other =
+    record one {
+      numbers = one.numbers ++ other.numbers;
+      note = merged one.note other.note;
+      lost =
+          one.lost ++ other.lost;
+    }

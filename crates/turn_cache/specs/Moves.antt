@@ -1,5 +1,6 @@
 -- What each kind of step does to its seat.
-use Rattle.std.specs.Prelude.{◌≡◌, ◌≢◌, ℕ, Bool, suc, ◌-◌, ◌*◌, ◌<◌, List, [], ◌∷◌, ◌++◌, Option, Some, false, replicate, length, ◌==◌, if◌then◌else◌, slice_set, slice_index}
+use Rattle.std.specs.Prelude.{◌≡◌, ◌≢◌, ℕ, Bool, suc, ◌-◌, ◌*◌, ◌<◌, List, [], ◌∷◌, ◌++◌, Option, Some, false}
+use Rattle.std.specs.Prelude.{replicate, length, ◌==◌, if◌then◌else◌, slice_set, slice_index}
 use Rattle.packet_accept.specs.declared.packet.Packet.{Packet}
 use Rattle.flow_parts.specs.declared.fragment.Fragment.{Fragment}
 use Rattle.atomic_table.specs.Table.{Me, Step}
@@ -14,8 +15,8 @@ use Rattle.turn_cache.specs.Places.{turn_word, set_word}
 abbrev pub Sat : Type 0
 Sat = Me (Unit {0}) Hand
 
--- What a step is about: the number of seats and the set; whether a try is the last; the packets that its fragment stands for
--- and the fragment handed out, if any; the entry, its words as they were read, and its new ones.
+-- What a step is about: the number of seats and the set; whether a try is the last; the packets that its fragment
+-- stands for and the fragment handed out, if any; the entry, its words as they were read, and its new ones.
 pub record Move : Type 0 where
   pub seats : ℕ
   pub set : ℕ
@@ -32,13 +33,19 @@ taken set hand = record hand { turn = reading set; set = set; read = [] }
 
 -- Another has the turn: a try is lost at the set, and where it is the last, the packets are metered and handed out.
 abbrev pub lost : Move → Hand → Hand
-lost move hand = record hand { lost = move.set ∷ hand.lost; note = if move.last then metering hand.note move.packets move.out else hand.note }
+lost move hand =
+    record hand {
+      lost = move.set ∷ hand.lost;
+      note =
+          if move.last then metering hand.note move.packets move.out else hand.note;
+    }
 
 -- To try to take a turn tells whose it was: nobody's, or that of another seat.
 abbrev pub Tells : Move → Sat → ℕ → Sat → Type 0
 Tells move m found m' =
     (m' ≡ (if found == 0 then taken move.set m.0 else lost move m.0, m.1))
-    × (found ≢ 0 → (other : ℕ) × (found ≡ suc other) × (other < move.seats) × (other ≢ number_of m.0.numbers) × (move.seats ≢ 1))
+    × (found ≢ 0 → (other : ℕ) × (found ≡ suc other) × (other < move.seats) × (other ≢ number_of m.0.numbers)
+    × (move.seats ≢ 1))
 
 -- The turn of a set is tried at the turn word of that set.
 abbrev pub Takes : Move → Step (Unit {0}) → Sat → ℕ → Sat → Type 0
@@ -49,7 +56,8 @@ abbrev pub more_read : List ℕ → Hand → Hand
 more_read words hand = record hand { read = hand.read ++ words }
 
 abbrev pub AreWhole : List ℕ → Type 0
-AreWhole read = (before content : List ℕ) (place : ℕ) → read ≡ before ++ content → length before ≡ 10 * place → place < 4 → length content ≡ 10 → IsWhole content
+AreWhole read = (before content : List ℕ) (place : ℕ) → read ≡ before ++ content → length before ≡ 10 * place
+    → place < 4 → length content ≡ 10 → IsWhole content
 
 abbrev pub Loads : Sat → ℕ → Sat → Type 0
 Loads m found m' = (m' ≡ (more_read (found ∷ []) m.0, m.1)) × AreWhole (m.0.read ++ found ∷ [])
@@ -72,7 +80,8 @@ at_turn turn hand = record hand { turn = turn }
 abbrev pub written : ℕ → ℕ → Turn → Turn
 written word value idle = idle
 written word value (reading set) = reading set
-written word value (writing set place new now) = writing set place new (slice_set now (word - set_word set (10 * place)) value)
+written word value (writing set place new now) =
+    writing set place new (slice_set now (word - set_word set (10 * place)) value)
 
 abbrev pub Stores : Step (Unit {0}) → Sat → Sat → Type 0
 Stores st m m' = m' ≡ (at_turn (written st.word st.first m.0.turn) m.0, m.1)
@@ -83,11 +92,21 @@ Gives m m' = m' ≡ (at_turn idle m.0, m.1)
 
 -- A try to take the turn of a set. Where it is lost, and is the last, the own fragment is handed out.
 abbrev pub trying : ℕ → ℕ → List Packet → Fragment → Bool → Move
-trying seats set packets own last = record { seats = seats; set = set; last = last; packets = packets; out = Some own; place = 0; old = []; new = [] }
+trying seats set packets own last = record {
+  seats = seats;
+  set = set;
+  last = last;
+  packets = packets;
+  out = Some own;
+  place = 0;
+  old = [];
+  new = [];
+}
 
 -- An entry of a set is written.
 abbrev pub writes_to : ℕ → ℕ → List Packet → Option Fragment → List ℕ → List ℕ → Move
-writes_to set place packets out old new = record { seats = 0; set = set; last = false; packets = packets; out = out; place = place; old = old; new = new }
+writes_to set place packets out old new =
+    record { seats = 0; set = set; last = false; packets = packets; out = out; place = place; old = old; new = new }
 
 -- The fragment stands for packets that a pass of this note can meter.
 pub record IsOwn (limits : Timeouts) (note : Note) (packets : List Packet) (own : Fragment) : Type 0 where
@@ -101,7 +120,8 @@ after_tries set tries hand = taken set (record hand { lost = replicate tries set
 
 -- Three tries were lost: the fragment is handed out.
 abbrev pub passed_by : ℕ → List Packet → Fragment → Hand → Hand
-passed_by set packets own hand = record hand { lost = replicate 3 set ++ hand.lost; note = metering hand.note packets (Some own) }
+passed_by set packets own hand =
+    record hand { lost = replicate 3 set ++ hand.lost; note = metering hand.note packets (Some own) }
 
 -- A fragment was put into the set whose turn the seat had, by the choice over the entries read.
 abbrev pub filled : List ℕ → List Packet → Option Fragment → Hand → Hand

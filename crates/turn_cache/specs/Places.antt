@@ -1,5 +1,5 @@
--- Where the words of a set lie: 64 words for each set, first its turn word, from the 17th on its forty content words. So
--- each lies on cache lines of its own.
+-- Where the words of a set lie: 64 words for each set, first its turn word, from the 17th on its forty content words.
+-- So each lies on cache lines of its own.
 use Rattle.std.specs.Prelude.{ℕ, ◌+◌, ◌*◌}
 
 -- The word that says who has the turn.

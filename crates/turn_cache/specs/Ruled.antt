@@ -6,20 +6,26 @@ use Rattle.atomic_table.specs.Table.{State}
 use Rattle.cache_face.specs.Keeping.{Keeps}
 use Rattle.cache_face.specs.Laws.{IsUnused}
 use Rattle.turn_cache.specs.declared.rule.Told.{Told}
-use Rattle.turn_cache.specs.Hands.{Hand, Turn, idle, reading, writing, holding, claim, at_work, times, once_below, total}
+use Rattle.turn_cache.specs.Hands.{Hand, Turn, idle, reading, writing, holding, claim, at_work, times, once_below}
+use Rattle.turn_cache.specs.Hands.{total}
 use Rattle.turn_cache.specs.Places.{turn_word, set_word, content_place}
 
--- What a seat is at is so. The words that it read under the turn are there, but for those of the entry that it writes. That
--- entry is kept as its new words; its words are as the seat knows them, each as the new one or still as it was read.
+-- What a seat is at is so. The words that it read under the turn are there, but for those of the entry that it writes.
+-- That entry is kept as its new words; its words are as the seat knows them, each as the new one or still as it was
+-- read.
 abbrev pub FitsTurn : ℕ → List ℕ → List (List ℕ) → List ℕ → Turn → Type 0
 FitsTurn sets words contents read idle = Unit {0}
 FitsTurn sets words contents read (reading set) =
-    (set < sets) × (length read ≤ 40) × ((k : ℕ) → k < length read → slice_index read k ≡ slice_index words (set_word set k))
+    (set < sets) × (length read ≤ 40)
+    × ((k : ℕ) → k < length read → slice_index read k ≡ slice_index words (set_word set k))
 FitsTurn sets words contents read (writing set place new now) =
     (set < sets) × (place < 4) × (length now ≡ 10) × (slice_index_or contents (content_place set place) [] ≡ new)
     × ((k : ℕ) → k < 10 → slice_index now k ≡ slice_index words (set_word set (10 * place + k)))
-    × ((k : ℕ) → k < 10 → (slice_index now k ≡ slice_index new k) ⊎ (slice_index now k ≡ slice_index read (10 * place + k)))
-    × (length read ≤ 40) × ((k : ℕ) → k < length read → (k < 10 * place) ⊎ (10 * place + 10 ≤ k) → slice_index read k ≡ slice_index words (set_word set k))
+    × ((k : ℕ) → k < 10 → (slice_index now k ≡ slice_index new k)
+    ⊎ (slice_index now k ≡ slice_index read (10 * place + k)))
+    × (length read ≤ 40)
+    × ((k : ℕ) → k < length read → (k < 10 * place) ⊎ (10 * place + 10 ≤ k)
+    → slice_index read k ≡ slice_index words (set_word set k))
 
 -- Who isn't idle is live.
 abbrev pub LiveAt : ℕ → Turn → Type 0
@@ -45,8 +51,10 @@ pub record Ruled (told : Told) (s : State (Unit {0}) Hand) : Type 0 where
   pub turns : (set : ℕ) → set < told.sets → total (claim set) s.views ≡ slice_index s.words (turn_word set)
   pub once : (set : ℕ) → total (holding set) s.views ≤ 1
   -- an entry that nobody writes has the words of its content
-  pub settled : (set place k : ℕ) → set < told.sets → place < 4 → k < 10 → total (λ hand. at_work set place hand.turn) s.views ≡ 0
-      → slice_index (slice_index_or contents (content_place set place) []) k ≡ slice_index s.words (set_word set (10 * place + k))
+  pub settled : (set place k : ℕ) → set < told.sets → place < 4 → k < 10
+      → total (λ hand. at_work set place hand.turn) s.views ≡ 0
+      → slice_index (slice_index_or contents (content_place set place) []) k
+      ≡ slice_index s.words (set_word set (10 * place + k))
   -- each number stands in one view
   pub numbers : (number : ℕ) → total (λ hand. times number hand.numbers) s.views ≡ once_below number told.seats
   pub seats : total (λ hand. hand.note.seats) s.views ≡ told.seats

@@ -11,11 +11,19 @@ means_of cache = record { sets = cache.sets; seats = cache.seats; limits = cache
 
 -- A seat lists its lost tries by the numbers of their sets.
 abbrev pub shown_of : TurnPass → PassMeans
-shown_of pass = record { note = pass.seat.me.0.note; lost = map turn_taken pass.seat.me.0.lost; set = pass.seat.me.0.set; entries = entries_of pass.seat.me.0.read }
+shown_of pass =
+    record {
+      note = pass.seat.me.0.note;
+      lost = map turn_taken pass.seat.me.0.lost;
+      set = pass.seat.me.0.set;
+      entries =
+          entries_of pass.seat.me.0.read;
+    }
 
 -- The only lost try at a set is that its turn was found taken.
 abbrev pub IsTryOf : ℕ → LostTry → Type 0
 IsTryOf set try = try ≡ turn_taken set
 
 abbrev pub IsOf : TurnCache → TurnPass → Type 0
-IsOf cache pass = (pass.seat.table_id ≡ cache.table.shared.table_id) × (pass.seat.me.1 ≡ []) × (0 < length pass.seat.me.0.numbers)
+IsOf cache pass = (pass.seat.table_id ≡ cache.table.shared.table_id) × (pass.seat.me.1 ≡ [])
+    × (0 < length pass.seat.me.0.numbers)

@@ -15,7 +15,8 @@ pub struct TurnCache {
     pub(crate) sets: u64,
     pub(crate) seats: u64,
     pub(crate) timeouts: Timeouts,
-    ghost told: { (table.shared.key.sets ≡ sets) × (table.shared.key.seats ≡ seats) × (table.shared.key.timeouts ≡ timeouts) },
+    ghost told: { (table.shared.key.sets ≡ sets) × (table.shared.key.seats ≡ seats)
+        × (table.shared.key.timeouts ≡ timeouts) },
     ghost counted: { table.shared.table_id.words ≡ 64 * sets },
     ghost slotless: { table.shared.table_id.slots ≡ 0 },
     ghost sized: { (1 ≤ sets) × (sets ≤ 65536) × (seats ≤ 64) },

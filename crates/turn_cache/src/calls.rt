@@ -26,7 +26,8 @@ impl TurnCache {
         requires passed_by { (metered.old.how ≡ PassedBy) × (metered.old.out ≡ None) }
         ensures own { IsOf self.now pass.new }
         ensures note { (shown_of pass.new).note ≡ metering (shown_of pass.old).note (packet.now ∷ []) metered.new.out }
-        ensures answer { IsMetered (means_of self.now) IsTryOf (shown_of pass.old) (shown_of pass.new) packet.now metered.new.how metered.new.out }
+        ensures answer { IsMetered (means_of self.now) IsTryOf (shown_of pass.old)
+            (shown_of pass.new) packet.now metered.new.how metered.new.out }
     {
         let own = Fragment::of(packet);
         self.put_in::<K>(pass, &own, metered);
@@ -41,7 +42,8 @@ impl TurnCache {
         requires octets { packet.now.octets < 2 ^ 24 }
         ensures own { IsOf self.now pass.new }
         ensures note { (shown_of pass.new).note ≡ metering (shown_of pass.old).note (packet.now ∷ []) result.out }
-        ensures answer { IsMetered (means_of self.now) IsTryOf (shown_of pass.old) (shown_of pass.new) packet.now result.how result.out }
+        ensures answer { IsMetered (means_of self.now) IsTryOf (shown_of pass.old)
+            (shown_of pass.new) packet.now result.how result.out }
     {
         let mut metered = Metered {
             how: How::PassedBy,

@@ -1,6 +1,7 @@
 //! The end of a cache.
 
-ghost use Rattle.std.specs.Prelude.{◌≡◌, ◌+◌, ◌*◌, ◌<◌, ◌≤◌, ◌++◌, [], ◌∷◌, IfOk, OnOk, Option, option_to_list, slice_index};
+ghost use Rattle.std.specs.Prelude.{◌≡◌, ◌+◌, ◌*◌, ◌<◌, ◌≤◌, ◌++◌, [], ◌∷◌, IfOk, OnOk, Option, option_to_list};
+ghost use Rattle.std.specs.Prelude.{slice_index};
 ghost use Rattle.std.specs.Slots.{slots_items, slots_len, IsFull};
 ghost use Rattle.flow_parts.specs.Sharing.{SharesOut};
 ghost use Rattle.cache_face.specs.Keeping.{entry_of, parts_in};
@@ -71,7 +72,8 @@ fn add_entry(
 ) -> Result<(), NoMemory>
     requires whole { IsFull closed.now.words }
     requires below { (place < 4) × (64 * set + 64 ≤ slots_len closed.now.words) }
-    ensures { OnOk result (parts.new.items ≡ parts.old.items ++ option_to_list (entry_of (content_at (slots_items closed.now.words) set place))) }
+    ensures { OnOk result (parts.new.items ≡ parts.old.items
+        ++ option_to_list (entry_of (content_at (slots_items closed.now.words) set place))) }
 {
     add(parts, shown(content(closed, set, place)))
 }
@@ -114,7 +116,9 @@ impl TurnCache {
     pub(crate) fn entries(self, alloc: Global, pass: TurnPass) -> Result<Vec<Fragment>, NoMemory>
         requires own { IsOf self pass }
         requires all { (shown_of pass).note.seats ≡ (means_of self).seats }
-        ensures { IfOk result (λ entries. SharesOut (means_of self).limits (shown_of pass).note.packets (entries.items ++ (shown_of pass).note.handed)) }
+        ensures { IfOk result
+            (λ entries. SharesOut (means_of self).limits (shown_of pass).note.packets
+            (entries.items ++ (shown_of pass).note.handed)) }
     {
         let TurnPass { seat, number: _ } = pass;
         let TurnCache {

@@ -1,6 +1,7 @@
 //! A fragment is put into its set.
 
-ghost use Rattle.std.specs.Prelude.{◌≡◌, ◌≢◌, ℕ, ◌+◌, ◌*◌, ◌<◌, ◌≤◌, ◌++◌, length, [], ◌∷◌, List, IsTrue, true, false, slice_set, slice_index, slice_index_or, None, Some};
+ghost use Rattle.std.specs.Prelude.{◌≡◌, ◌≢◌, ℕ, ◌+◌, ◌*◌, ◌<◌, ◌≤◌, ◌++◌, length, [], ◌∷◌, List, IsTrue, true, false};
+ghost use Rattle.std.specs.Prelude.{slice_set, slice_index, slice_index_or, None, Some};
 ghost use Rattle.flow_key.specs.Key.{set_number};
 ghost use Rattle.flow_parts.specs.declared.fragment.Fragment.{Fragment};
 ghost use Rattle.flow_parts.specs.Parts.{part_words};
@@ -21,7 +22,8 @@ use cache_face::{How, Metered};
 use flow_parts::Fragment;
 use set_choice::{choose_by_words, put_out};
 
-/// Writes the answer of a packet that was put in: what became of it, and the fragment that is put out, where there is one.
+/// Writes the answer of a packet that was put in: what became of it, and the fragment that is put out, where there is
+/// one.
 #[inline]
 fn answer(how: How, old: &[u64; 10], metered: &mut Metered)
     requires none_out { metered.old.out ≡ None }
@@ -60,10 +62,12 @@ impl TurnCache {
         new: &[u64; 10],
     )
         requires at { seat.old.table_id ≡ self.now.table.shared.table_id }
-        requires writing { seat.old.me.0.turn ≡ writing set place new.now (slice_set old.now 5 (slice_index new.now 5)) }
+        requires writing { seat.old.me.0.turn ≡ writing set place new.now
+            (slice_set old.now 5 (slice_index new.now 5)) }
         requires below { (set < self.now.sets) × (place < 4) }
         ensures at { seat.new.table_id ≡ seat.old.table_id }
-        ensures written { seat.new.me ≡ (moves.at_turn (writing set place new.now new.now) seat.old.me.0, seat.old.me.1) }
+        ensures written { seat.new.me
+            ≡ (moves.at_turn (writing set place new.now new.now) seat.old.me.0, seat.old.me.1) }
     {
         for k in 0..10 {
             if k != 5 {
@@ -84,11 +88,14 @@ impl TurnCache {
         value: u64,
     )
         requires at { seat.old.table_id ≡ self.now.table.shared.table_id }
-        requires writing { (new now : List ℕ) × (seat.old.me.0.turn ≡ writing set place new now) × (slice_index now k ≡ stands) × (slice_index new k ≡ value) }
+        requires writing { (new now : List ℕ) × (seat.old.me.0.turn ≡ writing set place new now)
+            × (slice_index now k ≡ stands) × (slice_index new k ≡ value) }
         requires below { (set < self.now.sets) × (place < 4) × (k < 10) }
         ensures at { seat.new.table_id ≡ seat.old.table_id }
-        ensures written { (new now : List ℕ) → seat.old.me.0.turn ≡ writing set place new now → slice_index now k ≡ stands
-            → seat.new.me ≡ (moves.at_turn (writing set place new (slice_set now k value)) seat.old.me.0, seat.old.me.1) }
+        ensures written { (new now : List ℕ) → seat.old.me.0.turn ≡ writing set place new now
+            → slice_index now k ≡ stands
+            → seat.new.me
+            ≡ (moves.at_turn (writing set place new (slice_set now k value)) seat.old.me.0, seat.old.me.1) }
     {
         if value != stands {
             self.store_word(seat, set, place, k, value);
@@ -109,11 +116,14 @@ impl TurnCache {
         requires at { seat.old.table_id ≡ self.now.table.shared.table_id }
         requires reading { seat.old.me.0.turn ≡ reading set }
         requires below { (set < self.now.sets) × (place < 4) }
-        requires read { (before after : List ℕ) × (seat.old.me.0.read ≡ before ++ (old.now ++ after)) × (length before ≡ 10 * place) }
+        requires read { (before after : List ℕ) × (seat.old.me.0.read ≡ before ++ (old.now ++ after))
+            × (length before ≡ 10 * place) }
         requires own { moves.IsOwn self.now.timeouts seat.old.me.0.note K.packets own.now }
-        requires kept { (kept : Fragment) × (part_words kept ≡ new.now) × choice.Takes self.now.timeouts own.now (entry_of old.now) (out_of how (entry_of old.now)) kept }
+        requires kept { (kept : Fragment) × (part_words kept ≡ new.now)
+            × choice.Takes self.now.timeouts own.now (entry_of old.now) (out_of how (entry_of old.now)) kept }
         ensures at { seat.new.table_id ≡ seat.old.table_id }
-        ensures filled { seat.new.me ≡ (moves.filled seat.old.me.0.read K.packets (out_of how (entry_of old.now)) seat.old.me.0, seat.old.me.1) }
+        ensures filled { seat.new.me
+            ≡ (moves.filled seat.old.me.0.read K.packets (out_of how (entry_of old.now)) seat.old.me.0, seat.old.me.1) }
     {
         self.commit::<K>(seat, set, place, old, new, own, how);
         self.write_rest(seat, set, place, old, new);
@@ -135,8 +145,10 @@ impl TurnCache {
         requires own { moves.IsOwn self.now.timeouts seat.old.me.0.note K.packets own.now }
         requires none_out { metered.old.out ≡ None }
         ensures at { seat.new.table_id ≡ seat.old.table_id }
-        ensures filled { (words : List ℕ) × (seat.new.me ≡ (moves.filled words K.packets metered.new.out seat.old.me.0, seat.old.me.1))
-            × ((place : ℕ) × (kept : Fragment) × choice.IsChoice self.now.timeouts (entries_of words) own.now metered.new.how place metered.new.out kept) }
+        ensures filled { (words : List ℕ)
+            × (seat.new.me ≡ (moves.filled words K.packets metered.new.out seat.old.me.0, seat.old.me.1))
+            × ((place : ℕ) × (kept : Fragment) × choice.IsChoice self.now.timeouts
+            (entries_of words) own.now metered.new.how place metered.new.out kept) }
     {
         self.read_entry(seat, set, 0, &mut contents[0]);
         self.read_entry(seat, set, 1, &mut contents[1]);
@@ -157,13 +169,17 @@ impl TurnCache {
         own: &Fragment,
     ) -> bool
         requires at { seat.old.table_id ≡ self.now.table.shared.table_id }
-        requires idle { (seat.old.me.0.turn ≡ idle) × (0 < length seat.old.me.0.numbers) × (number_of seat.old.me.0.numbers ≡ number) }
+        requires idle { (seat.old.me.0.turn ≡ idle) × (0 < length seat.old.me.0.numbers)
+            × (number_of seat.old.me.0.numbers ≡ number) }
         requires set { set < self.now.sets }
         requires number { number < 64 }
         requires own { moves.IsOwn self.now.timeouts seat.old.me.0.note K.packets own.now }
         ensures at { seat.new.table_id ≡ seat.old.table_id }
-        ensures taken { IsTrue result → ((n : ℕ) × (n < 3) × (seat.new.me ≡ (moves.after_tries set n seat.old.me.0, seat.old.me.1))) }
-        ensures lost { result ≡ false → (seat.new.me ≡ (moves.passed_by set K.packets own.now seat.old.me.0, seat.old.me.1)) × (self.now.seats ≢ 1) }
+        ensures taken { IsTrue result
+            → ((n : ℕ) × (n < 3) × (seat.new.me ≡ (moves.after_tries set n seat.old.me.0, seat.old.me.1))) }
+        ensures lost { result ≡ false
+            → (seat.new.me ≡ (moves.passed_by set K.packets own.now seat.old.me.0, seat.old.me.1))
+            × (self.now.seats ≢ 1) }
     {
         if self.take::<K>(seat, number, set, own, false) {
             return true;
@@ -174,8 +190,8 @@ impl TurnCache {
         self.take::<K>(seat, number, set, own, true)
     }
 
-    /// Puts a fragment into its set, or passes it by. The answer begins as that of a packet that is passed by, with nothing
-    /// handed out; what is to be otherwise is written.
+    /// Puts a fragment into its set, or passes it by. The answer begins as that of a packet that is passed by, with
+    /// nothing handed out; what is to be otherwise is written.
     #[inline(never)]
     pub(crate) fn put_in<K: IsTaken>(
         &self,
@@ -188,7 +204,8 @@ impl TurnCache {
         requires passed_by { (metered.old.how ≡ PassedBy) × (metered.old.out ≡ None) }
         ensures own { IsOf self.now pass.new }
         ensures note { (shown_of pass.new).note ≡ metering (shown_of pass.old).note K.packets metered.new.out }
-        ensures answer { IsAnswer (means_of self.now) IsTryOf (shown_of pass.old) (shown_of pass.new) own.now metered.new.how metered.new.out }
+        ensures answer { IsAnswer (means_of self.now) IsTryOf (shown_of pass.old)
+            (shown_of pass.new) own.now metered.new.how metered.new.out }
     {
         let set = own.key.set_of(self.sets);
         let number = pass.number;

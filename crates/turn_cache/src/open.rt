@@ -1,6 +1,7 @@
 //! The beginning of a cache, and two passes made one.
 
-ghost use Rattle.std.specs.Prelude.{◌≡◌, ◌+◌, ◌-◌, ◌*◌, ◌<◌, ◌≤◌, length, [], ◌∷◌, List, IfOk, OnOk, All, replicate, ◌++◌};
+ghost use Rattle.std.specs.Prelude.{◌≡◌, ◌+◌, ◌-◌, ◌*◌, ◌<◌, ◌≤◌, length, [], ◌∷◌, List, IfOk, OnOk, All, replicate};
+ghost use Rattle.std.specs.Prelude.{◌++◌};
 ghost use Rattle.std.specs.List.{range_with_len};
 ghost use Rattle.cache_face.specs.Meaning.{IsFresh, IsUnited};
 ghost use Rattle.cache_face.specs.Notes.{unused, first_note};
@@ -46,7 +47,8 @@ impl TurnCache {
     fn deal(&self, alloc: Global, mut seat: Seat<(), Known>) -> Result<Vec<TurnPass>, NoMemory>
         requires at { seat.table_id ≡ self.now.table.shared.table_id }
         requires me { seat.me ≡ (new_hand (range_with_len 0 self.now.seats) (unused self.now.seats), []) }
-        ensures { IfOk result (λ passes. (length passes.items ≡ self.now.seats) × All (λ pass. IsOf self.now pass × IsFresh (shown_of pass)) passes.items) }
+        ensures { IfOk result (λ passes. (length passes.items ≡ self.now.seats)
+            × All (λ pass. IsOf self.now pass × IsFresh (shown_of pass)) passes.items) }
     {
         let mut passes = Vec::new(alloc);
         for number in 0..self.seats {
@@ -65,8 +67,10 @@ impl TurnCache {
     ) -> Result<(TurnCache, Vec<TurnPass>), NoMemory>
         requires sets { (1 ≤ sets) × (sets ≤ 65536) }
         requires seats { (1 ≤ seats) × (seats ≤ 64) }
-        ensures cache { IfOk result (λ r. ((means_of r.0).sets ≡ sets) × ((means_of r.0).seats ≡ seats) × ((means_of r.0).limits ≡ timeouts)) }
-        ensures passes { IfOk result (λ r. (length r.1.items ≡ seats) × All (λ pass. IsOf r.0 pass × IsFresh (shown_of pass)) r.1.items) }
+        ensures cache { IfOk result (λ r. ((means_of r.0).sets ≡ sets) × ((means_of r.0).seats ≡ seats)
+            × ((means_of r.0).limits ≡ timeouts)) }
+        ensures passes { IfOk result (λ r. (length r.1.items ≡ seats)
+            × All (λ pass. IsOf r.0 pass × IsFresh (shown_of pass)) r.1.items) }
     {
         let words = zeros(alloc, 64 * sets as usize)?;
         let seats = seats as u64;

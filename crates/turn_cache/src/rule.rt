@@ -51,7 +51,17 @@ pub trait IsMove {
 impl IsMove for Brand {
     ghost use Rattle.std.specs.Prelude.{None, [], false};
 
-    ghost about = { record { seats = 0; set = 0; last = false; packets = []; out = None; place = 0; old = []; new = [] } };
+    ghost about = { record {
+      seats = 0;
+      set = 0;
+      last = false;
+      packets = [];
+      out = None;
+      place = 0;
+      old = [];
+      new =
+          [];
+    } };
 }
 
 /// The packets that a fragment stands for. A proof picks them at the call.

@@ -1,6 +1,7 @@
 //! The five kinds of step on a word.
 
-ghost use Rattle.std.specs.Prelude.{◌≡◌, ◌≢◌, ℕ, ◌+◌, ◌*◌, ◌<◌, ◌≤◌, ◌++◌, length, [], ◌∷◌, List, IsTrue, true, false, slice_set, slice_index};
+ghost use Rattle.std.specs.Prelude.{◌≡◌, ◌≢◌, ℕ, ◌+◌, ◌*◌, ◌<◌, ◌≤◌, ◌++◌, length, [], ◌∷◌, List, IsTrue, true, false};
+ghost use Rattle.std.specs.Prelude.{slice_set, slice_index};
 ghost use Rattle.flow_parts.specs.declared.fragment.Fragment.{Fragment};
 ghost use Rattle.flow_parts.specs.Parts.{part_words};
 ghost use Rattle.cache_face.specs.Choice as choice;
@@ -27,12 +28,14 @@ impl TurnCache {
     ) -> u64
         requires about { M.about ≡ moves.trying self.now.seats set K.packets _own.now _last }
         requires at { seat.old.table_id ≡ self.now.table.shared.table_id }
-        requires idle { (seat.old.me.0.turn ≡ idle) × (0 < length seat.old.me.0.numbers) × (number_of seat.old.me.0.numbers ≡ number) }
+        requires idle { (seat.old.me.0.turn ≡ idle) × (0 < length seat.old.me.0.numbers)
+            × (number_of seat.old.me.0.numbers ≡ number) }
         requires set { set < self.now.sets }
         requires number { number < 64 }
         requires own { moves.IsOwn self.now.timeouts seat.old.me.0.note K.packets _own.now }
         ensures at { seat.new.table_id ≡ seat.old.table_id }
-        ensures tells { moves.Tells (moves.trying self.now.seats set K.packets _own.now _last) seat.old.me result seat.new.me }
+        ensures tells { moves.Tells (moves.trying self.now.seats set K.packets _own.now _last) seat.old.me result
+            seat.new.me }
     {
         let word = 64 * set as usize;
         self.table
@@ -40,8 +43,8 @@ impl TurnCache {
             .compare_exchange::<Takes<M>>(seat, word, 0, number + 1)
     }
 
-    /// Tries to take the turn of a set. Where another seat has it the try is lost, and where it is the last, the own fragment
-    /// is handed out.
+    /// Tries to take the turn of a set. Where another seat has it the try is lost, and where it is the last, the own
+    /// fragment is handed out.
     pub(crate) fn take<K: IsTaken>(
         &self,
         seat: &mut Seat<(), Known>,
@@ -51,13 +54,17 @@ impl TurnCache {
         last: bool,
     ) -> bool
         requires at { seat.old.table_id ≡ self.now.table.shared.table_id }
-        requires idle { (seat.old.me.0.turn ≡ idle) × (0 < length seat.old.me.0.numbers) × (number_of seat.old.me.0.numbers ≡ number) }
+        requires idle { (seat.old.me.0.turn ≡ idle) × (0 < length seat.old.me.0.numbers)
+            × (number_of seat.old.me.0.numbers ≡ number) }
         requires set { set < self.now.sets }
         requires number { number < 64 }
         requires own { moves.IsOwn self.now.timeouts seat.old.me.0.note K.packets own.now }
         ensures at { seat.new.table_id ≡ seat.old.table_id }
         ensures taken { IsTrue result → seat.new.me ≡ (moves.taken set seat.old.me.0, seat.old.me.1) }
-        ensures lost { result ≡ false → (seat.new.me ≡ (moves.lost (moves.trying self.now.seats set K.packets own.now last) seat.old.me.0, seat.old.me.1)) × (self.now.seats ≢ 1) }
+        ensures lost { result ≡ false
+            → (seat.new.me
+            ≡ (moves.lost (moves.trying self.now.seats set K.packets own.now last) seat.old.me.0, seat.old.me.1))
+            × (self.now.seats ≢ 1) }
     {
         self.take_as::<Brand, K>(seat, number, set, own, last) == 0
     }
@@ -84,15 +91,20 @@ impl TurnCache {
         _own: &Fragment,
         _how: How,
     )
-        requires about { M.about ≡ moves.writes_to set place K.packets (out_of _how (entry_of _old.now)) _old.now new.now }
+        requires about { M.about ≡ moves.writes_to set place K.packets
+            (out_of _how (entry_of _old.now)) _old.now new.now }
         requires at { seat.old.table_id ≡ self.now.table.shared.table_id }
         requires reading { seat.old.me.0.turn ≡ reading set }
         requires below { (set < self.now.sets) × (place < 4) }
-        requires read { (before after : List ℕ) × (seat.old.me.0.read ≡ before ++ (_old.now ++ after)) × (length before ≡ 10 * place) }
+        requires read { (before after : List ℕ) × (seat.old.me.0.read ≡ before ++ (_old.now ++ after))
+            × (length before ≡ 10 * place) }
         requires own { moves.IsOwn self.now.timeouts seat.old.me.0.note K.packets _own.now }
-        requires kept { (kept : Fragment) × (part_words kept ≡ new.now) × choice.Takes self.now.timeouts _own.now (entry_of _old.now) (out_of _how (entry_of _old.now)) kept }
+        requires kept { (kept : Fragment) × (part_words kept ≡ new.now)
+            × choice.Takes self.now.timeouts _own.now (entry_of _old.now) (out_of _how (entry_of _old.now)) kept }
         ensures at { seat.new.table_id ≡ seat.old.table_id }
-        ensures commits { moves.Commits (moves.writes_to set place K.packets (out_of _how (entry_of _old.now)) _old.now new.now) seat.old.me seat.new.me }
+        ensures commits { moves.Commits
+            (moves.writes_to set place K.packets (out_of _how (entry_of _old.now)) _old.now new.now) seat.old.me
+            seat.new.me }
     {
         let word = 64 * set as usize + 16 + (10 * place + 5);
         self.table.shared.store::<Commits<M>>(seat, word, new[5]);
@@ -112,11 +124,15 @@ impl TurnCache {
         requires at { seat.old.table_id ≡ self.now.table.shared.table_id }
         requires reading { seat.old.me.0.turn ≡ reading set }
         requires below { (set < self.now.sets) × (place < 4) }
-        requires read { (before after : List ℕ) × (seat.old.me.0.read ≡ before ++ (old.now ++ after)) × (length before ≡ 10 * place) }
+        requires read { (before after : List ℕ) × (seat.old.me.0.read ≡ before ++ (old.now ++ after))
+            × (length before ≡ 10 * place) }
         requires own { moves.IsOwn self.now.timeouts seat.old.me.0.note K.packets own.now }
-        requires kept { (kept : Fragment) × (part_words kept ≡ new.now) × choice.Takes self.now.timeouts own.now (entry_of old.now) (out_of how (entry_of old.now)) kept }
+        requires kept { (kept : Fragment) × (part_words kept ≡ new.now)
+            × choice.Takes self.now.timeouts own.now (entry_of old.now) (out_of how (entry_of old.now)) kept }
         ensures at { seat.new.table_id ≡ seat.old.table_id }
-        ensures commits { moves.Commits (moves.writes_to set place K.packets (out_of how (entry_of old.now)) old.now new.now) seat.old.me seat.new.me }
+        ensures commits { moves.Commits
+            (moves.writes_to set place K.packets (out_of how (entry_of old.now)) old.now new.now) seat.old.me
+            seat.new.me }
     {
         self.commit_as::<Brand, K>(seat, set, place, old, new, own, how);
     }
@@ -131,11 +147,13 @@ impl TurnCache {
         value: u64,
     )
         requires at { seat.old.table_id ≡ self.now.table.shared.table_id }
-        requires writing { (new now : List ℕ) × (seat.old.me.0.turn ≡ writing set place new now) × (slice_index new k ≡ value) }
+        requires writing { (new now : List ℕ) × (seat.old.me.0.turn ≡ writing set place new now)
+            × (slice_index new k ≡ value) }
         requires below { (set < self.now.sets) × (place < 4) × (k < 10) }
         ensures at { seat.new.table_id ≡ seat.old.table_id }
         ensures stores { (new now : List ℕ) → seat.old.me.0.turn ≡ writing set place new now
-            → seat.new.me ≡ (moves.at_turn (writing set place new (slice_set now k value)) seat.old.me.0, seat.old.me.1) }
+            → seat.new.me
+            ≡ (moves.at_turn (writing set place new (slice_set now k value)) seat.old.me.0, seat.old.me.1) }
     {
         let word = 64 * set as usize + 16 + (10 * place + k);
         self.table.shared.store::<Stores>(seat, word, value);

@@ -116,8 +116,8 @@ fn octets_of(parts: &[Fragment]) -> u64 {
     octets
 }
 
-/// Flows 1 to 4 through one pass, and flow 5 through another, which is handed flow 2's fragment and finds flow 1's entry.
-/// The fragments at the end have the six packets of 40 octets.
+/// Flows 1 to 4 through one pass, and flow 5 through another, which is handed flow 2's fragment and finds flow 1's
+/// entry. The fragments at the end have the six packets of 40 octets.
 fn keeps_what_two_passes_metered<C: Caches + Drop>(
     rt: &impl Abort,
     alloc: Global,

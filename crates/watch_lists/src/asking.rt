@@ -91,7 +91,8 @@ fn ask_by(cache: &PebrCache, asked: Asked, key: &FlowKey) -> Asked
     }
 }
 
-/// Asks for the flow of each key in turn, at the seat of a pass that has done nothing. It has metered nothing then either.
+/// Asks for the flow of each key in turn, at the seat of a pass that has done nothing. It has metered nothing then
+/// either.
 pub(crate) fn ask_all(cache: &PebrCache, pass: PebrPass, keys: &[FlowKey]) -> Asked
     requires own { shown.IsOf cache.now pass }
     requires fresh { (shown_of pass).note ≡ first_note }

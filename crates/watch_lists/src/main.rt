@@ -1,12 +1,13 @@
-//! The program by which `checks/watch.sh` looks at lists of retired slots. Workers meter the capture of standard input through one
-//! set of a cache without turns; beside them a watcher asks for the flows of the first packets, one for each ask: it holds the
-//! flow, reads it and releases it.
+//! The program by which `checks/watch.sh` looks at lists of retired slots. Workers meter the capture of standard input
+//! through one set of a cache without turns; beside them a watcher asks for the flows of the first packets, one for
+//! each ask: it holds the flow, reads it and releases it.
 //!
 //!     watch_lists WORKERS ASKS < CAPTURE
 //!
-//! Behind each call of `meter`, and behind each ask, the pass is asked how many slots it has retired. The one line says the packets
-//! and the octets of all fragments that the cache handed out and kept, the most slots that any pass ever had retired, how many a
-//! pass has at all, and how many asks held a flow. The status is 0; 1 where the capture isn't metered; 2 for other words.
+//! Behind each call of `meter`, and behind each ask, the pass is asked how many slots it has retired. The one line says
+//! the packets and the octets of all fragments that the cache handed out and kept, the most slots that any pass ever
+//! had retired, how many a pass has at all, and how many asks held a flow. The status is 0; 1 where the capture isn't
+//! metered; 2 for other words.
 #![tactic(auto)]
 
 mod asking;

@@ -29,8 +29,8 @@ const CAPTURE_LIMIT: u64 = 1 << 30;
 /// How many records a worker draws at a time.
 const PIECE: u64 = 64;
 
-/// What came of a run: the packets and the octets of all fragments, the most slots that a pass had retired, how many a pass has,
-/// and how many asks held a flow.
+/// What came of a run: the packets and the octets of all fragments, the most slots that a pass had retired, how many a
+/// pass has, and how many asks held a flow.
 #[derive(Clone, Copy, Debug)]
 pub(crate) struct Came {
     pub(crate) packets: u64,
@@ -91,7 +91,8 @@ fn meter_bytes<R: Threads + Sync>(
 ) -> Option<Gathered<LookedCache>>
     requires capture { IsCaptureOf (λ file. IsIndexOf index.now file) bytes.now }
     requires few { length index.now.offsets < 2 ^ 32 }
-    requires passes { (0 < length passes.items) × (length passes.items ≤ 64) × All (λ p. IsOf cache.now p × IsFresh (shown_of p)) passes.items }
+    requires passes { (0 < length passes.items) × (length passes.items ≤ 64)
+        × All (λ p. IsOf cache.now p × IsFresh (shown_of p)) passes.items }
     ensures { IfSome result (λ r. IsOf cache.now r.pass × ((shown_of r.pass).note.seats ≡ length passes.items)) }
 {
     let capture = Capture::open(bytes).ok()?;
@@ -111,10 +112,12 @@ fn at_once<R: Threads + Sync>(
 ) -> (Asked, Option<Gathered<LookedCache>>)
     requires capture { IsCaptureOf (λ file. IsIndexOf index.now file) bytes.now }
     requires few { length index.now.offsets < 2 ^ 32 }
-    requires passes { (0 < length passes.items) × (length passes.items ≤ 64) × All (λ p. IsOf cache.now p × IsFresh (shown_of p)) passes.items }
+    requires passes { (0 < length passes.items) × (length passes.items ≤ 64)
+        × All (λ p. IsOf cache.now p × IsFresh (shown_of p)) passes.items }
     requires own { inner.IsOf cache.now.inner own × IsFresh (inner.shown_of own) }
     ensures asked { inner.IsOf cache.now.inner result.0.pass × ((inner.shown_of result.0.pass).note ≡ first_note) }
-    ensures metered { IfSome result.1 (λ r. IsOf cache.now r.pass × ((shown_of r.pass).note.seats ≡ length passes.items)) }
+    ensures metered { IfSome result.1 (λ r. IsOf cache.now r.pass
+        × ((shown_of r.pass).note.seats ≡ length passes.items)) }
 {
     thread::join(
         rt,
@@ -125,8 +128,10 @@ fn at_once<R: Threads + Sync>(
         move || -> Option<Gathered<LookedCache>>
             requires capture { IsCaptureOf (λ file. IsIndexOf index.now file) bytes.now }
             requires few { length index.now.offsets < 2 ^ 32 }
-            requires passes { (0 < length passes.items) × (length passes.items ≤ 64) × All (λ p. IsOf cache.now p × IsFresh (shown_of p)) passes.items }
-            ensures { IfSome result (λ r. IsOf cache.entry.now r.pass × ((shown_of r.pass).note.seats ≡ length passes.items)) }
+            requires passes { (0 < length passes.items) × (length passes.items ≤ 64)
+                × All (λ p. IsOf cache.now p × IsFresh (shown_of p)) passes.items }
+            ensures { IfSome result (λ r. IsOf cache.entry.now r.pass
+                × ((shown_of r.pass).note.seats ≡ length passes.items)) }
         { meter_bytes(rt, alloc, bytes, index, cache, passes) },
     )
 }

@@ -10,15 +10,20 @@ pub and-so : {X : Type 0} (o : Option X) (P Q : X → Type 0) → IsSomeAnd o P 
 and-so None P Q p so = p
 and-so (Some x) P Q p so = so x p
 
-pub both-kinds : {X : Type 0} (o : Option X) (P Q : X → Type 0) → IsSomeAnd o P → IsSomeAnd o Q → ((x : X) → P x → Q x → ⊥) → ⊥
+pub both-kinds : {X : Type 0} (o : Option X) (P Q : X → Type 0) → IsSomeAnd o P → IsSomeAnd o Q
+    → ((x : X) → P x → Q x → ⊥) → ⊥
 both-kinds None P Q p q never = p
 both-kinds (Some x) P Q p q never = never x p q
 
 -- a capture of a known link type is not refused
-pub refused-not : (bytes : List ℕ) (K : CaptureFile → Type 0) (opened : Result Capture CaptureError) (error : CaptureError) → opened ≡ Err error
+pub refused-not : (bytes : List ℕ) (K : CaptureFile → Type 0) (opened : Result Capture CaptureError)
+    (error : CaptureError) → opened ≡ Err error
     → IsCaptureOf (λ file. IsKnownLink file.link × K file) bytes → (opened ≡ Err NotCapture → capture_file bytes ≡ None)
-    → ((n : ℕ) → opened ≡ Err (LinkUnknown n) → IsSomeAnd (capture_file bytes) (λ file. (file.link ≡ n) × ¬ IsKnownLink n)) → ⊥
-refused-not bytes K opened NotCapture is known none other = subst (λ o. IsSomeAnd o (λ file. IsKnownLink file.link × K file)) (none is) known
+    → ((n : ℕ) → opened ≡ Err (LinkUnknown n)
+    → IsSomeAnd (capture_file bytes) (λ file. (file.link ≡ n) × ¬ IsKnownLink n)) → ⊥
+refused-not bytes K opened NotCapture is known none other =
+    subst (λ o. IsSomeAnd o (λ file. IsKnownLink file.link × K file)) (none is) known
 refused-not bytes K opened (LinkUnknown n) is known none other =
-    both-kinds (capture_file bytes) (λ file. IsKnownLink file.link × K file) (λ file. (file.link ≡ n) × ¬ IsKnownLink n) known (other n is)
+    both-kinds (capture_file bytes) (λ file. IsKnownLink file.link × K file)
+    (λ file. (file.link ≡ n) × ¬ IsKnownLink n) known (other n is)
     (λ file one two. two.1 (subst IsKnownLink two.0 one.0))

@@ -17,37 +17,46 @@ use Rattle.watch_program.proofs.Files.{and-so}
 -- the fragments have the packets and the octets of the file
 abbrev pub HasCounts : List Fragment → CaptureFile → Type 0
 HasCounts parts file =
-    (sum_by (λ (f : Fragment). f.packets) parts ≡ length (packets_of file)) × (sum_by (λ (f : Fragment). f.octets) parts ≡ octets_of (packets_of file))
+    (sum_by (λ (f : Fragment). f.packets) parts ≡ length (packets_of file))
+    × (sum_by (λ (f : Fragment). f.octets) parts ≡ octets_of (packets_of file))
 
 -- what was handed out is that of the pass which did something
-pub handed-same : (parts : List Fragment) (one other both : PassMeans) → IsUnited one other both → other.note ≡ first_note
+pub handed-same : (parts : List Fragment) (one other both : PassMeans) → IsUnited one other both
+    → other.note ≡ first_note
     → parts ≡ one.note.handed → IsPermutation parts both.note.handed
 handed-same parts one other both united none are =
     let same : both.note.handed ≡ one.note.handed =
-    ap (λ (n : Note). n.handed) united.0 ∙ ap (λ (n : Note). one.note.handed ++ n.handed) none ∙ append-nil one.note.handed in
+    ap (λ (n : Note). n.handed) united.0 ∙ ap (λ (n : Note). one.note.handed ++ n.handed) none
+    ∙ append-nil one.note.handed in
     subst (IsPermutation parts) (are ∙ sym same) (IsPermutation-refl parts)
 
 -- what the cache gave has the packets and the octets of the capture whose packets were metered
-pub counted : (bytes : List ℕ) (limits : Timeouts) (one other both : PassMeans) (metered parts : List Fragment) → StandsPermuted → CountsAll
-    → IsUnited one other both → other.note ≡ first_note → IsCaptureOf (λ file. IsPermutation (packets_of file) one.note.packets) bytes
+pub counted : (bytes : List ℕ) (limits : Timeouts) (one other both : PassMeans) (metered parts : List Fragment)
+    → StandsPermuted → CountsAll
+    → IsUnited one other both → other.note ≡ first_note
+    → IsCaptureOf (λ file. IsPermutation (packets_of file) one.note.packets) bytes
     → SharesOut limits both.note.packets metered → parts ≡ metered → IsCaptureOf (HasCounts parts) bytes
 counted bytes limits one other both metered parts permuted counts united none all shared are =
     let same : both.note.packets ≡ one.note.packets =
-    ap (λ (n : Note). n.packets) united.0 ∙ ap (λ (n : Note). one.note.packets ++ n.packets) none ∙ append-nil one.note.packets in
+    ap (λ (n : Note). n.packets) united.0 ∙ ap (λ (n : Note). one.note.packets ++ n.packets) none
+    ∙ append-nil one.note.packets in
     and-so (capture_file bytes) (λ file. IsPermutation (packets_of file) one.note.packets) (HasCounts parts) all
     (λ file is. counts limits (packets_of file) parts
     (permuted limits both.note.packets (packets_of file) parts parts
-    (subst (λ l. IsPermutation l (packets_of file)) (sym same) (IsPermutation-sym (packets_of file) one.note.packets is)) (IsPermutation-refl parts)
+    (subst (λ l. IsPermutation l (packets_of file)) (sym same)
+    (IsPermutation-sym (packets_of file) one.note.packets is)) (IsPermutation-refl parts)
     (subst (SharesOut limits both.note.packets) (sym are) shared)))
 
 tallied-at : (o : Option CaptureFile) (parts : List Fragment) (tally : Tally) → IsSomeAnd o (HasCounts parts)
     → IsSomeAnd o (λ file. IsTallyOf tally (answers_of file))
-    → (sum_by (λ (f : Fragment). f.packets) parts ≡ tally.accepted) × (sum_by (λ (f : Fragment). f.octets) parts ≡ tally.octets)
+    → (sum_by (λ (f : Fragment). f.packets) parts ≡ tally.accepted)
+    × (sum_by (λ (f : Fragment). f.octets) parts ≡ tally.octets)
 tallied-at None parts tally has is = absurd has
 tallied-at (Some file) parts tally has is = (has.0 ∙ sym is.accepted, has.1 ∙ sym is.octets)
 
 -- and those of its tally
 pub tallied : (bytes : List ℕ) (parts : List Fragment) (tally : Tally) → IsCaptureOf (HasCounts parts) bytes
     → IsCaptureOf (λ file. IsTallyOf tally (answers_of file)) bytes
-    → (sum_by (λ (f : Fragment). f.packets) parts ≡ tally.accepted) × (sum_by (λ (f : Fragment). f.octets) parts ≡ tally.octets)
+    → (sum_by (λ (f : Fragment). f.packets) parts ≡ tally.accepted)
+    × (sum_by (λ (f : Fragment). f.octets) parts ≡ tally.octets)
 tallied bytes parts tally has is = tallied-at (capture_file bytes) parts tally has is

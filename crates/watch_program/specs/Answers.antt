@@ -33,4 +33,5 @@ asked_keys most packets = keys_in (take most packets)
 -- The answers are to the keys in turn: answer k, counted from 0, is to key k modulo the number of keys.
 abbrev pub AreInTurn : List FlowKey → List Answer → Type 0
 AreInTurn keys answers =
-    (k : ℕ) (key : FlowKey) (answer : Answer) → k < length answers → IsOfKey (slice_index_or keys (k % length keys) key) (slice_index_or answers k answer)
+    (k : ℕ) (key : FlowKey) (answer : Answer) → k < length answers
+    → IsOfKey (slice_index_or keys (k % length keys) key) (slice_index_or answers k answer)

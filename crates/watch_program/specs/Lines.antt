@@ -7,11 +7,13 @@ use Rattle.watch_program.specs.declared.answer.Answer.TheVariants.{Held, Absent,
 abbrev pub number_text : ℕ → List ℕ
 number_text number = codes " " ++ decimal number
 
--- The line of an ask. Of a flow that was held it tells the packets, the octets, and the times of the earliest and of the latest
--- packet.
+-- The line of an ask. Of a flow that was held it tells the packets, the octets, and the times of the earliest and of
+-- the latest packet.
 unfoldable pub line_of : Answer → List ℕ
 line_of (Held flow) =
-    codes "held" ++ (number_text flow.packets ++ (number_text flow.octets ++ (number_text flow.first ++ (number_text flow.last ++ codes "\n"))))
+    codes "held"
+    ++ (number_text flow.packets
+    ++ (number_text flow.octets ++ (number_text flow.first ++ (number_text flow.last ++ codes "\n"))))
 line_of Absent = codes "absent\n"
 line_of Lost = codes "lost\n"
 

@@ -1,13 +1,15 @@
 -- What a run means, by what its words ask for and by its status.
 use Rattle.std.specs.Prelude.{ℕ, ◌≡◌, ◌⊎◌, ◌≤◌, ◌^◌, List, length, Option, Some, None, All, ⊤}
-use Rattle.meter_io.specs.Sides.{Side, HasFailed, IsUntouched, IsRead, IsTooLarge, IsBroken, IsWrong, HasTaken, HasBegun}
+use Rattle.meter_io.specs.Sides.{Side, HasFailed, IsUntouched, IsRead, IsTooLarge, IsBroken, IsWrong, HasTaken}
+use Rattle.meter_io.specs.Sides.{HasBegun}
 use Rattle.pcap_reader.specs.File.{CaptureFile, IsCaptureOf, capture_file, IsKnownLink}
 use Rattle.pcap_reader.specs.Records.{damage_of}
 use Rattle.packet_accept.specs.Packets.{packets_of}
 use Rattle.capture_tally.specs.Tallies.{octets_of}
 use Rattle.watch_program.specs.declared.answer.Answer.{Answer}
 use Rattle.watch_program.specs.declared.status.WatchStatus.{WatchStatus}
-use Rattle.watch_program.specs.declared.status.WatchStatus.TheVariants.{Done, ReadFault, Usage, WriteFault, NotCapture, LinkUnknown, Damaged, TooLarge, NoMemory}
+use Rattle.watch_program.specs.declared.status.WatchStatus.TheVariants.{Done, ReadFault, Usage, WriteFault, NotCapture}
+use Rattle.watch_program.specs.declared.status.WatchStatus.TheVariants.{LinkUnknown, Damaged, TooLarge, NoMemory}
 use Rattle.watch_program.specs.Answers.{IsSound, count_of}
 use Rattle.watch_program.specs.Lines.{text_of}
 use Rattle.watch_program.specs.Words.{Asked}
@@ -16,9 +18,9 @@ use Rattle.watch_program.specs.Words.{Asked}
 abbrev pub limit : ℕ
 limit = 2 ^ 30
 
--- The bytes are an undamaged capture. What is written is a line for each ask, or none where the capture has no accepted packet,
--- and then the number and the octets of its accepted packets. A flow that was held has a packet at least, and doesn't begin
--- behind its end.
+-- The bytes are an undamaged capture. What is written is a line for each ask, or none where the capture has no accepted
+-- packet, and then the number and the octets of its accepted packets. A flow that was held has a packet at least, and
+-- doesn't begin behind its end.
 pub record IsWatched (asks : ℕ) (capture written : List ℕ) : Type 0 where
   pub file : CaptureFile
   pub is_file : capture_file capture ≡ Some file

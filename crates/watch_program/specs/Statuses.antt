@@ -1,7 +1,8 @@
 -- The exit status of each way in which a run ends.
 use Rattle.std.specs.Prelude.{ℕ}
 use Rattle.watch_program.specs.declared.status.WatchStatus.{WatchStatus}
-use Rattle.watch_program.specs.declared.status.WatchStatus.TheVariants.{Done, ReadFault, Usage, WriteFault, NotCapture, LinkUnknown, Damaged, TooLarge, NoMemory}
+use Rattle.watch_program.specs.declared.status.WatchStatus.TheVariants.{Done, ReadFault, Usage, WriteFault, NotCapture}
+use Rattle.watch_program.specs.declared.status.WatchStatus.TheVariants.{LinkUnknown, Damaged, TooLarge, NoMemory}
 
 abbrev pub exit_status : WatchStatus → ℕ
 exit_status Done = 0

@@ -31,4 +31,5 @@ asked_with (workers ∷ (sets ∷ (asks ∷ (more ∷ values)))) = None
 -- What words ask for: the first is `watch`, and the others are its options.
 abbrev pub asked_by : List (List ℕ) → Option Asked
 asked_by [] = None
-asked_by (name ∷ words) = if bytes_eq name (codes "watch") then option_and_then asked_with (values_of options words) else None
+asked_by (name ∷ words) = if bytes_eq name (codes "watch") then option_and_then asked_with (values_of options words)
+    else None

@@ -43,7 +43,8 @@ fn ask(cache: &PebrCache, watcher: &mut Watcher, key: &FlowKey) -> Answer
     }
 }
 
-/// Asks so often, for the keys in turn. Before each ask the gate is told, as if a worker of this number came to a piece.
+/// Asks so often, for the keys in turn. Before each ask the gate is told, as if a worker of this number came to a
+/// piece.
 fn ask_in_turn<G: Gate>(
     alloc: Global,
     cache: &PebrCache,
@@ -73,8 +74,8 @@ fn ask_in_turn<G: Gate>(
     Ok(answers)
 }
 
-/// Asks so often, for the keys in turn, by a watcher at the seat of a pass that has done nothing, and closes the watcher. The pass
-/// has done nothing then either.
+/// Asks so often, for the keys in turn, by a watcher at the seat of a pass that has done nothing, and closes the
+/// watcher. The pass has done nothing then either.
 ///
 /// `number` is what the gate is told. The answers are `NoMemory` where there is no room for them.
 pub(crate) fn ask_all<G: Gate>(

@@ -22,7 +22,8 @@ fn append_key(
     requires index { IsIndexOf index.now (file_of capture.now) }
     requires number { n < length index.now.offsets }
     requires before { keys.old.items ≡ keys_in (packets_in (take n (answers_of (file_of capture.now)))) }
-    ensures keys { OnOk result (keys.new.items ≡ keys_in (packets_in (take (n + 1) (answers_of (file_of capture.now))))) }
+    ensures keys { OnOk result (keys.new.items
+        ≡ keys_in (packets_in (take (n + 1) (answers_of (file_of capture.now))))) }
     ensures few { OnOk result (length keys.new.items ≤ length keys.old.items + 1) }
 {
     packets_law();

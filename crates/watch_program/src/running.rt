@@ -69,7 +69,8 @@ fn watch_input<R: Threads + Sync, S: Source, K: Sink, G: Gate>(
     output: &mut K,
     gate: &G,
 ) -> WatchStatus
-    ensures { Ends (asked settings.now) (side S.left S.faults input.old input.new) (side K.held K.faults output.old output.new) result }
+    ensures { Ends (asked settings.now) (side S.left S.faults input.old input.new)
+        (side K.held K.faults output.old output.new) result }
 {
     let bytes = match read_all(alloc, input, CAPTURE_LIMIT) {
         Ok(bytes) => bytes,
@@ -87,27 +88,30 @@ fn watch_input<R: Threads + Sync, S: Source, K: Sink, G: Gate>(
     }
 }
 
-/// Meters a capture by some workers through one cache, and meanwhile asks for open flows by a watcher, which holds each, reads it
-/// and releases it. The words are `watch`, and behind it `--workers`, from 1 to 63, by default 1, `--sets` with the number of sets
-/// of the cache, from 1 to 65,536, by default 4096, and `--asks` with how often is asked, from 1 to 10,000, by default 100; each at
-/// most once, in any order, as `--name value` or `--name=value`. The time-outs are 300 and 1800 seconds, and a piece has 256
-/// records.
+/// Meters a capture by some workers through one cache, and meanwhile asks for open flows by a watcher, which holds
+/// each, reads it and releases it. The words are `watch`, and behind it `--workers`, from 1 to 63, by default 1,
+/// `--sets` with the number of sets of the cache, from 1 to 65,536, by default 4096, and `--asks` with how often is
+/// asked, from 1 to 10,000, by default 100; each at most once, in any order, as `--name value` or `--name=value`. The
+/// time-outs are 300 and 1800 seconds, and a piece has 256 records.
 ///
-/// Ask k, counted from 0, is for the flow of accepted packet k of the capture, modulo their number, in file order; without an
-/// accepted packet nothing is asked. The gate is told of each piece of a worker, and before ask k that the worker whose number is
-/// that of the workers is at piece k. For each ask the output takes a line: `held P O F L` with the packets, the octets, and the
-/// times of the earliest and of the latest packet in milliseconds since 1970-01-01T00:00:00Z, as the flow stood when it was held;
-/// `absent` where the cache had no such flow; `lost` where the watcher was ejected three times. Behind them stands `total P O`
-/// with the packets and the octets of all fragments that the cache handed out and kept: those of all accepted packets.
+/// Ask k, counted from 0, is for the flow of accepted packet k of the capture, modulo their number, in file order;
+/// without an accepted packet nothing is asked. The gate is told of each piece of a worker, and before ask k that the
+/// worker whose number is that of the workers is at piece k. For each ask the output takes a line: `held P O F L` with
+/// the packets, the octets, and the times of the earliest and of the latest packet in milliseconds since
+/// 1970-01-01T00:00:00Z, as the flow stood when it was held;
+/// `absent` where the cache had no such flow; `lost` where the watcher was ejected three times. Behind them stands
+/// `total P O` with the packets and the octets of all fragments that the cache handed out and kept: those of all
+/// accepted packets.
 ///
-/// The input, at most 2^30 bytes, is read to its end, and all memory is taken before anything is written. At a refusal, any
-/// status but `Done` and `WriteFault`, nothing is written. They come in this order:
+/// The input, at most 2^30 bytes, is read to its end, and all memory is taken before anything is written. At a refusal,
+/// any status but `Done` and `WriteFault`, nothing is written. They come in this order:
 ///
 /// - `Usage`: exactly where the words are no command. Nothing is read.
-/// - `ReadFault`: only where a read failed and the input counted it. `TooLarge`: exactly where more bytes came than 2^30.
-/// - `NotCapture`: exactly where the bytes don't begin with the header of a classic capture. `LinkUnknown`: exactly where they do,
-///   and its link type isn't read. `Damaged`: exactly where the record header at that offset is the first that claims more than
-///   262,144 captured bytes.
+/// - `ReadFault`: only where a read failed and the input counted it. `TooLarge`: exactly where more bytes came than
+///   2^30.
+/// - `NotCapture`: exactly where the bytes don't begin with the header of a classic capture. `LinkUnknown`: exactly
+///   where they do, and its link type isn't read. `Damaged`: exactly where the record header at that offset is the
+///   first that claims more than 262,144 captured bytes.
 /// - `WriteFault`: only where a write failed and the output counted it; it took a beginning of what it was to take.
 /// - `NoMemory`: out of memory, at any point before the first write.
 pub fn run_watch<R: Threads + Sync, S: Source, K: Sink, G: Gate>(
@@ -119,7 +123,8 @@ pub fn run_watch<R: Threads + Sync, S: Source, K: Sink, G: Gate>(
     gate: &G,
 ) -> WatchStatus
     ensures usage { result ≡ WatchStatus.Usage → asked_by (map string_bytes words.now) ≡ None }
-    ensures nothing { asked_by (map string_bytes words.now) ≡ None → (result ≡ WatchStatus.Usage) ⊎ (result ≡ WatchStatus.NoMemory) }
+    ensures nothing { asked_by (map string_bytes words.now) ≡ None
+        → (result ≡ WatchStatus.Usage) ⊎ (result ≡ WatchStatus.NoMemory) }
     ensures means { RunMeans (asked_by (map string_bytes words.now)) (side S.left S.faults input.old input.new)
         (side K.held K.faults output.old output.new) result }
     ensures complete { IsComplete (asked_by (map string_bytes words.now)) (side S.left S.faults input.old input.new)

@@ -52,8 +52,8 @@ fn words_of(alloc: Global, line: &str) -> Result<Vec<String>, Fail> {
     Ok(words)
 }
 
-/// A run over a capture of these pieces, of which these reads and writes fail. The source gives 50 bytes a read, and the sink takes
-/// 10 bytes a write.
+/// A run over a capture of these pieces, of which these reads and writes fail. The source gives 50 bytes a read, and
+/// the sink takes 10 bytes a write.
 fn run_over<R: Threads + Sync, G: Gate>(
     rt: &R,
     alloc: Global,

@@ -46,7 +46,8 @@ pub(crate) struct Watched {
 
 /// Meters the capture that these bytes are by a worker for each of the passes.
 ///
-/// The capture is opened anew, which reads its header alone: of a closure that holds a struct with a lifetime a join tells nothing.
+/// The capture is opened anew, which reads its header alone: of a closure that holds a struct with a lifetime a join
+/// tells nothing.
 fn meter_bytes<R: Threads + Sync, G: Gate>(
     rt: &R,
     alloc: Global,
@@ -58,9 +59,11 @@ fn meter_bytes<R: Threads + Sync, G: Gate>(
 ) -> Result<Gathered<PebrCache>, NoMemory>
     requires capture { IsCaptureOf (λ file. IsKnownLink file.link × IsIndexOf index.now file) bytes.now }
     requires few { length index.now.offsets < 2 ^ 32 }
-    requires passes { (0 < length passes.items) × (length passes.items ≤ 64) × All (λ p. IsOf cache.now p × IsFresh (shown_of p)) passes.items }
+    requires passes { (0 < length passes.items) × (length passes.items ≤ 64)
+        × All (λ p. IsOf cache.now p × IsFresh (shown_of p)) passes.items }
     ensures seats { IfOk result (λ r. IsOf cache.now r.pass × ((shown_of r.pass).note.seats ≡ length passes.items)) }
-    ensures packets { IfOk result (λ r. IsCaptureOf (λ file. IsPermutation (packets_of file) (shown_of r.pass).note.packets) bytes.now) }
+    ensures packets { IfOk result
+        (λ r. IsCaptureOf (λ file. IsPermutation (packets_of file) (shown_of r.pass).note.packets) bytes.now) }
     ensures parts { IfOk result (λ r. r.parts.items ≡ (shown_of r.pass).note.handed) }
     ensures tally { IfOk result (λ r. IsCaptureOf (λ file. IsTallyOf r.tally (answers_of file)) bytes.now) }
 {
@@ -70,8 +73,8 @@ fn meter_bytes<R: Threads + Sync, G: Gate>(
     meter_all(rt, alloc, &capture, index, cache, passes, PIECE, gate)
 }
 
-/// Meters the capture that these bytes are, and asks for open flows at the seat of one more pass, at once. Neither waits for the
-/// other, so both end in any order.
+/// Meters the capture that these bytes are, and asks for open flows at the seat of one more pass, at once. Neither
+/// waits for the other, so both end in any order.
 fn at_once<R: Threads + Sync, G: Gate>(
     rt: &R,
     alloc: Global,
@@ -86,14 +89,16 @@ fn at_once<R: Threads + Sync, G: Gate>(
 ) -> (Asking, Result<Gathered<PebrCache>, NoMemory>)
     requires capture { IsCaptureOf (λ file. IsKnownLink file.link × IsIndexOf index.now file) bytes.now }
     requires few { length index.now.offsets < 2 ^ 32 }
-    requires passes { (0 < length passes.items) × (length passes.items ≤ 64) × All (λ p. IsOf cache.now p × IsFresh (shown_of p)) passes.items }
+    requires passes { (0 < length passes.items) × (length passes.items ≤ 64)
+        × All (λ p. IsOf cache.now p × IsFresh (shown_of p)) passes.items }
     requires own { IsOf cache.now own × IsFresh (shown_of own) }
     ensures own { IsOf cache.now result.0.pass × ((shown_of result.0.pass).note ≡ first_note) }
     ensures many { IfOk result.0.answers (λ answers. length answers.items ≡ count_of asks keys.now) }
     ensures sound { IfOk result.0.answers (λ answers. All IsSound answers.items) }
     ensures in_turn { IfOk result.0.answers (λ answers. AreInTurn keys.now answers.items) }
     ensures seats { IfOk result.1 (λ r. IsOf cache.now r.pass × ((shown_of r.pass).note.seats ≡ length passes.items)) }
-    ensures packets { IfOk result.1 (λ r. IsCaptureOf (λ file. IsPermutation (packets_of file) (shown_of r.pass).note.packets) bytes.now) }
+    ensures packets { IfOk result.1
+        (λ r. IsCaptureOf (λ file. IsPermutation (packets_of file) (shown_of r.pass).note.packets) bytes.now) }
     ensures parts { IfOk result.1 (λ r. r.parts.items ≡ (shown_of r.pass).note.handed) }
     ensures tally { IfOk result.1 (λ r. IsCaptureOf (λ file. IsTallyOf r.tally (answers_of file)) bytes.now) }
 {
@@ -110,11 +115,16 @@ fn at_once<R: Threads + Sync, G: Gate>(
         move || -> Result<Gathered<PebrCache>, NoMemory>
             requires capture { IsCaptureOf (λ file. IsKnownLink file.link × IsIndexOf index.now file) bytes.now }
             requires few { length index.now.offsets < 2 ^ 32 }
-            requires passes { (0 < length passes.items) × (length passes.items ≤ 64) × All (λ p. IsOf cache.now p × IsFresh (shown_of p)) passes.items }
-            ensures seats { IfOk result (λ r. IsOf cache.entry.now r.pass × ((shown_of r.pass).note.seats ≡ length passes.items)) }
-            ensures packets { IfOk result (λ r. IsCaptureOf (λ file. IsPermutation (packets_of file) (shown_of r.pass).note.packets) bytes.entry.now) }
+            requires passes { (0 < length passes.items) × (length passes.items ≤ 64)
+                × All (λ p. IsOf cache.now p × IsFresh (shown_of p)) passes.items }
+            ensures seats { IfOk result (λ r. IsOf cache.entry.now r.pass
+                × ((shown_of r.pass).note.seats ≡ length passes.items)) }
+            ensures packets { IfOk result
+                (λ r. IsCaptureOf (λ file. IsPermutation (packets_of file) (shown_of r.pass).note.packets)
+                bytes.entry.now) }
             ensures parts { IfOk result (λ r. r.parts.items ≡ (shown_of r.pass).note.handed) }
-            ensures tally { IfOk result (λ r. IsCaptureOf (λ file. IsTallyOf r.tally (answers_of file)) bytes.entry.now) }
+            ensures tally { IfOk result
+                (λ r. IsCaptureOf (λ file. IsTallyOf r.tally (answers_of file)) bytes.entry.now) }
         { meter_bytes(rt, alloc, bytes, index, cache, passes, gate) },
     )
 }
@@ -131,10 +141,13 @@ fn total_behind(
     requires pass { IsOf cache pass × ((shown_of pass).note ≡ first_note) }
     requires own { IsOf cache gathered.pass }
     requires seats { (shown_of gathered.pass).note.seats + 1 ≡ (means_of cache).seats }
-    requires packets { IsCaptureOf (λ file. IsPermutation (packets_of file) (shown_of gathered.pass).note.packets) bytes.now }
+    requires packets { IsCaptureOf (λ file. IsPermutation (packets_of file) (shown_of gathered.pass).note.packets)
+        bytes.now }
     requires parts { gathered.parts.items ≡ (shown_of gathered.pass).note.handed }
     requires tally { IsCaptureOf (λ file. IsTallyOf gathered.tally (answers_of file)) bytes.now }
-    ensures { IfOk result (λ total. IsCaptureOf (λ file. (total.0 ≡ length (packets_of file)) × (total.1 ≡ octets_of (packets_of file))) bytes.now) }
+    ensures { IfOk result
+        (λ total. IsCaptureOf (λ file. (total.0 ≡ length (packets_of file)) × (total.1 ≡ octets_of (packets_of file)))
+        bytes.now) }
 {
     sharing_out_stands();
     sharing_out_counts();
@@ -149,8 +162,8 @@ fn total_behind(
     Ok(total_of(caches.metered(), tally.accepted, tally.octets))
 }
 
-/// Meters the capture that these bytes are by so many workers, asks meanwhile for the flows of its first accepted packets in turn, and adds up what came
-/// of all packets.
+/// Meters the capture that these bytes are by so many workers, asks meanwhile for the flows of its first accepted
+/// packets in turn, and adds up what came of all packets.
 ///
 /// `NoMemory`: out of memory.
 pub(crate) fn watch_capture<R: Threads + Sync, G: Gate>(
@@ -165,9 +178,11 @@ pub(crate) fn watch_capture<R: Threads + Sync, G: Gate>(
     requires capture { (capture_file bytes.now ≡ Some (file_of capture.now)) × IsKnownLink (file_of capture.now).link }
     requires index { IsIndexOf index.now (file_of capture.now) }
     requires few { length index.now.offsets < 2 ^ 32 }
-    ensures many { IfOk result (λ w. length w.answers.items ≡ count_of settings.now.asks (packets_of (file_of capture.now))) }
+    ensures many { IfOk result (λ w. length w.answers.items
+        ≡ count_of settings.now.asks (packets_of (file_of capture.now))) }
     ensures sound { IfOk result (λ w. All IsSound w.answers.items) }
-    ensures in_turn { IfOk result (λ w. AreInTurn (asked_keys settings.now.asks (packets_of (file_of capture.now))) w.answers.items) }
+    ensures in_turn { IfOk result
+        (λ w. AreInTurn (asked_keys settings.now.asks (packets_of (file_of capture.now))) w.answers.items) }
     ensures packets { IfOk result (λ w. w.packets ≡ length (packets_of (file_of capture.now))) }
     ensures octets { IfOk result (λ w. w.octets ≡ octets_of (packets_of (file_of capture.now))) }
 {

@@ -33,8 +33,10 @@ static OPTIONS: [OptionRule<'static>; 3] = [
 
 /// The settings that the options of the command give.
 fn settings(alloc: Global, words: &[String]) -> Result<WatchSettings, OptionsError>
-    ensures asked { IfOk result (λ settings. option_and_then asked_with (values_of options (map string_bytes words.now)) ≡ Some (asked settings)) }
-    ensures refused { IfErr result (λ error. error ≡ OptionsError.NotOptions → option_and_then asked_with (values_of options (map string_bytes words.now)) ≡ None) }
+    ensures asked { IfOk result (λ settings. option_and_then asked_with (values_of options (map string_bytes words.now))
+        ≡ Some (asked settings)) }
+    ensures refused { IfErr result (λ error. error ≡ OptionsError.NotOptions
+        → option_and_then asked_with (values_of options (map string_bytes words.now)) ≡ None) }
 {
     let values = values_of(alloc, OPTIONS.as_slice(), words)?;
     let [workers, sets, asks] = values.as_slice() else {
@@ -53,7 +55,8 @@ fn settings(alloc: Global, words: &[String]) -> Result<WatchSettings, OptionsErr
 /// - `NoMemory`: out of memory.
 pub(crate) fn settings_of(alloc: Global, words: &[String]) -> Result<WatchSettings, OptionsError>
     ensures asked { IfOk result (λ settings. asked_by (map string_bytes words.now) ≡ Some (asked settings)) }
-    ensures refused { IfErr result (λ error. error ≡ OptionsError.NotOptions → asked_by (map string_bytes words.now) ≡ None) }
+    ensures refused { IfErr result (λ error. error ≡ OptionsError.NotOptions
+        → asked_by (map string_bytes words.now) ≡ None) }
 {
     match words.split_first() {
         Some((name, options)) if name.as_str() == "watch" => settings(alloc, options),

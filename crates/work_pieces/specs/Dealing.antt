@@ -1,5 +1,6 @@
 -- Pieces of work that passes draw, each once: what the word and the passes have to do with each other.
-use Rattle.std.specs.Prelude.{◌≡◌, ℕ, ◌+◌, ◌-◌, ◌^◌, ◌<◌, ◌≤◌, min, eqb, ltb, cond, List, [], ◌∷◌, ◌++◌, length, slice_index}
+use Rattle.std.specs.Prelude.{◌≡◌, ℕ, ◌+◌, ◌-◌, ◌^◌, ◌<◌, ◌≤◌, min, eqb, ltb, cond, List, [], ◌∷◌, ◌++◌, length}
+use Rattle.std.specs.Prelude.{slice_index}
 use mathlib.Core.Option.{some}
 use lib.ListN.{get_elem?}
 use Rattle.atomic_table.specs.Table.{State, Me, Step}
@@ -42,15 +43,17 @@ pub record Fits (pieces all word : ℕ) (v : Hand) : Type 0 where
   pub over : 0 < v.done → pieces ≤ word
   pub idle : v.seats ≡ 0 → v.drawn ≡ []
 
--- The rule: each number below the word, and of a piece, stands in exactly one pass, once, and no other number in any; the
--- word goes beyond the pieces only by draws that gave none.
+-- The rule: each number below the word, and of a piece, stands in exactly one pass, once, and no other number in any;
+-- the word goes beyond the pieces only by draws that gave none.
 pub record Dealt (plan : Plan) (s : State (Unit {0}) Hand) : Type 0 where
   pub small : plan.pieces + plan.all < 2 ^ 63
   pub wide : length s.words ≡ word_count
   pub seats : total (λ v. v.seats) s.views ≡ plan.all
-  pub once : (x : ℕ) → total (λ v. times x v.drawn) s.views ≡ once_below x (min (slice_index s.words draw_word) plan.pieces)
+  pub once : (x : ℕ) → total (λ v. times x v.drawn) s.views
+      ≡ once_below x (min (slice_index s.words draw_word) plan.pieces)
   pub bound : slice_index s.words draw_word ≤ plan.pieces + total (λ v. v.done) s.views
-  pub each : (j : ℕ) (v : Hand) → get_elem? s.views j ≡ some v → Fits plan.pieces plan.all (slice_index s.words draw_word) v
+  pub each : (j : ℕ) (v : Hand) → get_elem? s.views j ≡ some v
+      → Fits plan.pieces plan.all (slice_index s.words draw_word) v
 
 abbrev pub Sat : Type 0
 Sat = Me (Unit {0}) Hand

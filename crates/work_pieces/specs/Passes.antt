@@ -5,7 +5,8 @@ use Rattle.work_pieces.specs.declared.pieces.DrawPass.{DrawPass}
 
 -- the pass is of these pieces
 abbrev pub IsPassOf : Pieces → DrawPass → Type 0
-IsPassOf p d = (d.seat.table_id ≡ p.table.shared.table_id) × (d.seat.me.0.pieces ≡ p.pieces) × (d.seat.me.0.all ≡ p.table.shared.key.all) × (d.seat.me.1 ≡ [])
+IsPassOf p d = (d.seat.table_id ≡ p.table.shared.table_id) × (d.seat.me.0.pieces ≡ p.pieces)
+    × (d.seat.me.0.all ≡ p.table.shared.key.all) × (d.seat.me.1 ≡ [])
 
 abbrev pub count_of : Pieces → ℕ
 count_of p = p.count

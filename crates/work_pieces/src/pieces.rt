@@ -16,7 +16,8 @@ pub struct Pieces {
     count: u64,
     size: u64,
     pieces: u64,
-    ghost sized: { (0 < size) × (count < 2 ^ 32) × (size ≤ 65536) × (pieces ≡ (count + size - 1) / size) × (table.shared.key.pieces ≡ pieces) × (table.shared.table_id.words ≡ 15) },
+    ghost sized: { (0 < size) × (count < 2 ^ 32) × (size ≤ 65536) × (pieces ≡ (count + size - 1) / size)
+        × (table.shared.key.pieces ≡ pieces) × (table.shared.table_id.words ≡ 15) },
 }
 
 /// What one seat drew, or several together.

@@ -1,8 +1,10 @@
 //! How batches are put and taken, and passes made and united.
 
-ghost use Rattle.std.specs.Prelude.{◌≡◌, ◌+◌, ◌<◌, ◌≤◌, None, [], ◌∷◌, ◌++◌, List, length, All, IfOk, IfErr, IfSome, OnOk, IsPermutation, IsTrue};
+ghost use Rattle.std.specs.Prelude.{◌≡◌, ◌+◌, ◌<◌, ◌≤◌, None, [], ◌∷◌, ◌++◌, List, length, All, IfOk, IfErr, IfSome};
+ghost use Rattle.std.specs.Prelude.{OnOk, IsPermutation, IsTrue};
 ghost use Rattle.batch_queue.specs.Batches.{IsBefore};
-ghost use Rattle.batch_queue.specs.Passes.{room_of, IsPassOf, IsReaders, IsFresh, StandsForAll, put_of, took_of, seats_of, others_of, IsSame, IsMore, AreOpened, IsFull};
+ghost use Rattle.batch_queue.specs.Passes.{room_of, IsPassOf, IsReaders, IsFresh, StandsForAll, put_of, took_of};
+ghost use Rattle.batch_queue.specs.Passes.{seats_of, others_of, IsSame, IsMore, AreOpened, IsFull};
 ghost use Rattle.batch_queue.specs.declared.batch.Batch.{Batch};
 
 use crate::batch::Batch;
@@ -14,8 +16,8 @@ use std::alloc::Global;
 use std::sync::Wait;
 
 impl BatchQueue {
-    /// An empty queue that has room for `room` batches (1 to 64), and a pass for each of `seats` seats (2 to 64). The first
-    /// pass is the reader's.
+    /// An empty queue that has room for `room` batches (1 to 64), and a pass for each of `seats` seats (2 to 64). The
+    /// first pass is the reader's.
     pub fn open(
         alloc: Global,
         room: usize,
@@ -47,7 +49,8 @@ impl BatchQueue {
         ensures own { IsPassOf self.now reader.new × IsPassOf self.now result }
         ensures other { IsFresh result × (¬ IsReaders result) × (others_of result ≡ 0) }
         ensures reader { IsReaders reader.new × (others_of reader.new ≡ others_of reader.old + 1) }
-        ensures same { (seats_of reader.new ≡ seats_of reader.old) × (put_of reader.new ≡ put_of reader.old) × (took_of reader.new ≡ took_of reader.old) }
+        ensures same { (seats_of reader.new ≡ seats_of reader.old) × (put_of reader.new ≡ put_of reader.old)
+            × (took_of reader.new ≡ took_of reader.old) }
     {
         let pass = self.line.another::<Seats>(&mut reader.pass);
         QueuePass { pass }
@@ -69,26 +72,31 @@ impl BatchQueue {
 
     /// Takes the batch at the front, which stands behind each that the pass took.
     ///
-    /// None only where the queue was empty at a step of this call. Then a pass of all seats took all batches that were put,
-    /// each once.
+    /// None only where the queue was empty at a step of this call. Then a pass of all seats took all batches that were
+    /// put, each once.
     pub fn take<R: Wait>(&self, rt: &R, pass: &mut QueuePass) -> Option<Batch>
         requires own { IsPassOf self.now pass.old }
         ensures own { IsPassOf self.now pass.new }
-        ensures took { IfSome result (λ b. IsMore [] (b ∷ []) pass.old pass.new × All (λ a. IsBefore a b) (took_of pass.old)) }
-        ensures none { result ≡ None → IsSame pass.old pass.new × (StandsForAll pass.new → IsPermutation (put_of pass.new) (took_of pass.new)) }
+        ensures took { IfSome result (λ b. IsMore [] (b ∷ []) pass.old pass.new
+            × All (λ a. IsBefore a b) (took_of pass.old)) }
+        ensures none { result ≡ None → IsSame pass.old pass.new
+            × (StandsForAll pass.new → IsPermutation (put_of pass.new) (took_of pass.new)) }
     {
         self.line.pop_as::<Takes, R>(rt, &mut pass.pass)
     }
 
-    /// One pass for the seats of both. If it stands for all seats, the batches that it took and those that were in the queue
-    /// at a step of this call are the batches that were put, each once.
+    /// One pass for the seats of both. If it stands for all seats, the batches that it took and those that were in the
+    /// queue at a step of this call are the batches that were put, each once.
     pub fn unite(&self, first: QueuePass, second: QueuePass) -> QueuePass
         requires own { IsPassOf self.now first × IsPassOf self.now second }
         ensures own { IsPassOf self.now result }
         ensures reader { (IsReaders first → IsReaders result) × (IsReaders second → IsReaders result) }
-        ensures seats { (seats_of result ≡ seats_of first + seats_of second) × (others_of result ≡ others_of first + others_of second) }
-        ensures batches { (put_of result ≡ put_of first ++ put_of second) × (took_of result ≡ took_of first ++ took_of second) }
-        ensures all { StandsForAll result → (left : List Batch) × IsPermutation (put_of result) (took_of result ++ left) }
+        ensures seats { (seats_of result ≡ seats_of first + seats_of second)
+            × (others_of result ≡ others_of first + others_of second) }
+        ensures batches { (put_of result ≡ put_of first ++ put_of second)
+            × (took_of result ≡ took_of first ++ took_of second) }
+        ensures all { StandsForAll result → (left : List Batch)
+            × IsPermutation (put_of result) (took_of result ++ left) }
     {
         let mut pass = first.pass;
         self.line.absorb::<Seats>(&mut pass, second.pass);

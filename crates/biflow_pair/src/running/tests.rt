@@ -58,8 +58,8 @@ const ONE_HEADER: &str = "000a0134000003e90000000000000001";
 /// That of a message of 308 octets without a record.
 const NONE_HEADER: &str = "000a0134000000000000000000000001";
 
-/// One run: the words, the pieces of the stream, the reads and the writes that fail, how it ends, and the pieces of what is
-/// written. The source gives 50 bytes a read, and the sink takes 100 bytes a write.
+/// One run: the words, the pieces of the stream, the reads and the writes that fail, how it ends, and the pieces of
+/// what is written. The source gives 50 bytes a read, and the sink takes 100 bytes a write.
 struct Run {
     words: &'static [&'static str],
     stream: &'static [&'static str],

@@ -88,8 +88,8 @@ impl<'a, K: IsInto> Stop for Crowd<'a, K> {
     }
 }
 
-/// What came of the packet of the pass that was stopped: the tries that it lost, the answer, the most slots that the other pass
-/// had retired, and the packets of all fragments at the end.
+/// What came of the packet of the pass that was stopped: the tries that it lost, the answer, the most slots that the
+/// other pass had retired, and the packets of all fragments at the end.
 #[derive(Drop)]
 struct Came {
     lost: u64,
@@ -153,8 +153,8 @@ fn stopped_at(alloc: Global, point: Point) -> Result<Came, NoMemory> {
     stopped::<Brand>(alloc, cache, first, second, point)
 }
 
-/// Where the other pass replaces an entry behind the first load, the first try is lost; else none is. No packet is lost or
-/// counted twice.
+/// Where the other pass replaces an entry behind the first load, the first try is lost; else none is. No packet is lost
+/// or counted twice.
 #[test]
 fn stopped_at_each_point(rt: HostRuntime) {
     let table = [

@@ -6,8 +6,8 @@ use std::alloc::Global;
 use std::test::Fail;
 
 /// What a line of words with single spaces between them asks for: 1 for `meter` with its settings in the order of their
-/// options, 2 for `show`, 3 for `make` with its seed, packets and keys, 4 for `schedule`, 5 for `selftest` with those of `make`;
-/// nothing where it is no command line.
+/// options, 2 for `show`, 3 for `make` with its seed, packets and keys, 4 for `schedule`, 5 for `selftest` with those
+/// of `make`; nothing where it is no command line.
 fn numbers(alloc: Global, line: &str) -> Result<Option<[u64; 7]>, Fail> {
     let mut words = Vec::new(alloc);
     for word in line.split(' ') {

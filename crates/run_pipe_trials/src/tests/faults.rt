@@ -60,8 +60,9 @@ fn other_inputs_are_refused(rt: HostRuntime) -> Result<(), Fail> {
 /// How a run ended, and how many bytes its output and its notes took.
 type Ended = (Status, usize, usize);
 
-/// Which call of the input, of the output and of the notes fails, each counted from 1, and how the run ends. The input is a
-/// capture of 140 bytes, of which it gives at most 50 a call; the output takes at most 100 of 184 a call, the notes 64 of 117.
+/// Which call of the input, of the output and of the notes fails, each counted from 1, and how the run ends. The input
+/// is a capture of 140 bytes, of which it gives at most 50 a call; the output takes at most 100 of 184 a call, the
+/// notes 64 of 117.
 static FAULTS: [((u64, u64, u64), Ended); 9] = [
     ((1, 99, 99), (Status::ReadFault, 0, 11)),
     ((2, 99, 99), (Status::ReadFault, 0, 11)),

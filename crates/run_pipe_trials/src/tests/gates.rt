@@ -43,8 +43,8 @@ impl Gate for Holding {
     }
 }
 
-/// Runs of captures of four batches and of seven: the packets, the command line, and who is awaited: the reader, whose number is
-/// that of the workers, or the one worker.
+/// Runs of captures of four batches and of seven: the packets, the command line, and who is awaited: the reader, whose
+/// number is that of the workers, or the one worker.
 static RUNS: [(u32, &str, usize); 3] = [
     (20_000, "pipe --workers 1 --queue 1 --batch 262184", 1),
     (20_000, "pipe --workers 1 --queue 1 --batch 262184", 0),

@@ -7,7 +7,8 @@ use std::alloc::Global;
 use std::test::Fail;
 use std::thread::Threads;
 
-/// The hexadecimal digits of a record with a frame of 42 bytes: UDP over IPv4 from this port of 192.0.2.1 to 192.0.2.2:53.
+/// The hexadecimal digits of a record with a frame of 42 bytes: UDP over IPv4 from this port of 192.0.2.1 to
+/// 192.0.2.2:53.
 fn record_of(alloc: Global, second: u32, microsecond: u32, port: u16) -> Result<String, Fail> {
     let (second, microsecond) = (second.swap_bytes(), microsecond.swap_bytes());
     let text = format!(in alloc;

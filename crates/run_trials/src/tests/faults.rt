@@ -25,11 +25,12 @@ fn few_bytes_are_read_within_a_limit(rt: HostRuntime) -> Result<(), Fail> {
 /// How a run ended, and how many bytes its output and its notes took.
 type Ended = (Status, usize, usize);
 
-/// Which calls fail, each counted from 1: one of the input, one of the output, which takes at most so many bytes a call, and
-/// one of the notes.
+/// Which calls fail, each counted from 1: one of the input, one of the output, which takes at most so many bytes a
+/// call, and one of the notes.
 type Faulty = (u64, u64, usize, u64);
 
-/// A run over this input, of which such calls fail. The input gives at most 50 bytes a call, and the notes take at most 64.
+/// A run over this input, of which such calls fail. The input gives at most 50 bytes a call, and the notes take at most
+/// 64.
 fn run_faulty<R: Threads + Sync>(
     rt: &R,
     alloc: Global,
@@ -56,7 +57,8 @@ fn run_faulty<R: Threads + Sync>(
     Ok((status, output.held().len(), notes.held().len()))
 }
 
-/// Of a capture of 140 bytes, which come in three calls and a fourth at its end: the calls that fail, and how the run ends.
+/// Of a capture of 140 bytes, which come in three calls and a fourth at its end: the calls that fail, and how the run
+/// ends.
 static READS: [(Faulty, Ended); 6] = [
     ((1, 99, 100, 99), (Status::ReadFault, 0, 11)),
     ((2, 99, 100, 99), (Status::ReadFault, 0, 11)),

@@ -7,7 +7,8 @@ use samples::octets_of;
 use std::alloc::Global;
 use std::test::Fail;
 
-/// A web exchange and the query before it, from 1,700,000,000 s on: each packet by its record header and its captured bytes.
+/// A web exchange and the query before it, from 1,700,000,000 s on: each packet by its record header and its captured
+/// bytes.
 static EXCHANGE: [&str; 20] = [
     "00f15365 00000000 2a000000 2a000000",
     "020000000002 020000000001 0806 0001080006040001 020000000001 0a000005 000000000000 0a000001",

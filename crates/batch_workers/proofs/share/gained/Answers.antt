@@ -16,6 +16,8 @@ returns-clause-sound g c =
 
 pub returns-clause-metered : goal.returns-clause-metered
 returns-clause-metered g c = λ a b one other.
-    metered-both a b (g.C.FlowCache.shown c.args.pass) (g.C.FlowCache.shown c.args.other) (g.C.FlowCache.shown c.unite-pass.result) c.args.parts.items c.args.more.items
-    c.extend_from_slice.new.self.items c.args.tally c.args.rest c.joined.result c.packets_law.ensures.together c.unite-pass.ensures.united (search rules)
+    metered-both a b (g.C.FlowCache.shown c.args.pass) (g.C.FlowCache.shown c.args.other)
+    (g.C.FlowCache.shown c.unite-pass.result) c.args.parts.items c.args.more.items
+    c.extend_from_slice.new.self.items c.args.tally c.args.rest c.joined.result c.packets_law.ensures.together
+    c.unite-pass.ensures.united (search rules)
     c.joined.ensures one other

@@ -14,5 +14,6 @@ invariant-loop g l = record {
   tallied : IsTallied l.tally;
   few : l.initial.tally.captured ≤ 2 ^ 32 → l.tally.captured ≤ 2 ^ 32;
   did : (more : List Batch) × IsMore [] more l.initial.seat l.seat
-      × Did (g.C.FlowCache.shown l.initial.pass) l.initial.out.items l.initial.tally (answers_in more) (g.C.FlowCache.shown l.pass) l.out.items l.tally;
+      × Did (g.C.FlowCache.shown l.initial.pass) l.initial.out.items l.initial.tally (answers_in more)
+      (g.C.FlowCache.shown l.pass) l.out.items l.tally;
 }

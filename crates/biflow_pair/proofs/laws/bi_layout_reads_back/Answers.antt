@@ -5,6 +5,7 @@ use Rattle.biflow_pair.proofs.laws.bi_layout_reads_back.Goals as goal
 
 pub returns : goal.returns
 returns c = record {
-  one = λ size export_time pairs one other a b. stream-same encode_biflow size export_time (bi_template_message export_time) pairs one other a b;
+  one = λ size export_time pairs one other a b. stream-same encode_biflow size export_time
+      (bi_template_message export_time) pairs one other a b;
   back = biflows-back;
 }

@@ -10,9 +10,12 @@ use Rattle.biflow_pair.proofs.pairing.in_order.Goals as goal
 
 pub returns-clause-sorted : goal.returns-clause-sorted
 returns-clause-sorted c =
-    c.in_ok-sort_by.ensures.sorted (λ (x y : FlowRecord). is_lt (by_start x y)) by_start_weak (answers_always _ _ _ (λ f a r f' called. search rules))
+    c.in_ok-sort_by.ensures.sorted (λ (x y : FlowRecord). is_lt (by_start x y)) by_start_weak
+    (answers_always _ _ _ (λ f a r f' called. search rules))
 
 pub returns-clause-stable : goal.returns-clause-stable
 returns-clause-stable c = λ x.
-    c.in_ok-sort_by.ensures.stable (λ (x y : FlowRecord). is_lt (by_start x y)) by_start_weak (answers_always _ _ _ (λ f a r f' called. search rules)) x
-    ∙ ap (λ xs. filter (ties (λ (x y : FlowRecord). is_lt (by_start x y)) x) xs) (c.in_ok-ordered.ensures.items_if_clones_equal (λ x y is. is))
+    c.in_ok-sort_by.ensures.stable (λ (x y : FlowRecord). is_lt (by_start x y)) by_start_weak
+    (answers_always _ _ _ (λ f a r f' called. search rules)) x
+    ∙ ap (λ xs. filter (ties (λ (x y : FlowRecord). is_lt (by_start x y)) x) xs)
+    (c.in_ok-ordered.ensures.items_if_clones_equal (λ x y is. is))

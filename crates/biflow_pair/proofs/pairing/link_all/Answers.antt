@@ -14,10 +14,12 @@ loop-place-preserved c =
       count = length-set c.loop-place.links.items (c.loop-place.place - 1) c.get.result ∙ c.loop-place.invariant.count;
       links = links-more c.args.records.now c.loop-place.links.items c.loop-place.place c.get.result own
           (omega arith) c.loop-place.invariant.inside c.loop-place.invariant.count c.index-records-place.is
-          (subst (λ n. IsFirstPlace c.args.records.now c.loop-place.place own.part.key n) (sym c.get.ensures) (c.loop-place.invariant.heads own.part.key))
+          (subst (λ n. IsFirstPlace c.args.records.now c.loop-place.place own.part.key n) (sym c.get.ensures)
+          (c.loop-place.invariant.heads own.part.key))
           c.loop-place.invariant.links;
       heads = places-more c.args.records.now heads (place_of c.set.new.self) c.loop-place.place own
-          (omega arith) c.loop-place.invariant.inside c.index-records-place.is c.in_ok-set.ensures c.loop-place.invariant.heads;
+          (omega arith) c.loop-place.invariant.inside c.index-records-place.is c.in_ok-set.ensures
+          c.loop-place.invariant.heads;
     }
 
 pub returns-clause-links : goal.returns-clause-links

@@ -8,7 +8,8 @@ use Rattle.biflow_pair.proofs.stream.flows_of.Given as goal
 abbrev pub invariant-loop-place : goal.invariant-loop-place
 invariant-loop-place l = record {
   within : l.place ≤ length l.records;
-  left : option_map (λ (more : List FlowRecord). l.flows.items ++ more) (flows_in (drop l.place l.records)) ≡ flows_in l.records;
+  left : option_map (λ (more : List FlowRecord). l.flows.items ++ more) (flows_in (drop l.place l.records))
+      ≡ flows_in l.records;
   before : (k : ℕ) (d : DataRecord) → k < l.place → flow (get_or l.records k d) ≢ None;
 }
 

@@ -8,6 +8,8 @@ invariant-loop-place l = record {
   started : 1 ≤ l.place;
   best : l.best < l.place;
   last : (old : Fragment) → entry_at l.entries l.best ≡ Some old → l.last ≡ old.last;
-  least : (other : ℕ) (fragment : Fragment) → other < l.place → entry_at l.entries other ≡ Some fragment → l.last ≤ fragment.last;
-  first : (lower : ℕ) (fragment : Fragment) → lower < l.best → entry_at l.entries lower ≡ Some fragment → l.last < fragment.last;
+  least : (other : ℕ) (fragment : Fragment) → other < l.place → entry_at l.entries other ≡ Some fragment
+      → l.last ≤ fragment.last;
+  first : (lower : ℕ) (fragment : Fragment) → lower < l.best → entry_at l.entries lower ≡ Some fragment
+      → l.last < fragment.last;
 }

@@ -15,7 +15,10 @@ returns-in-Err g c =
       got = had.0 ++ told.got;
       given = Consumes-trans _ _ _ _ _ had.1 told.given;
       still = λ e. absurd (let f = (had.3 e).1 in let t = c.loop-input-test.true in cc);
-      ends = inr (cut-moved (g.S.Source.left c.args.source.now) (g.S.Source.left c.loop-input.source) (g.S.Source.left c.fill.new.source) _ _ _ _ _ _ _ c.in-Err.broken c.loop-input.invariant.quiet counts c.loop-input.invariant.limit told.cut);
+      ends = inr
+          (cut-moved (g.S.Source.left c.args.source.now) (g.S.Source.left c.loop-input.source)
+          (g.S.Source.left c.fill.new.source) _ _ _ _ _ _ _ c.in-Err.broken c.loop-input.invariant.quiet counts
+          c.loop-input.invariant.limit told.cut);
     }
 
 pub loop-input-preserved : goal.loop-input-preserved

@@ -8,7 +8,8 @@ invariant-loop-input g l = record {
   limit : l.input.limit ≡ l.fn.input.limit;
   size : l.input.window.size ≡ l.fn.input.window.size;
   read : (got : List ℕ) × Consumes (g.S.Source.left l.initial.source) (g.S.Source.left l.source) got
-      × (l.input.taken ≡ l.fn.input.taken + length got) × (l.fn.input.ended ≡ true → (got ≡ []) × (l.input.ended ≡ true));
+      × (l.input.taken ≡ l.fn.input.taken + length got)
+      × (l.fn.input.ended ≡ true → (got ≡ []) × (l.input.ended ≡ true));
   quiet : g.S.Source.faults l.source ≡ g.S.Source.faults l.initial.source;
   ended : l.input.ended ≡ true → IsAtEnd (g.S.Source.left l.source);
 }

@@ -7,4 +7,5 @@ use Rattle.command_words.proofs.reading.has_dashes.Given as goal
 
 abbrev pub invariant-loop-word : goal.invariant-loop-word
 invariant-loop-word l =
-    list_any (λ word. bytes_eq word (codes "--")) (map string_bytes (drop l.word-index l.words)) ≡ list_any (λ word. bytes_eq word (codes "--")) (map string_bytes l.words)
+    list_any (λ word. bytes_eq word (codes "--")) (map string_bytes (drop l.word-index l.words))
+    ≡ list_any (λ word. bytes_eq word (codes "--")) (map string_bytes l.words)

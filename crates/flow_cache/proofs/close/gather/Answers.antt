@@ -13,8 +13,12 @@ loop-root-preserved c =
     let words : List ℕ = c.args.words.now in
     record {
       low = omega (arith, c.loop-root-test.true);
-      parts = λ sets seats. c.in_ok-add.ensures ∙ ap (λ l. l ++ option_to_list c.entry.result) (c.loop-root.invariant.parts sets seats)
-          ∙ ap (λ e. parts_in (rows_at sets seats words root) ++ option_to_list e) (c.entry.ensures ∙ ap entry_of (c.content.ensures sets seats))
-          ∙ sym (snoc (λ content. option_to_list (entry_of content)) (rows_at sets seats words root) (slot_of (cache_shape sets seats) words root))
-          ∙ ap parts_in (sym (map-range_with_len_more (slot_of (cache_shape sets seats) words) 0 root root (omega arith)));
+      parts = λ sets seats. c.in_ok-add.ensures
+          ∙ ap (λ l. l ++ option_to_list c.entry.result) (c.loop-root.invariant.parts sets seats)
+          ∙ ap (λ e. parts_in (rows_at sets seats words root) ++ option_to_list e)
+          (c.entry.ensures ∙ ap entry_of (c.content.ensures sets seats))
+          ∙ sym (snoc (λ content. option_to_list (entry_of content)) (rows_at sets seats words root)
+          (slot_of (cache_shape sets seats) words root))
+          ∙ ap parts_in
+          (sym (map-range_with_len_more (slot_of (cache_shape sets seats) words) 0 root root (omega arith)));
     }

@@ -9,7 +9,8 @@ pub returns-clause-fit : goal.returns-clause-fit
 returns-clause-fit c = fields_fit
 
 pub returns-clause-once : goal.returns-clause-once
-returns-clause-once c = λ fields. (key_with-is fields, λ answer is. one_answer fields answer (key_with fields) is (key_with-is fields))
+returns-clause-once c =
+    λ fields. (key_with-is fields, λ answer is. one_answer fields answer (key_with fields) is (key_with-is fields))
 
 pub returns-clause-key : goal.returns-clause-key
 returns-clause-key c = key_with-key

@@ -1,5 +1,6 @@
 use Rattle.flow_parts.specs.PartWith.{part_with}
-use Rattle.flow_parts.proofs.PartFields.{same_part_fields, part_fields_fit, part_with-is, one_part, part_with-part, part_with-none}
+use Rattle.flow_parts.proofs.PartFields.{same_part_fields, part_fields_fit, part_with-is, one_part, part_with-part}
+use Rattle.flow_parts.proofs.PartFields.{part_with-none}
 use Rattle.flow_parts.proofs.laws.fragments_have_fields.Goals as goal
 
 pub returns-clause-tell : goal.returns-clause-tell
@@ -9,7 +10,8 @@ pub returns-clause-fit : goal.returns-clause-fit
 returns-clause-fit c = part_fields_fit
 
 pub returns-clause-once : goal.returns-clause-once
-returns-clause-once c = λ fields. (part_with-is fields, λ answer is. one_part fields answer (part_with fields) is (part_with-is fields))
+returns-clause-once c =
+    λ fields. (part_with-is fields, λ answer is. one_part fields answer (part_with fields) is (part_with-is fields))
 
 pub returns-clause-part : goal.returns-clause-part
 returns-clause-part c = part_with-part

@@ -12,7 +12,8 @@ use Rattle.flow_watch.proofs.Entries.{holds}
 use Rattle.flow_watch.proofs.hold.keep.Goals as goal
 
 -- what is said of a value that is there
-with_some : {A : Type 0} (P Q : A → Type 0) (o : Option A) → IfSome o P → ((a : A) → o ≡ Some a → P a → Q a) → IfSome o Q
+with_some : {A : Type 0} (P Q : A → Type 0) (o : Option A) → IfSome o P → ((a : A) → o ≡ Some a → P a → Q a)
+    → IfSome o Q
 with_some P Q None p f = p
 with_some P Q (Some a) p f = f a refl p
 
@@ -29,15 +30,21 @@ returns-clause-held c =
     let mid = c.read_set-entries.new.pass in
     let end = c.leave.new.seat in
     let is : entries ≡ entries_read (past_by mid) set = c.read_set-entries.ensures.entries set c.requires.protected in
-    let same : entries_read (past_by end) set ≡ entries_read (past_by mid) set = ap (λ (p : History). entries_read p set) c.leave.ensures.past in
+    let same : entries_read (past_by end) set ≡ entries_read (past_by mid) set =
+    ap (λ (p : History). entries_read p set) c.leave.ensures.past in
     with_some
     (λ (hold : Hold). IsLowest (HasKey key) entries hold.place × (entry_at entries hold.place ≡ Some hold.fragment))
-    (λ (hold : Hold). IsHolding hold.place hold.fragment (known_by end) (past_by end) × IsHeld set key (past_by end) hold.fragment)
+    (λ (hold : Hold). IsHolding hold.place hold.fragment (known_by end) (past_by end)
+    × IsHeld set key (past_by end) hold.fragment)
     c.lowest_of-hold.result c.lowest_of-hold.ensures.some
-    (λ hold some h. (let low : hold.place < 4 = (let b = h.0.below in let four : length entries ≡ 4 = ap length is in omega (arith, b, four)) in (
-      holds set hold.place hold.fragment (known_by start) (known_by end) (past_by mid) (past_by start) (past_by end) entries low c.requires.protected is h.1
-          (ap (λ (p : History). p.loads) c.read_set-entries.ensures.past) (c.read_set-entries.ensures.ten hold.place low)
-          (c.leave.ensures.held (c.is_some.ensures ∙ ap is_some some) ∙ ap (λ (k : Seat). k.shields) c.read_set-entries.ensures.known)
+    (λ hold some h. (let low : hold.place < 4 =
+    (let b = h.0.below in let four : length entries ≡ 4 = ap length is in omega (arith, b, four)) in (
+      holds set hold.place hold.fragment (known_by start) (known_by end) (past_by mid) (past_by start)
+          (past_by end) entries low c.requires.protected is h.1
+          (ap (λ (p : History). p.loads) c.read_set-entries.ensures.past)
+          (c.read_set-entries.ensures.ten hold.place low)
+          (c.leave.ensures.held (c.is_some.ensures ∙ ap is_some some)
+          ∙ ap (λ (k : Seat). k.shields) c.read_set-entries.ensures.known)
           (ap (λ (p : History). p.reads) c.leave.ensures.past),
       record {
         place = hold.place;
@@ -53,7 +60,8 @@ returns-clause-absent c none =
     let mid = c.read_set-entries.new.pass in
     let end = c.leave.new.seat in
     let is : entries ≡ entries_read (past_by mid) set = c.read_set-entries.ensures.entries set c.requires.protected in
-    let same : entries_read (past_by end) set ≡ entries_read (past_by mid) set = ap (λ (p : History). entries_read p set) c.leave.ensures.past in (
+    let same : entries_read (past_by end) set ≡ entries_read (past_by mid) set =
+    ap (λ (p : History). entries_read p set) c.leave.ensures.past in (
       c.leave.ensures.down (c.is_some.ensures ∙ none_is c.lowest_of-hold.result none),
       subst (HasNone (HasKey c.args.key.now)) (is ∙ sym same) (c.lowest_of-hold.ensures.none none),
     )

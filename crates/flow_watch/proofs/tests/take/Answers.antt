@@ -4,7 +4,11 @@ use Rattle.flow_cache.specs.Shown.{shown_of, IsOf}
 use Rattle.flow_watch.proofs.tests.take.Goals as goal
 
 pub returns-clause-last : goal.returns-clause-last
-returns-clause-last c = (All-pop (λ pass. IsOf c.args._cache.now pass × IsFresh (shown_of pass)) c.args.passes.now.items c.pop.new.self.items c.pop.result c.pop.ensures.items c.requires).1
+returns-clause-last c =
+    (All-pop (λ pass. IsOf c.args._cache.now pass × IsFresh (shown_of pass)) c.args.passes.now.items
+    c.pop.new.self.items c.pop.result c.pop.ensures.items c.requires).1
 
 pub returns-clause-others : goal.returns-clause-others
-returns-clause-others c = (All-pop (λ pass. IsOf c.args._cache.now pass × IsFresh (shown_of pass)) c.args.passes.now.items c.pop.new.self.items c.pop.result c.pop.ensures.items c.requires).0
+returns-clause-others c =
+    (All-pop (λ pass. IsOf c.args._cache.now pass × IsFresh (shown_of pass)) c.args.passes.now.items
+    c.pop.new.self.items c.pop.result c.pop.ensures.items c.requires).0

@@ -6,7 +6,8 @@ use Rattle.ipfix_reader.proofs.FlowFields.{flow-v4, flow-v6}
 use Rattle.ipfix_reader.proofs.flow.flow_of.Goals as goal
 
 pub numbers_in-numbers-requires : goal.numbers_in-numbers-requires
-numbers_in-numbers-requires c = are_numbers v4_fields c.items-values.result.now refl (sym c.are_values_of.ensures ∙ c.if-are_values_of.true)
+numbers_in-numbers-requires c = are_numbers v4_fields c.items-values.result.now refl
+    (sym c.are_values_of.ensures ∙ c.if-are_values_of.true)
 
 pub returns-then-are_values_of : goal.returns-then-are_values_of
 returns-then-are_values_of c =

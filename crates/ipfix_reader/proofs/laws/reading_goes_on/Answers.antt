@@ -13,5 +13,6 @@ returns c = record {
   messages = goes_on stream_message stream_message-takes;
   sets = λ domain. goes_on (message_set domain) (message_set-takes domain);
   templates = λ options domain. goes_on (template_record options domain) (template_record-takes options domain);
-  data_records = λ domain number fields before part some. goes_on (data_record domain number fields) (data_record-takes domain number fields some) before part;
+  data_records = λ domain number fields before part some. goes_on (data_record domain number fields)
+      (data_record-takes domain number fields some) before part;
 }

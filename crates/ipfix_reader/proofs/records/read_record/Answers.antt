@@ -9,15 +9,20 @@ use Rattle.ipfix_reader.proofs.records.read_record.Goals as goal
 pub returns-in_err-values-clause-fault : goal.returns-in_err-values-clause-fault
 returns-in_err-values-clause-fault c =
     let p = err_from_is_err_and c.from_residual.result c.from_residual.ensures.1 in
-    rw (p.1, p.2) (data_records-fault _ _ _ _ _ _ c.args.known.now.takes_bytes c.requires (rw c.items.ensures at c.in_err-values.ensures.fault))
+    rw (p.1, p.2)
+    (data_records-fault _ _ _ _ _ _ c.args.known.now.takes_bytes c.requires
+    (rw c.items.ensures at c.in_err-values.ensures.fault))
 
 pub returns-clause-ok : goal.returns-clause-ok
 returns-clause-ok c =
-    rw (c.in_ok-push.ensures.items, c.of.ensures) (data_records-next _ _ _ _ _ _ c.args.known.now.takes_bytes c.requires (rw c.items.ensures at c.in_ok-values.ensures.ok))
+    rw (c.in_ok-push.ensures.items, c.of.ensures)
+    (data_records-next _ _ _ _ _ _ c.args.known.now.takes_bytes c.requires
+    (rw c.items.ensures at c.in_ok-values.ensures.ok))
 
 pub returns-clause-shorter : goal.returns-clause-shorter
 returns-clause-shorter c =
     let read = rw c.items.ensures at c.in_ok-values.ensures.ok in
-    let takes : length c.in_ok-values.rest.bytes.now + least_length c.args.known.now.template.fields ≤ length c.args.part.bytes.now =
+    let takes : length c.in_ok-values.rest.bytes.now + least_length c.args.known.now.template.fields
+    ≤ length c.args.part.bytes.now =
     values_of-takes _ _ _ _ (values_shown (c.in_ok-values.values, c.in_ok-values.rest)) read in
     omega (arith, takes, c.args.known.now.takes_bytes)

@@ -9,7 +9,8 @@ returns-in_err-template-clause-fault c =
     rw (p.1, p.2) (template_records-fault _ _ _ _ _ c.requires c.in_err-template.ensures.fault)
 
 pub returns-clause-ok : goal.returns-clause-ok
-returns-clause-ok c = rw (c.in_ok-insert.ensures, c.in_ok-template.ensures.number) (template_records-next _ _ _ _ _ c.requires c.in_ok-template.ensures.ok)
+returns-clause-ok c = rw (c.in_ok-insert.ensures, c.in_ok-template.ensures.number)
+    (template_records-next _ _ _ _ _ c.requires c.in_ok-template.ensures.ok)
 
 pub returns-clause-shorter : goal.returns-clause-shorter
 returns-clause-shorter c = template_fields-takes _ _ _ c.requires c.in_ok-template.ensures.ok

@@ -5,7 +5,9 @@ use Rattle.ipfix_reader.proofs.RecordSteps.{template_records-end, ends-ok, ends-
 use Rattle.ipfix_reader.proofs.records.read_templates.Goals as goal
 
 pub returns-clause-ok : goal.returns-clause-ok
-returns-clause-ok c = ends-ok _ _ (part_of c.records.rest) _ (c.records.invariant ∙ template_records-end _ _ _ (part_of c.records.rest) (omega arith)) c.check_padding.ensures
+returns-clause-ok c = ends-ok _ _ (part_of c.records.rest) _
+    (c.records.invariant ∙ template_records-end _ _ _ (part_of c.records.rest) (omega arith)) c.check_padding.ensures
 
 pub returns-clause-fault : goal.returns-clause-fault
-returns-clause-fault c = ends-fault _ _ (part_of c.records.rest) _ (c.records.invariant ∙ template_records-end _ _ _ (part_of c.records.rest) (omega arith)) c.check_padding.ensures
+returns-clause-fault c = ends-fault _ _ (part_of c.records.rest) _
+    (c.records.invariant ∙ template_records-end _ _ _ (part_of c.records.rest) (omega arith)) c.check_padding.ensures

@@ -6,7 +6,8 @@ use Rattle.ipfix_reader.proofs.records.read_templates.Given as goal
 
 abbrev pub invariant-records : goal.invariant-records
 invariant-records l =
-    template_records l.options l.domain l.fn.table (part_of l.fn.set) ≡ template_records l.options l.domain l.table (part_of l.rest)
+    template_records l.options l.domain l.fn.table (part_of l.fn.set)
+    ≡ template_records l.options l.domain l.table (part_of l.rest)
 
 abbrev pub decreases-records : goal.decreases-records
 decreases-records l = length l.rest.bytes.now

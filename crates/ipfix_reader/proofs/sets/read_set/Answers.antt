@@ -6,14 +6,17 @@ use Rattle.ipfix_reader.proofs.SetSteps.{message_sets-bad, set-read, set-refused
 use Rattle.ipfix_reader.proofs.sets.read_set.Goals as goal
 
 pub returns-then-is_bad_length-clause-fault : goal.returns-then-is_bad_length-clause-fault
-returns-then-is_bad_length-clause-fault c = message_sets-bad _ _ (part_of c.args.part) c.requires (sym c.if-is_bad_length.ensures)
+returns-then-is_bad_length-clause-fault c =
+    message_sets-bad _ _ (part_of c.args.part) c.requires (sym c.if-is_bad_length.ensures)
 
 pub returns-in-Ok-clause-ok : goal.returns-in-Ok-clause-ok
 returns-in-Ok-clause-ok c =
     set-read _ _ _ _ _ (part_of c.args.part) _ _ c.requires (sym c.if-is_bad_length.ensures) c.u16_at-2.ensures
-    (c.from-size.ensures ∙ c.u16_at.ensures) (c.behind-content.ensures ∙ ap (behind 4) c.first.ensures) c.behind.ensures c.in-Ok.ensures.ok
+    (c.from-size.ensures ∙ c.u16_at.ensures)
+    (c.behind-content.ensures ∙ ap (behind 4) c.first.ensures) c.behind.ensures c.in-Ok.ensures.ok
 
 pub returns-in-Err-clause-fault : goal.returns-in-Err-clause-fault
 returns-in-Err-clause-fault c =
     set-refused _ _ _ _ (part_of c.args.part) _ _ c.requires (sym c.if-is_bad_length.ensures) c.u16_at-2.ensures
-    (c.from-size.ensures ∙ c.u16_at.ensures) (c.behind-content.ensures ∙ ap (behind 4) c.first.ensures) c.in-Err.ensures.fault
+    (c.from-size.ensures ∙ c.u16_at.ensures)
+    (c.behind-content.ensures ∙ ap (behind 4) c.first.ensures) c.in-Err.ensures.fault

@@ -6,4 +6,5 @@ use Rattle.ipfix_reader.proofs.values.values_of.Given as goal
 
 abbrev pub invariant-loop-field : goal.invariant-loop-field
 invariant-loop-field l =
-    values_of l.beyond (drop l.field-index l.fields) l.values.items (part_of l.rest) ≡ values_of l.beyond l.fields [] (part_of l.fn.part)
+    values_of l.beyond (drop l.field-index l.fields) l.values.items (part_of l.rest)
+    ≡ values_of l.beyond l.fields [] (part_of l.fn.part)

@@ -9,7 +9,9 @@ append-requires g c =
     let one = c.one-item.result in
     let next = records_next encode c.args.records.now c.loop-one.one-index one c.loop-one-test.true c.one-item.is in
     let fits =
-    room_for_next c.loop-one.buffer.items (encode one).records (records_in encode (drop (c.loop-one.one-index + 1) c.args.records.now)) c.args.buffer.now.items (records_in encode c.args.records.now) _
+    room_for_next c.loop-one.buffer.items (encode one).records
+    (records_in encode (drop (c.loop-one.one-index + 1) c.args.records.now)) c.args.buffer.now.items
+    (records_in encode c.args.records.now) _
     (ap (λ bs. c.loop-one.buffer.items ++ bs) (sym next) ∙ c.loop-one.invariant.items) c.requires in
     omega (arith, fits, c.loop-one.invariant.room)
 
@@ -21,7 +23,8 @@ loop-one-preserved g c =
     record {
       items =
           ap (λ bs. bs ++ records_in encode (drop (c.loop-one.one-index + 1) c.args.records.now)) c.append.ensures.items
-          ∙ append_assoc c.loop-one.buffer.items (encode one).records (records_in encode (drop (c.loop-one.one-index + 1) c.args.records.now))
+          ∙ append_assoc c.loop-one.buffer.items (encode one).records
+          (records_in encode (drop (c.loop-one.one-index + 1) c.args.records.now))
           ∙ ap (λ bs. c.loop-one.buffer.items ++ bs) (sym next) ∙ c.loop-one.invariant.items;
       room = omega arith;
     }

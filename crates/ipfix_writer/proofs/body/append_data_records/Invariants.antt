@@ -5,6 +5,7 @@ use Rattle.ipfix_writer.proofs.body.append_data_records.Given as goal
 
 abbrev pub invariant-loop-one : goal.invariant-loop-one
 invariant-loop-one g l = record {
-  items : l.buffer.items ++ records_in g.R.Encode.encode (drop l.one-index l.records) ≡ l.initial.buffer.items ++ records_in g.R.Encode.encode l.records;
+  items : l.buffer.items ++ records_in g.R.Encode.encode (drop l.one-index l.records) ≡ l.initial.buffer.items
+      ++ records_in g.R.Encode.encode l.records;
   room : vec_capacity l.initial.buffer ≤ vec_capacity l.buffer;
 }

@@ -19,7 +19,14 @@ overflow_add-longer-in-loop-count g c =
     let one = c.index-records-count.result in
     let alone = c.requires.alone one in
     let long = length_in-one g.R.Encode.encode one in
-    omega (arith, c.header_length.ensures, header_before-bound c.loop-count.last c.template.result, c.size.ensures, alone, long)
+    omega (
+      arith,
+      c.header_length.ensures,
+      header_before-bound c.loop-count.last c.template.result,
+      c.size.ensures,
+      alone,
+      long,
+    )
 
 pub returns-then-longer-size-clause-some : goal.returns-then-longer-size-clause-some
 returns-then-longer-size-clause-some g c =
@@ -28,7 +35,8 @@ returns-then-longer-size-clause-some g c =
     let count = c.loop-count.count in
     let one = c.index-records-count.result in
     let grown = length_in-taken encode records count one c.loop-count-test.true c.index-records-count.is in
-    let header : c.header_length.result ≡ header_before (last_template encode (take count records)) (encode one).template =
+    let header : c.header_length.result ≡ header_before (last_template encode (take count records))
+    (encode one).template =
     c.header_length.ensures ∙ ap (λ l. header_before l c.template.result) c.loop-count.invariant.last
     ∙ ap (header_before (last_template encode (take count records))) c.template.ensures in
     let full : c.args.size < length_in encode (take (count + 1) records) =
@@ -42,7 +50,8 @@ returns-then-longer-size-clause-full g c = λ inside.
     let count = c.loop-count.count in
     let one = c.index-records-count.result in
     let grown = length_in-taken encode records count one c.loop-count-test.true c.index-records-count.is in
-    let header : c.header_length.result ≡ header_before (last_template encode (take count records)) (encode one).template =
+    let header : c.header_length.result ≡ header_before (last_template encode (take count records))
+    (encode one).template =
     c.header_length.ensures ∙ ap (λ l. header_before l c.template.result) c.loop-count.invariant.last
     ∙ ap (header_before (last_template encode (take count records))) c.template.ensures in
     omega (arith, grown, header, c.size.ensures, c.loop-count.invariant.exact, c.if-longer-size.true)
@@ -54,12 +63,14 @@ loop-count-preserved g c =
     let count = c.loop-count.count in
     let one = c.index-records-count.result in
     let grown = length_in-taken encode records count one c.loop-count-test.true c.index-records-count.is in
-    let header : c.header_length.result ≡ header_before (last_template encode (take count records)) (encode one).template =
+    let header : c.header_length.result ≡ header_before (last_template encode (take count records))
+    (encode one).template =
     c.header_length.ensures ∙ ap (λ l. header_before l c.template.result) c.loop-count.invariant.last
     ∙ ap (header_before (last_template encode (take count records))) c.template.ensures in
     record {
       within = omega arith;
       exact = omega (arith, grown, header, c.size.ensures, c.loop-count.invariant.exact);
       fits = omega arith;
-      last = ap Some c.template-in-loop-count.ensures ∙ sym (last_template-taken encode records count one c.loop-count-test.true c.index-records-count.is);
+      last = ap Some c.template-in-loop-count.ensures
+          ∙ sym (last_template-taken encode records count one c.loop-count-test.true c.index-records-count.is);
     }

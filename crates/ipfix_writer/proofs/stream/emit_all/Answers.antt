@@ -14,9 +14,11 @@ returns-in-Err-record-clause-broken g c =
       way.0 ++ h.0,
       Appends-trans _ _ _ _ _ way.1 h.1,
       subst (λ (n : ℕ). BeginsLayout n c.args.emitter.export_time records (way.0 ++ h.0)) c.loop-flow.invariant.size
-          (subst (λ (t : ℕ). BeginsLayout c.loop-flow.emitter.size t records (way.0 ++ h.0)) c.loop-flow.invariant.export_time
+          (subst (λ (t : ℕ). BeginsLayout c.loop-flow.emitter.size t records (way.0 ++ h.0))
+          c.loop-flow.invariant.export_time
           (subst (λ fs. BeginsLayout c.loop-flow.emitter.size c.loop-flow.emitter.export_time fs (way.0 ++ h.0))
-          (records-split records i c.flow-item.result c.loop-flow-test.true c.flow-item.is) (h.2 (drop (i + 1) records)))),
+          (records-split records i c.flow-item.result c.loop-flow-test.true c.flow-item.is)
+          (h.2 (drop (i + 1) records)))),
     )
 
 pub loop-flow-preserved : goal.loop-flow-preserved
@@ -29,7 +31,8 @@ loop-flow-preserved g c =
       way = (
         way.0 ++ h.0,
         Appends-trans _ _ _ _ _ way.1 h.1,
-        subst (λ fs. IsUnderWay c.record.new.self fs (way.0 ++ h.0)) (taken-one records i c.flow-item.result c.loop-flow-test.true c.flow-item.is) h.2,
+        subst (λ fs. IsUnderWay c.record.new.self fs (way.0 ++ h.0))
+            (taken-one records i c.flow-item.result c.loop-flow-test.true c.flow-item.is) h.2,
       );
       size = c.in-Ok-record.ensures.settings.0 ∙ c.loop-flow.invariant.size;
       export_time = c.in-Ok-record.ensures.settings.1 ∙ c.loop-flow.invariant.export_time;
@@ -40,12 +43,15 @@ pub returns-clause-written : goal.returns-clause-written
 returns-clause-written g c =
     let way = c.loop-flow.invariant.way in
     let records = c.args.records.now in
-    let whole = subst (λ fs. IsUnderWay c.loop-flow.emitter fs way.0) (all-taken records c.loop-flow.flow-index c.loop-flow-test.false) way.2 in
+    let whole = subst (λ fs. IsUnderWay c.loop-flow.emitter fs way.0)
+    (all-taken records c.loop-flow.flow-index c.loop-flow-test.false) way.2 in
     on_ok c.finish.result c.finish.ensures.finished (λ messages h. (
       way.0 ++ (h records way.0 whole).0,
       Appends-trans _ _ _ _ _ way.1 (h records way.0 whole).1,
-      subst (λ (n : ℕ). IsLayoutOf n c.args.emitter.export_time records (way.0 ++ (h records way.0 whole).0) messages) c.loop-flow.invariant.size
-          (subst (λ (t : ℕ). IsLayoutOf c.loop-flow.emitter.size t records (way.0 ++ (h records way.0 whole).0) messages) c.loop-flow.invariant.export_time
+      subst (λ (n : ℕ). IsLayoutOf n c.args.emitter.export_time records (way.0 ++ (h records way.0 whole).0) messages)
+          c.loop-flow.invariant.size
+          (subst (λ (t : ℕ). IsLayoutOf c.loop-flow.emitter.size t records
+          (way.0 ++ (h records way.0 whole).0) messages) c.loop-flow.invariant.export_time
           (h records way.0 whole).2),
     ))
 
@@ -53,11 +59,14 @@ pub returns-clause-broken : goal.returns-clause-broken
 returns-clause-broken g c =
     let way = c.loop-flow.invariant.way in
     let records = c.args.records.now in
-    let whole = subst (λ fs. IsUnderWay c.loop-flow.emitter fs way.0) (all-taken records c.loop-flow.flow-index c.loop-flow-test.false) way.2 in
+    let whole = subst (λ fs. IsUnderWay c.loop-flow.emitter fs way.0)
+    (all-taken records c.loop-flow.flow-index c.loop-flow-test.false) way.2 in
     on_err c.finish.result c.finish.ensures.broken (λ h. (
       way.0 ++ (h records way.0 whole).0,
       Appends-trans _ _ _ _ _ way.1 (h records way.0 whole).1,
-      subst (λ (n : ℕ). BeginsLayout n c.args.emitter.export_time records (way.0 ++ (h records way.0 whole).0)) c.loop-flow.invariant.size
-          (subst (λ (t : ℕ). BeginsLayout c.loop-flow.emitter.size t records (way.0 ++ (h records way.0 whole).0)) c.loop-flow.invariant.export_time
+      subst (λ (n : ℕ). BeginsLayout n c.args.emitter.export_time records (way.0 ++ (h records way.0 whole).0))
+          c.loop-flow.invariant.size
+          (subst (λ (t : ℕ). BeginsLayout c.loop-flow.emitter.size t records (way.0 ++ (h records way.0 whole).0))
+          c.loop-flow.invariant.export_time
           (h records way.0 whole).2),
     ))

@@ -7,7 +7,9 @@ returns-in-Show g c = rw c.in-Show.is (c.show.ensures (g.M.Caches.metered c.args
 
 pub returns-in-Make : goal.returns-in-Make
 returns-in-Make g c =
-    rw c.in-Make.is (c.make.ensures (side g.S.Source.left g.S.Source.faults c.args.input.now c.args.input.now) (g.M.Caches.metered c.args.caches.now)
+    rw c.in-Make.is
+    (c.make.ensures (side g.S.Source.left g.S.Source.faults c.args.input.now c.args.input.now)
+    (g.M.Caches.metered c.args.caches.now)
     (record { bytes = refl; faults = refl }))
 
 pub returns-in-Schedule : goal.returns-in-Schedule
@@ -16,4 +18,5 @@ returns-in-Schedule g c = rw c.in-Schedule.is (c.schedule.ensures (g.M.Caches.me
 pub returns-in-Selftest : goal.returns-in-Selftest
 returns-in-Selftest g c =
     rw c.in-Selftest.is (c.selftest.ensures (side g.S.Source.left g.S.Source.faults c.args.input.now c.args.input.now)
-    (side g.N.Sink.held g.N.Sink.faults c.args.notes.now c.args.notes.now) (record { bytes = refl; faults = refl }) (record { bytes = refl; faults = refl }))
+    (side g.N.Sink.held g.N.Sink.faults c.args.notes.now c.args.notes.now) (record { bytes = refl; faults = refl })
+    (record { bytes = refl; faults = refl }))

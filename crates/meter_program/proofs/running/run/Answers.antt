@@ -13,11 +13,16 @@ none-some one same = cc
 
 pub returns-then-is_refusal-clause-complete : goal.returns-then-is_refusal-clause-complete
 returns-then-is_refusal-clause-complete g c = λ other is valid quiet. elim c.match-command_of.branch [
-  | in-Err-NotOptions w ↦ absurd (none-some other (sym (w.in-Err-NotOptions.ensures.refused w.in-Err-NotOptions.field-0-is) ∙ is))
+  | in-Err-NotOptions w ↦ absurd
+      (none-some other (sym (w.in-Err-NotOptions.ensures.refused w.in-Err-NotOptions.field-0-is) ∙ is))
   | in-Err-NoMemory w ↦ inr w.status-is
   | in-Ok w ↦
-      complete-at (side g.S.Source.left g.S.Source.faults c.args.input.now) (side g.K.Sink.held g.K.Sink.faults c.args.output.now)
-      (side g.N.Sink.held g.N.Sink.faults c.args.notes.now) (asked w.in-Ok.asked) other c.match-command_of.input _ c.match-command_of.output _ c.match-command_of.notes _
-      (side g.N.Sink.held g.N.Sink.faults c.args.notes.now c.fault_line-noted.new.notes) _ _ c.match-command_of.status _ w.input-is w.output-is w.notes-is w.status-is
-      w.command-status.ensures (sym c.is_refusal.ensures ∙ c.if-is_refusal.true) (some-same (asked w.in-Ok.asked) other (sym w.in-Ok.ensures.command ∙ is)) valid quiet
+      complete-at (side g.S.Source.left g.S.Source.faults c.args.input.now)
+      (side g.K.Sink.held g.K.Sink.faults c.args.output.now)
+      (side g.N.Sink.held g.N.Sink.faults c.args.notes.now)
+      (asked w.in-Ok.asked) other c.match-command_of.input _ c.match-command_of.output _ c.match-command_of.notes _
+      (side g.N.Sink.held g.N.Sink.faults c.args.notes.now c.fault_line-noted.new.notes) _ _ c.match-command_of.status _
+      w.input-is w.output-is w.notes-is w.status-is
+      w.command-status.ensures (sym c.is_refusal.ensures ∙ c.if-is_refusal.true)
+      (some-same (asked w.in-Ok.asked) other (sym w.in-Ok.ensures.command ∙ is)) valid quiet
 ]

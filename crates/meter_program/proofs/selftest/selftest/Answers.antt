@@ -12,10 +12,14 @@ pub returns-in-Err : goal.returns-in-Err
 returns-in-Err g c = λ input notes still quiet.
     let settings = c.args.settings.now in
     let few : length c.as_slice.result.now ≤ 2 ^ 30 =
-    subst (λ bytes. length bytes ≤ 2 ^ 30) (sym c.as_slice.ensures.value) (omega (arith, c.in-Ok.ensures.size, settings.packets_bounds.1)) in
-    let same = refused-for-memory settings.seed settings.packets settings.keys _ c.as_slice.result.now c.in-Err.status refl
-    (c.as_slice.ensures.value ∙ c.in-Ok.ensures.octets) few (λ rose. absurd (omega (arith, rose))) c.in-Err.ensures.refused in
-    subst (λ status. Ends (selftest settings.seed settings.packets settings.keys) (seen_of input (side g.K.Sink.held g.K.Sink.faults c.args.output.now c.args.output.now) notes
+    subst (λ bytes. length bytes ≤ 2 ^ 30) (sym c.as_slice.ensures.value)
+    (omega (arith, c.in-Ok.ensures.size, settings.packets_bounds.1)) in
+    let same = refused-for-memory settings.seed settings.packets settings.keys _ c.as_slice.result.now
+    c.in-Err.status refl
+    (c.as_slice.ensures.value ∙ c.in-Ok.ensures.octets) few
+    (λ rose. absurd (omega (arith, rose))) c.in-Err.ensures.refused in
+    subst (λ status. Ends (selftest settings.seed settings.packets settings.keys)
+    (seen_of input (side g.K.Sink.held g.K.Sink.faults c.args.output.now c.args.output.now) notes
     (g.M.Caches.metered c.gathered_from.new.caches)) (IsUntouched notes) status) (sym same)
     (record { cause = still; output = record { bytes = refl; faults = refl }; notes = quiet })
 
@@ -25,12 +29,16 @@ returns-in-Ok-summary g c = λ input notes still quiet. record {
   read = (still, refl);
   written = _;
   noted = [];
-  answer = tested c.args.settings.now.seed c.args.settings.now.packets c.args.settings.now.keys c.four_workers-settings.result.idle c.four_workers-settings.result.active
-      c.four_workers-settings.result.size c.len-flows.result _ c.as_slice.result.now (g.M.Caches.metered c.gathered_from.new.caches) c.in-Ok-gathered_from.gathered.records.items
-      c.in-Ok-gathered_from.gathered.tally c.in-Ok-gathered_from.gathered.tail c.in-Ok-stream_of.stream.messages c.in-Ok-stream_of.stream.octets.held
+  answer = tested c.args.settings.now.seed c.args.settings.now.packets c.args.settings.now.keys
+      c.four_workers-settings.result.idle c.four_workers-settings.result.active
+      c.four_workers-settings.result.size c.len-flows.result _ c.as_slice.result.now
+      (g.M.Caches.metered c.gathered_from.new.caches) c.in-Ok-gathered_from.gathered.records.items
+      c.in-Ok-gathered_from.gathered.tally c.in-Ok-gathered_from.gathered.tail c.in-Ok-stream_of.stream.messages
+      c.in-Ok-stream_of.stream.octets.held
       c.four_workers-settings.ensures.idle c.four_workers-settings.ensures.active c.four_workers-settings.ensures.size
       (c.len-flows.ensures ∙ c.in-Ok-gathered_from.gathered.records.ok.0) refl
-      (c.as_slice.ensures.value ∙ c.in-Ok.ensures.octets) c.in-Ok-gathered_from.ensures.records c.in-Ok-stream_of.ensures;
+      (c.as_slice.ensures.value ∙ c.in-Ok.ensures.octets) c.in-Ok-gathered_from.ensures.records
+      c.in-Ok-stream_of.ensures;
   output = c.in-Ok-summary.ensures.whole;
   notes = none-taken notes quiet.bytes;
 }
@@ -41,12 +49,16 @@ returns g c = λ input notes still quiet. record {
   read = (still, refl);
   written = _;
   noted = [];
-  answer = tested c.args.settings.now.seed c.args.settings.now.packets c.args.settings.now.keys c.four_workers-settings.result.idle c.four_workers-settings.result.active
-      c.four_workers-settings.result.size c.len-flows.result _ c.as_slice.result.now (g.M.Caches.metered c.gathered_from.new.caches) c.in-Ok-gathered_from.gathered.records.items
-      c.in-Ok-gathered_from.gathered.tally c.in-Ok-gathered_from.gathered.tail c.in-Ok-stream_of.stream.messages c.in-Ok-stream_of.stream.octets.held
+  answer = tested c.args.settings.now.seed c.args.settings.now.packets c.args.settings.now.keys
+      c.four_workers-settings.result.idle c.four_workers-settings.result.active
+      c.four_workers-settings.result.size c.len-flows.result _ c.as_slice.result.now
+      (g.M.Caches.metered c.gathered_from.new.caches) c.in-Ok-gathered_from.gathered.records.items
+      c.in-Ok-gathered_from.gathered.tally c.in-Ok-gathered_from.gathered.tail c.in-Ok-stream_of.stream.messages
+      c.in-Ok-stream_of.stream.octets.held
       c.four_workers-settings.ensures.idle c.four_workers-settings.ensures.active c.four_workers-settings.ensures.size
       (c.len-flows.ensures ∙ c.in-Ok-gathered_from.gathered.records.ok.0) refl
-      (c.as_slice.ensures.value ∙ c.in-Ok.ensures.octets) c.in-Ok-gathered_from.ensures.records c.in-Ok-stream_of.ensures;
+      (c.as_slice.ensures.value ∙ c.in-Ok.ensures.octets) c.in-Ok-gathered_from.ensures.records
+      c.in-Ok-stream_of.ensures;
   output = inr (c.in-Err-summary.ensures.begun, c.in-Err-summary.ensures.cause.failed);
   notes = none-begun notes [] quiet.bytes;
   cause = inl c.in-Err-summary.ensures.cause.failed;

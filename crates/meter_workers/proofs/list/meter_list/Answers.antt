@@ -19,7 +19,8 @@ returns-then-end-eq0-clause-did g c =
     let pass = g.C.FlowCache.shown c.args.pass.now in
     let count = answers-count c.args.base file in
     let none : answers_from c.args.base file ≡ [] =
-    nil_from_length (answers_from c.args.base file) (omega (arith, count, c.requires.index.count, c.if-end-eq0.true, c.count-end.ensures)) in
+    nil_from_length (answers_from c.args.base file)
+    (omega (arith, count, c.requires.index.count, c.if-end-eq0.true, c.count-end.ensures)) in
     subst (λ l. Did pass c.args.out.now.items c.args.tally.now l pass c.args.out.now.items c.args.tally.now) (sym none)
     (did-none pass c.args.out.now.items c.args.tally.now)
 
@@ -28,6 +29,8 @@ returns-clause-did g c =
     let file = file_of c.args.capture.now in
     let answers = answers_from c.args.base file in
     let count = answers-count c.args.base file in
-    subst (λ l. OnOk c.meter_piece.result (Did (g.C.FlowCache.shown c.args.pass.now) c.args.out.now.items c.args.tally.now l
+    subst (λ l. OnOk c.meter_piece.result
+    (Did (g.C.FlowCache.shown c.args.pass.now) c.args.out.now.items c.args.tally.now l
     (g.C.FlowCache.shown c.meter_piece.new.pass) c.meter_piece.new.out.items c.meter_piece.new.tally))
-    (all-of answers c.count-end.result (omega (arith, count, c.requires.index.count, c.count-end.ensures))) c.meter_piece.ensures.did
+    (all-of answers c.count-end.result (omega (arith, count, c.requires.index.count, c.count-end.ensures)))
+    c.meter_piece.ensures.did

@@ -51,12 +51,16 @@ returns-clause-packets g c =
     let ws' = c.worked-workers.result.items in
     let finished : All (λ w. w.state ≡ Finished) ws' = c.if-not-all_finished.ensures refl in
     let grew = zip-all (λ w. w.state ≡ Finished)
-    (λ o w. w.state ≡ Finished → HasMetered c.in_ok-pieces.pieces answers (g.C.FlowCache.shown o.pass) (g.C.FlowCache.shown w.pass) w.draw)
-    (λ o w. Packets g w ≡ Packets g o ++ packets_in (pieces_of size answers (Drawn g w))) ws ws' (λ o w done step. step done) finished c.worked-workers.ensures.metered in
+    (λ o w. w.state ≡ Finished → HasMetered c.in_ok-pieces.pieces answers (g.C.FlowCache.shown o.pass)
+    (g.C.FlowCache.shown w.pass) w.draw)
+    (λ o w. Packets g w ≡ Packets g o ++ packets_in (pieces_of size answers (Drawn g w))) ws ws'
+    (λ o w done step. step done) finished c.worked-workers.ensures.metered in
     if-ok-both c.unseated.result
     (λ r. IsPermutation (flat_map (Packets g) ws') (flat_map (HeldPackets g) r.0.items))
     (λ r. IsPermutation answers (pieces_of size answers (flat_map (Drawn g) ws')))
-    (λ r. IsPermutation (flat_map (HeldPackets g) c.args.helds.items ++ packets_in answers) (flat_map (HeldPackets g) r.0.items))
-    (λ r unseated spread. part-packets (HeldPackets g) (Packets g) (Drawn g) size answers c.args.helds.items r.0.items ws ws'
+    (λ r. IsPermutation (flat_map (HeldPackets g) c.args.helds.items ++ packets_in answers)
+    (flat_map (HeldPackets g) r.0.items))
+    (λ r unseated spread. part-packets (HeldPackets g) (Packets g)
+    (Drawn g) size answers c.args.helds.items r.0.items ws ws'
     c.packets_law.ensures.together c.packets_law.ensures.permuted c.in_ok-workers.ensures.packets grew spread unseated)
     c.unseated.ensures.packets c.unseated.ensures.spread

@@ -1,5 +1,6 @@
 -- The windows, one behind the other.
-use Rattle.std.proofs.Common.{◌≡◌, ◌+◌, ◌-◌, ◌^◌, ◌++◌, ◌≤◌, ℕ, List, length, drop, Err, arith, refl, sym, subst, ap, ◌∙◌}
+use Rattle.std.proofs.Common.{◌≡◌, ◌+◌, ◌-◌, ◌^◌, ◌++◌, ◌≤◌, ℕ, List, length, drop, Err, arith, refl, sym, subst, ap}
+use Rattle.std.proofs.Common.{◌∙◌}
 use Rattle.std.specs.Prelude.{All, flat_map}
 use Rattle.std.proofs.lemmas.List.{length-append, length-map, take-append-drop}
 use Rattle.std.proofs.KnownBytes.{Consumes-trans}
@@ -9,7 +10,8 @@ use Rattle.pcap_reader.specs.File.{CaptureFile}
 use Rattle.pcap_reader.specs.Views.{file_of, headed_by}
 use Rattle.capture_input.specs.Refusals.{IsRefused}
 use Rattle.capture_input.specs.Places.{IsAt}
-use Rattle.capture_input.proofs.Reading.{at-first, at-filled, kept-rest, known-link, cut-refused, part-refused, damage-place, smaller, seen}
+use Rattle.capture_input.proofs.Reading.{at-first, at-filled, kept-rest, known-link, cut-refused, part-refused}
+use Rattle.capture_input.proofs.Reading.{damage-place, smaller, seen}
 use Rattle.pcap_reader.specs.Windows.{grown, front_of}
 use Rattle.pcap_reader.proofs.Cutting.{few_parts}
 use Rattle.pcap_reader.specs.Records.{parts_of, records_of, packet_record, rest_of, tail_of}
@@ -33,10 +35,14 @@ loop-metering-init g c =
         front_of (headed_by c.args.head window),
         drop 24 window,
         at-first c.args.head window c.args.input.taken front c.requires.first.1,
-        metered-first c.args.head window (flat_map (HeldPackets g) c.args.metering.helds.items) c.args.metering.tally front c.requires.none.0 c.requires.none.1,
-        λ first had. subst (λ l. Consumes first (g.S.Source.left c.args.source.now) l) (sym (take-append-drop 24 window)) had,
+        metered-first c.args.head window (flat_map (HeldPackets g) c.args.metering.helds.items) c.args.metering.tally
+            front c.requires.none.0 c.requires.none.1,
+        λ first had. subst (λ l. Consumes first (g.S.Source.left c.args.source.now) l)
+            (sym (take-append-drop 24 window)) had,
       );
-      held = subst (λ (n : ℕ). All (λ (h : Held g.row.C.Denot g.row.C-Pass.Denot). g.C.FlowCache.is_of c.args.cache.now h.pass × IsHeld n (g.C.FlowCache.shown h.pass) h.out.items) c.args.metering.helds.items)
+      held = subst
+          (λ (n : ℕ). All (λ (h : Held g.row.C.Denot g.row.C-Pass.Denot). g.C.FlowCache.is_of c.args.cache.now h.pass
+          × IsHeld n (g.C.FlowCache.shown h.pass) h.out.items) c.args.metering.helds.items)
           (sym none) c.requires.held;
       many = refl;
       tallied = tallied-none c.args.metering.tally c.requires.none.1;
@@ -53,13 +59,20 @@ returns-then-input-clause-metered g c = λ first had.
     let window = c.loop-metering.input.window.bytes in
     let bytes = c.split_at.result.1.now in
     let told = c.in-Ok.ensures in
-    let shows : bytes ≡ drop c.loop-metering.from window = c.split_at.ensures.back ∙ ap (drop c.loop-metering.from) c.bytes.ensures in
-    let to = stepped c.args.head window bytes c.loop-metering.from c.loop-metering.input.taken (flat_map (HeldPackets g) c.loop-metering.metering.helds.items)
-    (flat_map (HeldPackets g) c.in-Ok.metering.helds.items) c.loop-metering.metering.tally c.in-Ok.metering.tally at.0 at.1 (file_of c.part-part.result)
-    c.packets_law.ensures.together c.parts_law.ensures.next c.parts_law.ensures.header c.packets_law.ensures.count at.2 at.3 c.part-part.ensures.part shows told.undamaged told.packets told.counts in
-    metered-whole c.args.head (grown at.0 at.1) _ _ _ _ _ first (g.S.Source.left c.loop-metering.source) _ _ to.sound to.did to.rest_is
-    (known-link c.args.head at.0 (file_of c.part-part.result) bytes at.2.sound.like c.part-part.ensures.part c.part-part.ensures.known) told.index.tail
-    (at.4 first had) (c.loop-metering.invariant.ended c.if-input.true) (omega (arith, at.2.count, c.loop-metering.invariant.within, c.loop-metering.invariant.limit))
+    let shows : bytes ≡ drop c.loop-metering.from window =
+    c.split_at.ensures.back ∙ ap (drop c.loop-metering.from) c.bytes.ensures in
+    let to = stepped c.args.head window bytes c.loop-metering.from c.loop-metering.input.taken
+    (flat_map (HeldPackets g) c.loop-metering.metering.helds.items)
+    (flat_map (HeldPackets g) c.in-Ok.metering.helds.items) c.loop-metering.metering.tally c.in-Ok.metering.tally at.0
+    at.1 (file_of c.part-part.result)
+    c.packets_law.ensures.together c.parts_law.ensures.next c.parts_law.ensures.header c.packets_law.ensures.count at.2
+    at.3 c.part-part.ensures.part shows told.undamaged told.packets told.counts in
+    metered-whole c.args.head (grown at.0 at.1) _ _ _ _ _ first
+    (g.S.Source.left c.loop-metering.source) _ _ to.sound to.did to.rest_is
+    (known-link c.args.head at.0 (file_of c.part-part.result) bytes at.2.sound.like c.part-part.ensures.part
+    c.part-part.ensures.known) told.index.tail
+    (at.4 first had) (c.loop-metering.invariant.ended c.if-input.true)
+    (omega (arith, at.2.count, c.loop-metering.invariant.within, c.loop-metering.invariant.limit))
 
 -- what the window keeps is the rest of the part
 kept : (g : given.Over) (c : goal.In-Ok-fill g) → c.keep.new.self.bytes ≡ rest_of (file_of c.part-part.result)
@@ -77,7 +90,8 @@ kept g c =
     let place : from + length bytes - c.tail.result ≡ from + length (drop from window) - tail_of part =
     ap (λ (k : ℕ). from + k - c.tail.result) count ∙ ap (λ (k : ℕ). from + length (drop from window) - k) tail in
     ap (λ (w : WindowState). w.bytes) c.keep.ensures ∙ ap (λ (k : ℕ). drop k window) place
-    ∙ kept-rest window part from (tail_of part) start own at.2.low (c.parts_law.ensures.whole part (omega (arith, start))) refl
+    ∙ kept-rest window part from (tail_of part) start own at.2.low
+    (c.parts_law.ensures.whole part (omega (arith, start))) refl
 
 -- what is kept of the window is less than a window
 pub loop-metering-smaller : goal.loop-metering-smaller
@@ -93,7 +107,8 @@ loop-metering-smaller g c =
     let all : length c.fill.new.self.window.bytes ≡ length c.keep.new.self.bytes + length told.got =
     ap length told.bytes ∙ length-append c.keep.new.self.bytes told.got in
     let short = c.parts_law.ensures.short part within c.in-Ok.ensures.undamaged in
-    smaller c.loop-metering.input.limit c.fill.new.self.limit c.loop-metering.input.taken c.fill.new.self.taken (length told.got) c.loop-metering.input.ended
+    smaller c.loop-metering.input.limit c.fill.new.self.limit c.loop-metering.input.taken c.fill.new.self.taken
+    (length told.got) c.loop-metering.input.ended
     c.fill.new.self.ended c.if-input.false told.limit more.taken_is more.within
     (λ full. (let f = more.full full in omega (arith, f, size, left, all, short, c.requires.size.0)))
 
@@ -105,11 +120,14 @@ loop-metering-preserved g c =
     let told = c.in-Ok.ensures in
     let filled = c.in-Ok-fill.ensures in
     let part = file_of c.part-part.result in
-    let shows : bytes ≡ drop c.loop-metering.from window = c.split_at.ensures.back ∙ ap (drop c.loop-metering.from) c.bytes.ensures in
+    let shows : bytes ≡ drop c.loop-metering.from window =
+    c.split_at.ensures.back ∙ ap (drop c.loop-metering.from) c.bytes.ensures in
     let packets = flat_map (HeldPackets g) c.in-Ok.metering.helds.items in
-    let to = stepped c.args.head window bytes c.loop-metering.from c.loop-metering.input.taken (flat_map (HeldPackets g) c.loop-metering.metering.helds.items)
+    let to = stepped c.args.head window bytes c.loop-metering.from c.loop-metering.input.taken
+    (flat_map (HeldPackets g) c.loop-metering.metering.helds.items)
     packets c.loop-metering.metering.tally c.in-Ok.metering.tally at.0 at.1 part
-    c.packets_law.ensures.together c.parts_law.ensures.next c.parts_law.ensures.header c.packets_law.ensures.count at.2 at.3 c.part-part.ensures.part shows told.undamaged told.packets told.counts in
+    c.packets_law.ensures.together c.parts_law.ensures.next c.parts_law.ensures.header c.packets_law.ensures.count at.2
+    at.3 c.part-part.ensures.part shows told.undamaged told.packets told.counts in
     record {
       at = (
         grown at.0 at.1,
@@ -135,19 +153,26 @@ returns-in-Err-clause-refused g c = λ first had.
     let at = c.loop-metering.invariant.at in
     let window = c.loop-metering.input.window.bytes in
     let bytes = c.split_at.result.1.now in
-    let shows : bytes ≡ drop c.loop-metering.from window = c.split_at.ensures.back ∙ ap (drop c.loop-metering.from) c.bytes.ensures in
-    let within : c.loop-metering.input.taken ≤ c.args.input.limit = omega (arith, c.loop-metering.invariant.within, c.loop-metering.invariant.limit) in
+    let shows : bytes ≡ drop c.loop-metering.from window =
+    c.split_at.ensures.back ∙ ap (drop c.loop-metering.from) c.bytes.ensures in
+    let within : c.loop-metering.input.taken ≤ c.args.input.limit =
+    omega (arith, c.loop-metering.invariant.within, c.loop-metering.invariant.limit) in
     (part-refused c.args.head window bytes c.loop-metering.from (length bytes) at.0 at.1
-    (file_of c.part-part.result) first (g.S.Source.left c.loop-metering.source) (g.S.Source.left c.refused.new.source) (g.S.Source.faults c.args.source.now)
-    (g.S.Source.faults c.loop-metering.source) (g.S.Source.faults c.refused.new.source) c.loop-metering.input c.args.input.limit c.in-Err.error c.refused.result
-    c.parts_law.ensures.next c.parts_law.ensures.header c.parts_law.ensures.stays c.parts_law.ensures.whole at.2 c.part-part.ensures.part shows c.part-part.ensures.known
-    (λ n is. c.in-Err.ensures.damaged n (ap (λ e. Err e) is)) refl c.loop-metering.invariant.limit within c.loop-metering.invariant.quiet (at.4 first had) c.refused.ensures).0
+    (file_of c.part-part.result) first (g.S.Source.left c.loop-metering.source) (g.S.Source.left c.refused.new.source)
+    (g.S.Source.faults c.args.source.now)
+    (g.S.Source.faults c.loop-metering.source)
+    (g.S.Source.faults c.refused.new.source) c.loop-metering.input c.args.input.limit c.in-Err.error c.refused.result
+    c.parts_law.ensures.next c.parts_law.ensures.header c.parts_law.ensures.stays c.parts_law.ensures.whole at.2
+    c.part-part.ensures.part shows c.part-part.ensures.known
+    (λ n is. c.in-Err.ensures.damaged n (ap (λ e. Err e) is)) refl c.loop-metering.invariant.limit within
+    c.loop-metering.invariant.quiet (at.4 first had) c.refused.ensures).0
 
 pub refused-requires-clause-bounded : goal.refused-requires-clause-bounded
 refused-requires-clause-bounded g c = λ n is.
     let part = file_of c.part-part.result in
     let start : part.start ≡ 0 = ap (λ (f : CaptureFile). f.start) c.part-part.ensures.part in
-    let own : length part.bytes ≡ length c.split_at.result.1.now = ap (λ (f : CaptureFile). length f.bytes) c.part-part.ensures.part in
+    let own : length part.bytes ≡ length c.split_at.result.1.now =
+    ap (λ (f : CaptureFile). length f.bytes) c.part-part.ensures.part in
     let place = damage-place part n (c.in-Err.ensures.damaged n (ap (λ e. Err e) is)) in
     omega (arith, place, own, c.parts_law.ensures.whole part (omega (arith, start)))
 
@@ -157,11 +182,16 @@ returns-in-Err-fill-clause-refused g c = λ first had.
     let told = c.in-Err-fill.ensures in
     let count : c.loop-metering.input.taken + length told.got ≡ length ((at.0.bytes ++ at.1) ++ told.got) =
     omega (arith, at.2.count, length-append (at.0.bytes ++ at.1) told.got) in
-    subst (λ (k : ℕ). IsRefused (seen first (g.S.Source.left c.fill.new.source) (g.S.Source.faults c.args.source.now) (g.S.Source.faults c.fill.new.source)) k c.in-Err-fill.broken)
+    subst (λ (k : ℕ). IsRefused
+    (seen first (g.S.Source.left c.fill.new.source) (g.S.Source.faults c.args.source.now)
+    (g.S.Source.faults c.fill.new.source)) k c.in-Err-fill.broken)
     c.loop-metering.invariant.limit
-    (cut-refused first (g.S.Source.left c.loop-metering.source) (g.S.Source.left c.fill.new.source) (g.S.Source.faults c.args.source.now)
-    (g.S.Source.faults c.loop-metering.source) (g.S.Source.faults c.fill.new.source) (at.0.bytes ++ at.1) told.got (c.loop-metering.input.taken + length told.got)
-    c.loop-metering.input.limit c.in-Err-fill.broken c.loop-metering.invariant.quiet (at.4 first had) told.given count told.cut).0
+    (cut-refused first (g.S.Source.left c.loop-metering.source) (g.S.Source.left c.fill.new.source)
+    (g.S.Source.faults c.args.source.now)
+    (g.S.Source.faults c.loop-metering.source) (g.S.Source.faults c.fill.new.source) (at.0.bytes ++ at.1) told.got
+    (c.loop-metering.input.taken + length told.got)
+    c.loop-metering.input.limit c.in-Err-fill.broken c.loop-metering.invariant.quiet
+    (at.4 first had) told.given count told.cut).0
 
 -- a file so long has no more records
 pub meter_window-requires-clause-long : goal.meter_window-requires-clause-long
@@ -169,14 +199,20 @@ meter_window-requires-clause-long g c = λ picked lives.
     let at = c.loop-metering.invariant.at in
     let file = at.0 in
     let few = few_parts file at.2.sound.long in
-    let records : length (records_of file) ≡ length (parts_of file) = length-map (parts_of file) (packet_record file.order) in
-    let shows : c.split_at.result.1.now ≡ drop c.loop-metering.from c.loop-metering.input.window.bytes = c.split_at.ensures.back ∙ ap (drop c.loop-metering.from) c.bytes.ensures in
+    let records : length (records_of file) ≡ length (parts_of file) =
+    length-map (parts_of file) (packet_record file.order) in
+    let shows : c.split_at.result.1.now ≡ drop c.loop-metering.from c.loop-metering.input.window.bytes =
+    c.split_at.ensures.back ∙ ap (drop c.loop-metering.from) c.bytes.ensures in
     let own : length (file_of c.part-part.result).bytes ≡ length (rest_of file ++ at.1) =
     ap (λ (f : CaptureFile). length f.bytes) c.part-part.ensures.part ∙ ap length (shows ∙ at.2.left) in
-    let whole : c.loop-metering.input.taken ≡ length file.bytes + length at.1 = omega (arith, at.2.count, length-append file.bytes at.1) in
-    let taken : c.loop-metering.input.taken ≤ 2 ^ 30 = omega (arith, c.loop-metering.invariant.within, c.loop-metering.invariant.limit, c.requires.within.1) in
-    let long : length (file_of c.part-part.result).bytes ≤ 2 ^ 30 = omega (arith, own, length-append (rest_of file) at.1, few, whole, taken) in
+    let whole : c.loop-metering.input.taken ≡ length file.bytes + length at.1 =
+    omega (arith, at.2.count, length-append file.bytes at.1) in
+    let taken : c.loop-metering.input.taken ≤ 2 ^ 30 =
+    omega (arith, c.loop-metering.invariant.within, c.loop-metering.invariant.limit, c.requires.within.1) in
+    let long : length (file_of c.part-part.result).bytes ≤ 2 ^ 30 =
+    omega (arith, own, length-append (rest_of file) at.1, few, whole, taken) in
     let counted : c.loop-metering.metering.tally.captured ≤ 2 ^ 30 =
     omega (arith, at.3.tallied.captured, c.packets_law.ensures.count file, records, few, whole, taken) in
-    let both : (length (file_of c.part-part.result).bytes ≤ 2 ^ 30) × (c.loop-metering.metering.tally.captured ≤ 2 ^ 30) = (long, counted) in
+    let both : (length (file_of c.part-part.result).bytes ≤ 2 ^ 30)
+    × (c.loop-metering.metering.tally.captured ≤ 2 ^ 30) = (long, counted) in
     both

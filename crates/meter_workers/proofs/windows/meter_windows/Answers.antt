@@ -22,7 +22,12 @@ returns-clause-metered g c =
     let counts = c.in-Ok-gathered.ensures.counts in
     record {
       bytes = all.bytes;
-      read = record { given = all.read.given; ended = all.read.ended; within = omega (arith, all.read.within, told.limit, begun.3) };
+      read = record {
+        given = all.read.given;
+        ended = all.read.ended;
+        within =
+            omega (arith, all.read.within, told.limit, begun.3);
+      };
       file = all.file;
       is_file = all.is_file;
       known = all.known;
@@ -35,4 +40,5 @@ returns-clause-metered g c =
 pub returns-clause-parts : goal.returns-clause-parts
 returns-clause-parts g c =
     let all = c.in-Ok-gathered.all in
-    subst (λ (l : List Fragment). IsPermutation l all.parts.items) c.in-Ok-gathered.ensures.parts (IsPermutation-refl all.parts.items)
+    subst (λ (l : List Fragment). IsPermutation l all.parts.items) c.in-Ok-gathered.ensures.parts
+    (IsPermutation-refl all.parts.items)

@@ -10,7 +10,15 @@ use Rattle.meter_workers.proofs.working.meter_piece.Goals as goal
 
 pub meter_record-requires-clause-room : goal.meter_record-requires-clause-room
 meter_record-requires-clause-room g c κs within =
-    room-of c.loop-n.tally c.room_law.ensures (omega (arith, c.requires.few.1, c.requires.part.1, c.loop-n.invariant.captured, c.loop-n.invariant.low, c.loop-n-test.true)) c.loop-n.invariant.tallied
+    room-of c.loop-n.tally c.room_law.ensures
+    (omega (
+      arith,
+      c.requires.few.1,
+      c.requires.part.1,
+      c.loop-n.invariant.captured,
+      c.loop-n.invariant.low,
+      c.loop-n-test.true,
+    )) c.loop-n.invariant.tallied
 
 pub loop-n-init : goal.loop-n-init
 loop-n-init g c =
@@ -41,10 +49,14 @@ loop-n-preserved g c =
     record {
       own = c.meter_record.ensures.own;
       single = c.in_ok-meter_record.ensures.did.seats ∙ c.loop-n.invariant.single;
-      did = subst (λ l. Did start c.args.out.now.items c.args.tally.now l after c.meter_record.new.out.items c.meter_record.new.tally)
+      did = subst
+          (λ l. Did start c.args.out.now.items c.args.tally.now l after c.meter_record.new.out.items
+          c.meter_record.new.tally)
           (sym (range-next answers c.args.piece.start n answer c.loop-n.invariant.low place))
-          (did-both start before after c.args.out.now.items c.loop-n.out.items c.meter_record.new.out.items c.args.tally.now c.loop-n.tally c.meter_record.new.tally
-          (slice_range answers c.args.piece.start n) (answer ∷ []) c.packets_law.ensures.together c.loop-n.invariant.did c.in_ok-meter_record.ensures.did);
+          (did-both start before after c.args.out.now.items c.loop-n.out.items c.meter_record.new.out.items
+          c.args.tally.now c.loop-n.tally c.meter_record.new.tally
+          (slice_range answers c.args.piece.start n)
+          (answer ∷ []) c.packets_law.ensures.together c.loop-n.invariant.did c.in_ok-meter_record.ensures.did);
       below = subst (λ k. AreBelow k after.note.packets) same c.meter_record.ensures.below;
       tallied = c.meter_record.ensures.tallied;
       captured = omega (arith, c.meter_record.ensures.captured, c.loop-n.invariant.captured);
@@ -59,7 +71,8 @@ returns-in_err-meter_record-clause-failed g c =
     let answer = accepted file.link file.nanos (record_read c.record-record.result) (c.args.base + n) in
     let place = answer-found c.args.base n file (record_read c.record-record.result) c.record-record.ensures.value in
     let old = (g.C.FlowCache.shown c.args.pass.now).note.packets in
-    let next : packets_in (slice_range answers c.args.piece.start (n + 1)) ≡ packets_in (slice_range answers c.args.piece.start n) ++ packets_in (answer ∷ []) =
+    let next : packets_in (slice_range answers c.args.piece.start (n + 1))
+    ≡ packets_in (slice_range answers c.args.piece.start n) ++ packets_in (answer ∷ []) =
     ap packets_in (range-next answers c.args.piece.start n answer c.loop-n.invariant.low place)
     ∙ c.packets_law.ensures.together (slice_range answers c.args.piece.start n) (answer ∷ []) in
     on-err c.from_residual.result (

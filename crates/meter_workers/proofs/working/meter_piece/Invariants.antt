@@ -10,7 +10,8 @@ invariant-loop-n g l = record {
   own : g.C.FlowCache.is_of l.cache l.pass;
   single : (g.C.FlowCache.shown l.pass).note.seats ≡ 1;
   did : Did (g.C.FlowCache.shown l.initial.pass) l.initial.out.items l.initial.tally
-      (slice_range (answers_from l.base (file_of l.capture)) l.fn.piece.start l.n) (g.C.FlowCache.shown l.pass) l.out.items l.tally;
+      (slice_range (answers_from l.base (file_of l.capture)) l.fn.piece.start l.n)
+      (g.C.FlowCache.shown l.pass) l.out.items l.tally;
   below : AreBelow (l.base + l.n) (g.C.FlowCache.shown l.pass).note.packets;
   tallied : IsTallied l.tally;
   captured : l.tally.captured + l.fn.piece.start ≡ l.initial.tally.captured + l.n;

@@ -13,5 +13,6 @@ returns-in-Err-clause-below g c = below-same c.args.number _ c.requires.below
 
 pub returns-in-Err-clause-did : goal.returns-in-Err-clause-did
 returns-in-Err-clause-did g c =
-    did-ignored (g.C.FlowCache.shown c.args.pass.now) c.args.out.now.items c.args.tally.now c.count_answer.new.tally c.accept-answer.result _ c.in-Err.field-0
+    did-ignored (g.C.FlowCache.shown c.args.pass.now) c.args.out.now.items c.args.tally.now c.count_answer.new.tally
+    c.accept-answer.result _ c.in-Err.field-0
     c.in-Err.is c.accept-answer.ensures.answer c.count_answer.ensures.counts

@@ -1,9 +1,11 @@
-use Rattle.std.proofs.Common.{◌≡◌, ◌+◌, ◌*◌, ◌≤◌, ◌++◌, ◌∷◌, [], length, min, sym, ap, ◌∙◌, subst, arith, append-nil, append_assoc}
+use Rattle.std.proofs.Common.{◌≡◌, ◌+◌, ◌*◌, ◌≤◌, ◌++◌, ◌∷◌, [], length, min, sym, ap, ◌∙◌, subst, arith, append-nil}
+use Rattle.std.proofs.Common.{append_assoc}
 use Rattle.pcap_reader.specs.Views.{file_of}
 use Rattle.work_pieces.specs.Passes.{size_of, drawn_of}
 use Rattle.meter_workers.specs.Answers.{answers_from}
 use Rattle.meter_workers.specs.Work.{AreBelow, IsBehind}
-use Rattle.meter_workers.proofs.Pieces.{did-none, did-piece, behind-none, behind-next, behind-more, below-more, answers-count}
+use Rattle.meter_workers.proofs.Pieces.{did-none, did-piece, behind-none, behind-next, behind-more, below-more}
+use Rattle.meter_workers.proofs.Pieces.{answers-count}
 use Rattle.meter_workers.proofs.working.work_through.Goals as goal
 
 pub loop-turn-init : goal.loop-turn-init
@@ -17,20 +19,23 @@ loop-turn-init g c =
       did = ([], sym (append-nil (drawn_of c.args.draw.now)), did-none pass c.args.out.now.items c.args.tally.now);
       tallied = c.requires.tallied;
       few = omega arith;
-      behind = behind-none (size_of c.args.pieces.now) c.args.base c.args.tally.now.captured (drawn_of c.args.draw.now) pass.note.packets c.requires.below;
+      behind = behind-none (size_of c.args.pieces.now) c.args.base c.args.tally.now.captured
+          (drawn_of c.args.draw.now) pass.note.packets c.requires.below;
       below = below-more c.args.base _ pass.note.packets (omega arith) c.requires.below;
     }
 
 pub meter_piece-requires-clause-few : goal.meter_piece-requires-clause-few
 meter_piece-requires-clause-few g c κs within =
-    let next = behind-next (size_of c.args.pieces.now) c.args.base c.args.tally.now.captured c.in-Some.piece.number c.loop-turn.tally.captured (drawn_of c.loop-turn.draw)
+    let next = behind-next (size_of c.args.pieces.now) c.args.base c.args.tally.now.captured c.in-Some.piece.number
+    c.loop-turn.tally.captured (drawn_of c.loop-turn.draw)
     (g.C.FlowCache.shown c.loop-turn.pass).note.packets c.loop-turn.invariant.behind c.in-Some.ensures.rises in
     (c.requires.few.0, omega (arith, next.1, c.requires.few.1, c.in-Some.ensures.some.0))
 
 pub meter_piece-requires-clause-below : goal.meter_piece-requires-clause-below
 meter_piece-requires-clause-below g c κs within =
     let packets = (g.C.FlowCache.shown c.loop-turn.pass).note.packets in
-    let next = behind-next (size_of c.args.pieces.now) c.args.base c.args.tally.now.captured c.in-Some.piece.number c.loop-turn.tally.captured (drawn_of c.loop-turn.draw)
+    let next = behind-next (size_of c.args.pieces.now) c.args.base c.args.tally.now.captured c.in-Some.piece.number
+    c.loop-turn.tally.captured (drawn_of c.loop-turn.draw)
     packets c.loop-turn.invariant.behind c.in-Some.ensures.rises in
     subst (λ k. AreBelow (c.args.base + k) packets) (sym c.in-Some.ensures.some.0) next.0
 
@@ -47,12 +52,15 @@ loop-turn-preserved g c =
     let told = c.in_ok-meter_piece-in-Some.ensures in
     let drawn = c.loop-turn.invariant.did.0 in
     let grown : drawn_of c.draw.new.pass ≡ drawn_of c.args.draw.now ++ (drawn ++ n ∷ []) =
-    some.2 ∙ ap (λ l. l ++ n ∷ []) c.loop-turn.invariant.did.1 ∙ append_assoc (drawn_of c.args.draw.now) drawn (n ∷ []) in
-    let all : length c.args.index.now.offsets ≡ length answers = c.requires.index.count ∙ sym (answers-count c.args.base file) in
+    some.2 ∙ ap (λ l. l ++ n ∷ []) c.loop-turn.invariant.did.1
+    ∙ append_assoc (drawn_of c.args.draw.now) drawn (n ∷ []) in
+    let all : length c.args.index.now.offsets ≡ length answers =
+    c.requires.index.count ∙ sym (answers-count c.args.base file) in
     let stop : c.in-Some.piece.end ≡ min ((n + 1) * size) (length answers) =
     some.1 ∙ ap (min ((n + 1) * size)) (c.requires.whole ∙ all) in
     let within : c.in-Some.piece.end ≤ (n + 1) * size = omega (arith, stop) in
-    let next = behind-next size c.args.base c.args.tally.now.captured n c.loop-turn.tally.captured (drawn_of c.loop-turn.draw)
+    let next = behind-next size c.args.base c.args.tally.now.captured n c.loop-turn.tally.captured
+    (drawn_of c.loop-turn.draw)
     before.note.packets c.loop-turn.invariant.behind c.in-Some.ensures.rises in
     record {
       own = c.meter_piece.ensures.own;
@@ -62,13 +70,21 @@ loop-turn-preserved g c =
       did = (
         drawn ++ n ∷ [],
         grown,
-        did-piece start before after c.args.out.now.items c.loop-turn.out.items c.meter_piece.new.out.items c.args.tally.now c.loop-turn.tally c.meter_piece.new.tally
-            size c.in-Some.piece.start c.in-Some.piece.end n answers drawn c.packets_law.ensures.together some.0 stop c.loop-turn.invariant.did.2 told.did,
+        did-piece start before after c.args.out.now.items c.loop-turn.out.items c.meter_piece.new.out.items
+            c.args.tally.now c.loop-turn.tally c.meter_piece.new.tally
+            size c.in-Some.piece.start c.in-Some.piece.end n answers drawn c.packets_law.ensures.together some.0 stop
+            c.loop-turn.invariant.did.2 told.did,
       );
       tallied = told.tallied;
       few = omega (arith, told.captured, next.1, some.0, c.in-Some.ensures.within.2);
-      behind = subst (λ l. IsBehind size c.args.base c.args.tally.now.captured l after.note.packets c.meter_piece.new.tally.captured) (sym some.2)
-          (behind-more size c.args.base c.args.tally.now.captured n c.in-Some.piece.end c.loop-turn.tally.captured c.meter_piece.new.tally.captured (drawn_of c.loop-turn.draw)
-          after.note.packets told.below within next.1 (subst (λ k. c.meter_piece.new.tally.captured + k ≡ c.loop-turn.tally.captured + c.in-Some.piece.end) some.0 told.captured));
-      below = below-more (c.args.base + c.in-Some.piece.end) _ after.note.packets (omega (arith, c.in-Some.ensures.within.2, c.requires.whole)) told.below;
+      behind = subst
+          (λ l. IsBehind size c.args.base c.args.tally.now.captured l after.note.packets
+          c.meter_piece.new.tally.captured) (sym some.2)
+          (behind-more size c.args.base c.args.tally.now.captured n c.in-Some.piece.end c.loop-turn.tally.captured
+          c.meter_piece.new.tally.captured (drawn_of c.loop-turn.draw)
+          after.note.packets told.below within next.1
+          (subst (λ k. c.meter_piece.new.tally.captured + k ≡ c.loop-turn.tally.captured + c.in-Some.piece.end) some.0
+          told.captured));
+      below = below-more (c.args.base + c.in-Some.piece.end) _ after.note.packets
+          (omega (arith, c.in-Some.ensures.within.2, c.requires.whole)) told.below;
     }

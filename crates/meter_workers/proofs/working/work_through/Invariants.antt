@@ -13,9 +13,11 @@ invariant-loop-turn g l = record {
   seat : seats_of l.draw ≡ 1;
   did : (drawn : List ℕ) × (drawn_of l.draw ≡ drawn_of l.initial.draw ++ drawn)
       × Did (g.C.FlowCache.shown l.initial.pass) l.initial.out.items l.initial.tally
-      (pieces_of (size_of l.pieces) (answers_from l.base (file_of l.capture)) drawn) (g.C.FlowCache.shown l.pass) l.out.items l.tally;
+      (pieces_of (size_of l.pieces) (answers_from l.base (file_of l.capture)) drawn)
+      (g.C.FlowCache.shown l.pass) l.out.items l.tally;
   tallied : IsTallied l.tally;
   few : l.tally.captured ≤ l.initial.tally.captured + length l.index.offsets;
-  behind : IsBehind (size_of l.pieces) l.base l.initial.tally.captured (drawn_of l.draw) (g.C.FlowCache.shown l.pass).note.packets l.tally.captured;
+  behind : IsBehind (size_of l.pieces) l.base l.initial.tally.captured (drawn_of l.draw)
+      (g.C.FlowCache.shown l.pass).note.packets l.tally.captured;
   below : AreBelow (l.base + length l.index.offsets) (g.C.FlowCache.shown l.pass).note.packets;
 }

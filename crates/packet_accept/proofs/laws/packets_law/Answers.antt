@@ -1,5 +1,6 @@
 -- The laws, as they are proved of the definitions.
-use Rattle.packet_accept.proofs.FileAnswers.{answer-placed, answers_count, packets_next, packets_all, packets_together, packets_permuted}
+use Rattle.packet_accept.proofs.FileAnswers.{answer-placed, answers_count, packets_next, packets_all, packets_together}
+use Rattle.packet_accept.proofs.FileAnswers.{packets_permuted}
 use Rattle.packet_accept.proofs.laws.packets_law.Goals as goal
 
 pub returns-clause-count : goal.returns-clause-count

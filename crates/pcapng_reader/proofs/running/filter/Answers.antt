@@ -13,8 +13,11 @@ returns-in-Ok-write_packets g c =
     let index = subst (λ (b : List ℕ). IsIndexOf c.in-Ok-index.index b) same c.in-Ok-index.ensures.index in
     record {
       written = capture_of (records_at c.args.bytes.now c.in-Ok-index.index);
-      answer = answer-is c.args.bytes.now c.in-Ok-index.index c.in-Ok.ensures.pcapng (λ place. let h = c.type_inv.bytes place in omega (arith, h)) index;
-      taken = subst (λ (b : List ℕ). Appends (g.K.Sink.held c.args.output.now) (g.K.Sink.held c.write_packets.new.output) (capture_of (records_at b c.in-Ok-index.index)))
+      answer = answer-is c.args.bytes.now c.in-Ok-index.index c.in-Ok.ensures.pcapng
+          (λ place. let h = c.type_inv.bytes place in omega (arith, h)) index;
+      taken = subst
+          (λ (b : List ℕ). Appends (g.K.Sink.held c.args.output.now) (g.K.Sink.held c.write_packets.new.output)
+          (capture_of (records_at b c.in-Ok-index.index)))
           same c.in-Ok-write_packets.ensures.whole;
     }
 
@@ -25,10 +28,13 @@ returns g c =
     let begun = c.in-Err.ensures.begun in
     record {
       written = capture_of (records_at c.args.bytes.now c.in-Ok-index.index);
-      answer = answer-is c.args.bytes.now c.in-Ok-index.index c.in-Ok.ensures.pcapng (λ place. let h = c.type_inv.bytes place in omega (arith, h)) index;
+      answer = answer-is c.args.bytes.now c.in-Ok-index.index c.in-Ok.ensures.pcapng
+          (λ place. let h = c.type_inv.bytes place in omega (arith, h)) index;
       begun = record {
         count = begun.0;
-        taken = subst (λ (b : List ℕ). Appends (g.K.Sink.held c.args.output.now) (g.K.Sink.held c.write_packets.new.output) (take begun.0 (capture_of (records_at b c.in-Ok-index.index))))
+        taken = subst
+            (λ (b : List ℕ). Appends (g.K.Sink.held c.args.output.now) (g.K.Sink.held c.write_packets.new.output)
+            (take begun.0 (capture_of (records_at b c.in-Ok-index.index))))
             same begun.1;
       };
       cause = c.in-Err.ensures.cause.failed;

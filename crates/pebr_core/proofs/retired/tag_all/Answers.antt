@@ -6,4 +6,5 @@ use Rattle.pebr_core.proofs.retired.tag_all.Goals as goal
 
 pub returns : goal.returns
 returns c =
-    is_mapped (tag_with c.args.epoch) c.loop-slot.slots c.args.slots.now retire.No retire.No c.loop-slot.auto.slots (λ k h. c.loop-slot.invariant.0 k (omega arith))
+    is_mapped (tag_with c.args.epoch) c.loop-slot.slots c.args.slots.now retire.No retire.No c.loop-slot.auto.slots
+    (λ k h. c.loop-slot.invariant.0 k (omega arith))

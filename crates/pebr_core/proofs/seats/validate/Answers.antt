@@ -6,5 +6,6 @@ use Rattle.pebr_core.proofs.seats.validate.Goals as goal
 
 pub returns : goal.returns
 returns c =
-    is_mapped (validated c.args.seen.now) c.loop-place.shields c.args.shields.now shield.Down shield.Down c.loop-place.invariant.0
+    is_mapped (validated c.args.seen.now) c.loop-place.shields c.args.shields.now shield.Down shield.Down
+    c.loop-place.invariant.0
     (λ k h. c.loop-place.invariant.1 k (omega (arith, c.loop-place.invariant.0)))

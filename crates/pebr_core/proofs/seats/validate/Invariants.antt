@@ -7,5 +7,6 @@ use Rattle.pebr_core.proofs.seats.validate.Given as goal
 abbrev pub invariant-loop-place : goal.invariant-loop-place
 invariant-loop-place l =
     (length l.shields ≡ length l.initial.shields)
-    × ((k : ℕ) → k < l.place → get_or l.shields k shield.Down ≡ validated l.seen (get_or l.initial.shields k shield.Down))
+    × ((k : ℕ) → k < l.place → get_or l.shields k shield.Down
+    ≡ validated l.seen (get_or l.initial.shields k shield.Down))
     × ((k : ℕ) → l.place ≤ k → get_or l.shields k shield.Down ≡ get_or l.initial.shields k shield.Down)

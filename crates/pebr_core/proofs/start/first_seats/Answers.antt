@@ -16,6 +16,8 @@ loop-seat-preserved c =
           ∙ (map-append shown_seat old (entry ∷ [])
           ∙ (ap (λ l. l ++ map shown_seat (entry ∷ [])) c.loop-seat.invariant.0
           ∙ (ap (λ s. map (first_seat shape) (range_with_len 0 c.loop-seat.seat) ++ s ∷ []) c.in_ok-entry.ensures.shown
-          ∙ sym (map-range_with_len_more (first_seat shape) 0 c.loop-seat.seat c.loop-seat.seat (zero-add c.loop-seat.seat))))),
-      subst (All (HasRoom shape)) (sym c.in_ok-push_seat.ensures) (All-push (HasRoom shape) old entry c.loop-seat.invariant.1 c.in_ok-entry.ensures.room),
+          ∙ sym (map-range_with_len_more (first_seat shape) 0 c.loop-seat.seat c.loop-seat.seat
+          (zero-add c.loop-seat.seat))))),
+      subst (All (HasRoom shape)) (sym c.in_ok-push_seat.ensures)
+          (All-push (HasRoom shape) old entry c.loop-seat.invariant.1 c.in_ok-entry.ensures.room),
     )

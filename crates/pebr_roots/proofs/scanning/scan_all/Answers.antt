@@ -15,17 +15,28 @@ loop-other-preserved g c =
     let other = c.loop-other.other in
     let me = number_of first in
     let still = c.scan_other.ensures.still in
-    let inside : other < shape.seats = subst (λ (sh : Shape). other < sh.seats) c.shape-other-end.ensures.shape c.loop-other-test.true in
-    let read = subst (λ n. IsReading other (cond (eqb other n) 0 shape.shields) (known_of cur) (known_of new)) before.still.1 c.scan_other.ensures.known in
+    let inside : other < shape.seats = subst
+    (λ (sh : Shape). other < sh.seats) c.shape-other-end.ensures.shape c.loop-other-test.true in
+    let read = subst (λ n. IsReading other (cond (eqb other n) 0 shape.shields) (known_of cur) (known_of new))
+    before.still.1 c.scan_other.ensures.known in
     let times = others_times me other shape.shields in
-    let looked = subst (λ n. HasLooked (past_of cur) (past_of new) (cond (eqb other n) 0 shape.shields)) before.still.1 c.scan_other.ensures.past in
+    let looked = subst (λ n. HasLooked (past_of cur) (past_of new) (cond (eqb other n) 0 shape.shields)) before.still.1
+    c.scan_other.ensures.past in
     record {
       low = omega (arith, inside);
-      still = (still.0, still.1 ∙ before.still.1, still.2 ∙ before.still.2, still.3 ∙ before.still.3, still.4 ∙ before.still.4);
+      still = (
+        still.0,
+        still.1 ∙ before.still.1,
+        still.2 ∙ before.still.2,
+        still.3 ∙ before.still.3,
+        still.4
+            ∙ before.still.4,
+      );
       note = c.scan_other.ensures.note ∙ before.note;
       known = reading_next me other shape.shields (known_of first) (known_of cur) (known_of new) before.known read;
       kept = (let k = read.kept in let b = before.kept in omega (arith, k, b, times));
       past = subst (HasLooked (past_of first) (past_of new)) times
-          (looked_on (past_of first) (past_of cur) (past_of new) (others_below me other * shape.shields) (cond (eqb other me) 0 shape.shields) before.past looked);
+          (looked_on (past_of first) (past_of cur) (past_of new) (others_below me other * shape.shields)
+          (cond (eqb other me) 0 shape.shields) before.past looked);
       ejections = c.scan_other.ensures.ejections ∙ before.ejections;
     }

@@ -9,8 +9,11 @@ invariant-loop-other g l = record {
   low : l.other ≤ (shape_of l.words).seats;
   still : IsStill l.words l.initial.seat l.seat;
   note : note_of g.P.RootProtocol.first l.seat ≡ note_of g.P.RootProtocol.first l.initial.seat;
-  known : AreReading (number_of l.initial.seat) l.other (shape_of l.words).shields (known_of l.initial.seat) (known_of l.seat);
-  kept : kept_count (known_of l.seat) ≤ kept_count (known_of l.initial.seat) + others_below (number_of l.initial.seat) l.other * (shape_of l.words).shields;
-  past : HasLooked (past_of l.initial.seat) (past_of l.seat) (others_below (number_of l.initial.seat) l.other * (shape_of l.words).shields);
+  known : AreReading (number_of l.initial.seat) l.other (shape_of l.words).shields (known_of l.initial.seat)
+      (known_of l.seat);
+  kept : kept_count (known_of l.seat) ≤ kept_count (known_of l.initial.seat)
+      + others_below (number_of l.initial.seat) l.other * (shape_of l.words).shields;
+  past : HasLooked (past_of l.initial.seat) (past_of l.seat)
+      (others_below (number_of l.initial.seat) l.other * (shape_of l.words).shields);
   ejections : (past_of l.seat).ejections ≡ (past_of l.initial.seat).ejections;
 }

@@ -15,15 +15,25 @@ loop-place-preserved g c =
     let new = c.scan.new.seat in
     let place = c.loop-place.place in
     let still = c.scan.ensures.still in
-    let inside : place < shape.shields = subst (λ (sh : Shape). place < sh.shields) c.shape-place-end.ensures.shape c.loop-place-test.true in
+    let inside : place < shape.shields = subst
+    (λ (sh : Shape). place < sh.shields) c.shape-place-end.ensures.shape c.loop-place-test.true in
     let more = c.kept_slots_are_counted.ensures.scan c.args.other place c.scan.result (known_of cur) in
     record {
       low = omega (arith, inside);
-      still = (still.0, still.1 ∙ before.still.1, still.2 ∙ before.still.2, still.3 ∙ before.still.3, still.4 ∙ before.still.4);
+      still = (
+        still.0,
+        still.1 ∙ before.still.1,
+        still.2 ∙ before.still.2,
+        still.3 ∙ before.still.3,
+        still.4
+            ∙ before.still.4,
+      );
       note = c.scan.ensures.note ∙ before.note;
       known = subst (IsReading c.args.other (place + 1) (known_of c.args.seat.now)) (sym c.scan.ensures.known)
-          (reading_more shape c.args.other place c.scan.result (known_of c.args.seat.now) (known_of cur) before.still.0.6 c.requires.other inside more before.known);
+          (reading_more shape c.args.other place c.scan.result (known_of c.args.seat.now)
+          (known_of cur) before.still.0.6 c.requires.other inside more before.known);
       past = looked_on (past_of c.args.seat.now) (past_of cur) (past_of new) place 1 before.past
-          (scanned_once (number_of cur) c.args.other place (found_under c.scan.result) (known_of cur) (past_of cur) (past_of new) c.scan.ensures.step.past);
+          (scanned_once (number_of cur) c.args.other place (found_under c.scan.result) (known_of cur) (past_of cur)
+          (past_of new) c.scan.ensures.step.past);
       ejections = ap (λ (p : History). p.ejections) c.scan.ensures.step.past ∙ before.ejections;
     }

@@ -8,7 +8,8 @@ returns-clause-steps c =
     let old = (past_by c.args.pass.now).steps in
     let new = (past_by c.collect.new.pass).steps in
     subst (λ shields. new ≤ old + (2 * (2 - 1) + (2 - 1) * shields + 4)) c.requires.two.1
-    (subst (λ seats. new ≤ old + (2 * (seats - 1) + (seats - 1) * shape.shields + 4)) c.requires.two.0 c.collect.ensures.past.few)
+    (subst (λ seats. new ≤ old + (2 * (seats - 1) + (seats - 1) * shape.shields + 4)) c.requires.two.0
+    c.collect.ensures.past.few)
 
 pub returns-clause-left : goal.returns-clause-left
 returns-clause-left c =

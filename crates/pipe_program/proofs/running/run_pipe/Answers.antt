@@ -16,12 +16,17 @@ none-some one same = cc
 pub returns-then-is_refusal-clause-complete : goal.returns-then-is_refusal-clause-complete
 returns-then-is_refusal-clause-complete g c = λ other is valid quiet. elim c.match-settings_of.branch [
   | in-Err-NotOptions w ↦
-      absurd (none-some other (sym (ap (option_map as_meter) (w.in-Err-NotOptions.ensures.refused w.in-Err-NotOptions.field-0-is)) ∙ is))
+      absurd (none-some other
+      (sym (ap (option_map as_meter) (w.in-Err-NotOptions.ensures.refused w.in-Err-NotOptions.field-0-is)) ∙ is))
   | in-Err-NoMemory w ↦ inr w.status-is
   | in-Ok w ↦
-      complete-at (side g.S.Source.left g.S.Source.faults c.args.input.now) (side g.K.Sink.held g.K.Sink.faults c.args.output.now)
-      (side g.N.Sink.held g.N.Sink.faults c.args.notes.now) (as_meter (piping w.in-Ok.settings)) other c.match-settings_of.input _ c.match-settings_of.output _
-      c.match-settings_of.notes _ (side g.N.Sink.held g.N.Sink.faults c.args.notes.now c.pipe_line-noted.new.notes) _ _ c.match-settings_of.status _ w.input-is w.output-is
+      complete-at (side g.S.Source.left g.S.Source.faults c.args.input.now)
+      (side g.K.Sink.held g.K.Sink.faults c.args.output.now)
+      (side g.N.Sink.held g.N.Sink.faults c.args.notes.now)
+      (as_meter (piping w.in-Ok.settings)) other c.match-settings_of.input _ c.match-settings_of.output _
+      c.match-settings_of.notes _ (side g.N.Sink.held g.N.Sink.faults c.args.notes.now c.pipe_line-noted.new.notes) _ _
+      c.match-settings_of.status _ w.input-is w.output-is
       w.notes-is w.status-is w.piped-status.ensures (sym c.is_refusal.ensures ∙ c.if-is_refusal.true)
-      (some-same (as_meter (piping w.in-Ok.settings)) other (sym (ap (option_map as_meter) w.in-Ok.ensures.settings) ∙ is)) valid quiet
+      (some-same (as_meter (piping w.in-Ok.settings)) other
+      (sym (ap (option_map as_meter) w.in-Ok.ensures.settings) ∙ is)) valid quiet
 ]

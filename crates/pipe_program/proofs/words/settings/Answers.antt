@@ -9,7 +9,8 @@ use Rattle.pipe_program.proofs.words.settings.Goals as goal
 pub returns-clause-settings : goal.returns-clause-settings
 returns-clause-settings c =
     let table : rules_of c.as_slice.result.now ≡ pipe_options = ap rules_of c.as_slice.ensures in
-    ap (λ t. option_map pipe_with (values_of t (map string_bytes c.args.options.now))) (sym table) ∙ ap (option_map pipe_with) c.in_ok-values.ensures.values
+    ap (λ t. option_map pipe_with (values_of t (map string_bytes c.args.options.now))) (sym table)
+    ∙ ap (option_map pipe_with) c.in_ok-values.ensures.values
     ∙ ap (λ values. Some (pipe_with values)) (sym c.as_slice-2.ensures.value)
 
 err-weaker : {T E : Type 0} (r : Result T E) (P Q : E → Type 0) → IsErrAnd r P → ((e : E) → P e → Q e) → IfErr r Q
@@ -21,4 +22,5 @@ returns-in_err-values-clause-refused c =
     let table : rules_of c.as_slice.result.now ≡ pipe_options = ap rules_of c.as_slice.ensures in
     let refused = c.in_err-values.ensures.refused in
     err-weaker c.from_residual.result _ _ c.from_residual.ensures.1
-    (λ error same is. ap (λ t. option_map pipe_with (values_of t (map string_bytes c.args.options.now))) (sym table) ∙ ap (option_map pipe_with) (refused (cc (same, is))))
+    (λ error same is. ap (λ t. option_map pipe_with (values_of t (map string_bytes c.args.options.now))) (sym table)
+    ∙ ap (option_map pipe_with) (refused (cc (same, is))))

@@ -18,10 +18,17 @@ invariant_of-batch g c =
     let tail : c.tail.result ≡ tail_of part = c.tail.ensures ∙ c.requires.index.tail in
     let count = ap length shows in
     let place : length c.bytes.result.now - c.tail.result ≡ rest_offset part = omega (arith, whole, tail, count) in
-    let front = is-front c.args.head window c.in_ok-bytes.bytes.items (c.in_ok-bytes.ensures.front ∙ ap (λ (k : ℕ). take k window) place) in
+    let front = is-front c.args.head window c.in_ok-bytes.bytes.items
+    (c.in_ok-bytes.ensures.front ∙ ap (λ (k : ℕ). take k window) place) in
     record {
       small = (let len = ap length c.in_ok-bytes.ensures.front in
-          omega (arith, len, length-take (length c.bytes.result.now - c.tail.result) window, c.requires.fits, c.requires.size.2));
+          omega (
+            arith,
+            len,
+            length-take (length c.bytes.result.now - c.tail.result) window,
+            c.requires.fits,
+            c.requires.size.2,
+          ));
       whole = front.whole;
       few = (let same = ap length front.records in omega (arith, same, c.requires.few.1));
     }
@@ -35,11 +42,13 @@ returns-clause-ready g c =
     let tail : c.tail.result ≡ tail_of part = c.tail.ensures ∙ c.requires.index.tail in
     let lens = ap length shows in
     let place : length c.bytes.result.now - c.tail.result ≡ rest_offset part = omega (arith, whole, tail, lens) in
-    let front = is-front c.args.head window c.in_ok-bytes.bytes.items (c.in_ok-bytes.ensures.front ∙ ap (λ (k : ℕ). take k window) place) in
+    let front = is-front c.args.head window c.in_ok-bytes.bytes.items
+    (c.in_ok-bytes.ensures.front ∙ ap (λ (k : ℕ). take k window) place) in
     let many : length (records_of (part_of c.args.head c.in_ok-bytes.bytes.items)) ≡ c.count-count.result =
     ap length front.records ∙ sym (c.count-count.ensures ∙ c.requires.index.count) in
     subst (λ (k : ℕ). IsReadyAt (c.args.going.number + 1) (c.args.going.base + k) (put_of c.hand_over.new.share.seat)
-    (g.C.FlowCache.shown c.hand_over.new.share.pass).note.packets c.hand_over.new.share.tally.captured) many c.in_ok-index.ensures.ready
+    (g.C.FlowCache.shown c.hand_over.new.share.pass).note.packets c.hand_over.new.share.tally.captured) many
+    c.in_ok-index.ensures.ready
 
 pub returns-clause-handed : goal.returns-clause-handed
 returns-clause-handed g c =
@@ -50,7 +59,10 @@ returns-clause-handed g c =
     let tail : c.tail.result ≡ tail_of part = c.tail.ensures ∙ c.requires.index.tail in
     let lens = ap length shows in
     let place : length c.bytes.result.now - c.tail.result ≡ rest_offset part = omega (arith, whole, tail, lens) in
-    let front = is-front c.args.head window c.in_ok-bytes.bytes.items (c.in_ok-bytes.ensures.front ∙ ap (λ (k : ℕ). take k window) place) in
-    subst (λ (l : List Answer). HandedOn l (put_of c.args.share.now.seat) (put_of c.hand_over.new.share.seat) (g.C.FlowCache.shown c.args.share.now.pass)
-    (g.C.FlowCache.shown c.hand_over.new.share.pass) c.args.share.now.parts.items c.hand_over.new.share.parts.items c.args.share.now.tally c.hand_over.new.share.tally)
+    let front = is-front c.args.head window c.in_ok-bytes.bytes.items
+    (c.in_ok-bytes.ensures.front ∙ ap (λ (k : ℕ). take k window) place) in
+    subst (λ (l : List Answer). HandedOn l (put_of c.args.share.now.seat) (put_of c.hand_over.new.share.seat)
+    (g.C.FlowCache.shown c.args.share.now.pass)
+    (g.C.FlowCache.shown c.hand_over.new.share.pass) c.args.share.now.parts.items c.hand_over.new.share.parts.items
+    c.args.share.now.tally c.hand_over.new.share.tally)
     (answers-front c.args.head window c.in_ok-bytes.bytes.items c.args.going.base front) c.in_ok-index.ensures.handed

@@ -14,12 +14,14 @@ returns-clause-metered g c = λ source limit apart batched metered.
     let share = c.args.crew.share in
     let all = c.in_ok-share-2.share in
     let none : apart ++ took_of share.seat ≡ apart = ap (λ l. apart ++ l) c.requires.reader.2 ∙ append-nil apart in
-    let first = subst (λ l. HasMetered l (g.C.FlowCache.shown share.pass) share.parts.items share.tally) (sym none) metered in
+    let first = subst (λ l. HasMetered l (g.C.FlowCache.shown share.pass) share.parts.items share.tally)
+    (sym none) metered in
     let last = c.in_ok-share-2.ensures.metered apart (c.in_ok-share.ensures.metered apart first) in
     let put : put_of all.seat ≡ put_of share.seat = c.in_ok-share-2.ensures.put ∙ c.in_ok-share.ensures.seat.2 in
     let stands : StandsForAll c.in_ok-share.share.seat = (
       c.in_ok-share.ensures.seat.0 c.requires.reader.0,
-      (let united = c.in_ok-share.ensures in omega (arith, united.seats.1, united.seat.1, c.requires.reader.1, c.requires.seats.1)),
+      (let united = c.in_ok-share.ensures in
+          omega (arith, united.seats.1, united.seat.1, c.requires.reader.1, c.requires.seats.1)),
     ) in
     let took = subst (λ l. IsPermutation l (took_of all.seat)) put (c.in_ok-share-2.ensures.all stands) in
     let answers : IsPermutation (answers_of batched.file) (answers_in (apart ++ took_of all.seat)) =
@@ -33,7 +35,8 @@ returns-clause-metered g c = λ source limit apart batched metered.
         is_file = batched.is_file;
         known = batched.known;
         undamaged = batched.undamaged;
-        packets = IsPermutation-trans _ (packets_in (answers_in (apart ++ took_of all.seat))) _ (c.packets_law.ensures.permuted _ _ answers) last.packets;
+        packets = IsPermutation-trans _ (packets_in (answers_in (apart ++ took_of all.seat))) _
+            (c.packets_law.ensures.permuted _ _ answers) last.packets;
         tallied = c.order_law.ensures all.tally _ _ (IsPermutation-sym _ _ answers) last.tallied;
         tail_is = batched.tail_is;
       },

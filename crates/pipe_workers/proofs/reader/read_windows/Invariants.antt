@@ -20,8 +20,10 @@ invariant-loop-index g l = record {
       × ((before : Option (List ℕ)) → Consumes before (g.S.Source.left l.initial.source) l.fn.going.input.window.bytes
       → Consumes before (g.S.Source.left l.source) (file.bytes ++ more))
       × (l.going.base ≡ length (records_of file))
-      × (apart : List Batch) × HasHanded (answers_of file) (put_of l.share.seat) apart (g.C.FlowCache.shown l.share.pass) l.share.parts.items l.share.tally;
-  ready : IsReadyAt l.going.number l.going.base (put_of l.share.seat) (g.C.FlowCache.shown l.share.pass).note.packets l.share.tally.captured;
+      × (apart : List Batch) × HasHanded (answers_of file) (put_of l.share.seat) apart
+      (g.C.FlowCache.shown l.share.pass) l.share.parts.items l.share.tally;
+  ready : IsReadyAt l.going.number l.going.base (put_of l.share.seat)
+      (g.C.FlowCache.shown l.share.pass).note.packets l.share.tally.captured;
   low : l.going.number ≤ l.going.base;
   own : g.C.FlowCache.is_of l.cache l.share.pass × IsPassOf l.shared.queue l.share.seat;
   still : IsStill l.initial.share.seat l.share.seat;

@@ -11,7 +11,8 @@ invariant-loop-pass g l = record {
   many : length l.workers.items + length l.passes.items ≡ length l.initial.passes.items;
   passes : All (λ p. g.C.FlowCache.is_of l.cache p × IsFresh (g.C.FlowCache.shown p)) l.passes.items;
   seats : All (λ s. IsPassOf l.queue s × IsFreshSeat s × (others_of s ≡ 0)) l.seats.items;
-  ready : All (λ w. IsReady (g.C.FlowCache.is_of l.cache) g.C.FlowCache.shown l.queue w.pass w.seat w.out.items w.tally) l.workers.items;
+  ready : All (λ w. IsReady (g.C.FlowCache.is_of l.cache) g.C.FlowCache.shown l.queue w.pass w.seat w.out.items w.tally)
+      l.workers.items;
 }
 
 abbrev pub decreases-loop-pass : goal.decreases-loop-pass

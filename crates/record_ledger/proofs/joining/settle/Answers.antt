@@ -18,7 +18,8 @@ all X = take_all (length X) (parts_of X) (let long = length-map X (λ (r : FlowR
 pub loop-top-init : goal.loop-top-init
 loop-top-init c = record {
   few = omega arith;
-  reached = subst (λ fs. Reaches c.args.timeouts.now (c.args.part ∷ parts_of c.args.stack.now) (c.args.part ∷ fs)) (sym (all c.args.stack.now)) (moved _ _ (IsPermutation-refl _));
+  reached = subst (λ fs. Reaches c.args.timeouts.now (c.args.part ∷ parts_of c.args.stack.now) (c.args.part ∷ fs))
+      (sym (all c.args.stack.now)) (moved _ _ (IsPermutation-refl _));
   key = refl;
   last = refl;
 }
@@ -28,8 +29,10 @@ join-whole-requires-clause-packets c =
     let top = c.in-Some.ensures.some in
     let X : List FlowRecord = c.args.stack.now in
     let n : ℕ = c.loop-top.left in
-    let split = top_split X n c.in-Some.top c.loop-top.invariant.few (let some = top.0 in omega (arith, length-take n X)) top.1 in
-    packets_fit c.args.timeouts.now c.args.part (parts_of X) c.loop-top.whole c.in-Some.top (take n (parts_of X)) (take (n - 1) (parts_of X)) _ split
+    let split = top_split X n c.in-Some.top c.loop-top.invariant.few
+    (let some = top.0 in omega (arith, length-take n X)) top.1 in
+    packets_fit c.args.timeouts.now c.args.part (parts_of X) c.loop-top.whole c.in-Some.top (take n (parts_of X))
+    (take (n - 1) (parts_of X)) _ split
     c.loop-top.invariant.reached c.requires.packets
 
 pub join-whole-requires-clause-octets : goal.join-whole-requires-clause-octets
@@ -37,8 +40,10 @@ join-whole-requires-clause-octets c =
     let top = c.in-Some.ensures.some in
     let X : List FlowRecord = c.args.stack.now in
     let n : ℕ = c.loop-top.left in
-    let split = top_split X n c.in-Some.top c.loop-top.invariant.few (let some = top.0 in omega (arith, length-take n X)) top.1 in
-    octets_fit c.args.timeouts.now c.args.part (parts_of X) c.loop-top.whole c.in-Some.top (take n (parts_of X)) (take (n - 1) (parts_of X)) _ split
+    let split = top_split X n c.in-Some.top c.loop-top.invariant.few
+    (let some = top.0 in omega (arith, length-take n X)) top.1 in
+    octets_fit c.args.timeouts.now c.args.part (parts_of X) c.loop-top.whole c.in-Some.top (take n (parts_of X))
+    (take (n - 1) (parts_of X)) _ split
     c.loop-top.invariant.reached c.requires.octets
 
 pub loop-top-preserved : goal.loop-top-preserved
@@ -48,13 +53,16 @@ loop-top-preserved c =
     let X : List FlowRecord = c.args.stack.now in
     let F : List Fragment = parts_of X in
     let n : ℕ = c.loop-top.left in
-    let split : take n F ≡ take (n - 1) F ++ c.in-Some.top ∷ [] = top_split X n c.in-Some.top c.loop-top.invariant.few (let some = top.0 in omega (arith, length-take n X)) top.1 in
+    let split : take n F ≡ take (n - 1) F ++ c.in-Some.top ∷ [] =
+    top_split X n c.in-Some.top c.loop-top.invariant.few (let some = top.0 in omega (arith, length-take n X)) top.1 in
     let key : c.in-Some.top.key ≡ c.args.part.key = top.2.one_key ∙ c.loop-top.invariant.key in
-    let early : c.in-Some.top.last ≤ c.args.part.last = front_holds (λ f. f.key ≡ c.args.part.key → f.last ≤ c.args.part.last) F (take n F) (take (n - 1) F) c.in-Some.top n
+    let early : c.in-Some.top.last ≤ c.args.part.last =
+    front_holds (λ f. f.key ≡ c.args.part.key → f.last ≤ c.args.part.last) F (take n F) (take (n - 1) F) c.in-Some.top n
     split refl c.requires.latest key in
     record {
       few = (let few = c.loop-top.invariant.few in omega arith);
-      reached = taken_on c.args.timeouts.now _ c.loop-top.whole c.in-Some.top c.join-whole.result (take n F) (take (n - 1) F) split top.2 joined c.loop-top.invariant.reached;
+      reached = taken_on c.args.timeouts.now _ c.loop-top.whole c.in-Some.top c.join-whole.result (take n F)
+          (take (n - 1) F) split top.2 joined c.loop-top.invariant.reached;
       key = joined.key ∙ key;
       last = (let last = joined.last in let was = c.loop-top.invariant.last in omega arith);
     }
@@ -64,4 +72,5 @@ returns-clause-apart c = λ d some j.
     let X : List FlowRecord = c.args.stack.now in
     let n : ℕ = c.loop-top.left in
     c.in_default.ensures.none d (let few = c.loop-top.invariant.few in omega (arith, length-take n X))
-    (subst (λ f. IsJoinable c.args.timeouts.now f c.loop-top.whole) (sym (top_of X n d c.loop-top.invariant.few some)) j)
+    (subst (λ f. IsJoinable c.args.timeouts.now f c.loop-top.whole)
+    (sym (top_of X n d c.loop-top.invariant.few some)) j)

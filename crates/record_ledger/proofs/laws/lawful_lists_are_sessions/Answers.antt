@@ -18,4 +18,5 @@ returns-clause-one c = records_are_one
 pub returns-clause-unique : goal.returns-clause-unique
 returns-clause-unique c = λ limits packets sessions is uncut records others lawful lawful'.
     records_are_one limits packets sessions is records others
-    (lawful_are_sessions limits packets sessions is uncut records lawful) (lawful_are_sessions limits packets sessions is uncut others lawful')
+    (lawful_are_sessions limits packets sessions is uncut records lawful)
+    (lawful_are_sessions limits packets sessions is uncut others lawful')

@@ -8,4 +8,6 @@ use Rattle.record_ledger.proofs.Rising.{by_key_weak}
 use Rattle.record_ledger.proofs.orders.sort_by_key.Goals as goal
 
 pub returns-clause-order : goal.returns-clause-order
-returns-clause-order c = c.sort_unstable_by.ensures.sorted (λ (x y : FlowRecord). is_lt (key_then_last x.part y.part)) by_key_weak (answers_always _ _ _ (λ f a r f' called. search rules))
+returns-clause-order c = c.sort_unstable_by.ensures.sorted
+    (λ (x y : FlowRecord). is_lt (key_then_last x.part y.part)) by_key_weak
+    (answers_always _ _ _ (λ f a r f' called. search rules))

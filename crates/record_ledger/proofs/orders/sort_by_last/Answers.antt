@@ -8,4 +8,6 @@ use Rattle.record_ledger.proofs.Rising.{written_weak}
 use Rattle.record_ledger.proofs.orders.sort_by_last.Goals as goal
 
 pub returns-clause-order : goal.returns-clause-order
-returns-clause-order c = c.sort_unstable_by.ensures.sorted (λ (x y : FlowRecord). is_lt (written_order x y)) written_weak (answers_always _ _ _ (λ f a r f' called. search rules))
+returns-clause-order c = c.sort_unstable_by.ensures.sorted
+    (λ (x y : FlowRecord). is_lt (written_order x y)) written_weak
+    (answers_always _ _ _ (λ f a r f' called. search rules))

@@ -10,5 +10,6 @@ invariant-loop-place l = record {
   long : l.place-end ≡ length l.records;
   parts : parts_of l.records ≡ parts_of l.fn.records;
   reasons : (k : ℕ) (d : FlowRecord) → k < l.place → (get_or l.records k d).reason
-      ≡ reason_of l.timeouts l.clock (get_or l.records k d).part (next_of_key (get_or l.records k d).part (drop (k + 1) (parts_of l.records)));
+      ≡ reason_of l.timeouts l.clock (get_or l.records k d).part
+      (next_of_key (get_or l.records k d).part (drop (k + 1) (parts_of l.records)));
 }

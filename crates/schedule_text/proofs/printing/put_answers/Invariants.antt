@@ -4,4 +4,5 @@ use Rattle.schedule_text.proofs.printing.put_answers.Given as goal
 
 -- the lines so far
 abbrev pub invariant-loop-answer : goal.invariant-loop-answer
-invariant-loop-answer l = l.out.items ≡ l.initial.out.items ++ flat_map (λ answer. line (answer_text answer)) (take l.answer-index l.answers)
+invariant-loop-answer l = l.out.items ≡ l.initial.out.items
+    ++ flat_map (λ answer. line (answer_text answer)) (take l.answer-index l.answers)

@@ -6,5 +6,6 @@ use Rattle.schedule_text.proofs.printing.put_shields.Goals as goal
 
 pub loop-place-preserved : goal.loop-place-preserved
 loop-place-preserved c =
-    text_more (λ place. shield_item (shield_at (seat_at c.args.core.now c.args.seat) place)) c.loop-place.place c.args.out.now.items c.loop-place.out.items c.put_shield.new.out.items c.loop-place.invariant
+    text_more (λ place. shield_item (shield_at (seat_at c.args.core.now c.args.seat) place)) c.loop-place.place
+    c.args.out.now.items c.loop-place.out.items c.put_shield.new.out.items c.loop-place.invariant
     (c.in_ok-put_shield.ensures ∙ ap (λ s. c.loop-place.out.items ++ shield_item s) c.shield.ensures)

@@ -14,5 +14,6 @@ returns-in-Err-read_steps-clause-bad c = λ number e.
     let same : c.in-Err-read_steps.error ≡ BadLine number = cc in
     let steps = c.in-Err-read_steps.ensures.bad number (ap (λ x. Err x) same) in
     lines_first line rest (pieces_of 10 c.args.text.now) cuts
-    ∙ (ap (λ s. with_shape s (steps_of 2 (pieces_of 10 rest))) (sym c.in-Ok-Some.ensures.shape ∙ c.in-Ok-Some.field-0-is)
+    ∙ (ap (λ s. with_shape s (steps_of 2 (pieces_of 10 rest)))
+    (sym c.in-Ok-Some.ensures.shape ∙ c.in-Ok-Some.field-0-is)
     ∙ ap (with_shape (Some c.in-Ok-Some.shape)) steps)

@@ -13,19 +13,23 @@ use Rattle.schedule_text.proofs.reading.read_schedule.Goals as goal
 abbrev IsReadAs : List ℕ → Result Schedule ScheduleError → Type 0
 IsReadAs text r = IfOk r (λ z. schedule_of text ≡ Ok (z.shape, z.steps.items))
 
-read_spelled : (text : List ℕ) (r : Result Schedule ScheduleError) → IsReadAs text r → IfOk r (λ z. text ≡ spelled z.shape z.steps.items)
+read_spelled : (text : List ℕ) (r : Result Schedule ScheduleError) → IsReadAs text r
+    → IfOk r (λ z. text ≡ spelled z.shape z.steps.items)
 read_spelled text (Ok z) h = (whole-read text z.shape z.steps.items h).0
 read_spelled text (Err e) h = tt
 
-read_printable : (text : List ℕ) (r : Result Schedule ScheduleError) → IsReadAs text r → IfOk r (λ z. IsPrintable z.shape)
+read_printable : (text : List ℕ) (r : Result Schedule ScheduleError) → IsReadAs text r
+    → IfOk r (λ z. IsPrintable z.shape)
 read_printable text (Ok z) h = (whole-read text z.shape z.steps.items h).1
 read_printable text (Err e) h = tt
 
-read_writable : (text : List ℕ) (r : Result Schedule ScheduleError) → IsReadAs text r → IfOk r (λ z. AreWritable z.steps.items)
+read_writable : (text : List ℕ) (r : Result Schedule ScheduleError) → IsReadAs text r
+    → IfOk r (λ z. AreWritable z.steps.items)
 read_writable text (Ok z) h = (whole-read text z.shape z.steps.items h).2
 read_writable text (Err e) h = tt
 
-read_only : (text : List ℕ) (r : Result Schedule ScheduleError) → IsReadAs text r → ((n : ℕ) → r ≡ Err (error.BadLine n) → schedule_of text ≡ Err n)
+read_only : (text : List ℕ) (r : Result Schedule ScheduleError) → IsReadAs text r
+    → ((n : ℕ) → r ≡ Err (error.BadLine n) → schedule_of text ≡ Err n)
     → (shape : Shape) (steps : List Step) → schedule_of text ≡ Ok (shape, steps)
     → MatchResult r (λ z. (z.shape ≡ shape) × (z.steps.items ≡ steps)) (λ e. e ≡ error.NoMemory)
 read_only text (Ok z) h k shape steps e = same_pair z.shape shape z.steps.items steps (sym h ∙ e)

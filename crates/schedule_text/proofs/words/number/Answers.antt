@@ -7,7 +7,8 @@ use Rattle.schedule_text.proofs.words.number.Goals as goal
 pub shifted-requires : goal.shifted-requires
 shifted-requires c =
     digit_low (get_or c.args.word.now c.loop-byte.byte-index 0)
-    (numeral_digit c.args.word.now c.loop-byte.byte-index (sym c.is_numeral.ensures ∙ c.if-not-is_numeral.false) c.loop-byte-test.true)
+    (numeral_digit c.args.word.now c.loop-byte.byte-index
+    (sym c.is_numeral.ensures ∙ c.if-not-is_numeral.false) c.loop-byte-test.true)
 
 pub returns-in-None : goal.returns-in-None
 returns-in-None c =
@@ -22,6 +23,7 @@ returns-in-None c =
 pub returns : goal.returns
 returns c =
     let word = c.args.word.now in
-    let whole : c.loop-byte.number ≡ value_of word = c.loop-byte.invariant.1 ∙ ap value_of (take_all c.loop-byte.byte-index word c.loop-byte-test.false) in
+    let whole : c.loop-byte.number ≡ value_of word =
+    c.loop-byte.invariant.1 ∙ ap value_of (take_all c.loop-byte.byte-index word c.loop-byte-test.false) in
     let low : value_of word < 2 ^ 64 = omega (arith, c.loop-byte.invariant.0, whole) in
     sym (number_small word (sym c.is_numeral.ensures ∙ c.if-not-is_numeral.false) low ∙ ap (λ n. Some n) (sym whole))

@@ -12,6 +12,8 @@ push_reserved-requires c =
 pub loop-place-preserved : goal.loop-place-preserved
 loop-place-preserved c = record {
   low = omega (arith, c.loop-place-test.true);
-  slots = c.push_reserved.ensures.items ∙ (ap (λ l. l ++ (c.args.first + c.loop-place.place) ∷ []) c.loop-place.invariant.slots ∙ range_more c.args.first c.loop-place.place);
+  slots = c.push_reserved.ensures.items
+      ∙ (ap (λ l. l ++ (c.args.first + c.loop-place.place) ∷ []) c.loop-place.invariant.slots
+      ∙ range_more c.args.first c.loop-place.place);
   room = omega (arith, c.loop-place.invariant.room, c.push_reserved.ensures.capacity);
 }

@@ -3,7 +3,9 @@ use Rattle.seat_slots.proofs.Listing.{must_go_on}
 use Rattle.seat_slots.proofs.fresh.place_of.Goals as goal
 
 pub overflow_sub-place-in-loop-place : goal.overflow_sub-place-in-loop-place
-overflow_sub-place-in-loop-place c = must_go_on c.args.fresh.now c.args.slot c.loop-place.place c.requires c.loop-place.invariant.past c.loop-place-test.true
+overflow_sub-place-in-loop-place c = must_go_on c.args.fresh.now c.args.slot c.loop-place.place c.requires
+    c.loop-place.invariant.past c.loop-place-test.true
 
 pub loop-place-smaller : goal.loop-place-smaller
-loop-place-smaller c = let low = must_go_on c.args.fresh.now c.args.slot c.loop-place.place c.requires c.loop-place.invariant.past c.loop-place-test.true in omega (arith, low)
+loop-place-smaller c = let low = must_go_on c.args.fresh.now c.args.slot c.loop-place.place c.requires
+    c.loop-place.invariant.past c.loop-place-test.true in omega (arith, low)

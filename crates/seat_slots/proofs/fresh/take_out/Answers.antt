@@ -10,5 +10,7 @@ returns-then-place-len-clause-slots c =
       place,
       subst (λ l. place < length l) c.deref.ensures.value c.place_of-place.ensures.range,
       subst (λ l. get_or l place 0 ≡ c.args.slot) c.deref.ensures.value c.place_of-place.ensures.at,
-      c.pop.ensures.rest ∙ (ap (λ n. take n fresh.items) (let e : fresh.len - 1 ≡ place = omega (arith, last, fresh.ok.0) in e) ∙ sym (remove_last fresh.items place last)),
+      c.pop.ensures.rest
+          ∙ (ap (λ n. take n fresh.items) (let e : fresh.len - 1 ≡ place = omega (arith, last, fresh.ok.0) in e)
+          ∙ sym (remove_last fresh.items place last)),
     )

@@ -11,5 +11,7 @@ returns-then-entry-slot c =
     let tagged = c.args.tagged.now in
     let index = c.loop-entry.entry-index in
     let slot_of = (λ (entry : TaggedSlot). entry.slot) in
-    sym (in_some (times c.args.slot (slots_of tagged)) (present c.args.slot (slots_of tagged) index (let e = length-map tagged slot_of in omega (arith, e, c.loop-entry-test.true))
+    sym (in_some (times c.args.slot (slots_of tagged))
+    (present c.args.slot (slots_of tagged) index
+    (let e = length-map tagged slot_of in omega (arith, e, c.loop-entry-test.true))
     (get_or-map slot_of tagged index nobody 0 c.loop-entry-test.true ∙ c.if-entry-slot.true)))

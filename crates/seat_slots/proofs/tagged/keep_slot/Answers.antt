@@ -12,4 +12,6 @@ loop-entry-preserved c =
     let index = c.loop-entry.entry-index in
     let entry : TaggedSlot = get_or tagged index nobody in
     ap (λ (k : Bool). set tagged index (record entry { kept = k })) c.stays-entry.ensures
-    ∙ map_over_more (kept_at c.args.slot) c.args.tagged.now tagged index entry c.loop-entry-test.true c.loop-entry.invariant (get_or_default tagged index nobody entry (omega (arith, c.loop-entry-test.true, c.loop-entry.auto.tagged)))
+    ∙ map_over_more (kept_at c.args.slot) c.args.tagged.now tagged index entry c.loop-entry-test.true
+    c.loop-entry.invariant
+    (get_or_default tagged index nobody entry (omega (arith, c.loop-entry-test.true, c.loop-entry.auto.tagged)))

@@ -11,4 +11,5 @@ loop-entry-preserved c =
     let tagged = c.loop-entry.tagged in
     let index = c.loop-entry.entry-index in
     let entry : TaggedSlot = get_or tagged index nobody in
-    map_over_more unkept c.args.tagged.now tagged index entry c.loop-entry-test.true c.loop-entry.invariant (get_or_default tagged index nobody entry (omega (arith, c.loop-entry-test.true, c.loop-entry.auto.tagged)))
+    map_over_more unkept c.args.tagged.now tagged index entry c.loop-entry-test.true c.loop-entry.invariant
+    (get_or_default tagged index nobody entry (omega (arith, c.loop-entry-test.true, c.loop-entry.auto.tagged)))

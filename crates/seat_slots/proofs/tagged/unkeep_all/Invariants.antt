@@ -3,4 +3,5 @@ use Rattle.seat_slots.specs.Shown.{unkept}
 use Rattle.seat_slots.proofs.tagged.unkeep_all.Given as goal
 
 abbrev pub invariant-loop-entry : goal.invariant-loop-entry
-invariant-loop-entry l = l.tagged ≡ map unkept (take l.entry-index l.initial.tagged) ++ drop l.entry-index l.initial.tagged
+invariant-loop-entry l = l.tagged ≡ map unkept (take l.entry-index l.initial.tagged)
+    ++ drop l.entry-index l.initial.tagged

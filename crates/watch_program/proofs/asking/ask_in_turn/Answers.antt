@@ -13,7 +13,9 @@ loop-k-preserved g c =
       idle = c.ask.ensures.idle;
       note = c.ask.ensures.note ∙ before.note;
       many = search rules;
-      sound = all_pushed IsSound c.loop-k.answers.items c.push.new.self.items c.ask.result before.sound c.ask.ensures.sound c.in_ok-push.ensures.items;
-      in_turn = next-in-turn c.args.keys.now c.loop-k.answers.items c.push.new.self.items c.ask.result c.index-keys-k.result c.loop-k.k before.many
+      sound = all_pushed IsSound c.loop-k.answers.items c.push.new.self.items c.ask.result before.sound
+          c.ask.ensures.sound c.in_ok-push.ensures.items;
+      in_turn = next-in-turn c.args.keys.now c.loop-k.answers.items c.push.new.self.items c.ask.result
+          c.index-keys-k.result c.loop-k.k before.many
           c.index-keys-k.is below c.ask.ensures.key c.in_ok-push.ensures.items before.in_turn;
     }

@@ -9,12 +9,16 @@ pub returns-in_ok-push-clause-keys : goal.returns-in_ok-push-clause-keys
 returns-in_ok-push-clause-keys c =
     let file = file_of c.args.capture.now in
     let found = record_read c.record-found.result in
-    c.in_ok-push.ensures.items ∙ next-accepted c.args.n (answers_of file) (accepted file.link file.nanos found c.args.n) c.in-Ok.packet c.args.keys.now.items
-    (c.packets_law.ensures.next file c.args.n found c.record-found.ensures.value) (sym c.accept.ensures.answer ∙ c.in-Ok.is) c.requires.before
+    c.in_ok-push.ensures.items ∙ next-accepted c.args.n (answers_of file)
+    (accepted file.link file.nanos found c.args.n) c.in-Ok.packet c.args.keys.now.items
+    (c.packets_law.ensures.next file c.args.n found c.record-found.ensures.value)
+    (sym c.accept.ensures.answer ∙ c.in-Ok.is) c.requires.before
 
 pub returns-in_default-clause-keys : goal.returns-in_default-clause-keys
 returns-in_default-clause-keys c =
     let file = file_of c.args.capture.now in
     let found = record_read c.record-found.result in
-    next-ignored c.args.n (answers_of file) (accepted file.link file.nanos found c.args.n) c.in_default.field-0 c.args.keys.now.items
-    (c.packets_law.ensures.next file c.args.n found c.record-found.ensures.value) (sym c.accept.ensures.answer ∙ c.in_default.is) c.requires.before
+    next-ignored c.args.n (answers_of file) (accepted file.link file.nanos found c.args.n) c.in_default.field-0
+    c.args.keys.now.items
+    (c.packets_law.ensures.next file c.args.n found c.record-found.ensures.value)
+    (sym c.accept.ensures.answer ∙ c.in_default.is) c.requires.before

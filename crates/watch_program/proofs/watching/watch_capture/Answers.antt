@@ -21,23 +21,28 @@ at_once-asking-requires-clause-passes g c κs within =
     let workers = c.args.settings.now.workers_bounds in (
       omega (arith, fewer, seats, workers.0),
       omega (arith, fewer, seats, workers.1),
-      (all_popped (λ p. IsOf c.in_ok-cache.cache p × IsFresh (shown_of p)) all left c.in-Some.own c.in_ok-cache.ensures.passes.1 c.in-Some.ensures.items).0,
+      (all_popped (λ p. IsOf c.in_ok-cache.cache p × IsFresh (shown_of p)) all left c.in-Some.own
+          c.in_ok-cache.ensures.passes.1 c.in-Some.ensures.items).0,
     )
 
 pub at_once-asking-requires-clause-own : goal.at_once-asking-requires-clause-own
 at_once-asking-requires-clause-own g c κs within =
-    (all_popped (λ p. IsOf c.in_ok-cache.cache p × IsFresh (shown_of p)) c.in_ok-cache.passes.items c.pop.new.self.items c.in-Some.own
+    (all_popped (λ p. IsOf c.in_ok-cache.cache p × IsFresh (shown_of p)) c.in_ok-cache.passes.items c.pop.new.self.items
+    c.in-Some.own
     c.in_ok-cache.ensures.passes.1 c.in-Some.ensures.items).1
 
 pub returns-clause-many : goal.returns-clause-many
 returns-clause-many g c =
     let asks = c.args.settings.now.asks in
-    if-ok c.at_once-asking.result.0.answers c.in_ok-answers.answers (λ answers. length answers.items ≡ count_of asks c.as_slice.result.now)
+    if-ok c.at_once-asking.result.0.answers c.in_ok-answers.answers
+    (λ answers. length answers.items ≡ count_of asks c.as_slice.result.now)
     c.in_ok-answers.was c.at_once-asking.ensures.many
-    ∙ ap (count_of asks) (c.as_slice.ensures.value ∙ c.in_ok-keys.ensures) ∙ count-same asks (packets_of (file_of c.args.capture.now))
+    ∙ ap (count_of asks) (c.as_slice.ensures.value ∙ c.in_ok-keys.ensures)
+    ∙ count-same asks (packets_of (file_of c.args.capture.now))
 
 pub returns-clause-in_turn : goal.returns-clause-in_turn
 returns-clause-in_turn g c =
     subst (λ keys. AreInTurn keys c.in_ok-answers.answers.items) (c.as_slice.ensures.value ∙ c.in_ok-keys.ensures)
-    (if-ok c.at_once-asking.result.0.answers c.in_ok-answers.answers (λ answers. AreInTurn c.as_slice.result.now answers.items)
+    (if-ok c.at_once-asking.result.0.answers c.in_ok-answers.answers
+    (λ answers. AreInTurn c.as_slice.result.now answers.items)
     c.in_ok-answers.was c.at_once-asking.ensures.in_turn)

@@ -9,6 +9,14 @@ returns-clause-reader c =
       others = c.loop-turn.passes.items;
       are = c.in_ok-insert.ensures.items;
       reader = known.reader;
-      count = omega (arith, known.others, known.count, c.loop-turn-test.false, c.loop-turn.auto._turn, c.loop-turn.auto._turn-end, c.requires.seats.0);
+      count = omega (
+        arith,
+        known.others,
+        known.count,
+        c.loop-turn-test.false,
+        c.loop-turn.auto._turn,
+        c.loop-turn.auto._turn-end,
+        c.requires.seats.0,
+      );
       apart = known.apart;
     }

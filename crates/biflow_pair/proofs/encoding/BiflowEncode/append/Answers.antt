@@ -13,7 +13,8 @@ pub append_counts-requires : goal.append_counts-requires
 append_counts-requires c =
     let forward = c.args.self.now.forward in
     let long = ap length c.append.ensures.items ∙ length-append c.args.buffer.now.items (data_record forward) in
-    let whole = ap (λ r. length (encode_both forward r).records) c.in-Some.is ∙ length-bi_record forward c.in-Some.reverse in
+    let whole = ap (λ r. length (encode_both forward r).records) c.in-Some.is
+    ∙ length-bi_record forward c.in-Some.reverse in
     omega (arith, long, whole)
 
 pub returns-in-Some-clause-items : goal.returns-in-Some-clause-items
@@ -22,4 +23,5 @@ returns-in-Some-clause-items c =
     let reverse = c.in-Some.reverse in
     c.append_counts.ensures.items ∙ ap (λ bs. bs ++ counts_part reverse) c.append.ensures.items
     ∙ append_assoc c.args.buffer.now.items (data_record forward) (counts_part reverse)
-    ∙ ap (λ bs. c.args.buffer.now.items ++ bs) (sym (bi_record-parts forward reverse) ∙ ap (λ r. (encode_both forward r).records) (sym c.in-Some.is))
+    ∙ ap (λ bs. c.args.buffer.now.items ++ bs)
+    (sym (bi_record-parts forward reverse) ∙ ap (λ r. (encode_both forward r).records) (sym c.in-Some.is))

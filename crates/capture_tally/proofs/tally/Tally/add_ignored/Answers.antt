@@ -13,7 +13,8 @@ returns c = λ answers is.
     record {
       captured = omega (arith, is.captured, length-append answers (Err c.args.cause ∷ []));
       accepted = is.accepted ∙ ap (λ ps. length ps) (sym none);
-      ignored = counts-ignored answers c.args.cause c.place_of-place.result c.args.self.now.ignored c.place_of-place.ensures.value is.ignored;
+      ignored = counts-ignored answers c.args.cause c.place_of-place.result c.args.self.now.ignored
+          c.place_of-place.ensures.value is.ignored;
       octets = is.octets ∙ ap octets_of (sym none);
       clock = subst (λ ps. IsClock ps c.args.self.now.clock) (sym none) is.clock;
     }

@@ -16,6 +16,9 @@ returns c = λ answers is.
       accepted = omega (arith, is.accepted, ap (λ ps. length ps) one, length-append (packets_in answers) (packet ∷ []));
       ignored = is.ignored ∙ counts-packet answers packet;
       octets = omega (arith, is.octets, ap octets_of one, octets-together (packets_in answers) (packet ∷ []));
-      clock = subst (λ clock. IsClock (packets_in (answers ++ Ok packet ∷ [])) clock) (sym c.later_of-self.ensures.later)
-          (subst (λ ps. IsClock ps (later c.args.self.now.clock (Some packet.time))) (sym one) (c.clock_law.ensures.together (packets_in answers) (packet ∷ []) c.args.self.now.clock (Some packet.time) is.clock (clock-alone packet)));
+      clock = subst (λ clock. IsClock (packets_in (answers ++ Ok packet ∷ [])) clock)
+          (sym c.later_of-self.ensures.later)
+          (subst (λ ps. IsClock ps (later c.args.self.now.clock (Some packet.time))) (sym one)
+          (c.clock_law.ensures.together (packets_in answers) (packet ∷ []) c.args.self.now.clock
+          (Some packet.time) is.clock (clock-alone packet)));
     }

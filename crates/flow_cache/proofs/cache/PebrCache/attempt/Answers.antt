@@ -16,7 +16,10 @@ returns-clause-done g c done =
     let note : Note = note_by first_note mid in
     let passed : Note = metering note (c.args.packet.now ∷ []) (Some c.args.own.now) in
     let put = c.reach_and_put-done.ensures.done done in (
-      subst (λ (b : Bool). note_by first_note end ≡ (if b then passed else note)) (c.is_passed_by-passes_by.ensures.done done) c.end.ensures.note ∙ put.0,
+      subst (λ (b : Bool). note_by first_note end ≡ (if b then passed else note))
+          (c.is_passed_by-passes_by.ensures.done done) c.end.ensures.note ∙ put.0,
       ap (λ (p : History). p.lost) c.end.ensures.past ∙ put.1,
-      chosen_still c.args.self.now.timeouts c.args.set (past_by mid) (past_by end) c.args.own.now metered.how metered.out put.2 (ap (λ (p : History). p.loads) c.end.ensures.past) (ap (λ (p : History). p.reads) c.end.ensures.past),
+      chosen_still c.args.self.now.timeouts c.args.set (past_by mid)
+          (past_by end) c.args.own.now metered.how metered.out put.2 (ap (λ (p : History). p.loads) c.end.ensures.past)
+          (ap (λ (p : History). p.reads) c.end.ensures.past),
     )

@@ -23,6 +23,9 @@ loop-turn-preserved c =
     record {
       count = omega (arith, a, b, d, e, before.count);
       turns = omega (arith, d, e, before.turns);
-      ahead = before_last (λ k s. IsOpenedPass c.args.self.now.roots first_note k s) c.loop-turn.inner.items rest.items c.in-Some.last c.in-Some.ensures.items before.ahead;
-      each = subst (All Fresh) (sym c.in_ok-add.ensures) (All-append Fresh passes (pass ∷ []) before.each (All-cons Fresh pass [] c.pass-pass.ensures (All-nil Fresh)));
+      ahead = before_last (λ k s. IsOpenedPass c.args.self.now.roots first_note k s) c.loop-turn.inner.items rest.items
+          c.in-Some.last c.in-Some.ensures.items before.ahead;
+      each = subst (All Fresh) (sym c.in_ok-add.ensures)
+          (All-append Fresh passes (pass ∷ []) before.each
+          (All-cons Fresh pass [] c.pass-pass.ensures (All-nil Fresh)));
     }

@@ -9,6 +9,7 @@ abbrev pub invariant-loop-turn : goal.invariant-loop-turn
 invariant-loop-turn l = record {
   count : length l.inner.items + length l.passes.items ≡ (shape_at l.self.roots).seats;
   turns : length l.passes.items ≡ l._turn;
-  ahead : (i : ℕ) (d : _) → i < length l.inner.items → IsOpenedPass l.self.roots first_note i (get_or l.inner.items i d);
+  ahead : (i : ℕ) (d : _) → i < length l.inner.items
+      → IsOpenedPass l.self.roots first_note i (get_or l.inner.items i d);
   each : All (λ pass. IsOf l.self pass × IsFresh (shown_of pass)) l.passes.items;
 }

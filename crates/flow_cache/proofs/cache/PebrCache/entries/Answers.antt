@@ -20,10 +20,15 @@ returns c =
     let words : List ℕ = c.in_ok-contents.contents.items in
     let shape : Shape = shape_at cache.roots in
     let notes : List Note = set (replicate shape.seats empty_note) number note in
-    let kept : Keeps cache.timeouts (rows_of shape words) notes = subst (λ (limits : Timeouts). Keeps limits (rows_of shape words) notes) cache.fixed c.in_ok-contents.ensures.keeps in
+    let kept : Keeps cache.timeouts (rows_of shape words) notes =
+    subst (λ (limits : Timeouts). Keeps limits (rows_of shape words) notes) cache.fixed
+    c.in_ok-contents.ensures.keeps in
     let contents : List (List ℕ) = rows_at cache.sets shape.seats words (4 * cache.sets) in
     let rows : rows_of shape words ≡ contents = ap (λ (s : Shape). rows_of s words) cache.shaped in
-    IfOk-weaker c.gather.result _ _ (λ parts is. subst (λ (ps : List Fragment). SharesOut cache.timeouts note.packets (ps ++ note.handed))
-    (sym (is cache.sets shape.seats ∙ ap (λ ws. parts_in (rows_at cache.sets shape.seats ws (4 * cache.sets))) c.as_slice.ensures.value))
-    (ends cache.timeouts contents shape.seats number note c.requires.own.of.at.3 (subst (λ cs. Keeps cache.timeouts cs notes) rows kept)))
+    IfOk-weaker c.gather.result _ _
+    (λ parts is. subst (λ (ps : List Fragment). SharesOut cache.timeouts note.packets (ps ++ note.handed))
+    (sym (is cache.sets shape.seats ∙ ap (λ ws. parts_in (rows_at cache.sets shape.seats ws (4 * cache.sets)))
+    c.as_slice.ensures.value))
+    (ends cache.timeouts contents shape.seats number note c.requires.own.of.at.3
+    (subst (λ cs. Keeps cache.timeouts cs notes) rows kept)))
     c.gather.ensures

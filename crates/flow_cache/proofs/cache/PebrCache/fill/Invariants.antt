@@ -12,6 +12,12 @@ invariant-loop-word l = record {
   same : IsSame l.self.roots l.initial.pass l.pass;
   note : note_by first_note l.pass ≡ note_by first_note l.initial.pass;
   known : known_by l.pass ≡ known_by l.initial.pass;
-  past : past_by l.pass ≡ record (past_by l.initial.pass) { last = (past_by l.pass).last; steps = (past_by l.pass).steps; written = (past_by l.pass).written };
-  written : (k : ℕ) → k < l.word → written_at (past_by l.pass).written (least (known_by l.initial.pass).fresh) k ≡ Some (slice_index l.words k);
+  past : past_by l.pass ≡ record (past_by l.initial.pass) {
+    last = (past_by l.pass).last;
+    steps =
+        (past_by l.pass).steps;
+    written = (past_by l.pass).written;
+  };
+  written : (k : ℕ) → k < l.word → written_at (past_by l.pass).written (least (known_by l.initial.pass).fresh) k
+      ≡ Some (slice_index l.words k);
 }

@@ -12,8 +12,19 @@ invariant-loop-place l = record {
   same : IsSame l.self.roots l.initial.pass l.pass;
   note : note_by first_note l.pass ≡ note_by first_note l.initial.pass;
   entered : is_out (known_by l.pass).status ≡ false;
-  known : known_by l.pass ≡ record (known_by l.initial.pass) { seen = (known_by l.pass).seen; shields = (known_by l.pass).shields };
-  past : past_by l.pass ≡ record (past_by l.initial.pass) { last = (past_by l.pass).last; steps = (past_by l.pass).steps; loads = (past_by l.pass).loads; reads = (past_by l.pass).reads; shown = (past_by l.pass).shown };
+  known : known_by l.pass ≡ record (known_by l.initial.pass) {
+    seen = (known_by l.pass).seen;
+    shields =
+        (known_by l.pass).shields;
+  };
+  past : past_by l.pass ≡ record (past_by l.initial.pass) {
+    last = (past_by l.pass).last;
+    steps =
+        (past_by l.pass).steps;
+    loads = (past_by l.pass).loads;
+    reads = (past_by l.pass).reads;
+    shown = (past_by l.pass).shown;
+  };
   loaded : AreLoaded l.set l.place (known_by l.pass) (past_by l.pass);
   last : 0 < l.place → set_read (past_by l.pass).loads ≡ l.set;
 }

@@ -15,15 +15,18 @@ pub put_in-lost-requires-clause-own : goal.put_in-lost-requires-clause-own
 put_in-lost-requires-clause-own g c =
     let limits = c.args.self.now.timeouts in
     subst (λ (note : Note). IsOwn limits note c.args.packet.now c.of-own.result) (sym c.make_room.ensures.note)
-    (own_of limits (note_by first_note c.args.pass.now.inner) c.args.packet.now c.of-own.result c.requires.single c.requires.number c.requires.octets c.requires.rises c.of-own.ensures.alone (c.of-own.ensures.heap limits))
+    (own_of limits (note_by first_note c.args.pass.now.inner) c.args.packet.now c.of-own.result c.requires.single
+    c.requires.number c.requires.octets c.requires.rises c.of-own.ensures.alone (c.of-own.ensures.heap limits))
 
 pub returns-clause-own : goal.returns-clause-own
 returns-clause-own g c =
     let room = c.make_room.ensures.same.still in
     let put = c.put_in-lost.ensures.same.still in record {
       of = c.put_in-lost.ensures.same.of;
-      seats = ap (λ (n : Note). n.seats) c.put_in-lost.ensures.note ∙ ap (λ (n : Note). n.seats) c.make_room.ensures.note ∙ c.requires.own.seats ∙ sym (put.3 ∙ room.3);
-      united = λ place held at. c.requires.own.united place held (ap (λ (l : List _). get_elem? l place) (sym (put.4 ∙ room.4)) ∙ at);
+      seats = ap (λ (n : Note). n.seats) c.put_in-lost.ensures.note
+          ∙ ap (λ (n : Note). n.seats) c.make_room.ensures.note ∙ c.requires.own.seats ∙ sym (put.3 ∙ room.3);
+      united = λ place held at. c.requires.own.united place held
+          (ap (λ (l : List _). get_elem? l place) (sym (put.4 ∙ room.4)) ∙ at);
     }
 
 pub returns-clause-answer : goal.returns-clause-answer
@@ -39,10 +42,13 @@ returns-clause-answer g c =
       set = set_read past.loads;
       entries = entries_read past (set_read past.loads);
     } in
-    let listed : past.lost ≡ tries.tries ++ (past_by old.inner).lost = tries.listed ∙ ap (λ (l : List Lost). tries.tries ++ l) c.make_room.ensures.lost in
+    let listed : past.lost ≡ tries.tries ++ (past_by old.inner).lost =
+    tries.listed ∙ ap (λ (l : List Lost). tries.tries ++ l) c.make_room.ensures.lost in
     let more = ap (λ (l : List _). flat_map (λ held. held.past.lost) l) (put.4 ∙ room.4) in (
       c.of-own.result,
       c.of-own.ensures.alone,
-      answered (means_of c.args.self.now) (shown_of old) now past c.of-own.result c.put_in-lost.new.metered.out c.set_of-set.result c.put_in-lost.result tries.tries
-          c.set_of-set.ensures.number refl refl (lost_on tries.tries (past_by old.inner).lost past.lost _ _ listed more) tries.many tries.each c.put_in-lost.new.metered.how c.put_in-lost.ensures.outcome,
+      answered (means_of c.args.self.now) (shown_of old) now past c.of-own.result c.put_in-lost.new.metered.out
+          c.set_of-set.result c.put_in-lost.result tries.tries
+          c.set_of-set.ensures.number refl refl (lost_on tries.tries (past_by old.inner).lost past.lost _ _ listed more)
+          tries.many tries.each c.put_in-lost.new.metered.how c.put_in-lost.ensures.outcome,
     )

@@ -1,4 +1,5 @@
-use Rattle.std.proofs.Common.{◌≡◌, ◌*◌, ◌+◌, ◌∙◌, ◌∷◌, [], ℕ, zero, suc, List, map, replicate, get_or, sum_by, refl, sym, subst, arith, inl, All}
+use Rattle.std.proofs.Common.{◌≡◌, ◌*◌, ◌+◌, ◌∙◌, ◌∷◌, [], ℕ, zero, suc, List, map, replicate, get_or, sum_by, refl}
+use Rattle.std.proofs.Common.{sym, subst, arith, inl, All}
 use Rattle.std.specs.List.{range_with_len}
 use Rattle.std.proofs.lemmas.List.Elements.{All-nil, All-cons, All-weaker}
 use Rattle.std.proofs.lemmas.List.Sums.{sum_by-cons}
@@ -15,9 +16,13 @@ zero_at zero k = refl
 zero_at (suc n) zero = refl
 zero_at (suc n) (suc k) = zero_at n k
 
-empty_rows : (sets seats n : ℕ) (slots : List ℕ) → All IsEmptyContent (map (slot_of (cache_shape sets seats) (replicate n 0)) slots)
+empty_rows : (sets seats n : ℕ) (slots : List ℕ)
+    → All IsEmptyContent (map (slot_of (cache_shape sets seats) (replicate n 0)) slots)
 empty_rows sets seats n [] = All-nil IsEmptyContent
-empty_rows sets seats n (slot ∷ slots) = All-cons IsEmptyContent (slot_of (cache_shape sets seats) (replicate n 0) slot) (map (slot_of (cache_shape sets seats) (replicate n 0)) slots) (zero_at n (slot * 10 + 5)) (empty_rows sets seats n slots)
+empty_rows sets seats n (slot ∷ slots) =
+    All-cons IsEmptyContent (slot_of (cache_shape sets seats) (replicate n 0) slot)
+    (map (slot_of (cache_shape sets seats) (replicate n 0)) slots) (zero_at n (slot * 10 + 5))
+    (empty_rows sets seats n slots)
 
 unused_notes : (n : ℕ) → All IsUnused (replicate n first_note)
 unused_notes zero = All-nil IsUnused
@@ -25,19 +30,24 @@ unused_notes (suc n) = All-cons IsUnused first_note (replicate n first_note) (re
 
 so_many : (n : ℕ) → sum_by (λ (note : Note). note.seats) (replicate n first_note) ≡ n
 so_many zero = refl
-so_many (suc n) = let s = sum_by-cons (λ (note : Note). note.seats) first_note (replicate n first_note) in let r = so_many n in omega (arith, s, r)
+so_many (suc n) = let s = sum_by-cons (λ (note : Note). note.seats) first_note (replicate n first_note) in
+    let r = so_many n in omega (arith, s, r)
 
 pub open-requires-clause-keeps : goal.open-requires-clause-keeps
 open-requires-clause-keeps c =
     let sets = c.args.sets in let seats = c.args.seats in
     let is : c.as_slice.result.now ≡ replicate (40 * sets) 0 = c.as_slice.ensures.value ∙ c.in_ok-words.ensures in
-    subst (λ (ws : List ℕ). Keeps c.args.timeouts (rows_of (cache_shape sets seats) ws) (replicate seats first_note)) (sym is)
-    (keeps_opening c.args.timeouts (rows_of (cache_shape sets seats) (replicate (40 * sets) 0)) (replicate seats first_note)
-    (empty_rows sets seats (40 * sets) (range_with_len 0 (4 * sets))) (unused_notes seats) (let m = so_many seats in omega (arith, m, c.requires.seats.1)))
+    subst (λ (ws : List ℕ). Keeps c.args.timeouts (rows_of (cache_shape sets seats) ws) (replicate seats first_note))
+    (sym is)
+    (keeps_opening c.args.timeouts (rows_of (cache_shape sets seats) (replicate (40 * sets) 0))
+    (replicate seats first_note)
+    (empty_rows sets seats (40 * sets) (range_with_len 0 (4 * sets))) (unused_notes seats)
+    (let m = so_many seats in omega (arith, m, c.requires.seats.1)))
 
 pub open-requires-clause-whole : goal.open-requires-clause-whole
 open-requires-clause-whole c =
     let sets = c.args.sets in let seats = c.args.seats in
     let is : c.as_slice.result.now ≡ replicate (40 * sets) 0 = c.as_slice.ensures.value ∙ c.in_ok-words.ensures in
     subst (λ (ws : List ℕ). All IsWhole (rows_of (cache_shape sets seats) ws)) (sym is)
-    (All-weaker IsEmptyContent IsWhole (λ content e. inl e) (rows_of (cache_shape sets seats) (replicate (40 * sets) 0)) (empty_rows sets seats (40 * sets) (range_with_len 0 (4 * sets))))
+    (All-weaker IsEmptyContent IsWhole (λ content e. inl e) (rows_of (cache_shape sets seats) (replicate (40 * sets) 0))
+    (empty_rows sets seats (40 * sets) (range_with_len 0 (4 * sets))))

@@ -1,4 +1,5 @@
-use Rattle.std.proofs.Common.{rules, ◌≡◌, ◌<◌, ◌∙◌, ◌∷◌, [], ℕ, false, List, map, Option, Some, inr, refl, sym, ap, subst}
+use Rattle.std.proofs.Common.{rules, ◌≡◌, ◌<◌, ◌∙◌, ◌∷◌, [], ℕ, false, List, map, Option, Some, inr, refl, sym, ap}
+use Rattle.std.proofs.Common.{subst}
 use Rattle.std.specs.Prelude.{slice_index}
 use Rattle.flow_parts.specs.declared.fragment.Fragment.{Fragment}
 use Rattle.flow_parts.specs.declared.timeouts.Timeouts.{Timeouts}
@@ -42,26 +43,39 @@ replace-requires-clause-keeps g c =
     let out : Option Fragment = c.put_out-out.result in
     let contents : List (List ℕ) = c.read_contents.new.contents in
     let choice : IsChoice cache.timeouts (map entry_of contents) c.args.own.now how place out kept
-    = choice_is cache.timeouts contents c.args.own.now how place c.choose_by_words-choice.result.words out (search rules) c.put_out-out.ensures chosen in
+    = choice_is cache.timeouts contents c.args.own.now how place c.choose_by_words-choice.result.words out
+    (search rules) c.put_out-out.ensures chosen in
     let slot : ℕ = slot_at (known_by start) place in
     let root : ℕ = root_of c.args.set place in
     let note : Note = note_by first_note start in
     let known_is : known_by end ≡ known_by start = c.fill.ensures.known ∙ c.read_contents.ensures.known in
     let note_is : note_by first_note end ≡ note = c.fill.ensures.note ∙ c.read_contents.ensures.note in
     let reads : (past_by end).reads ≡ (past_by mid).reads = ap (λ (p : History). p.reads) c.fill.ensures.past in
-    let loads : (past_by mid).loads ≡ (past_by start).loads = ap (λ (p : History). p.loads) c.read_contents.ensures.past in
-    let loaded : shown_at (past_by mid).loads root ≡ Some slot = ap (λ (ls : List Load). shown_at ls root) loads ∙ (c.requires.protected.each place low).1.0 in
+    let loads : (past_by mid).loads ≡ (past_by start).loads =
+    ap (λ (p : History). p.loads) c.read_contents.ensures.past in
+    let loaded : shown_at (past_by mid).loads root ≡ Some slot =
+    ap (λ (ls : List Load). shown_at ls root) loads ∙ (c.requires.protected.each place low).1.0 in
     let entry : entry_at (map entry_of contents) place ≡ entry_of (words_read (past_by end).reads slot)
-    = ap (λ es. entry_at es place) (c.read_contents.ensures.entries c.args.set c.requires.protected) ∙ at_place (past_by mid) c.args.set place low ∙ entry_is (past_by mid) root slot loaded ∙ ap (λ (rs : List Read). entry_of (words_read rs slot)) (sym reads) in
+    = ap (λ es. entry_at es place) (c.read_contents.ensures.entries c.args.set c.requires.protected)
+    ∙ at_place (past_by mid) c.args.set place low ∙ entry_is (past_by mid) root slot loaded
+    ∙ ap (λ (rs : List Read). entry_of (words_read rs slot)) (sym reads) in
     let takes : Takes cache.timeouts c.args.own.now (entry_of (words_read (past_by end).reads slot)) out kept
-    = subst (λ e. Takes cache.timeouts c.args.own.now e out kept) entry (choice_takes cache.timeouts (map entry_of contents) c.args.own.now kept how place out choice) in
-    let filled : (word : ℕ) → word < 10 → written_at (past_by end).written (least (known_by start).fresh) word ≡ Some (slice_index (part_words kept) word)
-    = λ word lt. ap (λ (s : Seat). written_at (past_by end).written (least s.fresh) word) (sym c.read_contents.ensures.known) ∙ c.fill.ensures.written word lt ∙ ap (λ ws. Some (slice_index ws word)) (sym chosen.1) in
-    let can : Timeouts → Seat → Note → Type 0 = λ limits known note. CanReplace (Keeps limits) IsWhole shape (past_by end) (number_by end) root (slot_at known place) (least known.fresh) note (metering note (c.args.packet.now ∷ []) out) in
+    = subst (λ e. Takes cache.timeouts c.args.own.now e out kept) entry
+    (choice_takes cache.timeouts (map entry_of contents) c.args.own.now kept how place out choice) in
+    let filled : (word : ℕ) → word < 10 → written_at (past_by end).written (least (known_by start).fresh) word
+    ≡ Some (slice_index (part_words kept) word)
+    = λ word lt. ap (λ (s : Seat). written_at (past_by end).written (least s.fresh) word)
+    (sym c.read_contents.ensures.known) ∙ c.fill.ensures.written word lt
+    ∙ ap (λ ws. Some (slice_index ws word)) (sym chosen.1) in
+    let can : Timeouts → Seat → Note → Type 0 =
+    λ limits known note. CanReplace (Keeps limits) IsWhole shape (past_by end) (number_by end) root
+    (slot_at known place) (least known.fresh) note (metering note (c.args.packet.now ∷ []) out) in
     subst (λ limits. can limits (known_by end) (note_by first_note end)) (sym cache.fixed)
     (subst (λ known. can cache.timeouts known (note_by first_note end)) (sym known_is)
     (subst (λ n. can cache.timeouts (known_by start) n) (sym note_is)
-    (can_replace cache.timeouts shape (past_by end) (number_by end) root slot (least (known_by start).fresh) note c.args.packet.now c.args.own.now kept out (ap (λ (s : Shape). s.width) cache.shaped)
+    (can_replace cache.timeouts shape (past_by end) (number_by end) root slot
+    (least (known_by start).fresh) note c.args.packet.now c.args.own.now kept out
+    (ap (λ (s : Shape). s.width) cache.shaped)
     (subst (λ rs. HasTen rs slot) (sym reads) (c.read_contents.ensures.ten place low)) filled c.requires.own takes)))
 
 pub returns-in-Replaced-clause-done : goal.returns-in-Replaced-clause-done
@@ -79,23 +93,32 @@ returns-in-Replaced-clause-done g c done =
     let contents : List (List ℕ) = c.read_contents.new.contents in
     let limits : Timeouts = c.args.self.now.timeouts in
     let choice : IsChoice limits (map entry_of contents) c.args.own.now how place out chosen.0
-    = choice_is limits contents c.args.own.now how place c.choose_by_words-choice.result.words out (search rules) c.put_out-out.ensures chosen in
-    let note_is : note_by first_note end ≡ note_by first_note start = c.fill.ensures.note ∙ c.read_contents.ensures.note in
+    = choice_is limits contents c.args.own.now how place c.choose_by_words-choice.result.words out
+    (search rules) c.put_out-out.ensures chosen in
+    let note_is : note_by first_note end ≡ note_by first_note start =
+    c.fill.ensures.note ∙ c.read_contents.ensures.note in
     let packets : Note → Note = λ n. metering n (c.args.packet.now ∷ []) out in
-    let past : past_by new ≡ past_after (step.Replace (number_by end) (root_of c.args.set place) slot fresh) answer.Replaced (known_by end) (past_by end)
-    = subst (λ r. past_by new ≡ past_after (step.Replace (number_by end) (root_of c.args.set place) slot fresh) (answer_to r) (known_by end) (past_by end)) c.in-Replaced.is c.replace.ensures.step.past in
-    let loads : (past_by new).loads ≡ (past_by mid).loads = ap (λ (p : History). p.loads) past ∙ ap (λ (p : History). p.loads) c.fill.ensures.past in
-    let reads : (past_by new).reads ≡ (past_by mid).reads = ap (λ (p : History). p.reads) past ∙ ap (λ (p : History). p.reads) c.fill.ensures.past in
+    let past : past_by new ≡ past_after (step.Replace (number_by end) (root_of c.args.set place) slot fresh)
+    answer.Replaced (known_by end) (past_by end)
+    = subst (λ r. past_by new ≡ past_after (step.Replace (number_by end) (root_of c.args.set place) slot fresh)
+    (answer_to r) (known_by end) (past_by end)) c.in-Replaced.is c.replace.ensures.step.past in
+    let loads : (past_by new).loads ≡ (past_by mid).loads =
+    ap (λ (p : History). p.loads) past ∙ ap (λ (p : History). p.loads) c.fill.ensures.past in
+    let reads : (past_by new).reads ≡ (past_by mid).reads =
+    ap (λ (p : History). p.reads) past ∙ ap (λ (p : History). p.reads) c.fill.ensures.past in
     let said : Metered = c.tell.new.metered in
     let how_is : said.how ≡ how = c.tell.ensures.how in
     let out_is : said.out ≡ out = c.tell.ensures.out in
     let has : HasChosen limits c.args.set (past_by new) c.args.own.now how out
-    = chosen_of limits c.args.set (past_by mid) (past_by new) c.args.own.now chosen.0 how place out (map entry_of contents)
+    = chosen_of limits c.args.set (past_by mid) (past_by new) c.args.own.now chosen.0 how place out
+    (map entry_of contents)
     (ap (λ (p : History). set_read p.loads) c.read_contents.ensures.past ∙ c.requires.protected.last)
     (c.read_contents.ensures.entries c.args.set c.requires.protected) choice loads reads in (
-      subst (λ r. note_by first_note new ≡ replaced_note r (packets (note_by first_note end)) (note_by first_note end)) c.in-Replaced.is c.replace.ensures.note ∙ ap packets note_is
+      subst (λ r. note_by first_note new ≡ replaced_note r (packets (note_by first_note end)) (note_by first_note end))
+          c.in-Replaced.is c.replace.ensures.note ∙ ap packets note_is
           ∙ ap (λ o. metering (note_by first_note start) (c.args.packet.now ∷ []) o) (sym out_is),
-      ap (λ (p : History). p.lost) past ∙ ap (λ (p : History). p.lost) c.fill.ensures.past ∙ ap (λ (p : History). p.lost) c.read_contents.ensures.past,
+      ap (λ (p : History). p.lost) past ∙ ap (λ (p : History). p.lost) c.fill.ensures.past
+          ∙ ap (λ (p : History). p.lost) c.read_contents.ensures.past,
       subst (λ h. HasChosen limits c.args.set (past_by new) c.args.own.now h said.out) (sym how_is)
           (subst (λ o. HasChosen limits c.args.set (past_by new) c.args.own.now how o) (sym out_is) has),
     )
@@ -112,19 +135,32 @@ returns-in-Other-clause-undone g c undone =
     let slot : ℕ = slot_at (known_by end) place in
     let fresh : ℕ = least (known_by end).fresh in
     let packets : Note → Note = λ n. metering n (c.args.packet.now ∷ []) c.put_out-out.result in
-    let note_is : note_by first_note end ≡ note_by first_note start = c.fill.ensures.note ∙ c.read_contents.ensures.note in
+    let note_is : note_by first_note end ≡ note_by first_note start =
+    c.fill.ensures.note ∙ c.read_contents.ensures.note in
     let known_is : known_by end ≡ known_by start = c.fill.ensures.known ∙ c.read_contents.ensures.known in
-    let past : past_by new ≡ past_after (step.Replace (number_by end) root slot fresh) answer.Other (known_by end) (past_by end)
-    = subst (λ r. past_by new ≡ past_after (step.Replace (number_by end) root slot fresh) (answer_to r) (known_by end) (past_by end)) c.in-Other.is c.replace.ensures.step.past in
-    let shown_is : (past_by end).shown ≡ (past_by start).shown = ap (λ (p : History). p.shown) c.fill.ensures.past ∙ ap (λ (p : History). p.shown) c.read_contents.ensures.past in
-    let shown : shown_at (past_by end).shown root ≡ Some slot = ap (λ (ls : List Load). shown_at ls root) shown_is ∙ (c.requires.protected.each place low).1.1 ∙ ap (λ (s : Seat). Some (slot_at s place)) (sym known_is) in
-    let unlost : (past_by end).has_lost ≡ false = ap (λ (p : History). p.has_lost) c.fill.ensures.past ∙ ap (λ (p : History). p.has_lost) c.read_contents.ensures.past ∙ c.requires.unlost in (
-      subst (λ r. note_by first_note new ≡ replaced_note r (packets (note_by first_note end)) (note_by first_note end)) c.in-Other.is c.replace.ensures.note ∙ note_is,
-      ap (λ (s : Seat). s.fresh) (subst (λ r. known_by new ≡ replaced_seat r slot fresh (known_by end)) c.in-Other.is c.replace.ensures.known ∙ known_is),
+    let past : past_by new ≡ past_after (step.Replace (number_by end) root slot fresh) answer.Other (known_by end)
+    (past_by end)
+    = subst (λ r. past_by new ≡ past_after (step.Replace (number_by end) root slot fresh) (answer_to r) (known_by end)
+    (past_by end)) c.in-Other.is c.replace.ensures.step.past in
+    let shown_is : (past_by end).shown ≡ (past_by start).shown =
+    ap (λ (p : History). p.shown) c.fill.ensures.past ∙ ap (λ (p : History). p.shown) c.read_contents.ensures.past in
+    let shown : shown_at (past_by end).shown root ≡ Some slot =
+    ap (λ (ls : List Load). shown_at ls root) shown_is ∙ (c.requires.protected.each place low).1.1
+    ∙ ap (λ (s : Seat). Some (slot_at s place)) (sym known_is) in
+    let unlost : (past_by end).has_lost ≡ false =
+    ap (λ (p : History). p.has_lost) c.fill.ensures.past ∙ ap (λ (p : History). p.has_lost) c.read_contents.ensures.past
+    ∙ c.requires.unlost in (
+      subst (λ r. note_by first_note new ≡ replaced_note r (packets (note_by first_note end)) (note_by first_note end))
+          c.in-Other.is c.replace.ensures.note ∙ note_is,
+      ap (λ (s : Seat). s.fresh)
+          (subst (λ r. known_by new ≡ replaced_seat r slot fresh (known_by end)) c.in-Other.is c.replace.ensures.known
+          ∙ known_is),
       (
         found_other root,
-        ap (λ (p : History). p.lost) past ∙ lost_here (number_by end) root slot fresh (known_by end) (past_by end) shown unlost
-            ∙ ap (λ (p : History). found_other root ∷ p.lost) c.fill.ensures.past ∙ ap (λ (p : History). found_other root ∷ p.lost) c.read_contents.ensures.past,
+        ap (λ (p : History). p.lost) past ∙ lost_here (number_by end) root slot fresh (known_by end)
+            (past_by end) shown unlost
+            ∙ ap (λ (p : History). found_other root ∷ p.lost) c.fill.ensures.past
+            ∙ ap (λ (p : History). found_other root ∷ p.lost) c.read_contents.ensures.past,
         inr (place, low, refl),
       ),
     )

@@ -25,7 +25,8 @@ loop-lost-preserved g c =
     let low = c.loop-lost-test.true in
     let h = c.attempt.ensures.undone c.if-attempt.false in
     let passed : Note → Note = λ note. metering note (c.args.packet.now ∷ []) (Some c.args.own.now) in
-    let ended : Bool → Type 0 = λ b. note_by first_note new ≡ (if b then passed (note_by first_note old) else note_by first_note old) in
+    let ended : Bool → Type 0 = λ b. note_by first_note new
+    ≡ (if b then passed (note_by first_note old) else note_by first_note old) in
     record {
       low = omega (arith, low);
       same = go_on c.args.self.now.roots start old new before.same c.attempt.ensures.same;

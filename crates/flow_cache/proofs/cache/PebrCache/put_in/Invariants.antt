@@ -17,6 +17,8 @@ invariant-loop-lost g l = record {
   ejections : (past_by l.pass).ejections ≡ (past_by l.initial.pass).ejections;
   none : l.metered.out ≡ None;
   note : l.lost < 3 → note_by first_note l.pass ≡ note_by first_note l.initial.pass;
-  passed : l.lost ≡ 3 → (note_by first_note l.pass ≡ metering (note_by first_note l.initial.pass) (l.packet ∷ []) (Some l.own)) × ((shape_at l.self.roots).seats ≢ 1);
+  passed : l.lost ≡ 3
+      → (note_by first_note l.pass ≡ metering (note_by first_note l.initial.pass) (l.packet ∷ []) (Some l.own))
+      × ((shape_at l.self.roots).seats ≢ 1);
   tries : HaveLost l.set l.lost (past_by l.initial.pass) (past_by l.pass);
 }

@@ -15,23 +15,32 @@ either : (b : Bool) (one two : History) → one.pins ≡ two.pins → (if b then
 either true one two same = same
 either false one two same = refl
 
-unpinned : (i : ℕ) (a : Answer) (seat : Seat) (past : History) → (past_after (step.Check i) a seat past).pins ≡ past.pins
-unpinned i a seat past = either (is_ejected a) (with_lost was_ejected past) past (either past.has_lost past (record past { lost = was_ejected ∷ past.lost; has_lost = true }) refl)
+unpinned : (i : ℕ) (a : Answer) (seat : Seat) (past : History)
+    → (past_after (step.Check i) a seat past).pins ≡ past.pins
+unpinned i a seat past = either (is_ejected a) (with_lost was_ejected past) past
+    (either past.has_lost past (record past { lost = was_ejected ∷ past.lost; has_lost = true }) refl)
 
 pub returns-clause-pins : goal.returns-clause-pins
 returns-clause-pins g c =
     let mid = c.load_set.new.pass in
-    ap (λ (p : History). p.pins) c.check.ensures.step.past ∙ unpinned (number_by mid) (answer_to c.check.result) (known_by mid) (past_by mid)
+    ap (λ (p : History). p.pins) c.check.ensures.step.past
+    ∙ unpinned (number_by mid) (answer_to c.check.result) (known_by mid) (past_by mid)
     ∙ ap (λ (p : History). p.pins) c.load_set.ensures.past ∙ ap (λ (p : History). p.pins) c.enter.ensures.past
 
 pub returns-clause-valid : goal.returns-clause-valid
 returns-clause-valid g c valid =
     let mid = c.load_set.new.pass in
     let end = c.check.new.pass in
-    let past : past_by end ≡ past_after (step.Check (number_by mid)) answer.Valid (known_by mid) (past_by mid) = subst (λ r. past_by end ≡ past_after (step.Check (number_by mid)) (answer_to r) (known_by mid) (past_by mid)) valid c.check.ensures.step.past in (
-      checked_set c.args.set (known_by mid) (known_by end) (past_by mid) (past_by end) c.load_set.ensures.loaded c.load_set.ensures.last (c.check.ensures.valid valid) (ap (λ (p : History). p.loads) past) (ap (λ (p : History). p.shown) past),
+    let past : past_by end ≡ past_after (step.Check (number_by mid)) answer.Valid (known_by mid) (past_by mid) =
+    subst (λ r. past_by end ≡ past_after (step.Check (number_by mid)) (answer_to r) (known_by mid) (past_by mid)) valid
+    c.check.ensures.step.past in (
+      checked_set c.args.set (known_by mid) (known_by end) (past_by mid)
+          (past_by end) c.load_set.ensures.loaded c.load_set.ensures.last (c.check.ensures.valid valid)
+          (ap (λ (p : History). p.loads) past) (ap (λ (p : History). p.shown) past),
       (
-        ap (λ (p : History). p.lost) past ∙ ap (λ (p : History). p.lost) c.load_set.ensures.past ∙ ap (λ (p : History). p.lost) c.enter.ensures.past,
-        ap (λ (p : History). p.has_lost) past ∙ ap (λ (p : History). p.has_lost) c.load_set.ensures.past ∙ ap (λ (p : History). p.has_lost) c.enter.ensures.past,
+        ap (λ (p : History). p.lost) past ∙ ap (λ (p : History). p.lost) c.load_set.ensures.past
+            ∙ ap (λ (p : History). p.lost) c.enter.ensures.past,
+        ap (λ (p : History). p.has_lost) past ∙ ap (λ (p : History). p.has_lost) c.load_set.ensures.past
+            ∙ ap (λ (p : History). p.has_lost) c.enter.ensures.past,
       ),
     )

@@ -1,4 +1,5 @@
-use Rattle.std.proofs.Common.{◌≡◌, ◌<◌, ◌∙◌, ◌∷◌, [], ℕ, zero, suc, List, length, set, map, Option, Some, refl, sym, ap, subst, arith}
+use Rattle.std.proofs.Common.{◌≡◌, ◌<◌, ◌∙◌, ◌∷◌, [], ℕ, zero, suc, List, length, set, map, Option, Some, refl, sym, ap}
+use Rattle.std.proofs.Common.{subst, arith}
 use Rattle.std.specs.Prelude.{slice_index, All}
 use Rattle.flow_parts.specs.declared.fragment.Fragment.{Fragment}
 use Rattle.cache_face.specs.Keeping.{entry_of, IsWhole}
@@ -21,16 +22,20 @@ each_of_four P a b c d (suc (suc zero)) low = c
 each_of_four P a b c d (suc (suc (suc zero))) low = d
 each_of_four P a b c d (suc (suc (suc (suc n)))) low = absurd (omega (arith, low))
 
-same_four : (a b c d a' b' c' d' : Option Fragment) → a ≡ a' → b ≡ b' → c ≡ c' → d ≡ d' → a ∷ b ∷ c ∷ d ∷ [] ≡ a' ∷ b' ∷ c' ∷ d' ∷ []
+same_four : (a b c d a' b' c' d' : Option Fragment) → a ≡ a' → b ≡ b' → c ≡ c' → d ≡ d'
+    → a ∷ b ∷ c ∷ d ∷ [] ≡ a' ∷ b' ∷ c' ∷ d' ∷ []
 same_four a b c d a' b' c' d' p q r s = λ i. p i ∷ q i ∷ r i ∷ s i ∷ []
 
 -- an entry as it was read first is read so at the end
-read_so : (result : Option Fragment) (then : List Read) (past : History) (root slot : ℕ) → result ≡ entry_of (words_read then slot) → HasMore then past.reads → HasTen then slot
+read_so : (result : Option Fragment) (then : List Read) (past : History) (root slot : ℕ)
+    → result ≡ entry_of (words_read then slot) → HasMore then past.reads → HasTen then slot
     → shown_at past.loads root ≡ Some slot → result ≡ entry_read past root
-read_so result then past root slot is more ten loaded = is ∙ ap entry_of (words_stay then past.reads slot more ten) ∙ sym (entry_is past root slot loaded)
+read_so result then past root slot is more ten loaded =
+    is ∙ ap entry_of (words_stay then past.reads slot more ten) ∙ sym (entry_is past root slot loaded)
 
 -- four contents, each put in its place
-four_set : (contents : List (List ℕ)) (a b c d : List ℕ) → length contents ≡ 4 → set (set (set (set contents 0 a) 1 b) 2 c) 3 d ≡ a ∷ b ∷ c ∷ d ∷ []
+four_set : (contents : List (List ℕ)) (a b c d : List ℕ) → length contents ≡ 4
+    → set (set (set (set contents 0 a) 1 b) 2 c) 3 d ≡ a ∷ b ∷ c ∷ d ∷ []
 four_set [] a b c d long = absurd (omega (arith, long))
 four_set (x ∷ []) a b c d long = absurd (omega (arith, long))
 four_set (x ∷ y ∷ []) a b c d long = absurd (omega (arith, long))
@@ -44,14 +49,21 @@ returns-clause-ten c =
     let known = known_by c.args.pass.now in
     let r : List Read = (past_by e.new.pass).reads in
     let at_b : slot_at (known_by a.new.pass) 1 ≡ slot_at known 1 = ap (λ (s : Seat). slot_at s 1) a.ensures.known in
-    let at_d : slot_at (known_by b.new.pass) 2 ≡ slot_at known 2 = ap (λ (s : Seat). slot_at s 2) (b.ensures.known ∙ a.ensures.known) in
-    let at_e : slot_at (known_by d.new.pass) 3 ≡ slot_at known 3 = ap (λ (s : Seat). slot_at s 3) (d.ensures.known ∙ b.ensures.known ∙ a.ensures.known) in
+    let at_d : slot_at (known_by b.new.pass) 2 ≡ slot_at known 2 =
+    ap (λ (s : Seat). slot_at s 2) (b.ensures.known ∙ a.ensures.known) in
+    let at_e : slot_at (known_by d.new.pass) 3 ≡ slot_at known 3 =
+    ap (λ (s : Seat). slot_at s 3) (d.ensures.known ∙ b.ensures.known ∙ a.ensures.known) in
     let from_b = more_more (past_by b.new.pass).reads (past_by d.new.pass).reads r d.ensures.more e.ensures.more in
     let from_a = more_more (past_by a.new.pass).reads (past_by b.new.pass).reads r b.ensures.more from_b in
     each_of_four (λ place. HasTen r (slot_at known place))
-    (ten_stay (past_by a.new.pass).reads r (slot_at known 0) from_a (λ word low. (slice_index a.new.words word, a.ensures.read word low)))
-    (subst (HasTen r) at_b (ten_stay (past_by b.new.pass).reads r (slot_at (known_by a.new.pass) 1) from_b (λ word low. (slice_index b.new.words word, b.ensures.read word low))))
-    (subst (HasTen r) at_d (ten_stay (past_by d.new.pass).reads r (slot_at (known_by b.new.pass) 2) e.ensures.more (λ word low. (slice_index d.new.words word, d.ensures.read word low))))
+    (ten_stay (past_by a.new.pass).reads r (slot_at known 0) from_a
+    (λ word low. (slice_index a.new.words word, a.ensures.read word low)))
+    (subst (HasTen r) at_b
+    (ten_stay (past_by b.new.pass).reads r (slot_at (known_by a.new.pass) 1) from_b
+    (λ word low. (slice_index b.new.words word, b.ensures.read word low))))
+    (subst (HasTen r) at_d
+    (ten_stay (past_by d.new.pass).reads r (slot_at (known_by b.new.pass) 2) e.ensures.more
+    (λ word low. (slice_index d.new.words word, d.ensures.read word low))))
     (subst (HasTen r) at_e (λ word low. (slice_index e.new.words word, e.ensures.read word low)))
 
 pub returns-clause-entries : goal.returns-clause-entries
@@ -59,22 +71,45 @@ returns-clause-entries c set protected =
     let a = c.read_words in let b = c.read_words-2 in let d = c.read_words-3 in let e = c.read_words-4 in
     let known = known_by c.args.pass.now in
     let past : History = past_by e.new.pass in
-    let loads : past.loads ≡ (past_by c.args.pass.now).loads = ap (λ (p : History). p.loads) e.ensures.past ∙ ap (λ (p : History). p.loads) d.ensures.past ∙ ap (λ (p : History). p.loads) b.ensures.past ∙ ap (λ (p : History). p.loads) a.ensures.past in
+    let loads : past.loads ≡ (past_by c.args.pass.now).loads =
+    ap (λ (p : History). p.loads) e.ensures.past ∙ ap (λ (p : History). p.loads) d.ensures.past
+    ∙ ap (λ (p : History). p.loads) b.ensures.past ∙ ap (λ (p : History). p.loads) a.ensures.past in
     let at_b : slot_at (known_by a.new.pass) 1 ≡ slot_at known 1 = ap (λ (s : Seat). slot_at s 1) a.ensures.known in
-    let at_d : slot_at (known_by b.new.pass) 2 ≡ slot_at known 2 = ap (λ (s : Seat). slot_at s 2) (b.ensures.known ∙ a.ensures.known) in
-    let at_e : slot_at (known_by d.new.pass) 3 ≡ slot_at known 3 = ap (λ (s : Seat). slot_at s 3) (d.ensures.known ∙ b.ensures.known ∙ a.ensures.known) in
-    let from_b = more_more (past_by b.new.pass).reads (past_by d.new.pass).reads past.reads d.ensures.more e.ensures.more in
+    let at_d : slot_at (known_by b.new.pass) 2 ≡ slot_at known 2 =
+    ap (λ (s : Seat). slot_at s 2) (b.ensures.known ∙ a.ensures.known) in
+    let at_e : slot_at (known_by d.new.pass) 3 ≡ slot_at known 3 =
+    ap (λ (s : Seat). slot_at s 3) (d.ensures.known ∙ b.ensures.known ∙ a.ensures.known) in
+    let from_b = more_more (past_by b.new.pass).reads
+    (past_by d.new.pass).reads past.reads d.ensures.more e.ensures.more in
     let from_a = more_more (past_by a.new.pass).reads (past_by b.new.pass).reads past.reads b.ensures.more from_b in
-    let at : (place : ℕ) → place < 4 → shown_at past.loads (root_of set place) ≡ Some (slot_at known place) = λ place low. ap (λ (ls : List Load). shown_at ls (root_of set place)) loads ∙ (protected.each place low).1.0 in
+    let at : (place : ℕ) → place < 4 → shown_at past.loads (root_of set place) ≡ Some (slot_at known place) =
+    λ place low. ap (λ (ls : List Load). shown_at ls (root_of set place)) loads ∙ (protected.each place low).1.0 in
     ap (map entry_of) (four_set c.args.contents.now a.new.words b.new.words d.new.words e.new.words c.told-contents)
-    ∙ same_four (entry_of a.new.words) (entry_of b.new.words) (entry_of d.new.words) (entry_of e.new.words) (entry_read past (root_of set 0)) (entry_read past (root_of set 1)) (entry_read past (root_of set 2)) (entry_read past (root_of set 3))
-    (read_so (entry_of a.new.words) (past_by a.new.pass).reads past (root_of set 0) (slot_at known 0) (ap entry_of (words_are (past_by a.new.pass).reads (slot_at known 0) a.new.words a.ensures.long a.ensures.read)) from_a (λ word low. (slice_index a.new.words word, a.ensures.read word low)) (at 0 (omega arith)))
-    (read_so (entry_of b.new.words) (past_by b.new.pass).reads past (root_of set 1) (slot_at (known_by a.new.pass) 1) (ap entry_of (words_are (past_by b.new.pass).reads (slot_at (known_by a.new.pass) 1) b.new.words b.ensures.long b.ensures.read)) from_b (λ word low. (slice_index b.new.words word, b.ensures.read word low)) (at 1 (omega arith) ∙ ap (λ n. Some n) (sym at_b)))
-    (read_so (entry_of d.new.words) (past_by d.new.pass).reads past (root_of set 2) (slot_at (known_by b.new.pass) 2) (ap entry_of (words_are (past_by d.new.pass).reads (slot_at (known_by b.new.pass) 2) d.new.words d.ensures.long d.ensures.read)) e.ensures.more (λ word low. (slice_index d.new.words word, d.ensures.read word low)) (at 2 (omega arith) ∙ ap (λ n. Some n) (sym at_d)))
-    (read_so (entry_of e.new.words) past.reads past (root_of set 3) (slot_at (known_by d.new.pass) 3) (ap entry_of (words_are past.reads (slot_at (known_by d.new.pass) 3) e.new.words e.ensures.long e.ensures.read)) (λ slot word value is. is) (λ word low. (slice_index e.new.words word, e.ensures.read word low)) (at 3 (omega arith) ∙ ap (λ n. Some n) (sym at_e)))
+    ∙ same_four (entry_of a.new.words) (entry_of b.new.words) (entry_of d.new.words) (entry_of e.new.words)
+    (entry_read past (root_of set 0)) (entry_read past (root_of set 1)) (entry_read past (root_of set 2))
+    (entry_read past (root_of set 3))
+    (read_so (entry_of a.new.words) (past_by a.new.pass).reads past (root_of set 0) (slot_at known 0)
+    (ap entry_of (words_are (past_by a.new.pass).reads (slot_at known 0) a.new.words a.ensures.long a.ensures.read))
+    from_a (λ word low. (slice_index a.new.words word, a.ensures.read word low)) (at 0 (omega arith)))
+    (read_so (entry_of b.new.words) (past_by b.new.pass).reads past (root_of set 1) (slot_at (known_by a.new.pass) 1)
+    (ap entry_of
+    (words_are (past_by b.new.pass).reads (slot_at (known_by a.new.pass) 1) b.new.words b.ensures.long b.ensures.read))
+    from_b (λ word low. (slice_index b.new.words word, b.ensures.read word low))
+    (at 1 (omega arith) ∙ ap (λ n. Some n) (sym at_b)))
+    (read_so (entry_of d.new.words) (past_by d.new.pass).reads past (root_of set 2) (slot_at (known_by b.new.pass) 2)
+    (ap entry_of
+    (words_are (past_by d.new.pass).reads (slot_at (known_by b.new.pass) 2) d.new.words d.ensures.long d.ensures.read))
+    e.ensures.more (λ word low. (slice_index d.new.words word, d.ensures.read word low))
+    (at 2 (omega arith) ∙ ap (λ n. Some n) (sym at_d)))
+    (read_so (entry_of e.new.words) past.reads past (root_of set 3) (slot_at (known_by d.new.pass) 3)
+    (ap entry_of (words_are past.reads (slot_at (known_by d.new.pass) 3) e.new.words e.ensures.long e.ensures.read))
+    (λ slot word value is. is) (λ word low. (slice_index e.new.words word, e.ensures.read word low))
+    (at 3 (omega arith) ∙ ap (λ n. Some n) (sym at_e)))
 
 pub returns-clause-whole : goal.returns-clause-whole
 returns-clause-whole c =
     let a = c.read_words in let b = c.read_words-2 in let d = c.read_words-3 in let e = c.read_words-4 in
-    subst (All IsWhole) (sym (four_set c.args.contents.now a.new.words b.new.words d.new.words e.new.words c.told-contents))
-    (all_four IsWhole a.new.words b.new.words d.new.words e.new.words a.ensures.whole b.ensures.whole d.ensures.whole e.ensures.whole)
+    subst (All IsWhole)
+    (sym (four_set c.args.contents.now a.new.words b.new.words d.new.words e.new.words c.told-contents))
+    (all_four IsWhole a.new.words b.new.words d.new.words e.new.words a.ensures.whole b.ensures.whole d.ensures.whole
+    e.ensures.whole)

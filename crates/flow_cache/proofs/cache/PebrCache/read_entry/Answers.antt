@@ -9,7 +9,8 @@ use Rattle.pebr_roots.specs.Passes.{known_by, past_by}
 use Rattle.flow_cache.proofs.Sets.{words_are}
 use Rattle.flow_cache.proofs.cache.PebrCache.read_entry.Goals as goal
 
-small_entry : (content : List ℕ) (entry : Option Fragment) → IsWhole content → entry ≡ entry_of content → IsSmallEntry entry
+small_entry : (content : List ℕ) (entry : Option Fragment) → IsWhole content → entry ≡ entry_of content
+    → IsSmallEntry entry
 small_entry content None whole is = tt
 small_entry content (Some old) whole is = whole_is_small content old whole (sym is)
 
@@ -18,7 +19,11 @@ returns-clause-ten c word low = (slice_index c.read_words.new.words word, c.read
 
 pub returns-clause-entry : goal.returns-clause-entry
 returns-clause-entry c =
-    c.entry.ensures ∙ ap entry_of (words_are (past_by c.read_words.new.pass).reads (slot_at (known_by c.args.pass.now) c.args.place) c.read_words.new.words c.read_words.ensures.long c.read_words.ensures.read)
+    c.entry.ensures
+    ∙ ap entry_of
+    (words_are (past_by c.read_words.new.pass).reads
+    (slot_at (known_by c.args.pass.now) c.args.place) c.read_words.new.words c.read_words.ensures.long
+    c.read_words.ensures.read)
 
 pub returns-clause-small : goal.returns-clause-small
 returns-clause-small c = small_entry c.read_words.new.words c.entry.result c.read_words.ensures.whole c.entry.ensures

@@ -15,12 +15,16 @@ use Rattle.flow_cache.proofs.Tries.{go_on}
 use Rattle.flow_cache.proofs.cache.PebrCache.read_words.Goals as goal
 
 -- the words as far as they were read, with the next one
-next_word : (reads : List Read) (slot word value : ℕ) (words : List ℕ) → word < length words → ((k : ℕ) → k < word → written_at reads slot k ≡ Some (slice_index words k))
-    → (k : ℕ) → k < word + 1 → written_at (record { slot = slot; word = word; value = value } ∷ reads) slot k ≡ Some (slice_index (set words word value) k)
+next_word : (reads : List Read) (slot word value : ℕ) (words : List ℕ) → word < length words
+    → ((k : ℕ) → k < word → written_at reads slot k ≡ Some (slice_index words k))
+    → (k : ℕ) → k < word + 1 → written_at (record { slot = slot; word = word; value = value } ∷ reads) slot k
+    ≡ Some (slice_index (set words word value) k)
 next_word reads slot word value words low before k lt = dite (ℕ_discrete k word)
-    (λ (same : k ≡ word). subst (λ n. written_at (record { slot = slot; word = word; value = value } ∷ reads) slot n ≡ Some (slice_index (set words word value) n)) (sym same)
+    (λ (same : k ≡ word). subst (λ n. written_at (record { slot = slot; word = word; value = value } ∷ reads) slot n
+    ≡ Some (slice_index (set words word value) n)) (sym same)
     (word_here reads slot word value ∙ ap (λ n. Some n) (sym (get_or-set_same words word value 0 low))))
-    (λ (apart : k ≢ word). word_else reads slot word value k (λ e. apart (sym e)) ∙ before k (omega (arith, lt, apart)) ∙ ap (λ n. Some n) (sym (get_or-set_other words word k value 0 apart)))
+    (λ (apart : k ≢ word). word_else reads slot word value k (λ e. apart (sym e)) ∙ before k (omega (arith, lt, apart))
+    ∙ ap (λ n. Some n) (sym (get_or-set_other words word k value 0 apart)))
 
 pub loop-word-preserved : goal.loop-word-preserved
 loop-word-preserved c =
@@ -34,9 +38,12 @@ loop-word-preserved c =
     let slot : ℕ = slot_at (known_by c.args.pass.now) place in
     let slot_is : slot_at (known_by old) place ≡ slot = ap (λ (s : Seat). slot_at s place) before.known in
     let reads : (past_by new).reads ≡ record { slot = slot; word = word; value = value } ∷ (past_by old).reads
-    = ap (λ (p : History). p.reads) c.read.ensures.step.past ∙ ap (λ n. record { slot = n; word = word; value = value } ∷ (past_by old).reads) slot_is in
-    let again : (read : Read) → _ → read.slot ≡ slot → read.word ≡ word → value ≡ read.value = λ read at s w. c.read.ensures.again read at (s ∙ sym slot_is) w in
-    let rest : History → History = λ p. record p { last = (past_by new).last; steps = (past_by new).steps; reads = (past_by new).reads } in
+    = ap (λ (p : History). p.reads) c.read.ensures.step.past
+    ∙ ap (λ n. record { slot = n; word = word; value = value } ∷ (past_by old).reads) slot_is in
+    let again : (read : Read) → _ → read.slot ≡ slot → read.word ≡ word → value ≡ read.value =
+    λ read at s w. c.read.ensures.again read at (s ∙ sym slot_is) w in
+    let rest : History → History =
+    λ p. record p { last = (past_by new).last; steps = (past_by new).steps; reads = (past_by new).reads } in
     let low : word < length c.loop-word.words = (let l = before.long in omega (arith, l, c.loop-word-test.true)) in
     record {
       low = omega (arith, c.loop-word-test.true);
@@ -45,10 +52,14 @@ loop-word-preserved c =
       note = c.read.ensures.note ∙ before.note;
       known = c.read.ensures.known ∙ before.known;
       past = ap rest c.read.ensures.step.past ∙ ap rest before.past;
-      count = (let long : length (past_by new).reads ≡ length (past_by old).reads + 1 = ap length reads ∙ omega arith in let so = before.count in omega (arith, long, so));
-      more = more_more (past_by c.args.pass.now).reads (past_by old).reads (past_by new).reads before.more (subst (HasMore (past_by old).reads) (sym reads) (read_more (past_by old).reads slot word value again));
-      read = λ k lt. subst (λ rs. written_at rs slot k ≡ Some (slice_index (set c.loop-word.words word value) k)) (sym reads) (next_word (past_by old).reads slot word value c.loop-word.words low before.read k lt);
-      whole = λ some content read. c.read.ensures.whole content (subst (λ n. HasReadWhole (shape_at roots) (past_by new) n content) (sym slot_is) read);
+      count = (let long : length (past_by new).reads ≡ length (past_by old).reads + 1 = ap length reads ∙ omega arith in
+          let so = before.count in omega (arith, long, so));
+      more = more_more (past_by c.args.pass.now).reads (past_by old).reads (past_by new).reads before.more
+          (subst (HasMore (past_by old).reads) (sym reads) (read_more (past_by old).reads slot word value again));
+      read = λ k lt. subst (λ rs. written_at rs slot k ≡ Some (slice_index (set c.loop-word.words word value) k))
+          (sym reads) (next_word (past_by old).reads slot word value c.loop-word.words low before.read k lt);
+      whole = λ some content read. c.read.ensures.whole content
+          (subst (λ n. HasReadWhole (shape_at roots) (past_by new) n content) (sym slot_is) read);
     }
 
 pub returns-clause-whole : goal.returns-clause-whole
@@ -57,5 +68,8 @@ returns-clause-whole c =
     let end = c.loop-word.pass in
     let slot : ℕ = slot_at (known_by c.args.pass.now) c.args.place in
     let wide : (shape_at c.args.self.now.roots).width ≡ 10 = ap (λ (s : Shape). s.width) c.args.self.now.shaped in
-    before.whole (let t = c.loop-word-test.false in omega (arith, t)) c.loop-word.words
-    (before.long ∙ sym wide, λ word lt. found_read (past_by end).reads slot word (slice_index c.loop-word.words word) (before.read word (let t = c.loop-word-test.false in omega (arith, lt, wide, t))))
+    before.whole (let t = c.loop-word-test.false in omega (arith, t)) c.loop-word.words (
+      before.long ∙ sym wide,
+      λ word lt. found_read (past_by end).reads slot word (slice_index c.loop-word.words word)
+          (before.read word (let t = c.loop-word-test.false in omega (arith, lt, wide, t))),
+    )

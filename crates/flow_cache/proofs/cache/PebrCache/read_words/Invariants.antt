@@ -16,9 +16,16 @@ invariant-loop-word l = record {
   same : IsSame l.self.roots l.initial.pass l.pass;
   note : note_by first_note l.pass ≡ note_by first_note l.initial.pass;
   known : known_by l.pass ≡ known_by l.initial.pass;
-  past : past_by l.pass ≡ record (past_by l.initial.pass) { last = (past_by l.pass).last; steps = (past_by l.pass).steps; reads = (past_by l.pass).reads };
+  past : past_by l.pass ≡ record (past_by l.initial.pass) {
+    last = (past_by l.pass).last;
+    steps =
+        (past_by l.pass).steps;
+    reads = (past_by l.pass).reads;
+  };
   count : length (past_by l.pass).reads ≡ l.word + length (past_by l.initial.pass).reads;
   more : HasMore (past_by l.initial.pass).reads (past_by l.pass).reads;
-  read : (k : ℕ) → k < l.word → written_at (past_by l.pass).reads (slot_at (known_by l.initial.pass) l.place) k ≡ Some (slice_index l.words k);
-  whole : 0 < l.word → (content : List ℕ) → HasReadWhole (shape_at l.self.roots) (past_by l.pass) (slot_at (known_by l.initial.pass) l.place) content → IsWhole content;
+  read : (k : ℕ) → k < l.word → written_at (past_by l.pass).reads (slot_at (known_by l.initial.pass) l.place) k
+      ≡ Some (slice_index l.words k);
+  whole : 0 < l.word → (content : List ℕ) → HasReadWhole (shape_at l.self.roots) (past_by l.pass)
+      (slot_at (known_by l.initial.pass) l.place) content → IsWhole content;
 }

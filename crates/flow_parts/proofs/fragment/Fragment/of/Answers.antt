@@ -7,4 +7,5 @@ pub returns-clause-heap : goal.returns-clause-heap
 returns-clause-heap c = λ limits. IsHeap-one limits c.args.packet.now c.alone.result (search rules)
 
 pub returns-clause-shared : goal.returns-clause-shared
-returns-clause-shared c = λ limits others rest shared. fresh limits c.args.packet.now c.alone.result (search rules) others rest shared
+returns-clause-shared c = λ limits others rest shared. fresh limits c.args.packet.now c.alone.result
+    (search rules) others rest shared

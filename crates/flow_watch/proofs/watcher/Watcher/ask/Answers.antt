@@ -5,5 +5,12 @@ use Rattle.flow_watch.proofs.watcher.Watcher.ask.Goals as goal
 
 pub returns-in-Absent-clause-some : goal.returns-in-Absent-clause-some
 returns-in-Absent-clause-some c =
-    let t = c.in-Absent.ensures.tried in
-    ((let a = t.0.0 in omega (arith, a), c.requires.idle, subst (λ (n : ℕ). IsAbsent n c.args.key.now (past_by c.attempt.new.seat)) c.requires.set t.2), λ e. cc)
+    let t = c.in-Absent.ensures.tried in (
+      (
+        let a = t.0.0 in
+            omega (arith, a),
+        c.requires.idle,
+        subst (λ (n : ℕ). IsAbsent n c.args.key.now (past_by c.attempt.new.seat)) c.requires.set t.2,
+      ),
+      λ e. cc,
+    )

@@ -11,8 +11,10 @@ pub unreachable-requires-in-None : goal.unreachable-requires-in-None
 unreachable-requires-in-None c =
     let seat = c.args.self.now.seat in
     let hold : Hold = c.in-Some.hold in
-    let h = subst (λ o. IfSome o (λ (hold : Hold). IsHolding hold.place hold.fragment (known_by seat) (past_by seat))) c.in-Some.is c.requires.of.holds in
-    let e = again hold.place hold.fragment (known_by seat) (past_by seat) (past_by c.read_entry.new.pass) c.read_entry.result h c.read_entry.ensures.more c.read_entry.ensures.entry in
+    let h = subst (λ o. IfSome o (λ (hold : Hold). IsHolding hold.place hold.fragment (known_by seat) (past_by seat)))
+    c.in-Some.is c.requires.of.holds in
+    let e = again hold.place hold.fragment (known_by seat) (past_by seat)
+    (past_by c.read_entry.new.pass) c.read_entry.result h c.read_entry.ensures.more c.read_entry.ensures.entry in
     let none : None ≡ Some hold.fragment = sym c.in-None.is ∙ e in
     absurd cc
 
@@ -22,18 +24,23 @@ returns-clause-of c =
     let holding : Hold → Type 0 = λ hold. IsHolding hold.place hold.fragment (known_by seat) (past_by seat) in
     let end = c.read_entry.new.pass in
     let hold : Hold = c.in-Some.hold in
-    let h : IsHolding hold.place hold.fragment (known_by seat) (past_by seat) = subst (λ o. IfSome o holding) c.in-Some.is c.requires.of.holds in
+    let h : IsHolding hold.place hold.fragment (known_by seat) (past_by seat) =
+    subst (λ o. IfSome o holding) c.in-Some.is c.requires.of.holds in
     goes_on c.args.cache.now c.args.self.now _ c.requires.of c.read_entry.ensures.same c.read_entry.ensures.note
-    (subst (λ o. IfSome o (λ (hold : Hold). IsHolding hold.place hold.fragment (known_by end) (past_by end))) (sym c.in-Some.is)
-    (still_holding hold.place hold.fragment (known_by seat) (known_by end) (past_by seat) (past_by end) h c.read_entry.ensures.known c.read_entry.ensures.more))
+    (subst (λ o. IfSome o (λ (hold : Hold). IsHolding hold.place hold.fragment (known_by end) (past_by end)))
+    (sym c.in-Some.is)
+    (still_holding hold.place hold.fragment (known_by seat) (known_by end) (past_by seat)
+    (past_by end) h c.read_entry.ensures.known c.read_entry.ensures.more))
 
 pub returns-clause-read : goal.returns-clause-read
 returns-clause-read c =
     let seat = c.args.self.now.seat in
     let hold : Hold = c.in-Some.hold in
-    let h = subst (λ o. IfSome o (λ (hold : Hold). IsHolding hold.place hold.fragment (known_by seat) (past_by seat))) c.in-Some.is c.requires.of.holds in
+    let h = subst (λ o. IfSome o (λ (hold : Hold). IsHolding hold.place hold.fragment (known_by seat) (past_by seat)))
+    c.in-Some.is c.requires.of.holds in
     sym c.in-Some-read_entry.is
-    ∙ again hold.place hold.fragment (known_by seat) (past_by seat) (past_by c.read_entry.new.pass) c.read_entry.result h c.read_entry.ensures.more c.read_entry.ensures.entry
+    ∙ again hold.place hold.fragment (known_by seat) (past_by seat)
+    (past_by c.read_entry.new.pass) c.read_entry.result h c.read_entry.ensures.more c.read_entry.ensures.entry
     ∙ ap (λ o. option_map (λ (hold : Hold). hold.fragment) o) (sym c.in-Some.is)
 
 pub returns-clause-ten : goal.returns-clause-ten

@@ -7,7 +7,14 @@ use Rattle.ipfix_writer.proofs.UnderWay.{length-with}
 use Rattle.ipfix_writer.proofs.emitter.Emitter.length_with.Goals as goal
 
 pub overflow_add-result-2 : goal.overflow_add-result-2
-overflow_add-result-2 c = omega (arith, c.header_length.ensures, header_before-bound c.self.inside.template c.template.result, c.size.ensures, record_size-bounds c.args.flow.now)
+overflow_add-result-2 c =
+    omega (
+      arith,
+      c.header_length.ensures,
+      header_before-bound c.self.inside.template c.template.result,
+      c.size.ensures,
+      record_size-bounds c.args.flow.now,
+    )
 
 pub returns : goal.returns
 returns c =

@@ -9,7 +9,8 @@ use Rattle.record_ledger.specs.declared.record.FlowRecord.{FlowRecord}
 use Rattle.ipfix_writer.proofs.emitter.Emitter.record.Goals as goal
 
 pub returns-then-longer-self-clause-taken : goal.returns-then-longer-self-clause-taken
-returns-then-longer-self-clause-taken g c = λ (flows : List FlowRecord) (written : List ℕ) (way : IsUnderWay c.args.self.now flows written).
+returns-then-longer-self-clause-taken g c =
+    λ (flows : List FlowRecord) (written : List ℕ) (way : IsUnderWay c.args.self.now flows written).
     let size = ap (λ (e : EmitterState). e.size) c.self.view_is in
     let fits : message_length (c.args.self.now.waiting ++ c.args.flow.now ∷ []) ≤ c.args.self.now.size =
     omega (arith, c.if-longer-self.true, c.length_with-longer.ensures, size) in (
@@ -28,23 +29,28 @@ keep-requires-in-Ok-clause-fits g c =
     omega (arith, c.length_with-alone.ensures, alone, size_now, fits)
 
 pub returns-in-Ok-clause-taken : goal.returns-in-Ok-clause-taken
-returns-in-Ok-clause-taken g c = λ (flows : List FlowRecord) (written : List ℕ) (way : IsUnderWay c.args.self.now flows written).
+returns-in-Ok-clause-taken g c =
+    λ (flows : List FlowRecord) (written : List ℕ) (way : IsUnderWay c.args.self.now flows written).
     let now = c.args.self.now in
     let size = ap (λ (e : EmitterState). e.size) c.self.view_is in
     let full : now.size < message_length (now.waiting ++ c.args.flow.now ∷ []) =
     omega (arith, c.if-longer-self.false, c.length_with-longer.ensures, size) in (
       message now.export_time now.sequence (body_of now.waiting),
       c.in-Ok.ensures.written,
-      under_way-next now c.keep-in-Ok.new.self flows written c.args.flow.now (omega (arith, c.self.invariant.least, size)) way full
-          (c.keep-in-Ok.ensures ∙ ap (λ (e : EmitterState). record e { waiting = e.waiting ++ c.args.flow.now ∷ [] }) c.in-Ok.ensures.after),
+      under_way-next now c.keep-in-Ok.new.self flows written c.args.flow.now
+          (omega (arith, c.self.invariant.least, size)) way full
+          (c.keep-in-Ok.ensures ∙ ap (λ (e : EmitterState). record e { waiting = e.waiting ++ c.args.flow.now ∷ [] })
+          c.in-Ok.ensures.after),
     )
 
 pub returns-in-Err-clause-broken : goal.returns-in-Err-clause-broken
-returns-in-Err-clause-broken g c = λ (flows : List FlowRecord) (written : List ℕ) (way : IsUnderWay c.args.self.now flows written).
+returns-in-Err-clause-broken g c =
+    λ (flows : List FlowRecord) (written : List ℕ) (way : IsUnderWay c.args.self.now flows written).
     let now = c.args.self.now in
     let size = ap (λ (e : EmitterState). e.size) c.self.view_is in
     let full : now.size < message_length (now.waiting ++ c.args.flow.now ∷ []) =
     omega (arith, c.if-longer-self.false, c.length_with-longer.ensures, size) in
     let count = c.in-Err.ensures.prefix.0 in
-    let begins = λ (rest : List FlowRecord). begins-next now flows written c.args.flow.now rest count (omega (arith, c.self.invariant.least, size)) way full in
+    let begins = λ (rest : List FlowRecord). begins-next now flows written c.args.flow.now rest count
+    (omega (arith, c.self.invariant.least, size)) way full in
     (take count (message now.export_time now.sequence (body_of now.waiting)), c.in-Err.ensures.prefix.1, begins)

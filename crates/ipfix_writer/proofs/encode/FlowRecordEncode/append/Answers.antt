@@ -9,7 +9,8 @@ append_key-requires c = omega (arith, length-key_part c.args.self.now, key_leave
 
 pub append_counts-requires : goal.append_counts-requires
 append_counts-requires c =
-    let longer = ap length c.append_key.ensures.items ∙ length-append c.args.buffer.now.items (key_part c.args.self.now) in
+    let longer = ap length c.append_key.ensures.items
+    ∙ length-append c.args.buffer.now.items (key_part c.args.self.now) in
     omega (arith, longer, key_leaves_counts c.args.self.now)
 
 pub returns : goal.returns

@@ -8,9 +8,11 @@ use Rattle.ipfix_writer.proofs.encode.FlowRecordEncode.size.Goals as goal
 pub returns-then-self-eq4 : goal.returns-then-self-eq4
 returns-then-self-eq4 c =
     let flow = c.args.self.now in
-    sym (length-data_record flow ∙ record_size-is flow ∙ ap (λ (v4 : Bool). if v4 then 48 else 72) (eq-eqb flow.part.key.version 4 c.if-self-eq4.true))
+    sym (length-data_record flow ∙ record_size-is flow
+    ∙ ap (λ (v4 : Bool). if v4 then 48 else 72) (eq-eqb flow.part.key.version 4 c.if-self-eq4.true))
 
 pub returns-else-self-eq4 : goal.returns-else-self-eq4
 returns-else-self-eq4 c =
     let flow = c.args.self.now in
-    sym (length-data_record flow ∙ record_size-is flow ∙ ap (λ (v4 : Bool). if v4 then 48 else 72) (ne_eqb flow.part.key.version 4 c.if-self-eq4.false))
+    sym (length-data_record flow ∙ record_size-is flow
+    ∙ ap (λ (v4 : Bool). if v4 then 48 else 72) (ne_eqb flow.part.key.version 4 c.if-self-eq4.false))

@@ -34,7 +34,8 @@ returns-in-Err-clause-bad c = λ at same.
     let stands : front c.blocks-2.section (drop c.blocks-2.at bytes) ≡ Front.Block c.in-Block.order c.in-Block.len =
     sym (c.in-Block.ensures.value ∙ ap (front c.blocks-2.section) c.split_at.ensures.back) in
     let bad = c.in-Err.ensures.bad at (cc) in
-    sym c.blocks-2.invariant.rest ∙ block-bad bytes found c.blocks-2.section c.in-Block.order c.blocks-2.at c.in-Block.len _ at stands
+    sym c.blocks-2.invariant.rest ∙ block-bad bytes found c.blocks-2.section c.in-Block.order c.blocks-2.at
+    c.in-Block.len _ at stands
     c.in-Block.ensures.whole.some refl bad
 
 pub blocks-2-preserved : goal.blocks-2-preserved

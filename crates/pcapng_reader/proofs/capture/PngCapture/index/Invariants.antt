@@ -9,7 +9,8 @@ use Rattle.pcapng_reader.proofs.capture.PngCapture.index.Given as goal
 abbrev pub invariant-blocks-2 : goal.invariant-blocks-2
 invariant-blocks-2 l = record {
   within : l.at ≤ length l.bytes;
-  rest : with_pieces (found_at l.bytes l.interfaces.items l.places.items) (pieces_from l.section l.at 0 (drop l.at l.bytes)) ≡ found_in l.bytes;
+  rest : with_pieces (found_at l.bytes l.interfaces.items l.places.items)
+      (pieces_from l.section l.at 0 (drop l.at l.bytes)) ≡ found_in l.bytes;
   units : All HasUnits l.interfaces.items;
   whole : All (IsPlaceIn l.bytes) l.places.items;
 }

@@ -4,10 +4,12 @@ use Rattle.pebr_core.proofs.machine.Core.set_shield.Goals as goal
 
 pub invariant_of-self : goal.invariant_of-self
 invariant_of-self c =
-    (shield_done c.self.inside c.args.self.now c.args.seat c.args.place c.args.slot c.index_mut-entry.result.now c.put_shield.new.self c.self.invariant c.self.view_is
+    (shield_done c.self.inside c.args.self.now c.args.seat c.args.place c.args.slot c.index_mut-entry.result.now
+    c.put_shield.new.self c.self.invariant c.self.view_is
     (sym c.can_shield.ensures ∙ c.if-not-can_shield.false) c.index_mut-entry.ensures.value c.put_shield.ensures).0
 
 pub returns-clause-state : goal.returns-clause-state
 returns-clause-state c =
-    (shield_done c.self.inside c.args.self.now c.args.seat c.args.place c.args.slot c.index_mut-entry.result.now c.put_shield.new.self c.self.invariant c.self.view_is
+    (shield_done c.self.inside c.args.self.now c.args.seat c.args.place c.args.slot c.index_mut-entry.result.now
+    c.put_shield.new.self c.self.invariant c.self.view_is
     (sym c.can_shield.ensures ∙ c.if-not-can_shield.false) c.index_mut-entry.ensures.value c.put_shield.ensures).1

@@ -12,4 +12,5 @@ returns c =
     let marks = given_marks c.args.self.now c.args.kept.now in
     let same : length old ≡ length marks = c.requires ∙ sym (given_length c.args.self.now c.args.kept.now) in
     ext_get_or false c.loop-slot.marks (united old marks) (c.loop-slot.invariant.0 ∙ sym (length-united old marks same))
-    (λ k lt. c.loop-slot.invariant.1 k (omega (arith, c.loop-slot.invariant.0, c.requires)) ∙ sym (has-united old marks k))
+    (λ k lt. c.loop-slot.invariant.1 k (omega (arith, c.loop-slot.invariant.0, c.requires))
+    ∙ sym (has-united old marks k))

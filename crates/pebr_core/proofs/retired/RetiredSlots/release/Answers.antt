@@ -17,13 +17,16 @@ loop-slot-preserved c =
     let inv = c.loop-slot.invariant in
     let inside : slot < length now = omega (arith, inv.0) in
     let same_mark : has (given_marks now kept) slot ≡ has (given_marks old kept) slot =
-    given_at now kept slot ∙ (ap (λ r. is_retired r && not (has kept slot)) (inv.2 slot (le_refl slot)) ∙ sym (given_at old kept slot)) in
-    let here : c.released-retired.result ≡ cond (has (given_marks old kept) slot) retire.No (get_or old slot retire.No) =
+    given_at now kept slot
+    ∙ (ap (λ r. is_retired r && not (has kept slot)) (inv.2 slot (le_refl slot)) ∙ sym (given_at old kept slot)) in
+    let here : c.released-retired.result ≡ cond (has (given_marks old kept) slot) retire.No
+    (get_or old slot retire.No) =
     c.released-retired.ensures ∙ (ap (λ b. cond b retire.No (get_or now slot retire.No)) same_mark
     ∙ ap (λ r. cond (has (given_marks old kept) slot) retire.No r) (inv.2 slot (le_refl slot))) in (
       ap length c.put.ensures ∙ (length-set now slot c.released-retired.result ∙ inv.0),
       λ k lt. ap (λ l. get_or l k retire.No) c.put.ensures
-          ∙ set_at (λ r. r ≡ cond (has (given_marks old kept) k) retire.No (get_or old k retire.No)) now slot c.released-retired.result retire.No k inside
+          ∙ set_at (λ r. r ≡ cond (has (given_marks old kept) k) retire.No (get_or old k retire.No)) now slot
+          c.released-retired.result retire.No k inside
           (λ e. here ∙ ap (λ n. cond (has (given_marks old kept) n) retire.No (get_or old n retire.No)) (sym e))
           (λ n. inv.1 k (omega arith)),
       λ k ge. ap (λ l. get_or l k retire.No) c.put.ensures
@@ -36,5 +39,6 @@ pub returns : goal.returns
 returns c =
     let old = c.args.self.now in
     let marks = given_marks old c.args.kept.now in
-    ext_get_or retire.No c.loop-slot.self (released old marks) (c.loop-slot.invariant.0 ∙ sym (length-released old marks))
+    ext_get_or retire.No c.loop-slot.self (released old marks)
+    (c.loop-slot.invariant.0 ∙ sym (length-released old marks))
     (λ k lt. c.loop-slot.invariant.1 k (omega (arith, c.loop-slot.invariant.0)) ∙ sym (released-at old marks k))

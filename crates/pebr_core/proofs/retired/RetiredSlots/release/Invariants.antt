@@ -8,5 +8,6 @@ use Rattle.pebr_core.proofs.retired.RetiredSlots.release.Given as goal
 abbrev pub invariant-loop-slot : goal.invariant-loop-slot
 invariant-loop-slot l =
     (length l.self ≡ length l.initial.self)
-    × ((k : ℕ) → k < l.slot → get_or l.self k retire.No ≡ cond (has (given_marks l.initial.self l.kept) k) retire.No (get_or l.initial.self k retire.No))
+    × ((k : ℕ) → k < l.slot → get_or l.self k retire.No
+    ≡ cond (has (given_marks l.initial.self l.kept) k) retire.No (get_or l.initial.self k retire.No))
     × ((k : ℕ) → l.slot ≤ k → get_or l.self k retire.No ≡ get_or l.initial.self k retire.No)

@@ -7,4 +7,5 @@ use Rattle.pebr_core.proofs.seats.ScanData.is_complete.Given as goal
 -- the seats so far are done
 abbrev pub invariant-loop-other : goal.invariant-loop-other
 invariant-loop-other l = (k : ℕ) → k < l.other
-    → ((eqb k l.seat) || (has l.self.passed k && each_below l.shape.shields (λ place. has_scanned (scan_parts [] l.self) k place))) ≡ true
+    → ((eqb k l.seat) ||
+    (has l.self.passed k && each_below l.shape.shields (λ place. has_scanned (scan_parts [] l.self) k place))) ≡ true

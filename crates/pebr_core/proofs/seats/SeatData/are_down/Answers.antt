@@ -6,4 +6,5 @@ use Rattle.pebr_core.proofs.seats.SeatData.are_down.Goals as goal
 
 pub returns : goal.returns
 returns c =
-    sym (all_pass is_down c.args.self.now.shields shield.Down (λ k lt. c.loop-place.invariant k (omega (arith, c.len-place-end.ensures))))
+    sym (all_pass is_down c.args.self.now.shields shield.Down
+    (λ k lt. c.loop-place.invariant k (omega (arith, c.len-place-end.ensures))))

@@ -6,4 +6,5 @@ use Rattle.pebr_core.proofs.seats.SeatData.is_shielded.Goals as goal
 
 pub returns : goal.returns
 returns c =
-    sym (any_none (is_valid_on c.args.slot) c.args.self.now.shields shield.Down (λ k lt. c.loop-place.invariant k (omega (arith, c.len-place-end.ensures))))
+    sym (any_none (is_valid_on c.args.slot) c.args.self.now.shields shield.Down
+    (λ k lt. c.loop-place.invariant k (omega (arith, c.len-place-end.ensures))))

@@ -7,4 +7,7 @@ use Rattle.pebr_roots.proofs.pass.Roots.check.Goals as goal
 pub invariant_of-pass : goal.invariant_of-pass
 invariant_of-pass g c =
     let pass = c.args.pass.now in
-    record { slots = subst (AreUnder pass.under) (sym c.check.ensures.known) (under_checked pass.under c.check.result (known_by pass) pass.slots) }
+    record {
+      slots = subst (AreUnder pass.under) (sym c.check.ensures.known)
+          (under_checked pass.under c.check.result (known_by pass) pass.slots);
+    }

@@ -14,7 +14,11 @@ invariant-loop-place g l = record {
   note : note_by g.P.RootProtocol.first l.pass ≡ note_by g.P.RootProtocol.first l.initial.pass;
   known : known_by l.pass ≡ record (known_by l.initial.pass) { shields = (known_by l.pass).shields };
   down : (k : ℕ) → k < l.place → shield_at (known_by l.pass) k ≡ shield.Down;
-  past : past_by l.pass ≡ record (past_by l.initial.pass) { last = (past_by l.pass).last; steps = (past_by l.initial.pass).steps + l.place };
+  past : past_by l.pass ≡ record (past_by l.initial.pass) {
+    last = (past_by l.pass).last;
+    steps =
+        (past_by l.initial.pass).steps + l.place;
+  };
   last : 0 < l.place → (past_by l.pass).last ≡ answer.Cleared;
   sure : 0 < l.place → IsSure g.P.RootProtocol.whole (shape_at l.self) (known_by l.pass) (past_by l.pass);
 }

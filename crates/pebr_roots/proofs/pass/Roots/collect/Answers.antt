@@ -7,7 +7,8 @@ use Rattle.pebr_roots.specs.Passes.{known_by, past_by, shape_at}
 use Rattle.pebr_words.specs.Seats.{known_of, number_of, past_of}
 use Rattle.pebr_roots.proofs.Passing.{held_after}
 use Rattle.pebr_roots.proofs.Scans.{is_whole, scanning_on}
-use Rattle.pebr_roots.proofs.Whole.{opened_as, opened_held, unread_at, collected, collected_past, noted_last, fresh_enough, GiveLaws}
+use Rattle.pebr_roots.proofs.Whole.{opened_as, opened_held, unread_at, collected, collected_past, noted_last}
+use Rattle.pebr_roots.proofs.Whole.{fresh_enough, GiveLaws}
 use Rattle.pebr_roots.proofs.pass.Roots.collect.Goals as goal
 
 pub returns-then-not-pass_all-clause-same : goal.returns-then-not-pass_all-clause-same
@@ -20,7 +21,8 @@ returns-then-not-pass_all-clause-same g c =
     record {
       of = record {
         at = b.0;
-        held = opened_held shape opened.noted old opened (known_of c.pass_all.new.seat) c.open_scan.ensures.known c.pass_all.ensures.known.scan ∙ c.requires.of.held;
+        held = opened_held shape opened.noted old opened
+            (known_of c.pass_all.new.seat) c.open_scan.ensures.known c.pass_all.ensures.known.scan ∙ c.requires.of.held;
       };
       still = (b.0, b.1 ∙ a.1, b.2 ∙ a.2, b.3 ∙ a.3, b.4 ∙ a.4);
     }
@@ -28,7 +30,8 @@ returns-then-not-pass_all-clause-same g c =
 pub scan_all-requires-clause-unread : goal.scan_all-requires-clause-unread
 scan_all-requires-clause-unread g c j place =
     let opened = known_of c.open_scan.new.seat in
-    c.pass_all.ensures.known.unread j place ∙ unread_at (shape_at c.args.self.now) opened.noted (known_by c.args.pass.now) opened c.open_scan.ensures.known j place
+    c.pass_all.ensures.known.unread j place ∙ unread_at (shape_at c.args.self.now) opened.noted
+    (known_by c.args.pass.now) opened c.open_scan.ensures.known j place
 
 pub give-given-requires-clause-complete : goal.give-given-requires-clause-complete
 give-given-requires-clause-complete g c =
@@ -52,9 +55,18 @@ returns-clause-same g c =
     record {
       of = record {
         at = e.0;
-        held = held_after shape _ _ (known_of c.scan_all.new.seat) (known_of c.give-given.new.seat) c.steps_are_safe.ensures.sound c.steps_leave_the_rest.ensures d.0.3 c.give-given.ensures.step.core;
+        held = held_after shape _ _ (known_of c.scan_all.new.seat)
+            (known_of c.give-given.new.seat) c.steps_are_safe.ensures.sound c.steps_leave_the_rest.ensures d.0.3
+            c.give-given.ensures.step.core;
       };
-      still = (e.0, e.1 ∙ (d.1 ∙ (b.1 ∙ a.1)), e.2 ∙ (d.2 ∙ (b.2 ∙ a.2)), e.3 ∙ (d.3 ∙ (b.3 ∙ a.3)), e.4 ∙ (d.4 ∙ (b.4 ∙ a.4)));
+      still = (
+        e.0,
+        e.1 ∙ (d.1 ∙ (b.1 ∙ a.1)),
+        e.2 ∙ (d.2 ∙ (b.2 ∙ a.2)),
+        e.3 ∙ (d.3 ∙ (b.3 ∙ a.3)),
+        e.4
+            ∙ (d.4 ∙ (b.4 ∙ a.4)),
+      );
     }
 
 pub returns-clause-slots : goal.returns-clause-slots
@@ -66,12 +78,22 @@ returns-clause-slots g c =
     let scanned = known_of c.scan_all.new.seat in
     let new = known_of c.give-given.new.seat in
     let me = number_of c.scan_all.new.seat in
-    let laws : GiveLaws = record { left_law = c.kept_slots_are_counted.ensures.left; given_law = c.kept_slots_are_counted.ensures.given; fresh_law = c.kept_slots_are_counted.ensures.fresh } in
-    let out : is_out scanned.status ≡ true = ap (λ (s : Seat). is_out s.status) (opened_as shape opened.noted old opened scanned c.open_scan.ensures.known (scanning_on opened passed scanned c.pass_all.ensures.known.scan c.scan_all.ensures.known.scan)) ∙ c.requires.out in
+    let laws : GiveLaws =
+    record {
+      left_law = c.kept_slots_are_counted.ensures.left;
+      given_law =
+          c.kept_slots_are_counted.ensures.given;
+      fresh_law = c.kept_slots_are_counted.ensures.fresh;
+    } in
+    let out : is_out scanned.status ≡ true =
+    ap (λ (s : Seat). is_out s.status)
+    (opened_as shape opened.noted old opened scanned c.open_scan.ensures.known
+    (scanning_on opened passed scanned c.pass_all.ensures.known.scan c.scan_all.ensures.known.scan)) ∙ c.requires.out in
     let inside = c.scan_all.ensures.still.0.3 in
     let made = c.give-given.ensures.step.core in
     let none = ap kept_count c.open_scan.ensures.known ∙ c.kept_slots_are_counted.ensures.note shape opened.noted old in
-    collected laws shape me c.give-given.result.0 c.give-given.result.1 scanned new out inside made c.give-given.ensures.known c.args.force opened.noted old opened passed c.open_scan.ensures.known none
+    collected laws shape me c.give-given.result.0 c.give-given.result.1 scanned new out inside made
+    c.give-given.ensures.known c.args.force opened.noted old opened passed c.open_scan.ensures.known none
     c.pass_all.ensures.known.scan c.pass_all.ensures.known.kept c.scan_all.ensures.known.scan c.scan_all.ensures.kept
 
 pub returns-clause-left : goal.returns-clause-left
@@ -83,12 +105,22 @@ returns-clause-left g c force =
     let scanned = known_of c.scan_all.new.seat in
     let new = known_of c.give-given.new.seat in
     let me = number_of c.scan_all.new.seat in
-    let laws : GiveLaws = record { left_law = c.kept_slots_are_counted.ensures.left; given_law = c.kept_slots_are_counted.ensures.given; fresh_law = c.kept_slots_are_counted.ensures.fresh } in
-    let out : is_out scanned.status ≡ true = ap (λ (s : Seat). is_out s.status) (opened_as shape opened.noted old opened scanned c.open_scan.ensures.known (scanning_on opened passed scanned c.pass_all.ensures.known.scan c.scan_all.ensures.known.scan)) ∙ c.requires.out in
+    let laws : GiveLaws =
+    record {
+      left_law = c.kept_slots_are_counted.ensures.left;
+      given_law =
+          c.kept_slots_are_counted.ensures.given;
+      fresh_law = c.kept_slots_are_counted.ensures.fresh;
+    } in
+    let out : is_out scanned.status ≡ true =
+    ap (λ (s : Seat). is_out s.status)
+    (opened_as shape opened.noted old opened scanned c.open_scan.ensures.known
+    (scanning_on opened passed scanned c.pass_all.ensures.known.scan c.scan_all.ensures.known.scan)) ∙ c.requires.out in
     let inside = c.scan_all.ensures.still.0.3 in
     let made = c.give-given.ensures.step.core in
     let none = ap kept_count c.open_scan.ensures.known ∙ c.kept_slots_are_counted.ensures.note shape opened.noted old in
-    let all = collected laws shape me c.give-given.result.0 c.give-given.result.1 scanned new out inside made c.give-given.ensures.known c.args.force opened.noted old opened passed c.open_scan.ensures.known none
+    let all = collected laws shape me c.give-given.result.0 c.give-given.result.1 scanned new out inside made
+    c.give-given.ensures.known c.args.force opened.noted old opened passed c.open_scan.ensures.known none
     c.pass_all.ensures.known.scan c.pass_all.ensures.known.kept c.scan_all.ensures.known.scan c.scan_all.ensures.kept in
     all.few (ap is_scanning c.give-given.ensures.known)
 
@@ -101,15 +133,26 @@ returns-clause-fresh g c force =
     let scanned = known_of c.scan_all.new.seat in
     let new = known_of c.give-given.new.seat in
     let me = number_of c.scan_all.new.seat in
-    let laws : GiveLaws = record { left_law = c.kept_slots_are_counted.ensures.left; given_law = c.kept_slots_are_counted.ensures.given; fresh_law = c.kept_slots_are_counted.ensures.fresh } in
-    let out : is_out scanned.status ≡ true = ap (λ (s : Seat). is_out s.status) (opened_as shape opened.noted old opened scanned c.open_scan.ensures.known (scanning_on opened passed scanned c.pass_all.ensures.known.scan c.scan_all.ensures.known.scan)) ∙ c.requires.out in
+    let laws : GiveLaws =
+    record {
+      left_law = c.kept_slots_are_counted.ensures.left;
+      given_law =
+          c.kept_slots_are_counted.ensures.given;
+      fresh_law = c.kept_slots_are_counted.ensures.fresh;
+    } in
+    let out : is_out scanned.status ≡ true =
+    ap (λ (s : Seat). is_out s.status)
+    (opened_as shape opened.noted old opened scanned c.open_scan.ensures.known
+    (scanning_on opened passed scanned c.pass_all.ensures.known.scan c.scan_all.ensures.known.scan)) ∙ c.requires.out in
     let inside = c.scan_all.ensures.still.0.3 in
     let made = c.give-given.ensures.step.core in
     let none = ap kept_count c.open_scan.ensures.known ∙ c.kept_slots_are_counted.ensures.note shape opened.noted old in
-    let all = collected laws shape me c.give-given.result.0 c.give-given.result.1 scanned new out inside made c.give-given.ensures.known c.args.force opened.noted old opened passed c.open_scan.ensures.known none
+    let all = collected laws shape me c.give-given.result.0 c.give-given.result.1 scanned new out inside made
+    c.give-given.ensures.known c.args.force opened.noted old opened passed c.open_scan.ensures.known none
     c.pass_all.ensures.known.scan c.pass_all.ensures.known.kept c.scan_all.ensures.known.scan c.scan_all.ensures.kept in
     fresh_enough shape new c.give-given.result.1 c.args.self.now.words.limits.some_seats
-    (held_after shape _ _ scanned new c.steps_are_safe.ensures.sound c.steps_leave_the_rest.ensures inside made) all.left_is (all.few (ap is_scanning c.give-given.ensures.known))
+    (held_after shape _ _ scanned new c.steps_are_safe.ensures.sound c.steps_leave_the_rest.ensures inside made)
+    all.left_is (all.few (ap is_scanning c.give-given.ensures.known))
 
 pub returns-clause-past : goal.returns-clause-past
 returns-clause-past g c =
@@ -120,12 +163,26 @@ returns-clause-past g c =
     let scanned = known_of c.scan_all.new.seat in
     let new = known_of c.give-given.new.seat in
     let me = number_of c.scan_all.new.seat in
-    let laws : GiveLaws = record { left_law = c.kept_slots_are_counted.ensures.left; given_law = c.kept_slots_are_counted.ensures.given; fresh_law = c.kept_slots_are_counted.ensures.fresh } in
-    let out : is_out scanned.status ≡ true = ap (λ (s : Seat). is_out s.status) (opened_as shape opened.noted old opened scanned c.open_scan.ensures.known (scanning_on opened passed scanned c.pass_all.ensures.known.scan c.scan_all.ensures.known.scan)) ∙ c.requires.out in
+    let laws : GiveLaws =
+    record {
+      left_law = c.kept_slots_are_counted.ensures.left;
+      given_law =
+          c.kept_slots_are_counted.ensures.given;
+      fresh_law = c.kept_slots_are_counted.ensures.fresh;
+    } in
+    let out : is_out scanned.status ≡ true =
+    ap (λ (s : Seat). is_out s.status)
+    (opened_as shape opened.noted old opened scanned c.open_scan.ensures.known
+    (scanning_on opened passed scanned c.pass_all.ensures.known.scan c.scan_all.ensures.known.scan)) ∙ c.requires.out in
     let inside = c.scan_all.ensures.still.0.3 in
     let made = c.give-given.ensures.step.core in
     let none = ap kept_count c.open_scan.ensures.known ∙ c.kept_slots_are_counted.ensures.note shape opened.noted old in
-    let noted_is : scanned.noted ≡ opened.noted = ap (λ (s : Seat). s.noted) (scanning_on opened passed scanned c.pass_all.ensures.known.scan c.scan_all.ensures.known.scan).rest in
-    collected_past shape c.args.force me _ (past_by c.args.pass.now) (past_of c.open_scan.new.seat) (past_of c.pass_all.new.seat) (past_of c.scan_all.new.seat) (past_of c.give-given.new.seat) opened.noted scanned new
-    c.open_scan.ensures.past c.pass_all.ensures.past c.pass_all.ensures.mild c.scan_all.ensures.past c.scan_all.ensures.ejections c.give-given.ensures.step.past (ap is_scanning c.give-given.ensures.known)
-    (λ last. noted_last laws shape me c.give-given.result.0 c.give-given.result.1 scanned new out inside made c.give-given.ensures.known (noted_is ∙ last))
+    let noted_is : scanned.noted ≡ opened.noted =
+    ap (λ (s : Seat). s.noted)
+    (scanning_on opened passed scanned c.pass_all.ensures.known.scan c.scan_all.ensures.known.scan).rest in
+    collected_past shape c.args.force me _ (past_by c.args.pass.now) (past_of c.open_scan.new.seat)
+    (past_of c.pass_all.new.seat) (past_of c.scan_all.new.seat) (past_of c.give-given.new.seat) opened.noted scanned new
+    c.open_scan.ensures.past c.pass_all.ensures.past c.pass_all.ensures.mild c.scan_all.ensures.past
+    c.scan_all.ensures.ejections c.give-given.ensures.step.past (ap is_scanning c.give-given.ensures.known)
+    (λ last. noted_last laws shape me c.give-given.result.0 c.give-given.result.1 scanned new out inside made
+    c.give-given.ensures.known (noted_is ∙ last))

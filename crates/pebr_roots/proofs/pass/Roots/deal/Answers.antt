@@ -11,7 +11,8 @@ pass-pass-requires-clause-opened g c =
     let first = g.P.RootProtocol.first in
     let rest = c.pop.new.self in
     subst (λ n. IsOpenedSeat words first n c.in-Some.seat) (sym (c.len.ensures ∙ rest.ok.0))
-    (last_of (λ n s. IsOpenedSeat words first n s) c.loop-turn.seats.items rest.items c.in-Some.seat c.in-Some.ensures.items c.loop-turn.invariant.ahead)
+    (last_of (λ n s. IsOpenedSeat words first n s) c.loop-turn.seats.items rest.items c.in-Some.seat
+    c.in-Some.ensures.items c.loop-turn.invariant.ahead)
 
 pub pass-pass-requires-clause-inside : goal.pass-pass-requires-clause-inside
 pass-pass-requires-clause-inside g c =
@@ -39,9 +40,13 @@ loop-turn-preserved g c =
     record {
       count = omega (arith, a, b, d, e, before.count);
       turns = omega (arith, d, e, before.turns);
-      ahead = before_last (λ k s. IsOpenedSeat words first k s) c.loop-turn.seats.items rest.items c.in-Some.seat c.in-Some.ensures.items before.ahead;
-      done = λ k x lt. subst (λ l. IsOpenedPass roots first ((shape_at roots).seats - 1 - k) (get_or l k x)) (sym c.in_ok-put.ensures)
-          (one_more (λ k p. IsOpenedPass roots first k p) (shape_at roots).seats passes pass c.len.result (omega (arith, n, a, b, before.count)) before.done c.pass-pass.ensures k x (subst (λ l. k < length l) c.in_ok-put.ensures lt));
+      ahead = before_last (λ k s. IsOpenedSeat words first k s) c.loop-turn.seats.items rest.items c.in-Some.seat
+          c.in-Some.ensures.items before.ahead;
+      done = λ k x lt. subst (λ l. IsOpenedPass roots first ((shape_at roots).seats - 1 - k) (get_or l k x))
+          (sym c.in_ok-put.ensures)
+          (one_more (λ k p. IsOpenedPass roots first k p) (shape_at roots).seats passes pass c.len.result
+          (omega (arith, n, a, b, before.count)) before.done c.pass-pass.ensures k x
+          (subst (λ l. k < length l) c.in_ok-put.ensures lt));
     }
 
 pub returns : goal.returns
@@ -50,7 +55,9 @@ returns g c =
     let first = g.P.RootProtocol.first in
     let before = c.loop-turn.invariant in
     let passes = c.loop-turn.passes.items in
-    let all : length passes ≡ (shape_at roots).seats = (let l = c.len-turn-end.ensures ∙ c.args.seats.ok.0 in let r = c.requires.0 in let t = before.turns in let x = c.loop-turn-test.false in let y = c.loop-turn.auto in omega (arith, l, r, t, x, y)) in
+    let all : length passes ≡ (shape_at roots).seats =
+    (let l = c.len-turn-end.ensures ∙ c.args.seats.ok.0 in let r = c.requires.0 in let t = before.turns in
+    let x = c.loop-turn-test.false in let y = c.loop-turn.auto in omega (arith, l, r, t, x, y)) in
     record {
       many = ap length c.reverse.ensures.items ∙ (length-reverse passes ∙ all);
       each = λ i d lt. subst (λ l. IsOpenedPass roots first i (get_or l i d)) (sym c.reverse.ensures.items)

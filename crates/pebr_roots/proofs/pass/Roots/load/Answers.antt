@@ -14,6 +14,10 @@ invariant_of-pass g c =
     let slot = c.load_root-slot.result in
     let known = after_load slot (known_by pass) in
     let wide : length pass.under ≡ 8 = search rules in
-    let inside : place < length pass.under = (let few = c.args.self.now.words.limits.shields in let low = c.requires.range.1 in omega (arith, wide, few, low)) in
+    let inside : place < length pass.under =
+    (let few = c.args.self.now.words.limits.shields in let low = c.requires.range.1 in omega (arith, wide, few, low)) in
     let is = c.shield.ensures.known ∙ ap (after_shield place (shield.Set slot)) c.load_root-slot.ensures.known in
-    record { slots = subst (AreUnder (slice_set pass.under place slot)) (sym is) (under_set pass.under known place slot inside pass.slots) }
+    record {
+      slots = subst (AreUnder (slice_set pass.under place slot)) (sym is)
+          (under_set pass.under known place slot inside pass.slots);
+    }

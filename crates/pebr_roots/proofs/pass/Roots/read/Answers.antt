@@ -14,34 +14,45 @@ pub read_word-requires-clause-range : goal.read_word-requires-clause-range
 read_word-requires-clause-range g c =
     let pass = c.args.pass.now in
     let known = known_by pass in
-    let is = under_valid pass.under known c.args.place pass.slots c.requires.valid in
-    (subst (λ n. n < slot_count (shape_at c.args.self.now)) (sym is) (c.requires.of.at.6.valid c.args.place (slot_at known c.args.place) (valid_at known c.args.place c.requires.valid)), c.requires.range.1)
+    let is = under_valid pass.under known c.args.place pass.slots c.requires.valid in (
+      subst (λ n. n < slot_count (shape_at c.args.self.now)) (sym is)
+          (c.requires.of.at.6.valid c.args.place (slot_at known c.args.place)
+          (valid_at known c.args.place c.requires.valid)),
+      c.requires.range.1,
+    )
 
 pub read_word-requires-clause-shielded : goal.read_word-requires-clause-shielded
 read_word-requires-clause-shielded g c =
     let pass = c.args.pass.now in
     let known = known_by pass in
     let is = under_valid pass.under known c.args.place pass.slots c.requires.valid in
-    ap (is_shielded known) is ∙ c.valid_shields_protect.ensures known c.args.place (slot_at known c.args.place) (valid_at known c.args.place c.requires.valid)
+    ap (is_shielded known) is ∙ c.valid_shields_protect.ensures known c.args.place (slot_at known c.args.place)
+    (valid_at known c.args.place c.requires.valid)
 
 pub returns-clause-step : goal.returns-clause-step
 returns-clause-step g c =
     let pass = c.args.pass.now in
     let known = known_by pass in
     let is = under_valid pass.under known c.args.place pass.slots c.requires.valid in
-    subst (λ n. IsStep g.P.RootProtocol.whole c.args.self.now.words pass.seat c.read_word.new.seat (step.Read (number_by pass) n c.args.word) (answer.Word c.read_word.result)) is c.read_word.ensures.step
+    subst (λ n. IsStep g.P.RootProtocol.whole c.args.self.now.words pass.seat c.read_word.new.seat
+    (step.Read (number_by pass) n c.args.word) (answer.Word c.read_word.result)) is c.read_word.ensures.step
 
 pub returns-clause-again : goal.returns-clause-again
 returns-clause-again g c read at slot_is word_is =
     let pass = c.args.pass.now in
     let known = known_by pass in
     let is = under_valid pass.under known c.args.place pass.slots c.requires.valid in
-    let protected = c.valid_shields_protect.ensures known c.args.place (slot_at known c.args.place) (valid_at known c.args.place c.requires.valid) in
-    read_again (number_by pass) (slice_index pass.under c.args.place) c.args.word c.read_word.result known (past_by pass) _ _ c.read_word.ensures.step.sure c.read_word.ensures.step.past c.read_word.ensures.known (ap (is_shielded known) is ∙ protected) read at (slot_is ∙ sym is) word_is
+    let protected = c.valid_shields_protect.ensures known c.args.place (slot_at known c.args.place)
+    (valid_at known c.args.place c.requires.valid) in
+    read_again (number_by pass) (slice_index pass.under c.args.place) c.args.word c.read_word.result known
+    (past_by pass) _ _ c.read_word.ensures.step.sure c.read_word.ensures.step.past c.read_word.ensures.known
+    (ap (is_shielded known) is ∙ protected) read at (slot_is ∙ sym is) word_is
 
 pub returns-clause-whole : goal.returns-clause-whole
 returns-clause-whole g c content has_read =
     let pass = c.args.pass.now in
     let known = known_by pass in
-    let protected = c.valid_shields_protect.ensures known c.args.place (slot_at known c.args.place) (valid_at known c.args.place c.requires.valid) in
-    c.read_word.ensures.step.sure.whole_is (slot_at known c.args.place) content (subst (λ k. is_shielded k (slot_at known c.args.place) ≡ true) (sym c.read_word.ensures.known) protected) has_read
+    let protected = c.valid_shields_protect.ensures known c.args.place (slot_at known c.args.place)
+    (valid_at known c.args.place c.requires.valid) in
+    c.read_word.ensures.step.sure.whole_is (slot_at known c.args.place) content
+    (subst (λ k. is_shielded k (slot_at known c.args.place) ≡ true) (sym c.read_word.ensures.known) protected) has_read

@@ -18,8 +18,11 @@ replace_root-requires-clause-slots g c =
     let pass = c.args.pass.now in
     let known = known_by pass in
     let is = under_valid pass.under known c.args.place pass.slots c.requires.valid in (
-      subst (λ n. n < slot_count (shape_at c.args.self.now)) (sym is) (c.requires.of.at.6.valid c.args.place (slot_at known c.args.place) (valid_at known c.args.place c.requires.valid)),
-      subst (λ n. n < slot_count (shape_at c.args.self.now)) (sym c.least_fresh-new.ensures) (subst (λ n. least known.fresh < n) c.requires.of.at.6.fresh (least_inside known.fresh c.requires.fresh)),
+      subst (λ n. n < slot_count (shape_at c.args.self.now)) (sym is)
+          (c.requires.of.at.6.valid c.args.place (slot_at known c.args.place)
+          (valid_at known c.args.place c.requires.valid)),
+      subst (λ n. n < slot_count (shape_at c.args.self.now)) (sym c.least_fresh-new.ensures)
+          (subst (λ n. least known.fresh < n) c.requires.of.at.6.fresh (least_inside known.fresh c.requires.fresh)),
     )
 
 pub replace_root-requires-clause-shielded : goal.replace_root-requires-clause-shielded
@@ -27,7 +30,8 @@ replace_root-requires-clause-shielded g c =
     let pass = c.args.pass.now in
     let known = known_by pass in
     let is = under_valid pass.under known c.args.place pass.slots c.requires.valid in
-    ap (is_shielded known) is ∙ c.valid_shields_protect.ensures known c.args.place (slot_at known c.args.place) (valid_at known c.args.place c.requires.valid)
+    ap (is_shielded known) is ∙ c.valid_shields_protect.ensures known c.args.place (slot_at known c.args.place)
+    (valid_at known c.args.place c.requires.valid)
 
 pub replace_root-requires-clause-fresh : goal.replace_root-requires-clause-fresh
 replace_root-requires-clause-fresh g c =
@@ -40,8 +44,11 @@ replace_root-requires-clause-keeps g c =
     let known = known_by pass in
     let p = g.P.RootProtocol in
     let is = under_valid pass.under known c.args.place pass.slots c.requires.valid in
-    let can : ℕ → ℕ → Type 0 = λ old new. CanReplace (p.keeps (fixed_at c.args.self.now)) p.whole (shape_at c.args.self.now) (past_by pass) (number_by pass) c.args.root old new (note_by p.first pass) (act_on p.after c.args.act (note_by p.first pass)) in
-    subst (λ old. can old c.least_fresh-new.result) (sym is) (subst (λ new. can (slot_at known c.args.place) new) (sym c.least_fresh-new.ensures) c.requires.keeps)
+    let can : ℕ → ℕ → Type 0 = λ old new. CanReplace (p.keeps (fixed_at c.args.self.now)) p.whole
+    (shape_at c.args.self.now) (past_by pass) (number_by pass) c.args.root old new (note_by p.first pass)
+    (act_on p.after c.args.act (note_by p.first pass)) in
+    subst (λ old. can old c.least_fresh-new.result) (sym is)
+    (subst (λ new. can (slot_at known c.args.place) new) (sym c.least_fresh-new.ensures) c.requires.keeps)
 
 pub returns-then-replace_root-clause-same : goal.returns-then-replace_root-clause-same
 returns-then-replace_root-clause-same g c =
@@ -49,7 +56,9 @@ returns-then-replace_root-clause-same g c =
     record {
       of = record {
         at = c.replace_root.ensures.still.0;
-        held = held_after (shape_at c.args.self.now) _ _ (known_by pass) _ c.steps_are_safe.ensures.sound c.steps_leave_the_rest.ensures c.requires.of.at.3 c.replace_root.ensures.step.core;
+        held = held_after (shape_at c.args.self.now) _ _
+            (known_by pass) _ c.steps_are_safe.ensures.sound c.steps_leave_the_rest.ensures c.requires.of.at.3
+            c.replace_root.ensures.step.core;
       };
       still = c.replace_root.ensures.still;
     }
@@ -59,20 +68,28 @@ returns-then-replace_root-clause-known g c =
     let pass = c.args.pass.now in
     let known = known_by pass in
     let is = under_valid pass.under known c.args.place pass.slots c.requires.valid in
-    c.if-replace_root.ensures.known ∙ (ap (λ n. after_replace n c.least_fresh-new.result known) is ∙ ap (λ n. after_replace (slot_at known c.args.place) n known) c.least_fresh-new.ensures)
+    c.if-replace_root.ensures.known
+    ∙ (ap (λ n. after_replace n c.least_fresh-new.result known) is
+    ∙ ap (λ n. after_replace (slot_at known c.args.place) n known) c.least_fresh-new.ensures)
 
 pub returns-then-replace_root-clause-step : goal.returns-then-replace_root-clause-step
 returns-then-replace_root-clause-step g c =
     let pass = c.args.pass.now in
     let known = known_by pass in
     let is = under_valid pass.under known c.args.place pass.slots c.requires.valid in
-    subst (λ old. IsStep g.P.RootProtocol.whole c.args.self.now.words pass.seat c.replace_root.new.seat (step.Replace (number_by pass) c.args.root old (least known.fresh)) answer.Replaced) is
-    (subst (λ new. IsStep g.P.RootProtocol.whole c.args.self.now.words pass.seat c.replace_root.new.seat (step.Replace (number_by pass) c.args.root (slice_index pass.under c.args.place) new) answer.Replaced) c.least_fresh-new.ensures c.if-replace_root.ensures.step)
+    subst (λ old. IsStep g.P.RootProtocol.whole c.args.self.now.words pass.seat c.replace_root.new.seat
+    (step.Replace (number_by pass) c.args.root old (least known.fresh)) answer.Replaced) is
+    (subst (λ new. IsStep g.P.RootProtocol.whole c.args.self.now.words pass.seat c.replace_root.new.seat
+    (step.Replace (number_by pass) c.args.root (slice_index pass.under c.args.place) new) answer.Replaced)
+    c.least_fresh-new.ensures c.if-replace_root.ensures.step)
 
 pub returns-else-replace_root-clause-step : goal.returns-else-replace_root-clause-step
 returns-else-replace_root-clause-step g c =
     let pass = c.args.pass.now in
     let known = known_by pass in
     let is = under_valid pass.under known c.args.place pass.slots c.requires.valid in
-    subst (λ old. IsStep g.P.RootProtocol.whole c.args.self.now.words pass.seat c.replace_root.new.seat (step.Replace (number_by pass) c.args.root old (least known.fresh)) answer.Other) is
-    (subst (λ new. IsStep g.P.RootProtocol.whole c.args.self.now.words pass.seat c.replace_root.new.seat (step.Replace (number_by pass) c.args.root (slice_index pass.under c.args.place) new) answer.Other) c.least_fresh-new.ensures c.if-replace_root.ensures.step)
+    subst (λ old. IsStep g.P.RootProtocol.whole c.args.self.now.words pass.seat c.replace_root.new.seat
+    (step.Replace (number_by pass) c.args.root old (least known.fresh)) answer.Other) is
+    (subst (λ new. IsStep g.P.RootProtocol.whole c.args.self.now.words pass.seat c.replace_root.new.seat
+    (step.Replace (number_by pass) c.args.root (slice_index pass.under c.args.place) new) answer.Other)
+    c.least_fresh-new.ensures c.if-replace_root.ensures.step)

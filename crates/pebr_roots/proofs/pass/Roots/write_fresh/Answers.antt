@@ -7,8 +7,11 @@ use Rattle.pebr_roots.proofs.pass.Roots.write_fresh.Goals as goal
 
 pub write_word-requires-clause-range : goal.write_word-requires-clause-range
 write_word-requires-clause-range g c =
-    let known = known_by c.args.pass.now in
-    (subst (λ n. n < slot_count (shape_at c.args.self.now)) (sym c.least_fresh-slot.ensures) (subst (λ n. least known.fresh < n) c.requires.of.at.6.fresh (least_inside known.fresh c.requires.fresh)), c.requires.word)
+    let known = known_by c.args.pass.now in (
+      subst (λ n. n < slot_count (shape_at c.args.self.now)) (sym c.least_fresh-slot.ensures)
+          (subst (λ n. least known.fresh < n) c.requires.of.at.6.fresh (least_inside known.fresh c.requires.fresh)),
+      c.requires.word,
+    )
 
 pub write_word-requires-clause-fresh : goal.write_word-requires-clause-fresh
 write_word-requires-clause-fresh g c =

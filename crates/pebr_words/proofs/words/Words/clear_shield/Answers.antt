@@ -6,10 +6,13 @@ use Rattle.pebr_words.proofs.Mirroring.{same_mirrors}
 use Rattle.pebr_words.proofs.words.Words.clear_shield.Goals as goal
 
 pub store-requires-clause-made : goal.store-requires-clause-made
-store-requires-clause-made g c = unshield_by c.args.self.now.shape c.args.seat.now.number c.args.place _ c.requires.place
+store-requires-clause-made g c = unshield_by c.args.self.now.shape c.args.seat.now.number c.args.place _
+    c.requires.place
 
 pub store-requires-clause-kept : goal.store-requires-clause-kept
-store-requires-clause-kept g c = unshield_kept (g.P.RootProtocol.keeps c.args.self.now.table.shared.key.fixed) g.P.RootProtocol.whole g.P.RootProtocol.after c.args.seat.now.number c.args.place _ _
+store-requires-clause-kept g c = unshield_kept
+    (g.P.RootProtocol.keeps c.args.self.now.table.shared.key.fixed) g.P.RootProtocol.whole g.P.RootProtocol.after
+    c.args.seat.now.number c.args.place _ _
 
 pub store-requires-clause-recalled : goal.store-requires-clause-recalled
 store-requires-clause-recalled g c = unshield_recalled c.args.seat.now.number c.args.place _
@@ -21,5 +24,6 @@ invariant_of-seat g c =
     let told = c.store.ensures.told.1 in
     record {
       acts = told.number ∙ seat.acts;
-      mirrors = subst (Mirrors seat.noted seat.slots seat.found.items) (sym told.known) (same_mirrors seat.noted seat.slots seat.found.items known _ seat.mirrors refl refl refl refl);
+      mirrors = subst (Mirrors seat.noted seat.slots seat.found.items) (sym told.known)
+          (same_mirrors seat.noted seat.slots seat.found.items known _ seat.mirrors refl refl refl refl);
     }

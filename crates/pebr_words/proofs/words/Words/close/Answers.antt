@@ -11,11 +11,13 @@ pub gather-contents-requires-clause-below : goal.gather-contents-requires-clause
 gather-contents-requires-clause-below g c =
     let words = c.args.self in
     let final = c.close_with-closed.ensures.values.2 in
-    roots_below (g.P.RootProtocol.keeps words.table.shared.key.fixed) g.P.RootProtocol.whole words.shape words.table.shared.key.shape words.told (slots_items c.close_with-closed.result.words) final.0 final.1.0 final.2
+    roots_below (g.P.RootProtocol.keeps words.table.shared.key.fixed) g.P.RootProtocol.whole words.shape
+    words.table.shared.key.shape words.told (slots_items c.close_with-closed.result.words) final.0 final.1.0 final.2
 
 pub returns-clause-length : goal.returns-clause-length
 returns-clause-length g c =
-    if_ok c.gather-contents.result (λ contents is. ap length is ∙ gathered_length c.args.self.shape (slots_items c.close_with-closed.result.words)) c.gather-contents.ensures
+    if_ok c.gather-contents.result (λ contents is. ap length is
+    ∙ gathered_length c.args.self.shape (slots_items c.close_with-closed.result.words)) c.gather-contents.ensures
 
 pub returns-clause-keeps : goal.returns-clause-keeps
 returns-clause-keeps g c =
@@ -25,8 +27,13 @@ returns-clause-keeps g c =
     let empty = g.P.RootProtocol.empty in
     let first = g.P.RootProtocol.first in
     let final = c.close_with-closed.ensures.values.2 in
-    let kept = closes_at keeps g.P.RootProtocol.whole words.shape words.table.shared.key.shape empty first words.told seat.inner.id seat.inner.me.0 (slots_items c.close_with-closed.result.words)
+    let kept = closes_at keeps g.P.RootProtocol.whole words.shape words.table.shared.key.shape empty first words.told
+    seat.inner.id seat.inner.me.0 (slots_items c.close_with-closed.result.words)
     c.requires.at.2 c.requires.whole c.requires.united final.0 final.1 final.2 in
     if_ok c.gather-contents.result
-    (λ contents is. subst (λ items. keeps (rows_of words.shape items) (slice_set (replicate words.shape.seats empty) seat.number (note_in first seat.inner.me.0))) (sym is)
-    (subst (λ n. keeps (rows_of words.shape (gathered words.shape (slots_items c.close_with-closed.result.words))) (slice_set (replicate words.shape.seats empty) n (note_in first seat.inner.me.0))) seat.acts kept)) c.gather-contents.ensures
+    (λ contents is. subst
+    (λ items. keeps (rows_of words.shape items)
+    (slice_set (replicate words.shape.seats empty) seat.number (note_in first seat.inner.me.0))) (sym is)
+    (subst (λ n. keeps (rows_of words.shape (gathered words.shape (slots_items c.close_with-closed.result.words)))
+    (slice_set (replicate words.shape.seats empty) n (note_in first seat.inner.me.0))) seat.acts kept))
+    c.gather-contents.ensures

@@ -13,10 +13,13 @@ use Rattle.pebr_words.proofs.words.Words.give.Goals as goal
 pub load-epoch-requires-clause-made : goal.load-epoch-requires-clause-made
 load-epoch-requires-clause-made g c =
     let known = known_in c.args.seat.now.inner.me.0 in
-    give_by c.args.self.now.shape c.args.seat.now.number known (scan_of known) (has_scan known c.requires.scanning) c.requires.complete c.requires.down
+    give_by c.args.self.now.shape c.args.seat.now.number known (scan_of known)
+    (has_scan known c.requires.scanning) c.requires.complete c.requires.down
 
 pub load-epoch-requires-clause-kept : goal.load-epoch-requires-clause-kept
-load-epoch-requires-clause-kept g c = give_kept (g.P.RootProtocol.keeps c.args.self.now.table.shared.key.fixed) g.P.RootProtocol.whole g.P.RootProtocol.after c.args.seat.now.number _ _
+load-epoch-requires-clause-kept g c = give_kept
+    (g.P.RootProtocol.keeps c.args.self.now.table.shared.key.fixed) g.P.RootProtocol.whole g.P.RootProtocol.after
+    c.args.seat.now.number _ _
 
 pub load-epoch-requires-clause-recalled : goal.load-epoch-requires-clause-recalled
 load-epoch-requires-clause-recalled g c = give_recalled c.args.seat.now.number _
@@ -27,11 +30,14 @@ invariant_of-seat g c =
     let known = known_in seat.inner.me.0 in
     let told = c.load-epoch.ensures.told in
     let epoch = c.load-epoch.result in
-    let made = subst (λ (new : Seat). IsStepOf c.args.self.now.shape (step.Give seat.number) (answer_found (step.Give seat.number) known epoch) known new) told.known told.made in
+    let made =
+    subst (λ (new : Seat). IsStepOf c.args.self.now.shape (step.Give seat.number)
+    (answer_found (step.Give seat.number) known epoch) known new) told.known told.made in
     record {
       acts = told.number ∙ seat.acts;
       mirrors = subst (Mirrors epoch c.give.new.self seat.found.items) (sym told.known)
-          (give_mirrors seat.number epoch seat.noted seat.slots c.give.new.self seat.found.items made c.requires.at.3 seat.mirrors c.requires.scanning c.give.ensures.fresh c.give.ensures.retired);
+          (give_mirrors seat.number epoch seat.noted seat.slots c.give.new.self seat.found.items made c.requires.at.3
+          seat.mirrors c.requires.scanning c.give.ensures.fresh c.give.ensures.retired);
     }
 
 pub returns-clause-known : goal.returns-clause-known
@@ -47,10 +53,15 @@ returns-clause-step g c =
     let told = c.load-epoch.ensures.told in
     let epoch = c.load-epoch.result in
     let s = step.Give seat.number in
-    let made = subst (λ (new : Seat). IsStepOf c.args.self.now.shape s (answer_found s known epoch) known new) told.known told.made in
-    let m' = give_mirrors seat.number epoch seat.noted seat.slots c.give.new.self seat.found.items made c.requires.at.3 seat.mirrors c.requires.scanning c.give.ensures.fresh c.give.ensures.retired in
-    let counts = given_counts seat.number epoch seat.noted seat.slots c.give.new.self seat.found.items seat.mirrors m' made c.requires.at.3 c.requires.scanning in
-    let is = ap (λ n. answer.Given n (count_by is_retired (after_give epoch known).retired)) (sym (c.give.ensures.given ∙ counts.0)) ∙ ap (answer.Given c.give.result.0) (sym (c.give.ensures.left ∙ counts.1)) in
+    let made = subst (λ (new : Seat). IsStepOf c.args.self.now.shape s (answer_found s known epoch) known new)
+    told.known told.made in
+    let m' = give_mirrors seat.number epoch seat.noted seat.slots c.give.new.self seat.found.items made c.requires.at.3
+    seat.mirrors c.requires.scanning c.give.ensures.fresh c.give.ensures.retired in
+    let counts = given_counts seat.number epoch seat.noted seat.slots c.give.new.self seat.found.items seat.mirrors m'
+    made c.requires.at.3 c.requires.scanning in
+    let is = ap (λ n. answer.Given n (count_by is_retired (after_give epoch known).retired))
+    (sym (c.give.ensures.given ∙ counts.0)) ∙ ap (answer.Given c.give.result.0)
+    (sym (c.give.ensures.left ∙ counts.1)) in
     record {
       core = subst (λ a. IsStepOf c.args.self.now.shape s a known (known_in c.load-epoch.new.seat.me.0)) is told.made;
       past = told.past ∙ ap (λ a. past_after s a known (past_in seat.inner.me.0)) is;

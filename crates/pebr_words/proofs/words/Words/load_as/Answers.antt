@@ -9,11 +9,15 @@ load-requires g c =
     let words = c.args.self.now in
     let place = c.requires.place in (
       c.requires.at.0,
-      subst (λ n. c.args.word < n) (sym words.counted) (subst (λ n. n < word_count words.shape) place.1 (place_in words.shape words.limits.shields _ place.0)),
-      makes_at (g.P.RootProtocol.keeps words.table.shared.key.fixed) g.P.RootProtocol.whole g.P.RootProtocol.after g.P.RootProtocol.first _ c.safe_steps.ensures words.told words.limits
-          c.requires.picked c.args.seat.now.me c.requires.at.1 c.requires.at.2 place.0 place.1 c.requires.made c.requires.kept c.requires.recalled,
+      subst (λ n. c.args.word < n) (sym words.counted)
+          (subst (λ n. n < word_count words.shape) place.1 (place_in words.shape words.limits.shields _ place.0)),
+      makes_at (g.P.RootProtocol.keeps words.table.shared.key.fixed) g.P.RootProtocol.whole g.P.RootProtocol.after
+          g.P.RootProtocol.first _ c.safe_steps.ensures words.told words.limits
+          c.requires.picked c.args.seat.now.me c.requires.at.1 c.requires.at.2 place.0 place.1 c.requires.made
+          c.requires.kept c.requires.recalled,
     )
 
 pub returns-clause-told : goal.returns-clause-told
 returns-clause-told g c =
-    picked_told g.P.RootProtocol.after g.P.RootProtocol.whole g.P.RootProtocol.first c.requires.picked c.load.result c.args.seat.now.me c.load.new.seat.me c.requires.at.1 c.load.ensures.2
+    picked_told g.P.RootProtocol.after g.P.RootProtocol.whole g.P.RootProtocol.first c.requires.picked c.load.result
+    c.args.seat.now.me c.load.new.seat.me c.requires.at.1 c.load.ensures.2

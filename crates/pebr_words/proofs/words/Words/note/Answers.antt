@@ -9,7 +9,9 @@ pub load-epoch-requires-clause-made : goal.load-epoch-requires-clause-made
 load-epoch-requires-clause-made g c = note_by c.args.self.now.shape c.args.seat.now.number _ c.requires.out
 
 pub load-epoch-requires-clause-kept : goal.load-epoch-requires-clause-kept
-load-epoch-requires-clause-kept g c = note_kept (g.P.RootProtocol.keeps c.args.self.now.table.shared.key.fixed) g.P.RootProtocol.whole g.P.RootProtocol.after c.args.seat.now.number _ _
+load-epoch-requires-clause-kept g c = note_kept
+    (g.P.RootProtocol.keeps c.args.self.now.table.shared.key.fixed) g.P.RootProtocol.whole g.P.RootProtocol.after
+    c.args.seat.now.number _ _
 
 pub load-epoch-requires-clause-recalled : goal.load-epoch-requires-clause-recalled
 load-epoch-requires-clause-recalled g c = note_recalled c.args.seat.now.number _
@@ -24,5 +26,7 @@ invariant_of-seat g c =
     record {
       acts = told.number ∙ seat.acts;
       mirrors = subst (Mirrors epoch c.note.new.self seat.found.items) (sym told.known)
-          (note_mirrors seat.noted seat.slots seat.found.items known seat.mirrors c.args.self.now.shape epoch c.note.new.self (noted_low told.made) (retired_long told.made c.requires.at.3) slots.fresh slots.retired slots.kept);
+          (note_mirrors seat.noted seat.slots seat.found.items known seat.mirrors c.args.self.now.shape epoch
+          c.note.new.self (noted_low told.made) (retired_long told.made c.requires.at.3) slots.fresh slots.retired
+          slots.kept);
     }

@@ -11,14 +11,20 @@ pub of_words-requires : goal.of_words-requires
 of_words-requires g c =
     let keeps = g.P.RootProtocol.keeps c.args.fixed in
     let shape = c.args.shape in
-    subst (λ words. Ruled keeps g.P.RootProtocol.whole shape (table.opening words [] (first_view shape g.P.RootProtocol.first)))
+    subst (λ words. Ruled keeps g.P.RootProtocol.whole shape
+    (table.opening words [] (first_view shape g.P.RootProtocol.first)))
     (sym (c.as_slice.ensures.value ∙ c.in_ok-words.ensures))
-    (opens shape g.P.RootProtocol.first keeps g.P.RootProtocol.whole c.args.contents.now (c.other_words_are_sound.ensures.start shape) c.requires.limits.shields c.requires.long c.requires.keeps c.requires.whole)
+    (opens shape g.P.RootProtocol.first keeps g.P.RootProtocol.whole c.args.contents.now
+    (c.other_words_are_sound.ensures.start shape) c.requires.limits.shields c.requires.long c.requires.keeps
+    c.requires.whole)
 
 pub invariant_of-words : goal.invariant_of-words
 invariant_of-words g c = record {
   told = ap (λ (told : Told _). told.shape) c.in-Ok.ensures.5;
-  counted = c.in-Ok.ensures.0 ∙ (ap length (c.as_slice.ensures.value ∙ c.in_ok-words.ensures) ∙ opening_wide c.args.shape c.args.contents.now c.requires.long);
+  counted =
+      c.in-Ok.ensures.0
+      ∙ (ap length (c.as_slice.ensures.value ∙ c.in_ok-words.ensures)
+      ∙ opening_wide c.args.shape c.args.contents.now c.requires.long);
   slotless = c.in-Ok.ensures.1;
   limits = c.requires.limits;
   placed = c.slots_from-contents.ensures;

@@ -12,5 +12,7 @@ invariant_of-result g c =
     record {
       acts = ap number_in view;
       mirrors = subst (λ l. Mirrors 0 c.args.slots l (known_in c.args.inner.me.0)) (sym c.requires.found)
-          (subst (Mirrors 0 c.args.slots (replicate c.args.self.now.shape.seats 0)) (sym (ap known_in view)) (first_mirrors c.args.self.now.shape c.args.number c.args.self.now.shape.seats c.args.slots c.requires.slots));
+          (subst (Mirrors 0 c.args.slots (replicate c.args.self.now.shape.seats 0)) (sym (ap known_in view))
+          (first_mirrors c.args.self.now.shape c.args.number c.args.self.now.shape.seats c.args.slots
+          c.requires.slots));
     }

@@ -6,10 +6,13 @@ use Rattle.pebr_words.proofs.Mirroring.{pin_mirrors}
 use Rattle.pebr_words.proofs.words.Words.pin.Goals as goal
 
 pub store-requires-clause-made : goal.store-requires-clause-made
-store-requires-clause-made g c = pin_by c.args.self.now.shape c.args.seat.now.number c.args.seat.now.noted _ c.args.seat.now.mirrors.noted_is c.requires.out
+store-requires-clause-made g c = pin_by c.args.self.now.shape c.args.seat.now.number c.args.seat.now.noted _
+    c.args.seat.now.mirrors.noted_is c.requires.out
 
 pub store-requires-clause-kept : goal.store-requires-clause-kept
-store-requires-clause-kept g c = pin_kept (g.P.RootProtocol.keeps c.args.self.now.table.shared.key.fixed) g.P.RootProtocol.whole g.P.RootProtocol.after c.args.seat.now.number _ _
+store-requires-clause-kept g c = pin_kept
+    (g.P.RootProtocol.keeps c.args.self.now.table.shared.key.fixed) g.P.RootProtocol.whole g.P.RootProtocol.after
+    c.args.seat.now.number _ _
 
 pub store-requires-clause-recalled : goal.store-requires-clause-recalled
 store-requires-clause-recalled g c = pin_recalled c.args.seat.now.number _
@@ -21,5 +24,6 @@ invariant_of-seat g c =
     let told = c.store.ensures.told.1 in
     record {
       acts = told.number ∙ seat.acts;
-      mirrors = subst (Mirrors seat.noted seat.slots seat.found.items) (sym told.known) (pin_mirrors seat.noted seat.slots seat.found.items known seat.mirrors);
+      mirrors = subst (Mirrors seat.noted seat.slots seat.found.items) (sym told.known)
+          (pin_mirrors seat.noted seat.slots seat.found.items known seat.mirrors);
     }

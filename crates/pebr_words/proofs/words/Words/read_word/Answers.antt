@@ -6,10 +6,13 @@ use Rattle.pebr_words.proofs.Mirroring.{same_mirrors}
 use Rattle.pebr_words.proofs.words.Words.read_word.Goals as goal
 
 pub load-requires-clause-made : goal.load-requires-clause-made
-load-requires-clause-made g c = read_by c.args.self.now.shape c.args.seat.now.number c.args.slot c.args.word _ c.requires.range.0 c.requires.range.1 c.requires.shielded
+load-requires-clause-made g c = read_by c.args.self.now.shape c.args.seat.now.number c.args.slot c.args.word _
+    c.requires.range.0 c.requires.range.1 c.requires.shielded
 
 pub load-requires-clause-kept : goal.load-requires-clause-kept
-load-requires-clause-kept g c = read_kept (g.P.RootProtocol.keeps c.args.self.now.table.shared.key.fixed) g.P.RootProtocol.whole g.P.RootProtocol.after c.args.seat.now.number c.args.slot c.args.word _ _
+load-requires-clause-kept g c = read_kept
+    (g.P.RootProtocol.keeps c.args.self.now.table.shared.key.fixed) g.P.RootProtocol.whole g.P.RootProtocol.after
+    c.args.seat.now.number c.args.slot c.args.word _ _
 
 pub load-requires-clause-recalled : goal.load-requires-clause-recalled
 load-requires-clause-recalled g c = read_recalled c.args.seat.now.number c.args.slot c.args.word _
@@ -21,5 +24,6 @@ invariant_of-seat g c =
     let told = c.load.ensures.told in
     record {
       acts = told.number ∙ seat.acts;
-      mirrors = subst (Mirrors seat.noted seat.slots seat.found.items) (sym told.known) (same_mirrors seat.noted seat.slots seat.found.items known _ seat.mirrors refl refl refl refl);
+      mirrors = subst (Mirrors seat.noted seat.slots seat.found.items) (sym told.known)
+          (same_mirrors seat.noted seat.slots seat.found.items known _ seat.mirrors refl refl refl refl);
     }

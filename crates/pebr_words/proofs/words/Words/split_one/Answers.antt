@@ -13,7 +13,8 @@ split_seat-inner-requires g c =
     let next = next_view words.shape g.P.RootProtocol.first c.args.number words.shape.seats c.requires.at.1 in (
       c.requires.at.0,
       omega (arith, words.counted),
-      splits (g.P.RootProtocol.keeps words.table.shared.key.fixed) g.P.RootProtocol.whole words.table.shared.key.shape _ c.args.seat.now.me.0
+      splits (g.P.RootProtocol.keeps words.table.shared.key.fixed) g.P.RootProtocol.whole words.table.shared.key.shape _
+          c.args.seat.now.me.0
           (subst (λ (v : List (Held _)). 0 < length v) (sym (view ∙ next)) (omega arith)),
     )
 
@@ -29,4 +30,5 @@ returns-clause-view g c =
     let words = c.args.self.now in
     let next = next_view words.shape g.P.RootProtocol.first c.args.number words.shape.seats c.requires.at.1 in
     c.split_seat-inner.ensures.2
-    ∙ (ap (λ (m : Me (Unit {0}) (List (Held _))). (remaining m.0, m.1)) c.requires.view ∙ ap (λ (v : List (Held _)). (remaining v, [])) next)
+    ∙ (ap (λ (m : Me (Unit {0}) (List (Held _))). (remaining m.0, m.1)) c.requires.view
+    ∙ ap (λ (v : List (Held _)). (remaining v, [])) next)

@@ -10,12 +10,20 @@ store-requires g c =
     let words = c.args.self.now in
     let place = c.requires.place in (
       c.requires.at.0,
-      subst (λ n. c.args.word < n) (sym words.counted) (subst (λ n. n < word_count words.shape) place.1 (place_in words.shape words.limits.shields _ place.0)),
-      λ t rule wide at fits. let a = makes_at (g.P.RootProtocol.keeps words.table.shared.key.fixed) g.P.RootProtocol.whole g.P.RootProtocol.after g.P.RootProtocol.first _ c.safe_steps.ensures words.told words.limits
-          c.requires.picked c.args.seat.now.me c.requires.at.1 c.requires.at.2 place.0 place.1 c.requires.made c.requires.kept c.requires.recalled t rule wide at fits in (a.0, a.1, a.2, a.3, (slice_index t.words c.args.word, a.4)),
+      subst (λ n. c.args.word < n) (sym words.counted)
+          (subst (λ n. n < word_count words.shape) place.1 (place_in words.shape words.limits.shields _ place.0)),
+      λ t rule wide at fits. let a = makes_at (g.P.RootProtocol.keeps words.table.shared.key.fixed)
+          g.P.RootProtocol.whole g.P.RootProtocol.after g.P.RootProtocol.first _ c.safe_steps.ensures words.told
+          words.limits
+          c.requires.picked c.args.seat.now.me c.requires.at.1 c.requires.at.2 place.0 place.1 c.requires.made
+          c.requires.kept c.requires.recalled t rule wide at fits in
+          (a.0, a.1, a.2, a.3, (slice_index t.words c.args.word, a.4)),
     )
 
 pub returns-clause-told : goal.returns-clause-told
 returns-clause-told g c =
-    let told = c.store.ensures.2 in
-    (told.0, picked_told g.P.RootProtocol.after g.P.RootProtocol.whole g.P.RootProtocol.first c.requires.picked told.0 c.args.seat.now.me c.store.new.seat.me c.requires.at.1 told.1)
+    let told = c.store.ensures.2 in (
+      told.0,
+      picked_told g.P.RootProtocol.after g.P.RootProtocol.whole g.P.RootProtocol.first c.requires.picked told.0
+          c.args.seat.now.me c.store.new.seat.me c.requires.at.1 told.1,
+    )

@@ -19,7 +19,9 @@ join_seat-requires g c =
       second.0,
       second.1,
       omega (arith, words.counted),
-      unites (g.P.RootProtocol.keeps key.fixed) g.P.RootProtocol.whole key.shape g.P.RootProtocol.merged g.P.RootProtocol.empty (g.P.RootProtocol.unites key.fixed) _ c.args.first.inner.me.0 _ c.args.second.inner.me.0 first.2 second.2,
+      unites (g.P.RootProtocol.keeps key.fixed) g.P.RootProtocol.whole key.shape g.P.RootProtocol.merged
+          g.P.RootProtocol.empty (g.P.RootProtocol.unites key.fixed) _ c.args.first.inner.me.0 _
+          c.args.second.inner.me.0 first.2 second.2,
     )
 
 pub returns-clause-united : goal.returns-clause-united
@@ -27,28 +29,35 @@ returns-clause-united g c rest rest' =
     let merged = g.P.RootProtocol.merged in
     let empty = g.P.RootProtocol.empty in
     let is = ap (λ (m : Me (Unit {0}) (List (Held _))). m.0) c.join_seat.ensures.2 in
-    subst (λ (view : List (Held _)). (place : ℕ) (held : Held _) → get_elem? (remaining view) place ≡ some held → held.note ≡ empty) (sym is)
-    (united_rest merged empty c.args.first.inner.me.0 c.args.second.inner.me.0 c.requires.at.0.2 c.requires.at.1.2 rest rest')
+    subst (λ (view : List (Held _)). (place : ℕ) (held : Held _) → get_elem? (remaining view) place ≡ some held
+    → held.note ≡ empty) (sym is)
+    (united_rest merged empty c.args.first.inner.me.0 c.args.second.inner.me.0 c.requires.at.0.2 c.requires.at.1.2 rest
+    rest')
 
 pub returns-clause-lost : goal.returns-clause-lost
 returns-clause-lost g c =
     let is = ap (λ (m : Me (Unit {0}) (List (Held _))). m.0) c.join_seat.ensures.2 in
     ap (λ (view : List (Held _)). (past_in view).lost ++ flat_map (λ held. held.past.lost) (remaining view)) is
-    ∙ united_lists (λ past. past.lost) g.P.RootProtocol.merged g.P.RootProtocol.empty c.args.first.inner.me.0 c.args.second.inner.me.0 c.requires.at.0.2 c.requires.at.1.2
+    ∙ united_lists (λ past. past.lost) g.P.RootProtocol.merged g.P.RootProtocol.empty c.args.first.inner.me.0
+    c.args.second.inner.me.0 c.requires.at.0.2 c.requires.at.1.2
 
 pub returns-clause-ejections : goal.returns-clause-ejections
 returns-clause-ejections g c =
     let is = ap (λ (m : Me (Unit {0}) (List (Held _))). m.0) c.join_seat.ensures.2 in
-    ap (λ (view : List (Held _)). (past_in view).ejections ++ flat_map (λ held. held.past.ejections) (remaining view)) is
-    ∙ united_lists (λ past. past.ejections) g.P.RootProtocol.merged g.P.RootProtocol.empty c.args.first.inner.me.0 c.args.second.inner.me.0 c.requires.at.0.2 c.requires.at.1.2
+    ap (λ (view : List (Held _)). (past_in view).ejections
+    ++ flat_map (λ held. held.past.ejections) (remaining view)) is
+    ∙ united_lists (λ past. past.ejections) g.P.RootProtocol.merged g.P.RootProtocol.empty c.args.first.inner.me.0
+    c.args.second.inner.me.0 c.requires.at.0.2 c.requires.at.1.2
 
 pub returns-clause-count : goal.returns-clause-count
 returns-clause-count g c =
     let is = ap (λ (m : Me (Unit {0}) (List (Held _))). m.0) c.join_seat.ensures.2 in
-    ap (λ (view : List (Held _)). length view) is ∙ united_count g.P.RootProtocol.merged g.P.RootProtocol.empty c.args.first.inner.me.0 c.args.second.inner.me.0
+    ap (λ (view : List (Held _)). length view) is
+    ∙ united_count g.P.RootProtocol.merged g.P.RootProtocol.empty c.args.first.inner.me.0 c.args.second.inner.me.0
 
 pub returns-clause-numbers : goal.returns-clause-numbers
 returns-clause-numbers g c =
     let is = ap (λ (m : Me (Unit {0}) (List (Held _))). m.0) c.join_seat.ensures.2 in
     ap (λ (view : List (Held _)). map (λ held. held.number) view) is
-    ∙ united_numbers g.P.RootProtocol.merged g.P.RootProtocol.empty c.args.first.inner.me.0 c.args.second.inner.me.0 c.requires.at.0.2 c.requires.at.1.2
+    ∙ united_numbers g.P.RootProtocol.merged g.P.RootProtocol.empty c.args.first.inner.me.0 c.args.second.inner.me.0
+    c.requires.at.0.2 c.requires.at.1.2

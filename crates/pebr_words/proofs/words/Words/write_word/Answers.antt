@@ -6,13 +6,17 @@ use Rattle.pebr_words.proofs.Mirroring.{same_mirrors}
 use Rattle.pebr_words.proofs.words.Words.write_word.Goals as goal
 
 pub store-requires-clause-made : goal.store-requires-clause-made
-store-requires-clause-made g c = write_by c.args.self.now.shape c.args.seat.now.number c.args.slot c.args.word c.args.value _ c.requires.range.0 c.requires.range.1 c.requires.fresh
+store-requires-clause-made g c = write_by c.args.self.now.shape c.args.seat.now.number c.args.slot c.args.word
+    c.args.value _ c.requires.range.0 c.requires.range.1 c.requires.fresh
 
 pub store-requires-clause-kept : goal.store-requires-clause-kept
-store-requires-clause-kept g c = write_kept (g.P.RootProtocol.keeps c.args.self.now.table.shared.key.fixed) g.P.RootProtocol.whole g.P.RootProtocol.after c.args.seat.now.number c.args.slot c.args.word c.args.value _ _ c.requires.range.0 c.requires.fresh
+store-requires-clause-kept g c = write_kept
+    (g.P.RootProtocol.keeps c.args.self.now.table.shared.key.fixed) g.P.RootProtocol.whole g.P.RootProtocol.after
+    c.args.seat.now.number c.args.slot c.args.word c.args.value _ _ c.requires.range.0 c.requires.fresh
 
 pub store-requires-clause-recalled : goal.store-requires-clause-recalled
-store-requires-clause-recalled g c = write_recalled c.args.seat.now.number c.args.slot c.args.word c.args.value _ c.requires.range.0 c.requires.range.1 c.requires.fresh
+store-requires-clause-recalled g c = write_recalled c.args.seat.now.number c.args.slot c.args.word c.args.value _
+    c.requires.range.0 c.requires.range.1 c.requires.fresh
 
 pub invariant_of-seat : goal.invariant_of-seat
 invariant_of-seat g c =
@@ -21,5 +25,6 @@ invariant_of-seat g c =
     let told = c.store.ensures.told.1 in
     record {
       acts = told.number ∙ seat.acts;
-      mirrors = subst (Mirrors seat.noted seat.slots seat.found.items) (sym told.known) (same_mirrors seat.noted seat.slots seat.found.items known _ seat.mirrors refl refl refl refl);
+      mirrors = subst (Mirrors seat.noted seat.slots seat.found.items) (sym told.known)
+          (same_mirrors seat.noted seat.slots seat.found.items known _ seat.mirrors refl refl refl refl);
     }

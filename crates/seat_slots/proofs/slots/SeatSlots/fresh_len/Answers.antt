@@ -7,4 +7,5 @@ pub returns : goal.returns
 returns c =
     let inside = c.self.inside in
     c.len.ensures ∙ (inside.fresh.ok.0
-    ∙ (sym (fresh_count inside.slots inside.room inside.fresh.items inside.untagged.items inside.tagged.items c.self.invariant.0) ∙ ap (λ (s : Sets). count_by (λ m. m) s.fresh) c.self.view_is))
+    ∙ (sym (fresh_count inside.slots inside.room inside.fresh.items inside.untagged.items inside.tagged.items
+    c.self.invariant.0) ∙ ap (λ (s : Sets). count_by (λ m. m) s.fresh) c.self.view_is))

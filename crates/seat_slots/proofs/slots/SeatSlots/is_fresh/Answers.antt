@@ -9,5 +9,7 @@ use Rattle.seat_slots.proofs.slots.SeatSlots.is_fresh.Goals as goal
 pub returns : goal.returns
 returns c =
     let inside = c.self.inside in
-    c.contains.ensures.value ∙ (ap (list_any (λ y. eqb y c.args.slot)) c.deref.ensures.value ∙ (any_is_in c.args.slot inside.fresh.items
-    ∙ (sym (fresh_at inside.slots inside.room inside.fresh.items inside.untagged.items inside.tagged.items c.self.invariant.0 c.args.slot) ∙ ap (λ (s : Sets). has s.fresh c.args.slot) c.self.view_is)))
+    c.contains.ensures.value
+    ∙ (ap (list_any (λ y. eqb y c.args.slot)) c.deref.ensures.value ∙ (any_is_in c.args.slot inside.fresh.items
+    ∙ (sym (fresh_at inside.slots inside.room inside.fresh.items inside.untagged.items inside.tagged.items
+    c.self.invariant.0 c.args.slot) ∙ ap (λ (s : Sets). has s.fresh c.args.slot) c.self.view_is)))

@@ -11,14 +11,23 @@ use Rattle.seat_slots.proofs.slots.SeatSlots.is_retired.Goals as goal
 pub returns-then-contains : goal.returns-then-contains
 returns-then-contains c =
     let inside = c.self.inside in
-    let is = c.contains.ensures.value ∙ (ap (list_any (λ y. eqb y c.args.slot)) c.deref.ensures.value ∙ any_is_in c.args.slot inside.untagged.items) in
-    c.if-contains.true ∙ (sym (retired_untagged inside.untagged.items inside.tagged.items c.args.slot (sym is ∙ c.if-contains.true))
-    ∙ (ap is_retired (sym (retired_at_all inside.slots inside.room inside.fresh.items inside.untagged.items inside.tagged.items c.self.invariant.0 c.args.slot)) ∙ ap (λ (s : Sets). is_retired (get_or s.retired c.args.slot retire.No)) c.self.view_is))
+    let is = c.contains.ensures.value
+    ∙ (ap (list_any (λ y. eqb y c.args.slot)) c.deref.ensures.value ∙ any_is_in c.args.slot inside.untagged.items) in
+    c.if-contains.true
+    ∙ (sym (retired_untagged inside.untagged.items inside.tagged.items c.args.slot (sym is ∙ c.if-contains.true))
+    ∙ (ap is_retired
+    (sym (retired_at_all inside.slots inside.room inside.fresh.items inside.untagged.items inside.tagged.items
+    c.self.invariant.0 c.args.slot)) ∙ ap (λ (s : Sets). is_retired (get_or s.retired c.args.slot retire.No))
+    c.self.view_is))
 
 pub returns-else-contains : goal.returns-else-contains
 returns-else-contains c =
     let inside = c.self.inside in
-    let is = c.contains.ensures.value ∙ (ap (list_any (λ y. eqb y c.args.slot)) c.deref.ensures.value ∙ any_is_in c.args.slot inside.untagged.items) in
+    let is = c.contains.ensures.value
+    ∙ (ap (list_any (λ y. eqb y c.args.slot)) c.deref.ensures.value ∙ any_is_in c.args.slot inside.untagged.items) in
     c.has_slot.ensures ∙ (ap (λ l. is_in c.args.slot (slots_of l)) c.deref-else-contains.ensures.value
     ∙ (sym (retired_tagged inside.untagged.items inside.tagged.items c.args.slot (sym is ∙ c.if-contains.false))
-    ∙ (ap is_retired (sym (retired_at_all inside.slots inside.room inside.fresh.items inside.untagged.items inside.tagged.items c.self.invariant.0 c.args.slot)) ∙ ap (λ (s : Sets). is_retired (get_or s.retired c.args.slot retire.No)) c.self.view_is)))
+    ∙ (ap is_retired
+    (sym (retired_at_all inside.slots inside.room inside.fresh.items inside.untagged.items inside.tagged.items
+    c.self.invariant.0 c.args.slot)) ∙ ap (λ (s : Sets). is_retired (get_or s.retired c.args.slot retire.No))
+    c.self.view_is)))

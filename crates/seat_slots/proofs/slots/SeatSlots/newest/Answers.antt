@@ -7,4 +7,5 @@ pub returns : goal.returns
 returns c = λ epoch.
     let inside = c.self.inside in
     ap (λ (s : Sets). above s.retired epoch) (sym c.self.view_is)
-    ∙ (above_table epoch inside.slots inside.untagged.items inside.tagged.items (λ slot. let h = c.self.invariant.0.once slot in omega (arith, h)) ∙ c.self.invariant.2 epoch)
+    ∙ (above_table epoch inside.slots inside.untagged.items inside.tagged.items
+    (λ slot. let h = c.self.invariant.0.once slot in omega (arith, h)) ∙ c.self.invariant.2 epoch)

@@ -22,23 +22,34 @@ pub unkeep-requires : goal.unkeep-requires
 unkeep-requires c = λ unsigned.
     let inside = c.self.inside in
     let more = map (tagged_with c.args.epoch) inside.untagged.items in
-    let is = c.tag_all.ensures.slots ∙ ap (λ l. inside.tagged.items ++ map (tagged_with c.args.epoch) l) c.deref-2.ensures.value in
+    let is = c.tag_all.ensures.slots ∙ ap (λ l. inside.tagged.items ++ map (tagged_with c.args.epoch) l)
+    c.deref-2.ensures.value in
     subst (λ l. map unkept l ≡ l) (sym is)
-    (map-append unkept inside.tagged.items more ∙ (ap (λ l. l ++ map unkept more) (c.self.invariant.3 unsigned) ∙ ap (λ l. inside.tagged.items ++ l) (unkept_tagged c.args.epoch inside.untagged.items)))
+    (map-append unkept inside.tagged.items more
+    ∙ (ap (λ l. l ++ map unkept more) (c.self.invariant.3 unsigned)
+    ∙ ap (λ l. inside.tagged.items ++ l) (unkept_tagged c.args.epoch inside.untagged.items)))
 
 pub invariant_of-self : goal.invariant_of-self
 invariant_of-self c =
     let inside = c.self.inside in
     let epoch = c.args.epoch in
     let is : c.unkeep.new.tagged.items ≡ noted epoch inside.untagged.items inside.tagged.items =
-    c.unkeep.ensures.slots ∙ ap (map unkept) (c.tag_all.ensures.slots ∙ ap (λ l. inside.tagged.items ++ map (tagged_with epoch) l) c.deref-2.ensures.value) in (
-      subst (λ l. AreApart inside.slots inside.room inside.fresh.items l c.unkeep.new.tagged.items) (sym c.clear.ensures.items)
-          (subst (AreApart inside.slots inside.room inside.fresh.items []) (sym is) (noted_apart inside.slots inside.room inside.fresh.items inside.untagged.items inside.tagged.items epoch c.self.invariant.0)),
+    c.unkeep.ensures.slots ∙ ap (map unkept)
+    (c.tag_all.ensures.slots ∙ ap (λ l. inside.tagged.items ++ map (tagged_with epoch) l) c.deref-2.ensures.value) in (
+      subst (λ l. AreApart inside.slots inside.room inside.fresh.items l c.unkeep.new.tagged.items)
+          (sym c.clear.ensures.items)
+          (subst (AreApart inside.slots inside.room inside.fresh.items []) (sym is)
+          (noted_apart inside.slots inside.room inside.fresh.items inside.untagged.items inside.tagged.items epoch
+          c.self.invariant.0)),
       c.self.invariant.1,
       subst (IsNewest c.noted-self-inside.result) (sym is)
-          (noted_newest inside.newest c.noted-self-inside.result inside.untagged.items inside.tagged.items epoch c.self.invariant.2
-          (λ e. c.noted-self-inside.ensures e ∙ ap (λ l. is_above inside.newest e && list_all (λ (entry : TaggedSlot). nat_lt entry.tag e) (map (tagged_with epoch) l)) c.deref.ensures.value)),
-      λ _. subst (λ l. map unkept l ≡ l) (sym is) (unkept_twice (inside.tagged.items ++ map (tagged_with epoch) inside.untagged.items)),
+          (noted_newest inside.newest c.noted-self-inside.result inside.untagged.items inside.tagged.items epoch
+          c.self.invariant.2
+          (λ e. c.noted-self-inside.ensures e ∙ ap
+          (λ l. is_above inside.newest e && list_all (λ (entry : TaggedSlot). nat_lt entry.tag e)
+          (map (tagged_with epoch) l)) c.deref.ensures.value)),
+      λ _. subst (λ l. map unkept l ≡ l) (sym is)
+          (unkept_twice (inside.tagged.items ++ map (tagged_with epoch) inside.untagged.items)),
       c.self.invariant.4,
       omega (arith, c.self.invariant.5, c.clear.ensures.capacity),
       omega (arith, c.self.invariant.6, c.tag_all.ensures.room, c.unkeep.ensures.room),
@@ -49,10 +60,12 @@ returns-clause-retired c =
     let inside = c.self.inside in
     let epoch = c.args.epoch in
     let is : c.unkeep.new.tagged.items ≡ noted epoch inside.untagged.items inside.tagged.items =
-    c.unkeep.ensures.slots ∙ ap (map unkept) (c.tag_all.ensures.slots ∙ ap (λ l. inside.tagged.items ++ map (tagged_with epoch) l) c.deref-2.ensures.value) in
+    c.unkeep.ensures.slots ∙ ap (map unkept)
+    (c.tag_all.ensures.slots ∙ ap (λ l. inside.tagged.items ++ map (tagged_with epoch) l) c.deref-2.ensures.value) in
     ap (λ l. map (retired_as l c.unkeep.new.tagged.items) (range_with_len 0 inside.slots)) c.clear.ensures.items
     ∙ (ap (λ l. map (retired_as [] l) (range_with_len 0 inside.slots)) is
-    ∙ (noted_retired inside.slots inside.room inside.fresh.items inside.untagged.items inside.tagged.items epoch c.self.invariant.0
+    ∙ (noted_retired inside.slots inside.room inside.fresh.items inside.untagged.items inside.tagged.items epoch
+    c.self.invariant.0
     ∙ ap (λ (s : Sets). map (tag_with epoch) s.retired) c.self.view_is))
 
 pub returns-clause-kept : goal.returns-clause-kept
@@ -60,4 +73,5 @@ returns-clause-kept c =
     let inside = c.self.inside in
     ap (λ l. map (found is_kept false l) (range_with_len 0 inside.slots)) c.unkeep.ensures.slots
     ∙ none_kept c.tag_all.new.tagged.items inside.slots c.args.self.now.retired
-    (sym (ap (λ (s : Sets). length s.retired) c.self.view_is) ∙ length-map-range_with_len (retired_as inside.untagged.items inside.tagged.items) 0 inside.slots)
+    (sym (ap (λ (s : Sets). length s.retired) c.self.view_is)
+    ∙ length-map-range_with_len (retired_as inside.untagged.items inside.tagged.items) 0 inside.slots)

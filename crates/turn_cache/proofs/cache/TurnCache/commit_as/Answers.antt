@@ -14,9 +14,17 @@ store-requires g c =
     let me = c.args.seat.now.me in (
       c.requires.at,
       (let w = cache.counted in let s = c.requires.below.0 in let p = c.requires.below.1 in omega (arith, w, s, p)),
-      subst (λ (m : Move). Allows (Ruled cache.table.shared.key) cache.table.shared.table_id.slots c.args.seat.now.id me (64 * c.args.set + 16 + (10 * c.args.place + 5)) (λ _. slice_index c.args.new.now 5) (λ _. Commits m me)) (sym c.requires.about)
-          (commits cache.table.shared.key _ _ c.args.set c.args.place (slice_index c.args.new.now 5) g.K.IsTaken.packets c.args._own.now c.requires.kept.0 (out_of c.args._how (entry_of c.args._old.now)) c.requires.read.0 c.args._old.now c.requires.read.1 c.args.new.now me c.requires.reading
-          (let t = cache.told.0 in let s = c.requires.below.0 in omega (arith, t, s)) c.requires.below.1 c.requires.read.2 c.requires.read.3 (search rules) (search rules) refl
-          (subst (λ limits. IsOwn limits me.0.note g.K.IsTaken.packets c.args._own.now) (sym cache.told.2) c.requires.own) c.requires.kept.1
-          (subst (λ limits. Takes limits c.args._own.now (entry_of c.args._old.now) (out_of c.args._how (entry_of c.args._old.now)) c.requires.kept.0) (sym cache.told.2) c.requires.kept.2)),
+      subst (λ (m : Move). Allows (Ruled cache.table.shared.key) cache.table.shared.table_id.slots c.args.seat.now.id me
+          (64 * c.args.set + 16 + (10 * c.args.place + 5)) (λ _. slice_index c.args.new.now 5) (λ _. Commits m me))
+          (sym c.requires.about)
+          (commits cache.table.shared.key _ _ c.args.set c.args.place
+          (slice_index c.args.new.now 5) g.K.IsTaken.packets c.args._own.now c.requires.kept.0
+          (out_of c.args._how (entry_of c.args._old.now)) c.requires.read.0 c.args._old.now c.requires.read.1
+          c.args.new.now me c.requires.reading
+          (let t = cache.told.0 in let s = c.requires.below.0 in omega (arith, t, s)) c.requires.below.1
+          c.requires.read.2 c.requires.read.3 (search rules) (search rules) refl
+          (subst (λ limits. IsOwn limits me.0.note g.K.IsTaken.packets c.args._own.now)
+          (sym cache.told.2) c.requires.own) c.requires.kept.1
+          (subst (λ limits. Takes limits c.args._own.now (entry_of c.args._old.now)
+          (out_of c.args._how (entry_of c.args._old.now)) c.requires.kept.0) (sym cache.told.2) c.requires.kept.2)),
     )

@@ -10,7 +10,8 @@ abbrev pub invariant-loop-number : goal.invariant-loop-number
 invariant-loop-number l = record {
   low : l.number ≤ l.self.seats;
   at : l.seat.table_id ≡ l.self.table.shared.table_id;
-  me : l.seat.me ≡ (new_hand (range_with_len l.number (l.self.seats - l.number)) (unused (l.self.seats - l.number)), []);
+  me : l.seat.me
+      ≡ (new_hand (range_with_len l.number (l.self.seats - l.number)) (unused (l.self.seats - l.number)), []);
   many : length l.passes.items ≡ l.number;
   each : All (λ pass. IsOf l.self pass × IsFresh (shown_of pass)) l.passes.items;
 }

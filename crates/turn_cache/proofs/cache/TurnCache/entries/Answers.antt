@@ -14,9 +14,15 @@ returns c =
     let cache = c.args.self in
     let note = c.args.pass.seat.me.0.note in
     let words : List ℕ = slots_items c.close_with-closed.result.words in
-    let kept = closes cache.table.shared.key final.0 final.1.0 c.args.pass.seat.id c.args.pass.seat.me.0 final.1.1 c.args.pass.no_turn (c.requires.all ∙ sym cache.told.1) in
+    let kept = closes cache.table.shared.key final.0 final.1.0 c.args.pass.seat.id c.args.pass.seat.me.0 final.1.1
+    c.args.pass.no_turn (c.requires.all ∙ sym cache.told.1) in
     let kept' : SharesOut cache.timeouts note.packets (parts_in (contents_at words cache.sets) ++ note.handed)
-    = subst (λ (t : Timeouts). SharesOut t note.packets (parts_in (contents_at words cache.sets) ++ note.handed)) cache.told.2
-    (subst (λ (n : ℕ). SharesOut cache.table.shared.key.timeouts note.packets (parts_in (contents_at words n) ++ note.handed)) cache.told.0
-    (subst (λ (ws : List ℕ). SharesOut cache.table.shared.key.timeouts note.packets (parts_in (contents_at ws cache.table.shared.key.sets) ++ note.handed)) final.2 kept)) in
-    if_ok c.gather-entries.result _ _ (λ parts is. subst (λ (ps : List Fragment). SharesOut cache.timeouts note.packets (ps ++ note.handed)) (sym is) kept') c.gather-entries.ensures
+    = subst (λ (t : Timeouts). SharesOut t note.packets (parts_in (contents_at words cache.sets) ++ note.handed))
+    cache.told.2
+    (subst (λ (n : ℕ). SharesOut cache.table.shared.key.timeouts note.packets
+    (parts_in (contents_at words n) ++ note.handed)) cache.told.0
+    (subst (λ (ws : List ℕ). SharesOut cache.table.shared.key.timeouts note.packets
+    (parts_in (contents_at ws cache.table.shared.key.sets) ++ note.handed)) final.2 kept)) in
+    if_ok c.gather-entries.result _ _
+    (λ parts is. subst (λ (ps : List Fragment). SharesOut cache.timeouts note.packets (ps ++ note.handed))
+    (sym is) kept') c.gather-entries.ensures

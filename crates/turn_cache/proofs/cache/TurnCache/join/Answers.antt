@@ -9,5 +9,6 @@ join_seat-requires c =
       c.requires.second.0,
       c.requires.second.1,
       (let w = cache.counted in let s = cache.sized.0 in omega (arith, w, s)),
-      joins cache.table.shared.key _ c.args.first.seat.me.0 _ c.args.second.seat.me.0 c.args.first.no_turn c.args.second.no_turn,
+      joins cache.table.shared.key _ c.args.first.seat.me.0 _ c.args.second.seat.me.0 c.args.first.no_turn
+          c.args.second.no_turn,
     )

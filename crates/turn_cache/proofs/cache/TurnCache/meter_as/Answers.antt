@@ -8,4 +8,5 @@ pub put_in-requires-clause-fragment : goal.put_in-requires-clause-fragment
 put_in-requires-clause-fragment g c =
     let note = c.args.pass.now.seat.me.0.note in
     subst (λ (ps : List Packet). IsOwn c.args.self.now.timeouts note ps c.of-own.result) (sym c.requires.picked)
-    (one_own c.args.self.now.timeouts note c.args.packet.now c.of-own.result c.requires.single c.requires.number c.requires.octets c.requires.rises c.of-own.ensures.alone (c.of-own.ensures.heap c.args.self.now.timeouts))
+    (one_own c.args.self.now.timeouts note c.args.packet.now c.of-own.result c.requires.single c.requires.number
+    c.requires.octets c.requires.rises c.of-own.ensures.alone (c.of-own.ensures.heap c.args.self.now.timeouts))

@@ -21,8 +21,11 @@ loop-k-preserved c =
       long = long;
       at = c.load_word.ensures.at ∙ before.at;
       me = c.load_word.ensures.loads.0 ∙ (ap (λ (m : Sat). (more_read (n ∷ []) m.0, m.1)) before.me
-          ∙ (ap (λ (h : Hand). (h, c.args.seat.now.me.1)) (read_on hand (take k c.loop-k.words) (n ∷ [])) ∙ ap (λ (ws : List ℕ). (more_read ws hand, c.args.seat.now.me.1)) (sym more)));
+          ∙ (ap (λ (h : Hand). (h, c.args.seat.now.me.1)) (read_on hand (take k c.loop-k.words) (n ∷ []))
+          ∙ ap (λ (ws : List ℕ). (more_read ws hand, c.args.seat.now.me.1)) (sym more)));
       whole = λ last. c.load_word.ensures.loads.1 hand.read words c.args.place
-          (ap (λ r. r ++ n ∷ []) now ∙ (append_assoc hand.read (take k c.loop-k.words) (n ∷ []) ∙ ap (λ z. hand.read ++ z) (sym more ∙ (ap (λ z. take z words) last ∙ take_whole words 10 long))))
+          (ap (λ r. r ++ n ∷ []) now
+          ∙ (append_assoc hand.read (take k c.loop-k.words) (n ∷ [])
+          ∙ ap (λ z. hand.read ++ z) (sym more ∙ (ap (λ z. take z words) last ∙ take_whole words 10 long))))
           c.requires.reading.1 c.requires.below.1 long;
     }

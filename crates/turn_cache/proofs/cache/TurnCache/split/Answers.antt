@@ -13,10 +13,14 @@ pub split_seat-seat-requires : goal.split_seat-seat-requires
 split_seat-seat-requires c =
     let cache = c.args.self.now in
     let numbers : List ℕ = range_with_len (c.args.number + 1) c.args.left in
-    let next : range_with_len c.args.number (c.args.left + 1) ≡ c.args.number ∷ numbers = ap (range_with_len c.args.number) (let e : c.args.left + 1 ≡ suc c.args.left = omega arith in e) in
-    let count : c.args.left + 1 ≡ suc (length numbers) = (let l = length_range (c.args.number + 1) c.args.left in omega (arith, l)) in
-    let is : c.args.seat.now.me.0 ≡ new_hand (c.args.number ∷ numbers) (unused (suc (length numbers))) = ap (λ (m : Sat). m.0) c.requires.me ∙ (λ i. new_hand (next i) (unused (count i))) in (
+    let next : range_with_len c.args.number (c.args.left + 1) ≡ c.args.number ∷ numbers =
+    ap (range_with_len c.args.number) (let e : c.args.left + 1 ≡ suc c.args.left = omega arith in e) in
+    let count : c.args.left + 1 ≡ suc (length numbers) =
+    (let l = length_range (c.args.number + 1) c.args.left in omega (arith, l)) in
+    let is : c.args.seat.now.me.0 ≡ new_hand (c.args.number ∷ numbers) (unused (suc (length numbers))) =
+    ap (λ (m : Sat). m.0) c.requires.me ∙ (λ i. new_hand (next i) (unused (count i))) in (
       c.requires.at,
       (let w = cache.counted in let s = cache.sized.0 in omega (arith, w, s)),
-      subst (λ (v : Hand). Splits (Ruled cache.table.shared.key) c.args.seat.now.id v (remaining v) (split_off v)) (sym is) (splits cache.table.shared.key c.args.seat.now.id c.args.number numbers),
+      subst (λ (v : Hand). Splits (Ruled cache.table.shared.key) c.args.seat.now.id v (remaining v) (split_off v))
+          (sym is) (splits cache.table.shared.key c.args.seat.now.id c.args.number numbers),
     )

@@ -12,8 +12,13 @@ compare_exchange-requires g c =
     let cache = c.args.self.now in (
       c.requires.at,
       (let w = cache.counted in let s = c.requires.set in omega (arith, w, s)),
-      subst (λ (m : Move). Allows (Ruled cache.table.shared.key) cache.table.shared.table_id.slots c.args.seat.now.id c.args.seat.now.me (64 * c.args.set) (λ n. either (eqb n 0) (c.args.number + 1) n) (Takes m (step cache.table.shared.table_id.slots (64 * c.args.set) 0 (c.args.number + 1) none) c.args.seat.now.me)) (sym c.requires.about)
-          (takes cache.table.shared.key _ _ c.args.number c.args.set cache.seats g.K.IsTaken.packets c.args._own.now c.args._last c.args.seat.now.me (sym cache.told.1) c.requires.idle.0 c.requires.idle.1 c.requires.idle.2
+      subst (λ (m : Move). Allows (Ruled cache.table.shared.key) cache.table.shared.table_id.slots c.args.seat.now.id
+          c.args.seat.now.me (64 * c.args.set) (λ n. either (eqb n 0) (c.args.number + 1) n)
+          (Takes m (step cache.table.shared.table_id.slots (64 * c.args.set) 0 (c.args.number + 1) none)
+          c.args.seat.now.me)) (sym c.requires.about)
+          (takes cache.table.shared.key _ _ c.args.number c.args.set cache.seats g.K.IsTaken.packets c.args._own.now
+          c.args._last c.args.seat.now.me (sym cache.told.1) c.requires.idle.0 c.requires.idle.1 c.requires.idle.2
           (let t = cache.told.0 in let s = c.requires.set in omega (arith, t, s))
-          (subst (λ limits. IsOwn limits c.args.seat.now.me.0.note g.K.IsTaken.packets c.args._own.now) (sym cache.told.2) c.requires.own)),
+          (subst (λ limits. IsOwn limits c.args.seat.now.me.0.note g.K.IsTaken.packets c.args._own.now)
+          (sym cache.told.2) c.requires.own)),
     )

@@ -8,5 +8,9 @@ abbrev pub invariant-loop-k : goal.invariant-loop-k
 invariant-loop-k l = record {
   low : l.k ≤ 10;
   at : l.seat.table_id ≡ l.fn.seat.table_id;
-  me : l.seat.me ≡ (at_turn (writing l.set l.place l.new (mixed l.k l.new (set l.old 5 (get_or l.new 5 0)))) l.fn.seat.me.0, l.fn.seat.me.1);
+  me : l.seat.me
+      ≡ (
+        at_turn (writing l.set l.place l.new (mixed l.k l.new (set l.old 5 (get_or l.new 5 0)))) l.fn.seat.me.0,
+        l.fn.seat.me.1,
+      );
 }

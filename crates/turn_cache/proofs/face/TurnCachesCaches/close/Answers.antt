@@ -10,5 +10,6 @@ returns-clause-shared c =
     let note = c.args.pass.seat.me.0.note in
     let limits = c.args.cache.timeouts in
     on_ok_weaker c.keep.result (λ is. subst (λ (ps : List Fragment). SharesOut limits note.packets ps) (sym is)
-    (handed_first limits note.packets c.in_ok-entries.entries.items note.handed c.args.handed.items c.requires.handed c.in_ok-entries.ensures))
+    (handed_first limits note.packets c.in_ok-entries.entries.items note.handed c.args.handed.items c.requires.handed
+    c.in_ok-entries.ensures))
     c.keep.ensures.kept

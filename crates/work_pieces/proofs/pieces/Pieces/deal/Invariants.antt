@@ -11,5 +11,6 @@ invariant-loop-i l = record {
   many : length l.passes.items + 1 ≡ l._i;
   low : 1 ≤ l._i;
   high : l._i ≤ l.seats;
-  each : All (λ d. IsPassOf l.self d × (d.done ≡ false) × (d.seat.me.0 ≡ hand l.seats l.self.pieces 1 0 [])) l.passes.items;
+  each : All (λ d. IsPassOf l.self d × (d.done ≡ false) × (d.seat.me.0 ≡ hand l.seats l.self.pieces 1 0 []))
+      l.passes.items;
 }

@@ -15,13 +15,19 @@ returns g c =
     let all = c.requires.index.count ∙ sym (answers-count c.captures.base file) in
     record {
       worked = λ finished.
-          (let d = did-all c.captures.pieces.now (answers_from c.captures.base file) c.captures.base _ (g.C.FlowCache.shown old.pass) (g.C.FlowCache.shown new.pass)
-          old.draw new.draw old.out.items new.out.items old.tally new.tally ready.held ready.undrawn ready.none told.own.1 told.own.2 (told.none_left finished)
-          (told.did finished) (told.tallied finished) (told.few finished) (omega (arith, c.requires.whole.1)) all (told.below finished) in
+          (let d = did-all c.captures.pieces.now (answers_from c.captures.base file) c.captures.base _
+          (g.C.FlowCache.shown old.pass) (g.C.FlowCache.shown new.pass)
+          old.draw new.draw old.out.items new.out.items old.tally new.tally ready.held ready.undrawn ready.none
+          told.own.1 told.own.2 (told.none_left finished)
+          (told.did finished) (told.tallied finished) (told.few finished) (omega (arith, c.requires.whole.1)) all
+          (told.below finished) in
           record { own = told.own.0; held = d.held; share = d.share });
       metered = λ finished.
-          (let d = did-all c.captures.pieces.now (answers_from c.captures.base file) c.captures.base _ (g.C.FlowCache.shown old.pass) (g.C.FlowCache.shown new.pass)
-          old.draw new.draw old.out.items new.out.items old.tally new.tally ready.held ready.undrawn ready.none told.own.1 told.own.2 (told.none_left finished)
-          (told.did finished) (told.tallied finished) (told.few finished) (omega (arith, c.requires.whole.1)) all (told.below finished) in
+          (let d = did-all c.captures.pieces.now (answers_from c.captures.base file) c.captures.base _
+          (g.C.FlowCache.shown old.pass) (g.C.FlowCache.shown new.pass)
+          old.draw new.draw old.out.items new.out.items old.tally new.tally ready.held ready.undrawn ready.none
+          told.own.1 told.own.2 (told.none_left finished)
+          (told.did finished) (told.tallied finished) (told.few finished) (omega (arith, c.requires.whole.1)) all
+          (told.below finished) in
           d.metered);
     }
