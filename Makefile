@@ -137,9 +137,11 @@ install: build
 	install -d $(DESTDIR)$(PREFIX)/share/bash-completion/completions
 	install -m 644 completions/romtyalig.bash $(DESTDIR)$(PREFIX)/share/bash-completion/completions/romtyalig
 	install -m 644 completions/romtyalig-pipe.bash $(DESTDIR)$(PREFIX)/share/bash-completion/completions/romtyalig-pipe
+	install -m 644 completions/romtyalig-pair.bash $(DESTDIR)$(PREFIX)/share/bash-completion/completions/romtyalig-pair
 	install -m 644 completions/romtyalig-watch.bash $(DESTDIR)$(PREFIX)/share/bash-completion/completions/romtyalig-watch
 	install -d $(DESTDIR)$(PREFIX)/share/zsh/vendor-completions
-	install -m 644 completions/_romtyalig completions/_romtyalig-pipe completions/_romtyalig-watch $(DESTDIR)$(PREFIX)/share/zsh/vendor-completions
+	install -m 644 completions/_romtyalig completions/_romtyalig-pipe completions/_romtyalig-pair completions/_romtyalig-watch \
+	    $(DESTDIR)$(PREFIX)/share/zsh/vendor-completions
 
 clean:
 	rm -rf bin crates/*/out

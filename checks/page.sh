@@ -1,21 +1,24 @@
 #!/bin/bash
-# The manual pages, the completions, README.md and the programs that meter know the same options.
+# The manual pages, the completions, README.md and the programs know the same options.
 #
 #     checks/page.sh
 #
 # For each command its options are taken from its program's page, README.md and both completions, and must be the same in all;
 # the program must take each of them, and refuse each name that is one letter longer or shorter. `mandoc` (Debian package
 # mandoc) must find nothing to say of the pages; where it is missing that is skipped with one line. The status is not 0 where
-# anything differs. ROMTYALIG and ROMTYALIG_PIPE are the programs' paths (bin/romtyalig and bin/romtyalig-pipe unless set).
+# anything differs. ROMTYALIG, ROMTYALIG_PIPE, ROMTYALIG_PAIR and ROMTYALIG_WATCH are the programs' paths (bin/romtyalig,
+# bin/romtyalig-pipe, bin/romtyalig-pair and bin/romtyalig-watch unless set). romtyalig-pcapng has no options.
 set -u
 
 here=$(cd "$(dirname "$0")" && pwd)
 top=$(dirname "$here")
 program=${ROMTYALIG:-$top/bin/romtyalig}
 pipe=${ROMTYALIG_PIPE:-$top/bin/romtyalig-pipe}
+pair=${ROMTYALIG_PAIR:-$top/bin/romtyalig-pair}
+watch=${ROMTYALIG_WATCH:-$top/bin/romtyalig-watch}
 export LC_ALL=C
 
-for needed in "$program" "$pipe"; do
+for needed in "$program" "$pipe" "$pair" "$watch"; do
     if [ ! -x "$needed" ]; then
         echo "no program at $needed" >&2
         exit 2
@@ -32,13 +35,15 @@ differs() {
 # The name of the program that has a command, and its path.
 name_of() {
     case $1 in
-    pipe) echo romtyalig-pipe ;;
+    pipe | pair | watch) echo "romtyalig-$1" ;;
     *) echo romtyalig ;;
     esac
 }
 path_of() {
     case $1 in
     pipe) echo "$pipe" ;;
+    pair) echo "$pair" ;;
+    watch) echo "$watch" ;;
     *) echo "$program" ;;
     esac
 }
@@ -61,16 +66,16 @@ status_of() {
     echo $?
 }
 
-# Whether these words are a command line with one of three values: one of them is in the range of each option.
+# Whether these words are a command line with one of four values: one of them is in the range of each option.
 is_taken() {
     local value
-    for value in 1 116 262184; do
+    for value in 1 116 308 262184; do
         [ "$(status_of "$@" "$value")" -eq 2 ] || return 0
     done
     return 1
 }
 
-for command in meter show make schedule selftest pipe; do
+for command in meter show make schedule selftest pipe pair watch; do
     wanted=$(in_page "$command")
     for place in readme bash zsh; do
         [ "$wanted" = "$("in_$place" "$command")" ] || differs "options of $command in $place"
