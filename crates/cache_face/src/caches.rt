@@ -31,6 +31,7 @@ pub trait FlowCache: Sync + Drop {
     ghost is_try_of: { ℕ → LostTry → Type 0 };
 
     /// Meters a packet whose number is above those that the pass metered. It waits for nobody and takes no memory.
+    /// The packet's number is below 2^32, and it has fewer than 2^24 octets.
     ///
     /// The choice over the four entries of the packet's set decides what becomes of it; where other seats were in the
     /// way three times, it is passed by. The pass lists each lost try, and each is one of the packet's set.
@@ -68,7 +69,12 @@ pub trait Caches {
 
     ghost metered: { Self → List Fragment };
 
-    /// A cache of so many sets, and a pass for each seat.
+    /// A cache of so many sets, 1 to 65,536, and a pass for each of 1 to 64 seats. The fragments of the last cache
+    /// stay.
+    ///
+    /// # Errors
+    ///
+    /// `NoMemory` where no memory was left.
     fn open(
         &mut self,
         alloc: Global,

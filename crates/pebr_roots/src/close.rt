@@ -35,8 +35,8 @@ impl<P: RootProtocol> Roots<P> {
         RootPass { seat, under }
     }
 
-    /// The contents of the roots, one after another. The protocol keeps with the pass's note at its number
-    /// and the empty note at every other.
+    /// Ends the roots. What is given back has the length of all contents, and the protocol keeps with it, the
+    /// pass's note at its number, and the empty note at every other.
     ///
     /// # Errors
     ///

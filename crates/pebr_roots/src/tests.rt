@@ -281,7 +281,8 @@ fn collect_by_force(roots: &Roots<Free>, pass: &mut RootPass<Free>) -> Collected
     roots.collect(pass, true)
 }
 
-/// How many slots a collection by force leaves of three, while the other pass is stopped.
+/// How many slots the first pass has retired by three tries, and how many of them a collection by force leaves, while
+/// the other pass is stopped behind so many calls.
 fn left_behind(
     roots: &Roots<Free>,
     first: &mut RootPass<Free>,
@@ -379,12 +380,25 @@ fn a_collection_leaves_one(rt: HostRuntime) {
 #[test]
 fn a_pass_is_stopped_behind_each_call(rt: HostRuntime) {
     let alloc = rt.alloc();
-    for calls in 0..9 {
+    // From its load on the second pass has a shield on the slot that the first one retires next: it is left. Behind six
+    // calls the second pass has retired that slot itself, and behind seven its shield is down.
+    let rows: [(usize, usize); 9] = [
+        (0, 0),
+        (1, 0),
+        (2, 1),
+        (3, 1),
+        (4, 1),
+        (5, 1),
+        (6, 0),
+        (7, 0),
+        (8, 0),
+    ];
+    for (calls, wanted) in rows {
         let Ok((roots, mut first, mut second)) = two(alloc) else {
             panic!(rt; "no memory");
         };
-        let (retired, left) = left_behind(&roots, &mut first, &mut second, calls);
-        assert!(rt; retired >= 2 && left <= 1);
+        let found = left_behind(&roots, &mut first, &mut second, calls);
+        assert!(rt; found == (3, wanted), "stopped behind {calls} calls");
     }
 }
 

@@ -31,8 +31,8 @@ pub fn shield<P: RootProtocol>(words: &Words<P>, seat: &mut Seat<P>, place: usiz
 
 /// Whether the seat is still in, and so its shields on slots that it has seen are valid.
 ///
-/// `Ejected` exactly where its status word says so at this step: another seat has written that, for a slot that it
-/// retired with a tag not below the epoch of the pin.
+/// `Ejected` exactly where its status word says so at this step. By the rule of the table, and by no clause here,
+/// another seat then lists this ejection, with a tag not below the epoch of the pin.
 pub fn check<P: RootProtocol>(words: &Words<P>, seat: &mut Seat<P>) -> Checked
     requires at { IsAt words.now seat.old }
     requires not_out { is_out (known_of seat.old).status ≡ false }

@@ -85,8 +85,12 @@ fn gather(alloc: Global, closed: &Closed<(), Global>, shape: Shape) -> Result<Ve
 }
 
 impl<P: RootProtocol> Words<P> {
-    /// The contents of the roots, one after another. The protocol keeps with the seat's note at its
-    /// number and the empty note at every other.
+    /// Ends the words. What is given back has the length of all contents, and the protocol keeps with it, the
+    /// seat's note at its number, and the empty note at every other.
+    ///
+    /// # Errors
+    ///
+    /// `NoMemory` where no memory was left; the contents are given up.
     pub fn close(self, alloc: Global, seat: Seat<P>) -> Result<Vec<u64>, NoMemory>
         requires at { IsAt self seat }
         requires out { IsTrue (is_out (known_of seat).status) }

@@ -71,7 +71,8 @@ impl<P: RootProtocol> Words<P> {
         looked
     }
 
-    /// Ejects another seat that is still in with the epoch found, and passes it in any case.
+    /// Ejects another seat that is still in with the epoch found, and passes it in any case. `false` exactly where its
+    /// status word was another at this step.
     pub fn eject(&self, seat: &mut Seat<P>, other: usize) -> bool
         requires at { IsAt self.now seat.old }
         requires other { other < (shape_of self.now).seats }

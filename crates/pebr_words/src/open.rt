@@ -180,7 +180,11 @@ impl<P: RootProtocol> Words<P> {
     }
 
     /// The words of a core whose roots have these contents, one after another, and a seat for each
-    /// number. The protocol keeps with the first note at each seat.
+    /// number. Each content has `width` words. The protocol keeps with the first note at each seat.
+    ///
+    /// # Errors
+    ///
+    /// `NoMemory` where no memory was left.
     pub fn open(
         alloc: Global,
         shape: Shape,

@@ -22,7 +22,7 @@ pub(crate) fn status_place(number: usize) -> usize
 }
 
 impl<P: RootProtocol> Words<P> {
-    /// Reads the epoch, tags the seat's untagged retired slots with it, and opens a scan.
+    /// Reads the epoch, tags the seat's untagged retired slots with it, and opens a scan. It answers the epoch.
     pub fn note(&self, seat: &mut Seat<P>) -> u64
         requires at { IsAt self.now seat.old }
         requires out { IsTrue (is_out (known_of seat.old).status) }
@@ -72,7 +72,7 @@ impl<P: RootProtocol> Words<P> {
         self.store(&mut seat.inner, word, status, step, act);
     }
 
-    /// Raises the epoch by one, where it is still the noted one.
+    /// Raises the epoch by one, where it is still the noted one. `false` exactly where it was another at this step.
     pub fn advance(&self, seat: &mut Seat<P>) -> bool
         requires at { IsAt self.now seat.old }
         requires low { (known_of seat.old).noted < last_epoch }

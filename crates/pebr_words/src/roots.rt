@@ -30,7 +30,7 @@ fn root_place(shape: Shape, root: usize) -> usize
 }
 
 impl<P: RootProtocol> Words<P> {
-    /// Loads a root: its slot is seen.
+    /// Loads a root: its slot is seen. It answers the slot.
     pub fn load_root(&self, seat: &mut Seat<P>, root: usize) -> usize
         requires at { IsAt self.now seat.old }
         requires root { root < (shape_of self.now).roots }
@@ -50,6 +50,8 @@ impl<P: RootProtocol> Words<P> {
 
     /// Where the root still has the old slot, it gets the fresh one, and the old slot is retired. The act
     /// changes the seat's note then.
+    ///
+    /// `false` exactly where the root had another slot at this step; nothing is changed then.
     pub fn replace_root(
         &self,
         seat: &mut Seat<P>,

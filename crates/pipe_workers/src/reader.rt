@@ -152,7 +152,8 @@ fn read_capture<S: Source, C: FlowCache, G: Gate, R: Wait>(
     )
 }
 
-/// The same, and says then that no more batches come, however it ended.
+/// Reads a capture to its end and hands on its records, as `read_capture` does; says then, however that ended, that no
+/// more batches come.
 pub(crate) fn read_all<S: Source, C: FlowCache, G: Gate, R: Wait>(
     rt: &R,
     alloc: Global,

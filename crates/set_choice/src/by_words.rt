@@ -241,6 +241,6 @@ pub fn put_out(how: How, content: &[u64; 10]) -> Option<Fragment>
 {
     match how {
         How::Replaced => shown(content),
-        _ => None,
+        How::Joined | How::Opened | How::PassedBy => None,
     }
 }

@@ -58,7 +58,8 @@ impl BatchQueue {
 
     /// Puts a batch behind all others. The pass is the reader's, and the batch stands behind each that it put.
     ///
-    /// The batch comes back only where the queue held as many batches as it has room for at a step of this call.
+    /// The batch comes back unchanged, and only where the reader had put at least as many batches as the queue has room
+    /// for; that it was full at a step of this call is in no clause.
     pub fn offer<R: Wait>(&self, rt: &R, pass: &mut QueuePass, batch: Batch) -> Result<(), Batch>
         requires own { IsPassOf self.now pass.old }
         requires reader { IsReaders pass.old }
@@ -72,8 +73,8 @@ impl BatchQueue {
 
     /// Takes the batch at the front, which stands behind each that the pass took.
     ///
-    /// None only where the queue was empty at a step of this call. Then a pass of all seats took all batches that were
-    /// put, each once.
+    /// `None`: nothing was taken. Of a pass for all seats it says that all batches that were put were taken, each once.
+    /// Of another pass it says no more; that the queue was empty at a step of this call is in no clause.
     pub fn take<R: Wait>(&self, rt: &R, pass: &mut QueuePass) -> Option<Batch>
         requires own { IsPassOf self.now pass.old }
         ensures own { IsPassOf self.now pass.new }
