@@ -1,45 +1,20 @@
 -- Where a stream of flow records was given and no call failed, a command is done, or memory is out.
-use Rattle.std.proofs.Common.{◌≡◌, ◌⊎◌, inl, inr, ◌+◌, ◌≤◌, ◌<◌, ℕ, List, [], ◌∷◌, ◌++◌, length, Option, Some, None}
-use Rattle.std.proofs.Common.{Result, Ok, Err, refl, sym, ap, ◌∙◌, subst, arith, length-append}
-use Rattle.std.proofs.lemmas.List.{append-nil}
-use Rattle.std.specs.Io.KnownBytes.{Consumes, IsAtEnd}
+use Rattle.std.proofs.Common.{◌≡◌, ◌⊎◌, inl, inr, ◌<◌, ℕ, List, [], ◌∷◌, length, Some, Result, Ok, Err, refl, sym, ap}
+use Rattle.std.proofs.Common.{◌∙◌, subst, arith}
 use Rattle.record_ledger.specs.declared.record.FlowRecord.{FlowRecord}
 use Rattle.ipfix_model.specs.declared.values.DataRecord.{DataRecord}
 use Rattle.ipfix_reader.specs.declared.fault.StreamFault.{StreamFault}
 use Rattle.ipfix_reader.specs.Messages.{decode}
 use Rattle.ipfix_reader.specs.Flows.{flows_in, flows_of}
 use Rattle.meter_io.specs.Sides.{Side, HasFailed}
+use Rattle.meter_io.proofs.Sides.{all-read, large-fails}
 use Rattle.biflow_pair.specs.declared.status.PairStatus.{PairStatus}
 use Rattle.biflow_pair.specs.declared.status.PairStatus.TheVariants.{Done, ReadFault, Usage, WriteFault, TooLarge}
 use Rattle.biflow_pair.specs.declared.status.PairStatus.TheVariants.{NoMemory, NotStream, NotFlows}
-use Rattle.biflow_pair.specs.Outcome.{Ends, IsValid}
+use Rattle.biflow_pair.specs.Outcome.{Ends, IsValid, limit}
 use Rattle.biflow_pair.specs.Pairing.{IsFirstOther}
 use Rattle.biflow_pair.specs.Words.{Asked}
 use Rattle.biflow_pair.proofs.Whole.{flows-decode, each-flow}
-
--- what was read to the end is all that was there
-all-read : (before after : Option (List ℕ)) (bytes read : List ℕ) → before ≡ Some bytes → Consumes before after read
-    → IsAtEnd after → read ≡ bytes
-all-read None after bytes read is given ended = absurd (let z : ◌≡◌ {A = Option (List ℕ)} None (Some bytes) = is in cc)
-all-read (Some xs) None bytes read is given ended = absurd given
-all-read (Some xs) (Some ys) bytes read is given ended =
-    sym (append-nil read)
-    ∙ (ap (λ l. read ++ l) (sym ended) ∙ (sym given ∙ (let same : xs ≡ bytes = some_is xs bytes is in same)))
-  where
-    some_is : (a b : List ℕ) → ◌≡◌ {A = Option (List ℕ)} (Some a) (Some b) → a ≡ b
-    some_is a b e = cc
-
-taken-few : (before after : Option (List ℕ)) (bytes taken : List ℕ) → before ≡ Some bytes → Consumes before after taken
-    → length taken ≤ length bytes
-taken-few None after bytes taken is given = absurd (let z : ◌≡◌ {A = Option (List ℕ)} None (Some bytes) = is in cc)
-taken-few (Some xs) None bytes taken is given = absurd given
-taken-few (Some xs) (Some ys) bytes taken is given =
-    let same : length xs ≡ length bytes = ap length (some_is xs bytes is) in
-    let all : length xs ≡ length taken + length ys = ap length given ∙ length-append taken ys in
-    omega (arith, same, all)
-  where
-    some_is : (a b : List ℕ) → ◌≡◌ {A = Option (List ℕ)} (Some a) (Some b) → a ≡ b
-    some_is a b e = cc
 
 no-fault : (bytes : List ℕ) (flows : List FlowRecord) (fault : StreamFault) → flows_of bytes ≡ Some flows
     → decode bytes ≡ Err fault → ⊥
@@ -74,8 +49,7 @@ completes asked input output bytes WriteFault ends is valid quiet quiet' = absur
 completes asked input output bytes ReadFault ends is valid quiet quiet' = absurd (quiet ends.cause.cause)
 completes asked input output bytes Usage ends is valid quiet quiet' = absurd ends.cause
 completes asked input output bytes TooLarge ends is valid quiet quiet' =
-    absurd (let few = taken-few input.before input.after bytes ends.cause.0 is ends.cause.2 in
-    let long = ends.cause.1 in let within = valid.0 in omega (arith, few, long, within))
+    absurd (large-fails input limit bytes is valid.0 ends.cause)
 completes asked input output bytes (NotStream fault) ends is valid quiet quiet' =
     let wrong = ends.cause in
     let same = all-read input.before input.after bytes wrong.bytes is wrong.read.given wrong.read.ended in

@@ -1,6 +1,7 @@
 //! Tallies of a few answers.
 
 ghost use Rattle.std.specs.Prelude.{◌≡◌};
+ghost use Rattle.capture_tally.specs.Tallies.{HasRoom};
 
 use crate::Tally;
 use flow_key::FlowKey;
@@ -55,11 +56,47 @@ fn one_more_record_is_counted(rt: HostRuntime) -> Result<(), Fail> {
     Ok(())
 }
 
+/// The tally of a packet of 28 octets at the time 60.
+fn of_a_packet() -> Tally
+    ensures { HasRoom result }
+{
+    Tally {
+        captured: 1,
+        accepted: 1,
+        ignored: [0; 5],
+        octets: 28,
+        clock: Some(60),
+    }
+}
+
+/// The tally of an ignored record of each cause.
+fn of_all_causes() -> Tally
+    ensures { HasRoom result }
+{
+    Tally {
+        captured: 5,
+        accepted: 0,
+        ignored: [1; 5],
+        octets: 0,
+        clock: None,
+    }
+}
+
 #[test]
 fn two_tallies_are_added_up(rt: HostRuntime) -> Result<(), Fail> {
-    let mut one = Tally::new();
-    one.add(&Ok(packet(60, 28)));
+    let mut added = Tally::new();
+    added.add(&Ok(packet(60, 28)));
+    let one = of_a_packet();
+    assert_eq!(rt; added, one);
+    let other = of_all_causes();
+    let both = one.joined(&other);
+    assert_eq!(rt; both.captured, 6);
+    assert_eq!(rt; both.accepted, 1);
+    assert_eq!(rt; both.ignored, [1; 5]);
+    assert_eq!(rt; both.octets, 28);
+    assert_eq!(rt; both.clock, Some(60));
+    assert_eq!(rt; other.joined(&one), both);
     let none = Tally::new();
-    assert_eq!(rt; none.joined(&none), none);
+    assert_eq!(rt; none.joined(&one), one);
     Ok(())
 }

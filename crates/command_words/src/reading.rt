@@ -36,7 +36,7 @@ impl From<NoMemory> for OptionsError {
     }
 }
 
-/// Whether a word is two hyphens.
+/// Whether one of the words is two hyphens.
 fn has_dashes(words: &[String]) -> bool
     ensures { result ≡ list_any (λ word. bytes_eq word (codes "--")) (map string_bytes words.now) }
 {

@@ -1,4 +1,4 @@
-//! The key of a flow: the seven values that all packets of one flow have in common.
+//! The key of a flow: the six values that all packets of one flow have in common.
 //!
 //! A [`FlowKey`] holds the IP version, both addresses, the protocol number and both ports. Keys are equal
 //! where all fields are, and they are ordered by their fields in the order of the declaration. A key is

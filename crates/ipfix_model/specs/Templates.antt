@@ -1,5 +1,5 @@
--- The templates that the meter writes (RFC 7011, section 3.4.1): the number of each, and its fields in order, each an
--- element with the length of its values in octets.
+-- The four templates that are written (RFC 7011, section 3.4.1), those of flows and those of biflows (RFC 5103): the
+-- number of each, and its fields in order, each an element with the length of its values in octets.
 use Rattle.std.specs.Prelude.{ℕ, ◌==◌, List, [], ◌∷◌, ◌++◌, Some, None, if◌then◌else◌}
 use Rattle.record_ledger.specs.declared.record.FlowRecord.{FlowRecord}
 use Rattle.ipfix_model.specs.declared.fields.FieldSpec.{FieldSpec}

@@ -1,8 +1,9 @@
 //! The model of IPFIX that the writer and the reader share (RFC 7011): field specifiers, templates, and data records as
 //! they are read.
 //!
-//! [`V4_FIELDS`] and [`V6_FIELDS`] are the field lists of the two templates that the meter writes, numbered
-//! [`V4_TEMPLATE`] and [`V6_TEMPLATE`]. [`FieldList`], [`Octets`] and [`ValueList`] are lists over a `Vec`, which
+//! [`V4_FIELDS`] and [`V6_FIELDS`] are the field lists of the two templates of flows, numbered [`V4_TEMPLATE`] and
+//! [`V6_TEMPLATE`]; [`V4_BI_FIELDS`] and [`V6_BI_FIELDS`] are those of the two of biflows (RFC 5103), numbered
+//! [`V4_BI_TEMPLATE`] and [`V6_BI_TEMPLATE`]. [`FieldList`], [`Octets`] and [`ValueList`] are lists over a `Vec`, which
 //! contracts see as lists; making one and reading it takes no memory. [`elements`] has the numbers of information
 //! elements and their abstract data types. The functions of [`laws`] do nothing: their contracts are laws, that the
 //! constants here are the numbers of the registry and the fields of the definitions.

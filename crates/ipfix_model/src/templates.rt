@@ -1,4 +1,4 @@
-//! Templates (RFC 7011, section 3.4.1), and the two that the meter writes.
+//! Templates (RFC 7011, section 3.4.1), and the four that are written: those of flows, and those of biflows (RFC 5103).
 
 ghost use Rattle.std.specs.Prelude.{◌≡◌, ◌≤◌, length};
 

@@ -1,11 +1,12 @@
 //! The two templates, the least lengths of records, and the types of elements.
 
-ghost use Rattle.std.specs.Prelude.{◌≤◌, length};
+ghost use Rattle.std.specs.Prelude.{◌≤◌, length, IsTrue};
+ghost use Rattle.ipfix_model.specs.Values.{AreNumbers};
 
 use crate::elements::{AbstractType, abstract_type};
 use crate::{
     FieldList, FieldSpec, FieldValue, Octets, Template, V4_FIELDS, V6_FIELDS, ValueList,
-    are_values_of,
+    are_values_of, number_of,
 };
 use std::test::Fail;
 
@@ -115,6 +116,19 @@ fn value(
     })
 }
 
+/// Whether the values have one to sixteen octets each.
+fn are_numbers(values: &[FieldValue]) -> bool
+    ensures { IsTrue result → AreNumbers values.now }
+{
+    for at in 0..values.len() {
+        let octets = values[at].value.items().len();
+        if octets < 1 || octets > 16 {
+            return false;
+        }
+    }
+    true
+}
+
 #[test]
 fn values_are_found_by_their_elements(rt: HostRuntime) -> Result<(), Fail> {
     let mut values = Vec::new(rt.alloc());
@@ -148,5 +162,13 @@ fn values_are_found_by_their_elements(rt: HostRuntime) -> Result<(), Fail> {
     assert!(rt; !are_values_of(wide.as_slice(), list.items()));
     let (front, _) = fields.as_slice().split_at(3);
     assert!(rt; !are_values_of(front, list.items()));
+    let items = list.items();
+    assert!(rt; are_numbers(items));
+    assert!(rt; number_of(None, 7, items) == 4000);
+    assert!(rt; number_of(Some(29_305), 6, items) == 18);
+    // The first of two values of the element, which isn't that of the enterprise.
+    assert!(rt; number_of(None, 6, items) == 258);
+    assert!(rt; number_of(Some(29_305), 7, items) == 0);
+    assert!(rt; number_of(None, 11, items) == 0);
     Ok(())
 }

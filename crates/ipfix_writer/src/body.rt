@@ -8,6 +8,9 @@ ghost use Rattle.ipfix_writer.specs.Layout.{body_in, records_in};
 use crate::encode::Encode;
 use octets::{append_u16, append_u32};
 
+/// The length of a message header, in octets: that of a message without records.
+pub const MESSAGE_HEADER: usize = 16;
+
 /// The length of a set header, in octets.
 pub const SET_HEADER: usize = 4;
 
@@ -17,7 +20,9 @@ const VERSION: u16 = 10;
 /// The observation domain that the meter writes.
 const OBSERVATION_DOMAIN: u32 = 1;
 
-/// Appends a message header; `size` is the length of the whole message.
+/// Appends a message header of 16 octets in network order (RFC 7011, section 3.1). `size` is the length of the whole
+/// message in octets, `export_time` is in seconds since 1970, `sequence` counts the data records of earlier messages
+/// modulo 2^32.
 #[tactic(auto, unfolding(crate::specs::Encoding::message_header))]
 pub fn append_message_header(buffer: &mut Vec<u8>, size: u16, export_time: u32, sequence: u32)
     requires { length buffer.old.items + 16 ≤ vec_capacity buffer.old }

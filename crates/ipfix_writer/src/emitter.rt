@@ -7,7 +7,7 @@ ghost use Rattle.std.specs.Vec.{vec_capacity};
 ghost use Rattle.meter_io.specs.Causes.{HasCause};
 ghost use Rattle.ipfix_writer.specs.Emitting.{header_before};
 
-use crate::body::SET_HEADER;
+use crate::body::{MESSAGE_HEADER, SET_HEADER};
 use crate::encode::Encode;
 use crate::message::{encode_message, encode_template_message};
 use meter_io::{Failed, Sink, write_all};
@@ -15,9 +15,6 @@ use no_memory::NoMemory;
 use record_ledger::FlowRecord;
 use std::alloc::Global;
 use std::marker::Model;
-
-/// The length of a message without records, in octets.
-const MESSAGE_HEADER: usize = 16;
 
 /// The length of the least data record, in octets.
 const LEAST_RECORD: usize = 48;

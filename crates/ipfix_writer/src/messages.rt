@@ -5,14 +5,12 @@ ghost use Rattle.std.specs.Vec.{vec_capacity};
 ghost use Rattle.ipfix_writer.specs.Encoding.{message};
 ghost use Rattle.ipfix_writer.specs.Layout.{IsStream, body_in, length_in};
 
+use crate::body::MESSAGE_HEADER;
 use crate::emitter::header_length;
 use crate::encode::Encode;
 use crate::message::encode_message;
 use no_memory::NoMemory;
 use std::alloc::Global;
-
-/// The length of a message without records, in octets.
-const MESSAGE_HEADER: usize = 16;
 
 /// The longest beginning of some records whose message is at most `size` octets long: how many records it has, and the
 /// length of the message.
@@ -72,7 +70,7 @@ fn append_message<R: Encode>(
 /// Appends the data messages of some records to a stream that has its first message: messages of at most `size` octets,
 /// with this export time in seconds. A message of any one record is no longer than that.
 ///
-/// `NoMemory` where the room for them can't be had.
+/// `NoMemory` where the room for them can't be had; no clause says what the stream then is.
 pub fn append_messages<R: Encode>(
     alloc: Global,
     stream: &mut Vec<u8>,

@@ -1,12 +1,12 @@
 -- What the end of a command says of its status.
-use Rattle.std.proofs.Common.{◌≡◌, ◌⊎◌, ◌≤◌, ◌+◌, ◌++◌, ◌^◌, ℕ, true, List, length, Option, Some, None, refl, sym, ap}
-use Rattle.std.proofs.Common.{subst, ◌∙◌, inl, inr, arith, length-append, ⊎_elim, true≢false}
+use Rattle.std.proofs.Common.{◌≡◌, ◌⊎◌, ◌^◌, ℕ, true, List, Some, None, refl, sym, subst, ◌∙◌, inl, inr, ⊎_elim}
+use Rattle.std.proofs.Common.{true≢false}
 use Rattle.std.specs.Prelude.{IsSomeAnd, Ok, Err}
-use Rattle.std.proofs.lemmas.List.{append-nil}
-use Rattle.std.specs.Io.KnownBytes.{Consumes, IsAtEnd}
 use Rattle.pcap_reader.specs.File.{capture_file, IsKnownLink}
 use Rattle.pcap_reader.specs.Records.{damage_of}
-use Rattle.meter_io.specs.Sides.{Side, IsUntouched, HasFailed, IsTooLarge, IsWrong}
+use Rattle.pcap_reader.proofs.Kinds.{both-kinds}
+use Rattle.meter_io.specs.Sides.{Side, IsUntouched, HasFailed}
+use Rattle.meter_io.proofs.Sides.{large-fails, wrong-fails}
 use Rattle.meter_program.specs.declared.status.Status.{Status}
 use Rattle.meter_program.specs.declared.status.Status.TheVariants.{Done, ReadFault, WriteFault, NotCapture, LinkUnknown}
 use Rattle.meter_program.specs.declared.status.Status.TheVariants.{Damaged, TooLarge, NoMemory, Usage, NotStream}
@@ -62,41 +62,6 @@ told-by asked input output before after metered told other (BadSchedule line) re
     record { cause = h.cause; output = h.output; notes = new }
 
 -- ---- a run that nothing hinders is done
-
--- no more was taken than there was
-too-large : (before after : Option (List ℕ)) (all taken : List ℕ) (n : ℕ) → before ≡ Some all → length all ≤ n
-    → length taken ≡ n + 1 → Consumes before after taken → ⊥
-too-large None after all taken n is few many consumed = absurd (cc)
-too-large (Some xs) None all taken n is few many consumed = consumed
-too-large (Some xs) (Some ys) all taken n is few many consumed =
-    let same : xs ≡ all = cc in
-    let sizes : length all ≡ length taken + length ys =
-    ap (λ zs. length zs) (sym same ∙ consumed) ∙ length-append taken ys in
-    absurd (omega (arith, few, many, sizes))
-
--- what was read to the end is all that there was
-pub all-read : (before after : Option (List ℕ)) (all bytes : List ℕ) → before ≡ Some all → Consumes before after bytes
-    → IsAtEnd after → bytes ≡ all
-all-read None after all bytes is consumed ended = absurd (cc)
-all-read (Some xs) None all bytes is consumed ended = absurd consumed
-all-read (Some xs) (Some ys) all bytes is consumed ended =
-    let same : xs ≡ all = cc in
-    sym (append-nil bytes) ∙ ap (λ zs. bytes ++ zs) (sym ended) ∙ sym consumed ∙ same
-
-pub both-kinds : {X : Type 0} (o : Option X) (P Q : X → Type 0) → IsSomeAnd o P → IsSomeAnd o Q
-    → ((x : X) → P x → Q x → ⊥) → ⊥
-both-kinds None P Q p q never = p
-both-kinds (Some x) P Q p q never = never x p q
-
-pub large-fails : (input : Side) (n : ℕ) (all : List ℕ) → input.before ≡ Some all → length all ≤ n
-    → IsTooLarge input n → ⊥
-large-fails input n all is few large = too-large input.before input.after all large.0 n is few large.1 large.2
-
-pub wrong-fails : (input : Side) (n : ℕ) (all : List ℕ) (Fault : List ℕ → Type 0) → input.before ≡ Some all
-    → (Fault all → ⊥) → IsWrong input n Fault → ⊥
-wrong-fails input n all Fault is never wrong =
-    never (subst Fault (all-read input.before input.after all wrong.bytes is wrong.read.given wrong.read.ended)
-    wrong.fault)
 
 pub complete-by : (asked : Asked) (seen : Seen) (told : Type 0) (status : Status) → Ends asked seen told status
     → IsValid asked seen.input → IsQuiet seen

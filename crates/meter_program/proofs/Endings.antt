@@ -11,10 +11,10 @@ use Rattle.meter_program.specs.Words.{meter}
 use Rattle.capture_maker.specs.Made.{capture_of}
 use Rattle.flow_parts.specs.declared.fragment.Fragment.{Fragment}
 use Rattle.meter_io.specs.Sides.{Side, IsUntouched}
+use Rattle.meter_io.proofs.Sides.{all-read}
 use Rattle.meter_program.specs.Seen.{Seen}
 use Rattle.meter_program.specs.Metering.{IsGathered, IsReadAndGathered, IsWritten, WriteMeans}
 use Rattle.meter_program.specs.Outcome.{Ends, IsMetered, IsTested}
-use Rattle.meter_program.proofs.Causes.{all-read}
 
 metered : (idle active size : ℕ) (kept : List Fragment) (capture written : List ℕ) (records : List FlowRecord)
     (tally : Tally) (tail messages : ℕ)

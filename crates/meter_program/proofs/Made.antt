@@ -11,15 +11,16 @@ use Rattle.pcap_reader.specs.File.{CaptureFile, capture_file, IsKnownLink}
 use Rattle.pcap_reader.specs.Records.{claimed_len, begins_with_record, begins_with_damage, parts_of, rest_of, damage_of}
 use Rattle.pcap_reader.specs.Records.{IsRecord, IsCutInto, IsOnlyCut}
 use Rattle.pcap_reader.proofs.Cutting.{file_is_cut_once}
+use Rattle.pcap_reader.proofs.Kinds.{both-kinds}
 use Rattle.capture_maker.specs.Draws.{state_behind, number_of}
 use Rattle.capture_maker.specs.Made.{file_header, packet_record, packets_from, capture_of}
 use Rattle.meter_io.specs.Sides.{Side, HasFailed}
+use Rattle.meter_io.proofs.Sides.{large-fails, wrong-fails}
 use Rattle.meter_program.specs.declared.status.Status.{Status}
 use Rattle.meter_program.specs.declared.status.Status.TheVariants.{Done, ReadFault, WriteFault, NotCapture, LinkUnknown}
 use Rattle.meter_program.specs.declared.status.Status.TheVariants.{Damaged, TooLarge, NoMemory, Usage, NotStream}
 use Rattle.meter_program.specs.declared.status.Status.TheVariants.{BadSchedule}
 use Rattle.meter_program.specs.Outcome.{MeterRefuses}
-use Rattle.meter_program.proofs.Causes.{large-fails, wrong-fails, both-kinds}
 
 claim : (place payload key : ℕ) → claimed_len Little (packet_record place payload key) ≡ 28
 unfolding ordered_octets number

@@ -57,19 +57,6 @@ impl Endianness {
         }
     }
 
-    /// The number in the sixteen octets from `place` on.
-    #[tactic(auto, unfolding(crate::specs::Numbers::number))]
-    #[inline]
-    pub fn u128_at(self, octets: &[u8], place: usize) -> u128
-        requires { place + 16 ≤ length octets.now }
-        ensures { result ≡ ordered_number_at self place 16 octets.now }
-    {
-        match self {
-            Endianness::Little => LittleEndian::read_u128(&octets[place..]),
-            Endianness::Big => BigEndian::read_u128(&octets[place..]),
-        }
-    }
-
     /// Appends a number of two octets to a buffer that has room for them.
     #[tactic(auto, unfolding(crate::specs::Numbers::ordered_octets))]
     #[inline]

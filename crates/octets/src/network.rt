@@ -25,16 +25,6 @@ pub fn u32_at(octets: &[u8], place: usize) -> u32
     NetworkEndian::read_u32(&octets[place..])
 }
 
-/// The number in the eight octets from `place` on.
-#[inline]
-#[tactic(auto, unfolding(crate::specs::Numbers::number_at))]
-pub fn u64_at(octets: &[u8], place: usize) -> u64
-    requires { place + 8 ≤ length octets.now }
-    ensures { result ≡ number_at place 8 octets.now }
-{
-    NetworkEndian::read_u64(&octets[place..])
-}
-
 /// The number in the sixteen octets from `place` on.
 #[inline]
 #[tactic(auto, unfolding(crate::specs::Numbers::number_at))]

@@ -13,7 +13,6 @@ fn numbers_at_a_place(rt: HostRuntime) {
     assert_eq!(rt; u16_at(octets, 0), 0x0102);
     assert_eq!(rt; u16_at(octets, 18), 0x1314);
     assert_eq!(rt; u32_at(octets, 16), 0x1112_1314);
-    assert_eq!(rt; u64_at(octets, 1), 0x0203_0405_0607_0809);
     assert_eq!(rt;
         u128_at(octets, 4),
         0x0506_0708_090a_0b0c_0d0e_0f10_1112_1314
@@ -21,24 +20,13 @@ fn numbers_at_a_place(rt: HostRuntime) {
     assert_eq!(rt; uint_at(octets, 9, 3), 0x0a0b0c);
     assert_eq!(rt; uint_at(octets, 19, 1), 0x14);
     for order in [Endianness::Little, Endianness::Big] {
-        let (two, four, eight, sixteen) = match order {
-            Endianness::Little => (
-                0x0403,
-                0x0605_0403,
-                0x0a09_0807_0605_0403,
-                0x1211_100f_0e0d_0c0b_0a09_0807_0605_0403,
-            ),
-            Endianness::Big => (
-                0x0304,
-                0x0304_0506,
-                0x0304_0506_0708_090a,
-                0x0304_0506_0708_090a_0b0c_0d0e_0f10_1112,
-            ),
+        let (two, four, eight) = match order {
+            Endianness::Little => (0x0403, 0x0605_0403, 0x0a09_0807_0605_0403),
+            Endianness::Big => (0x0304, 0x0304_0506, 0x0304_0506_0708_090a),
         };
         assert_eq!(rt; order.u16_at(octets, 2), two);
         assert_eq!(rt; order.u32_at(octets, 2), four);
         assert_eq!(rt; order.u64_at(octets, 2), eight);
-        assert_eq!(rt; order.u128_at(octets, 2), sixteen);
     }
 }
 

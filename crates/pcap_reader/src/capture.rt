@@ -29,6 +29,9 @@ impl<'a> Capture<'a> {
 
     /// Reads the file header of a classic capture, 24 bytes. Its magic number is one of four, its version is 2.4, and
     /// its link type is the whole last field, so that one with a nonzero upper half is unknown.
+    ///
+    /// `NotCapture`: exactly where the bytes don't begin with such a header. `LinkUnknown`: exactly where they do and
+    /// the link type is none of 1, 101 and 113.
     pub fn open(bytes: &'a [u8]) -> Result<Capture<'a>, CaptureError>
         ensures capture { IfOk result (λ c. capture_file bytes.now ≡ Some (file_of c)) }
         ensures bytes { IfOk result (λ c. (file_of c).bytes ≡ bytes.now) }
@@ -52,7 +55,10 @@ impl<'a> Capture<'a> {
     }
 
     /// Where its records begin, and how many bytes are left behind them, in one pass from record to record. The index
-    /// keeps four bytes a record.
+    /// keeps four bytes a record. The capture has fewer than 2^32 bytes.
+    ///
+    /// `Damaged`: exactly where a record header that is reached claims too much, with the first one's offset.
+    /// `NoMemory`: out of memory.
     pub fn index(&self, alloc: Global) -> Result<RecordIndex, IndexError>
         requires { length (file_of self.now).bytes < 2 ^ 32 }
         ensures cut { let file = file_of self.now in IsOnlyCut file (parts_of file) (rest_of file) }
@@ -65,7 +71,8 @@ impl<'a> Capture<'a> {
         self.index_into(alloc, RecordIndex::none(alloc))
     }
 
-    /// The same, in the memory of an index that isn't needed any more. More is taken only where it has too little.
+    /// The same, in the memory of an index that isn't needed any more. More is taken only where it has too little. How
+    /// much room there is, is in no clause.
     pub fn index_into(&self, _alloc: Global, index: RecordIndex) -> Result<RecordIndex, IndexError>
         requires { length (file_of self.now).bytes < 2 ^ 32 }
 

@@ -31,6 +31,9 @@ pub struct Head {
 impl Head {
     /// The file header at the beginning of the bytes, 24 of them. Its magic number is one of four, its version is 2.4,
     /// and its link type is the whole last field, so that one with a nonzero upper half is unknown.
+    ///
+    /// `NotCapture`: exactly where the bytes don't begin with such a header. `LinkUnknown`: exactly where they do and
+    /// the link type is none of 1, 101 and 113.
     pub fn of(bytes: &[u8]) -> Result<Head, CaptureError>
         ensures head { IfOk result (λ head. capture_file bytes.now ≡ Some (headed_by head bytes.now)) }
         ensures known { IfOk result (λ head. IsKnownLink (headed_by head bytes.now).link) }

@@ -10,8 +10,8 @@ use std::marker::Model;
 /// Why the records of a capture could not be found.
 #[derive(Clone, Copy, Debug, PartialEq, Eq)]
 pub enum IndexError {
-    /// The record header at this offset, counted from the beginning of the file, claims more than 262,144
-    /// captured bytes.
+    /// The record header at this offset, counted from the first byte of the capture or of the part, claims more than
+    /// 262,144 captured bytes.
     Damaged(u64),
     /// There was no memory for the index.
     NoMemory,
@@ -40,7 +40,8 @@ impl RecordIndex {
         RecordIndex::new(Vec::new(alloc), 0)
     }
 
-    /// An index of no records, with room for all that so many bytes can have: a record has 16 bytes at least.
+    /// An index of no records, with room for all that so many bytes can have: a record has 16 bytes at least. How much
+    /// room there is, is in no clause.
     pub fn with_room(alloc: Global, bytes: usize) -> Result<RecordIndex, NoMemory>
         ensures { IfOk result (λ index. index ≡ record { offsets = []; tail = 0 }) }
     {

@@ -96,7 +96,10 @@ impl<'a> PngCapture<'a> {
         Ok(PngCapture { bytes })
     }
 
-    /// Where its packets stand, in one pass from block to block. The index keeps 40 bytes a packet.
+    /// Where its packets stand, in one pass from block to block. The index keeps 40 bytes a packet. The capture has
+    /// fewer than 2^32 bytes.
+    ///
+    /// `BadBlock`: exactly where a block is malformed or bad, with the first one's offset. `NoMemory`: out of memory.
     pub fn index(&self, alloc: Global) -> Result<PngIndex, PngFault>
         requires { length (bytes_of self.now) < 2 ^ 32 }
         ensures index { IfOk result (λ index. IsIndexOf index (bytes_of self.now)) }

@@ -1,7 +1,7 @@
 //! Text in memory: pieces, numbers in decimal and octets in hexadecimal, each appended to what is there.
 //!
 //! Numbers are written by `itoa` and octets by `hex`, from arrays of fixed size. Each call says which bytes the text
-//! gained; where memory is out it may have gained a part of them.
+//! gained; where memory is out, no clause says what the text then is.
 #![tactic(auto)]
 
 ghost use Rattle.std.specs.Prelude.{◌≡◌, ◌++◌, ◌∷◌, [], decimal, OnOk};

@@ -1,19 +1,11 @@
 -- What is known of the file that some bytes are.
-use Rattle.std.proofs.Common.{◌≡◌, ℕ, List, Option, Some, None, Result, Err, subst}
+use Rattle.std.proofs.Common.{◌≡◌, ℕ, List, None, Result, Err, subst}
 use Rattle.std.specs.Prelude.{IsSomeAnd}
 use Rattle.pcap_reader.specs.File.{CaptureFile, IsCaptureOf, capture_file, IsKnownLink}
 use Rattle.pcap_reader.specs.declared.capture.Capture.{Capture}
 use Rattle.pcap_reader.specs.declared.head.CaptureError.{CaptureError}
 use Rattle.pcap_reader.specs.declared.head.CaptureError.TheVariants.{NotCapture, LinkUnknown}
-
-pub and-so : {X : Type 0} (o : Option X) (P Q : X → Type 0) → IsSomeAnd o P → ((x : X) → P x → Q x) → IsSomeAnd o Q
-and-so None P Q p so = p
-and-so (Some x) P Q p so = so x p
-
-pub both-kinds : {X : Type 0} (o : Option X) (P Q : X → Type 0) → IsSomeAnd o P → IsSomeAnd o Q
-    → ((x : X) → P x → Q x → ⊥) → ⊥
-both-kinds None P Q p q never = p
-both-kinds (Some x) P Q p q never = never x p q
+use Rattle.pcap_reader.proofs.Kinds.{both-kinds}
 
 -- a capture of a known link type is not refused
 pub refused-not : (bytes : List ℕ) (K : CaptureFile → Type 0) (opened : Result Capture CaptureError)

@@ -3,6 +3,7 @@ use Rattle.std.proofs.Common.{◌≡◌, ℕ, List, ◌++◌, length, sum_by, Op
 use Rattle.std.specs.Prelude.{IsPermutation, IsSomeAnd}
 use Rattle.std.proofs.lemmas.List.Sorted.{IsPermutation-sym, IsPermutation-refl}
 use Rattle.pcap_reader.specs.File.{CaptureFile, IsCaptureOf, capture_file}
+use Rattle.pcap_reader.proofs.Kinds.{and-so}
 use Rattle.packet_accept.specs.Packets.{answers_of, packets_of}
 use Rattle.flow_parts.specs.declared.fragment.Fragment.{Fragment}
 use Rattle.flow_parts.specs.declared.timeouts.Timeouts.{Timeouts}
@@ -12,7 +13,6 @@ use Rattle.capture_tally.specs.declared.tally.Tally.{Tally}
 use Rattle.capture_tally.specs.Tallies.{IsTallyOf, octets_of}
 use Rattle.cache_face.specs.Meaning.{PassMeans, IsUnited}
 use Rattle.cache_face.specs.Notes.{Note, first_note}
-use Rattle.watch_program.proofs.Files.{and-so}
 
 -- the fragments have the packets and the octets of the file
 abbrev pub HasCounts : List Fragment → CaptureFile → Type 0

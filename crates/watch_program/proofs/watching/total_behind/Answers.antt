@@ -1,10 +1,10 @@
 use Rattle.std.proofs.Common.{◌≡◌, ◌∙◌, arith, length}
 use Rattle.pcap_reader.specs.File.{capture_file}
+use Rattle.pcap_reader.proofs.Kinds.{and-so}
 use Rattle.packet_accept.specs.Packets.{packets_of}
 use Rattle.capture_tally.specs.Tallies.{octets_of}
 use Rattle.flow_cache.specs.Closed.{metered_by}
 use Rattle.flow_cache.specs.Shown.{shown_of, means_of}
-use Rattle.watch_program.proofs.Files.{and-so}
 use Rattle.watch_program.proofs.Totals.{HasCounts, handed-same, counted, tallied}
 use Rattle.watch_program.proofs.watching.total_behind.Goals as goal
 
