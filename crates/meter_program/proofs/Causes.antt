@@ -4,7 +4,7 @@ use Rattle.std.proofs.Common.{true≢false}
 use Rattle.std.specs.Prelude.{IsSomeAnd, Ok, Err}
 use Rattle.pcap_reader.specs.File.{capture_file, IsKnownLink}
 use Rattle.pcap_reader.specs.Records.{damage_of}
-use Rattle.pcap_reader.proofs.Kinds.{both-kinds}
+use Rattle.pcap_reader.proofs.OneKind.{both-kinds}
 use Rattle.meter_io.specs.Sides.{Side, IsUntouched, HasFailed}
 use Rattle.meter_io.proofs.Sides.{large-fails, wrong-fails}
 use Rattle.meter_program.specs.declared.status.Status.{Status}

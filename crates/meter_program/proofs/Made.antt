@@ -11,7 +11,7 @@ use Rattle.pcap_reader.specs.File.{CaptureFile, capture_file, IsKnownLink}
 use Rattle.pcap_reader.specs.Records.{claimed_len, begins_with_record, begins_with_damage, parts_of, rest_of, damage_of}
 use Rattle.pcap_reader.specs.Records.{IsRecord, IsCutInto, IsOnlyCut}
 use Rattle.pcap_reader.proofs.Cutting.{file_is_cut_once}
-use Rattle.pcap_reader.proofs.Kinds.{both-kinds}
+use Rattle.pcap_reader.proofs.OneKind.{both-kinds}
 use Rattle.capture_maker.specs.Draws.{state_behind, number_of}
 use Rattle.capture_maker.specs.Made.{file_header, packet_record, packets_from, capture_of}
 use Rattle.meter_io.specs.Sides.{Side, HasFailed}

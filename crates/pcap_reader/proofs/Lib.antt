@@ -7,4 +7,4 @@ pub mod Filled
 pub mod Joined
 pub mod InParts
 pub mod Headed
-pub mod Kinds
+pub mod OneKind

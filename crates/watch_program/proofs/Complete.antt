@@ -3,7 +3,7 @@ use Rattle.std.proofs.Common.{◌≡◌, ◌⊎◌, inl, inr, ℕ, List, Option,
 use Rattle.std.specs.Prelude.{IsSomeAnd}
 use Rattle.pcap_reader.specs.File.{IsKnownLink, capture_file}
 use Rattle.pcap_reader.specs.Records.{damage_of}
-use Rattle.pcap_reader.proofs.Kinds.{both-kinds}
+use Rattle.pcap_reader.proofs.OneKind.{both-kinds}
 use Rattle.meter_io.specs.Sides.{Side, HasFailed}
 use Rattle.meter_io.proofs.Sides.{large-fails, wrong-fails}
 use Rattle.watch_program.specs.declared.status.WatchStatus.{WatchStatus}

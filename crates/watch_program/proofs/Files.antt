@@ -5,7 +5,7 @@ use Rattle.pcap_reader.specs.File.{CaptureFile, IsCaptureOf, capture_file, IsKno
 use Rattle.pcap_reader.specs.declared.capture.Capture.{Capture}
 use Rattle.pcap_reader.specs.declared.head.CaptureError.{CaptureError}
 use Rattle.pcap_reader.specs.declared.head.CaptureError.TheVariants.{NotCapture, LinkUnknown}
-use Rattle.pcap_reader.proofs.Kinds.{both-kinds}
+use Rattle.pcap_reader.proofs.OneKind.{both-kinds}
 
 -- a capture of a known link type is not refused
 pub refused-not : (bytes : List ℕ) (K : CaptureFile → Type 0) (opened : Result Capture CaptureError)

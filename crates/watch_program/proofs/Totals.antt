@@ -3,7 +3,7 @@ use Rattle.std.proofs.Common.{◌≡◌, ℕ, List, ◌++◌, length, sum_by, Op
 use Rattle.std.specs.Prelude.{IsPermutation, IsSomeAnd}
 use Rattle.std.proofs.lemmas.List.Sorted.{IsPermutation-sym, IsPermutation-refl}
 use Rattle.pcap_reader.specs.File.{CaptureFile, IsCaptureOf, capture_file}
-use Rattle.pcap_reader.proofs.Kinds.{and-so}
+use Rattle.pcap_reader.proofs.OneKind.{and-so}
 use Rattle.packet_accept.specs.Packets.{answers_of, packets_of}
 use Rattle.flow_parts.specs.declared.fragment.Fragment.{Fragment}
 use Rattle.flow_parts.specs.declared.timeouts.Timeouts.{Timeouts}

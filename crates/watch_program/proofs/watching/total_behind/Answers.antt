@@ -1,6 +1,6 @@
 use Rattle.std.proofs.Common.{◌≡◌, ◌∙◌, arith, length}
 use Rattle.pcap_reader.specs.File.{capture_file}
-use Rattle.pcap_reader.proofs.Kinds.{and-so}
+use Rattle.pcap_reader.proofs.OneKind.{and-so}
 use Rattle.packet_accept.specs.Packets.{packets_of}
 use Rattle.capture_tally.specs.Tallies.{octets_of}
 use Rattle.flow_cache.specs.Closed.{metered_by}
