@@ -1,11 +1,11 @@
 -- What the end of a command says of its status.
-use Rattle.std.proofs.Common.{◌≡◌, ◌⊎◌, ◌^◌, ℕ, true, List, Some, None, refl, sym, subst, ◌∙◌, inl, inr, ⊎_elim}
+use Rattle.std.proofs.Common.{◌≡◌, ◌⊎◌, ◌^◌, true, List, Some, None, refl, sym, subst, ◌∙◌, inl, inr, ⊎_elim}
 use Rattle.std.proofs.Common.{true≢false}
 use Rattle.std.specs.Prelude.{IsSomeAnd, Ok, Err}
 use Rattle.pcap_reader.specs.File.{capture_file, IsKnownLink}
 use Rattle.pcap_reader.specs.Records.{damage_of}
 use Rattle.pcap_reader.proofs.OneKind.{both-kinds}
-use Rattle.meter_io.specs.Sides.{Side, IsUntouched, HasFailed}
+use Rattle.meter_io.specs.Sides.{Side, IsUntouched}
 use Rattle.meter_io.proofs.Sides.{large-fails, wrong-fails}
 use Rattle.meter_program.specs.declared.status.Status.{Status}
 use Rattle.meter_program.specs.declared.status.Status.TheVariants.{Done, ReadFault, WriteFault, NotCapture, LinkUnknown}
@@ -16,24 +16,6 @@ use Rattle.meter_program.specs.Seen.{Seen, seen_of}
 use Rattle.flow_parts.specs.declared.fragment.Fragment.{Fragment}
 use Rattle.meter_program.specs.Words.{Asked, meter, show, make, schedule, selftest}
 use Rattle.meter_program.specs.Outcome.{Ends, IsValid, IsQuiet}
-
-pub never-usage : (asked : Asked) (seen : Seen) (told : Type 0) → Ends asked seen told Usage → ⊥
-never-usage (meter idle active workers sets piece size) seen told h = h.cause
-never-usage show seen told h = h.cause
-never-usage (make seed packets keys) seen told h = h.cause
-never-usage schedule seen told h = h.cause
-never-usage (selftest seed packets keys) seen told h = h.cause
-
-pub read-failed : (asked : Asked) (seen : Seen) (told : Type 0) → Ends asked seen told ReadFault → HasFailed seen.input
-read-failed (meter idle active workers sets piece size) seen told h = h.cause.cause
-read-failed show seen told h = h.cause.cause
-read-failed (make seed packets keys) seen told h = absurd h.cause
-read-failed schedule seen told h = h.cause.cause
-read-failed (selftest seed packets keys) seen told h = absurd h.cause
-
-pub write-failed : (asked : Asked) (seen : Seen) (told : Type 0) → Ends asked seen told WriteFault
-    → HasFailed seen.output ⊎ HasFailed seen.notes
-write-failed asked seen told h = h.cause
 
 -- at a refusal only what the notes are told is said of them
 pub told-by : (asked : Asked) (input output before after : Side) (metered : List Fragment) (told : Type 0)
@@ -130,8 +112,7 @@ complete-by schedule seen told (BadSchedule line) h valid quiet =
     (λ bad. let never : None ≡ Some line = sym valid.3 ∙ bad in absurd (cc)) h.cause)
 complete-by (selftest seed packets keys) seen told Done h valid quiet = inl refl
 complete-by (selftest seed packets keys) seen told NoMemory h valid quiet = inr refl
-complete-by (selftest seed packets keys) seen told WriteFault h valid quiet =
-    absurd (⊎_elim quiet.output quiet.notes h.cause)
+complete-by (selftest seed packets keys) seen told WriteFault h valid quiet = absurd (quiet.output h.cause.0)
 complete-by (selftest seed packets keys) seen told ReadFault h valid quiet = absurd h.cause
 complete-by (selftest seed packets keys) seen told Usage h valid quiet = absurd h.cause
 complete-by (selftest seed packets keys) seen told TooLarge h valid quiet = absurd h.cause

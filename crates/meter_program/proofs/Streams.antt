@@ -20,10 +20,6 @@ none-begun object text same =
           (Appends-nil object.before);
     }
 
--- and took no text
-pub none-taken : (object : Side) → object.after ≡ object.before → HasTaken object []
-none-taken object same = subst (λ after. Appends object.before after []) (sym same) (Appends-nil object.before)
-
 -- the layout of some records decodes to them
 pub written-of : (size size' time : ℕ) (flows flows' : List FlowRecord) (tally : Tally) (bytes : List ℕ) (messages : ℕ)
     → ((fs : List FlowRecord) (bs : List ℕ) (n t : ℕ) → n ≤ 65535 → IsLayout n t fs bs → flows_of bs ≡ Some fs)

@@ -112,6 +112,14 @@ IsAnswer (make seed packets keys) metered input written noted = IsMade seed pack
 IsAnswer schedule metered input written noted = IsReplayed input written noted
 IsAnswer (selftest seed packets keys) metered input written noted = IsTested seed packets keys metered written noted
 
+-- The notes took this text; those of `selftest`, which notes nothing, are as they were.
+abbrev pub HasNoted : Asked → Side → List ℕ → Type 0
+HasNoted (meter idle active workers sets piece size) notes noted = HasTaken notes noted
+HasNoted show notes noted = HasTaken notes noted
+HasNoted (make seed packets keys) notes noted = HasTaken notes noted
+HasNoted schedule notes noted = HasTaken notes noted
+HasNoted (selftest seed packets keys) notes noted = IsUntouched notes
+
 -- All was done: the input was read, and the output and the notes took the answer to it.
 pub record IsDone (asked : Asked) (seen : Seen) : Type 0 where
   pub bytes : List ℕ
@@ -120,7 +128,15 @@ pub record IsDone (asked : Asked) (seen : Seen) : Type 0 where
   pub noted : List ℕ
   pub answer : IsAnswer asked seen.metered bytes written noted
   pub output : HasTaken seen.output written
-  pub notes : HasTaken seen.notes noted
+  pub notes : HasNoted asked seen.notes noted
+
+-- A write to the output or to the notes failed; of `selftest`, whose notes are as they were, one to the output.
+abbrev pub HasFailedToWrite : Asked → Seen → Type 0
+HasFailedToWrite (meter idle active workers sets piece size) seen = HasFailed seen.output ⊎ HasFailed seen.notes
+HasFailedToWrite show seen = HasFailed seen.output ⊎ HasFailed seen.notes
+HasFailedToWrite (make seed packets keys) seen = HasFailed seen.output ⊎ HasFailed seen.notes
+HasFailedToWrite schedule seen = HasFailed seen.output ⊎ HasFailed seen.notes
+HasFailedToWrite (selftest seed packets keys) seen = HasFailed seen.output × IsUntouched seen.notes
 
 -- A write failed: the input was read, and the output and the notes took a beginning of the answer each, the
 -- output all of it where none of its own calls failed.
@@ -132,7 +148,7 @@ pub record IsCutOff (asked : Asked) (seen : Seen) : Type 0 where
   pub answer : IsAnswer asked seen.metered bytes written noted
   pub output : HasTakenOrFailed seen.output written
   pub notes : HasBegun seen.notes noted
-  pub cause : HasFailed seen.output ⊎ HasFailed seen.notes
+  pub cause : HasFailedToWrite asked seen
 
 -- ---- why a command refuses
 

@@ -68,8 +68,9 @@ fn command<R: Threads + Sync, S: Source, K: Sink, N: Sink, M: Caches, G: Gate>(
 /// - `Done`: all was read and written.
 /// - `ReadFault`: only where a read failed and the input counted it.
 /// - `Usage`: exactly where the words are no command line. Nothing is read.
-/// - `WriteFault`: only where a write failed and the output or the notes counted it. Both took a beginning of what they
-///   were to take, the output all of it where none of its own writes failed.
+/// - `WriteFault`: only where a write failed and the output or the notes counted it; in `selftest`, which leaves the
+///   notes as they were, the output. Both took a beginning of what they were to take, the output all of it where none
+///   of its own writes failed.
 /// - `NotCapture`, `LinkUnknown`, `Damaged`: `meter`, exactly where the bytes read are no capture, have another link
 ///   type than 1, 101 and 113, or a record that claims too much.
 /// - `NotStream`: `show`, exactly where the bytes read have that fault.

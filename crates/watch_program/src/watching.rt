@@ -155,11 +155,11 @@ fn total_behind(
     let Gathered {
         pass: others,
         parts,
-        tally,
+        ..
     } = gathered;
     let pass = cache.unite(others, pass);
     caches.close(alloc, cache, pass, parts)?;
-    Ok(total_of(caches.metered(), tally.accepted, tally.octets))
+    Ok(total_of(caches.metered()))
 }
 
 /// Meters the capture that these bytes are by so many workers, asks meanwhile for the flows of its first accepted

@@ -1,11 +1,11 @@
-use Rattle.std.proofs.Common.{◌≤◌, ◌^◌, ◌∙◌, refl, sym, subst, arith, inl, inr, [], length}
+use Rattle.std.proofs.Common.{◌≤◌, ◌^◌, ◌∙◌, refl, sym, subst, arith, inr, [], length}
 use Rattle.meter_io.specs.Sides.{IsUntouched, side}
 use Rattle.meter_program.specs.Outcome.{Ends}
 use Rattle.meter_program.specs.Seen.{seen_of}
 use Rattle.meter_program.specs.Words.{selftest}
 use Rattle.meter_program.proofs.Made.{refused-for-memory}
 use Rattle.meter_program.proofs.Endings.{tested}
-use Rattle.meter_program.proofs.Streams.{none-begun, none-taken}
+use Rattle.meter_program.proofs.Streams.{none-begun}
 use Rattle.meter_program.proofs.selftest.selftest.Goals as goal
 
 pub returns-in-Err : goal.returns-in-Err
@@ -40,7 +40,7 @@ returns-in-Ok-summary g c = λ input notes still quiet. record {
       (c.as_slice.ensures.value ∙ c.in-Ok.ensures.octets) c.in-Ok-gathered_from.ensures.records
       c.in-Ok-stream_of.ensures;
   output = c.in-Ok-summary.ensures.whole;
-  notes = none-taken notes quiet.bytes;
+  notes = quiet;
 }
 
 pub returns : goal.returns
@@ -61,5 +61,5 @@ returns g c = λ input notes still quiet. record {
       c.in-Ok-stream_of.ensures;
   output = inr (c.in-Err-summary.ensures.begun, c.in-Err-summary.ensures.cause.failed);
   notes = none-begun notes [] quiet.bytes;
-  cause = inl c.in-Err-summary.ensures.cause.failed;
+  cause = (c.in-Err-summary.ensures.cause.failed, quiet);
 }
