@@ -1,4 +1,6 @@
-//! Worked schedules, as texts.
+//! Worked schedules, as texts, and in `machine` by the calls of the core.
+
+mod machine;
 
 use crate::printing::print;
 use crate::reading::{ScheduleError, read_schedule};

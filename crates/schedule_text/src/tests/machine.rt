@@ -1,8 +1,8 @@
-//! Worked schedules.
+//! Worked schedules by the calls of the core.
 
-use crate::kinds::{Answer, NotEnabled, Retired, Shape, ShieldAt, Stance, Step};
-use crate::machine::Core;
-use crate::runs::{ReplayError, replay};
+use pebr_core::{
+    Answer, Core, NotEnabled, ReplayError, Retired, Shape, ShieldAt, Stance, Step, replay,
+};
 use std::alloc::{AllocFailed, Global};
 use std::test::Fail;
 
