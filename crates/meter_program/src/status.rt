@@ -2,9 +2,11 @@
 
 ghost use Rattle.std.specs.Prelude.{◌≡◌, IsTrue};
 ghost use Rattle.meter_program.specs.declared.status.Status.TheVariants.{NoMemory};
+ghost use Rattle.meter_program.specs.Metering.{status_for};
 ghost use Rattle.meter_program.specs.Statuses.{exit_status, is_refusal};
 
 use ipfix_reader::StreamFault;
+use meter_workers::MeterFault;
 use no_memory::NoMemory;
 
 /// How a run ends. [`Status::code`] is the exit status of the program.
@@ -43,6 +45,22 @@ impl From<NoMemory> for Status {
 }
 
 impl Status {
+/// The status of a run whose input couldn't be metered.
+impl From<MeterFault> for Status {
+    ghost from_gives = { λ fault status. status ≡ status_for fault };
+
+    fn from(fault: MeterFault) -> Status {
+        match fault {
+            MeterFault::Failed => Status::ReadFault,
+            MeterFault::TooLarge => Status::TooLarge,
+            MeterFault::NotCapture => Status::NotCapture,
+            MeterFault::LinkUnknown(link) => Status::LinkUnknown(link),
+            MeterFault::Damaged(at) => Status::Damaged(at),
+            MeterFault::NoMemory => Status::NoMemory,
+        }
+    }
+}
+
     /// Whether the run refused, so that the notes have a line for it.
     pub fn is_refusal(&self) -> bool
         ensures { result ≡ is_refusal self.now }
