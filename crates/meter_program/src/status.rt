@@ -24,7 +24,8 @@ pub enum Status {
     NotCapture,
     /// The capture has this link type, which isn't read.
     LinkUnknown(u32),
-    /// The capture is damaged at this offset.
+    /// The record header at this offset, in octets from the beginning of the input, claims more than 262,144 captured
+    /// octets.
     Damaged(u64),
     /// The input is larger than the command's limit.
     TooLarge,
@@ -44,7 +45,6 @@ impl From<NoMemory> for Status {
     }
 }
 
-impl Status {
 /// The status of a run whose input couldn't be metered.
 impl From<MeterFault> for Status {
     ghost from_gives = { λ fault status. status ≡ status_for fault };
@@ -61,6 +61,7 @@ impl From<MeterFault> for Status {
     }
 }
 
+impl Status {
     /// Whether the run refused, so that the notes have a line for it.
     pub fn is_refusal(&self) -> bool
         ensures { result ≡ is_refusal self.now }
