@@ -1,12 +1,12 @@
 //! The program behind `bench/caches.sh`: how long a shared cache of open flows takes for a packet. The packets of the
-//! capture of standard input are read into memory; then threads meter them all at once, each every so manieth piece of
-//! 256 packets, through one cache.
+//! capture of standard input are read into memory; then threads meter them all at once through one cache: of n threads
+//! each takes every n-th piece of 256 packets.
 //!
 //!     cache_pace turn|pebr THREADS SETS < CAPTURE
 //!
 //! What it took, in nanoseconds a packet from start to end, goes to standard error. The packets of fragments that are
-//! handed out are added up, and the fragments let go. The status is 0; 1 where the capture can't be read or metered, or
-//! more packets are handed out than there are; 2 for other words.
+//! handed out are added up, and the fragments let go. The status is 0; 1 where the capture can't be read or metered or
+//! has no packets, more packets are handed out than there are, or the line can't be written; 2 for other words.
 #![tactic(auto)]
 
 mod packets;

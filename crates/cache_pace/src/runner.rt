@@ -83,7 +83,7 @@ fn run_piece<C: FlowCache>(packets: &[Packet], cache: &C, runner: &mut Runner<C>
     }
 }
 
-/// Meters a runner's pieces, each so manieth.
+/// Meters a runner's pieces: of n runners each takes every n-th.
 fn run_share<C: FlowCache>(packets: &[Packet], count: usize, cache: &C, runner: &mut Runner<C>)
     requires some { 0 < count }
     requires own { C.is_of cache.now runner.old.pass }

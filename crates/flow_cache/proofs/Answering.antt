@@ -59,7 +59,7 @@ module _ (cache : CacheMeans) (old new : PassMeans) (past : History) (own : Frag
   put_in by few h = record {
     chosen = record {
       set = set_shown ∙ h.last ∙ set_is;
-      four = ap length entries_shown;
+      four = ap length (entries_shown ∙ ap (entries_read past) h.last) ∙ h.four;
       place = h.place;
       kept = h.kept;
       chosen = subst (λ es. IsChoice cache.limits es own by h.place out h.kept)

@@ -1,6 +1,6 @@
 -- What a history has after one more step.
 use Rattle.std.proofs.Common.{◌≡◌, ◌≢◌, ℕ, suc, Bool, true, false, List, [], ◌∷◌, Option, Some, refl, sym, ap, ◌∙◌}
-use Rattle.std.proofs.Common.{subst, arith}
+use Rattle.std.proofs.Common.{length, subst, arith}
 use Rattle.std.specs.Prelude.{◌==◌, if◌then◌else◌}
 use Rattle.std.proofs.lemmas.Grind.{common_steps}
 use mathlib.Core.Logic.{dite}
@@ -93,11 +93,12 @@ entries_same old new set loads reads = ap (λ ls. entries_read (record new { loa
 
 pub chosen_of : (limits : Timeouts) (set : ℕ) (old new : History) (own kept : Fragment) (how : How) (place : ℕ)
     (out : Option Fragment) (entries : List (Option Fragment)) → set_read old.loads ≡ set
-    → entries ≡ entries_read old set
+    → length entries ≡ 4 → entries ≡ entries_read old set
     → IsChoice limits entries own how place out kept → new.loads ≡ old.loads → new.reads ≡ old.reads
     → HasChosen limits set new own how out
-chosen_of limits set old new own kept how place out entries last is chosen loads reads = record {
+chosen_of limits set old new own kept how place out entries last four is chosen loads reads = record {
   last = ap set_read loads ∙ last;
+  four = ap length (entries_same old new set loads reads ∙ sym is) ∙ four;
   place = place;
   kept = kept;
   chosen = subst (λ es. IsChoice limits es own how place out kept)
@@ -108,4 +109,5 @@ pub chosen_still : (limits : Timeouts) (set : ℕ) (old new : History) (own : Fr
     (out : Option Fragment) → HasChosen limits set old own how out → new.loads ≡ old.loads → new.reads ≡ old.reads
     → HasChosen limits set new own how out
 chosen_still limits set old new own how out h loads reads =
-    chosen_of limits set old new own h.kept how h.place out (entries_read old set) h.last refl h.chosen loads reads
+    chosen_of limits set old new own h.kept how h.place out (entries_read old set) h.last h.four refl h.chosen loads
+    reads

@@ -1,8 +1,10 @@
 -- The entries of a set, and the content that is put in place of one.
-use Rattle.std.proofs.Common.{◌≡◌, ℕ, zero, suc, ◌<◌, Bool, true, false, List, [], ◌∷◌, length, set, Option, Some, None}
-use Rattle.std.proofs.Common.{unwrap_or, option_and_then, refl, sym, ap, ◌∙◌, subst, arith}
-use Rattle.std.specs.Prelude.{slice_index, if◌then◌else◌}
+use Rattle.std.proofs.Common.{◌≡◌, ℕ, zero, suc, ◌+◌, ◌<◌, ◌≤◌, Bool, true, false, List, [], ◌∷◌, ◌++◌, length, map}
+use Rattle.std.proofs.Common.{set, Option, Some, None, refl, sym, ap, ◌∙◌, subst, arith}
+use Rattle.std.specs.Prelude.{◌==◌, slice_index, if◌then◌else◌, filter_map}
+use Rattle.std.specs.List.{range_with_len, cons_option}
 use Rattle.std.proofs.lemmas.List.{ext_get_or}
+use Rattle.std.proofs.lemmas.List.FromFn.{get_or-map-range_with_len}
 use mathlib.Core.Option.{some, some-injective}
 use lib.ListN.{get_elem?}
 use Rattle.packet_accept.specs.declared.packet.Packet.{Packet}
@@ -19,7 +21,7 @@ use Rattle.pebr_words.specs.Pasts.{Read, History, written_at, shown_at}
 use Rattle.pebr_words.specs.Making.{act_on}
 use Rattle.pebr_words.specs.Ruled.{CanNote, CanReplace}
 use Rattle.flow_cache.specs.Places.{root_of}
-use Rattle.flow_cache.specs.Reading.{word_read, words_read, entry_read, entries_read}
+use Rattle.flow_cache.specs.Reading.{words_read, entry_found, entry_read, entries_read}
 use Rattle.flow_cache.specs.Trying.{IsOwn, HasMore, HasTen}
 use Rattle.flow_cache.proofs.Histories.{found_read}
 
@@ -28,47 +30,83 @@ pub ten_words : (one other : List ℕ) → length one ≡ 10 → length other �
     → ((word : ℕ) → word < 10 → slice_index one word ≡ slice_index other word) → one ≡ other
 ten_words one other a b same = ext_get_or 0 one other (a ∙ sym b) (λ word low. same word (omega (arith, low, a)))
 
--- a word as it was last read
-pub last_read : (reads : List Read) (slot word value : ℕ) → written_at reads slot word ≡ Some value
-    → word_read reads slot word ≡ value
-last_read reads slot word value e = ap (λ o. unwrap_or o 0) e
+-- what is found of each number of a range is all that is found there
+all_found : (find : ℕ → Option ℕ) (from count : ℕ) (words : List ℕ) → length words ≡ count
+    → ((k : ℕ) → k < count → find (from + k) ≡ Some (slice_index words k))
+    → words ≡ filter_map find (range_with_len from count)
+all_found find from zero [] long each = refl
+all_found find from zero (word ∷ words) long each = absurd (omega (arith, long))
+all_found find from (suc n) [] long each = absurd (omega (arith, long))
+all_found find from (suc n) (word ∷ words) long each =
+    let first : from ≡ from + 0 = omega arith in
+    let here : find from ≡ Some word = ap find first ∙ each 0 (omega arith) in
+    let rest : words ≡ filter_map find (range_with_len (from + 1) n) = all_found find (from + 1) n words
+    (omega (arith, long)) (λ k low. (let next : from + 1 + k ≡ from + suc k = omega arith in
+    ap find next ∙ each (suc k) (omega (arith, low)))) in
+    ap (λ ws. word ∷ ws) rest ∙ ap (λ o. cons_option o (filter_map find (range_with_len (from + 1) n))) (sym here)
 
-word_of : (reads : List Read) (slot word : ℕ) → word < 10
-    → slice_index (words_read reads slot) word ≡ word_read reads slot word
-word_of reads slot zero low = refl
-word_of reads slot (suc zero) low = refl
-word_of reads slot (suc (suc zero)) low = refl
-word_of reads slot (suc (suc (suc zero))) low = refl
-word_of reads slot (suc (suc (suc (suc zero)))) low = refl
-word_of reads slot (suc (suc (suc (suc (suc zero))))) low = refl
-word_of reads slot (suc (suc (suc (suc (suc (suc zero)))))) low = refl
-word_of reads slot (suc (suc (suc (suc (suc (suc (suc zero))))))) low = refl
-word_of reads slot (suc (suc (suc (suc (suc (suc (suc (suc zero)))))))) low = refl
-word_of reads slot (suc (suc (suc (suc (suc (suc (suc (suc (suc zero))))))))) low = refl
-word_of reads slot (suc (suc (suc (suc (suc (suc (suc (suc (suc (suc n)))))))))) low = absurd (omega (arith, low))
+-- no more is found than there are numbers
+one_more : (o : Option ℕ) (rest : List ℕ) (n : ℕ) → length rest ≤ n → length (cons_option o rest) ≤ suc n
+one_more None rest n few = omega (arith, few)
+one_more (Some word) rest n few = omega (arith, few)
+
+few_found : (find : ℕ → Option ℕ) (from count : ℕ) → length (filter_map find (range_with_len from count)) ≤ count
+few_found find from zero = omega arith
+few_found find from (suc n) = one_more (find from) (filter_map find (range_with_len (from + 1) n)) n
+    (few_found find (from + 1) n)
+
+-- where as many are found as there are numbers, each is found
+found_on : (find : ℕ → Option ℕ) (from n : ℕ) (rest : List ℕ) (o : Option ℕ) → find from ≡ o → length rest ≤ n
+    → (length rest ≡ n → (k : ℕ) → k < n → find (from + 1 + k) ≡ Some (slice_index rest k))
+    → length (cons_option o rest) ≡ suc n
+    → (k : ℕ) → k < suc n → find (from + k) ≡ Some (slice_index (cons_option o rest) k)
+found_on find from n rest None is few each all k low = absurd (omega (arith, few, all))
+found_on find from n rest (Some word) is few each all zero low =
+    let first : from + 0 ≡ from = omega arith in ap find first ∙ is
+found_on find from n rest (Some word) is few each all (suc k) low =
+    let next : from + suc k ≡ from + 1 + k = omega arith in
+    ap find next ∙ each (omega (arith, all)) k (omega (arith, low))
+
+each_found : (find : ℕ → Option ℕ) (from count : ℕ) → length (filter_map find (range_with_len from count)) ≡ count
+    → (k : ℕ) → k < count → find (from + k) ≡ Some (slice_index (filter_map find (range_with_len from count)) k)
+each_found find from zero all k low = absurd (omega (arith, low))
+each_found find from (suc n) all k low = found_on find from n (filter_map find (range_with_len (from + 1) n))
+    (find from) refl (few_found find (from + 1) n) (each_found find (from + 1) n) all k low
 
 -- the words that were read are these
 pub words_are : (reads : List Read) (slot : ℕ) (words : List ℕ) → length words ≡ 10
     → ((word : ℕ) → word < 10 → written_at reads slot word ≡ Some (slice_index words word))
     → words ≡ words_read reads slot
-words_are reads slot words long each = ten_words words (words_read reads slot) long refl
-    (λ word low. sym (last_read reads slot word (slice_index words word) (each word low))
-    ∙ sym (word_of reads slot word low))
+unfolding words_read
+words_are reads slot words long each = all_found (written_at reads slot) 0 10 words long
+    (λ word low. (let same : 0 + word ≡ word = omega arith in ap (written_at reads slot) same ∙ each word low))
+
+pub has_ten : (reads : List Read) (slot : ℕ) (words : List ℕ) → length words ≡ 10
+    → ((word : ℕ) → word < 10 → written_at reads slot word ≡ Some (slice_index words word)) → HasTen reads slot
+has_ten reads slot words long each = ap length (sym (words_are reads slot words long each)) ∙ long
+
+-- a word as it was last read
+pub last_read : (reads : List Read) (slot : ℕ) → HasTen reads slot → (word : ℕ) → word < 10
+    → written_at reads slot word ≡ Some (slice_index (words_read reads slot) word)
+unfolding words_read
+last_read reads slot ten word low =
+    let same : word ≡ 0 + word = omega arith in
+    ap (written_at reads slot) same ∙ each_found (written_at reads slot) 0 10 ten word low
 
 -- what was read of ten words is so later
 pub words_stay : (old new : List Read) (slot : ℕ) → HasMore old new → HasTen old slot
     → words_read old slot ≡ words_read new slot
-words_stay old new slot more ten = ten_words (words_read old slot) (words_read new slot) refl refl
-    (λ word low. let t = ten word low in
-    word_of old slot word low ∙ last_read old slot word t.0 t.1
-    ∙ sym (last_read new slot word t.0 (more slot word t.0 t.1)) ∙ sym (word_of new slot word low))
+words_stay old new slot more ten = words_are new slot (words_read old slot) ten
+    (λ word low. more slot word (slice_index (words_read old slot) word) (last_read old slot ten word low))
 
 pub ten_stay : (old new : List Read) (slot : ℕ) → HasMore old new → HasTen old slot → HasTen new slot
-ten_stay old new slot more ten word low = let t = ten word low in (t.0, more slot word t.0 t.1)
+ten_stay old new slot more ten = ap length (sym (words_stay old new slot more ten)) ∙ ten
 
-pub entry_is : (past : History) (root slot : ℕ) → shown_at past.loads root ≡ Some slot
-    → entry_read past root ≡ entry_of (words_read past.reads slot)
-entry_is past root slot e = ap (λ o. option_and_then (λ s. entry_of (words_read past.reads s)) o) e
+-- the entry of a root that was loaded, where the words of its slot were read
+pub entry_is : (past : History) (root slot : ℕ) → shown_at past.loads root ≡ Some slot → HasTen past.reads slot
+    → entry_read past root ≡ entry_of (words_read past.reads slot) ∷ []
+entry_is past root slot shown ten = ap (entry_found past.reads) shown
+    ∙ ap (λ n. if n == 10 then entry_of (words_read past.reads slot) ∷ [] else []) ten
 
 -- what an act makes of a note
 abbrev pub after_act : Note → Packet × Option Fragment → Note
@@ -89,14 +127,26 @@ can_end limits number note packet own true owned contents notes keeps at =
 can_end limits number note packet own false owned contents notes keeps at =
     subst (Keeps limits contents) (sym (set_self notes number note at)) keeps
 
--- the entry at a place of a set
-pub at_place : (past : History) (set place : ℕ) → place < 4
-    → entry_at (entries_read past set) place ≡ entry_read past (root_of set place)
-at_place past set zero low = refl
-at_place past set (suc zero) low = refl
-at_place past set (suc (suc zero)) low = refl
-at_place past set (suc (suc (suc zero))) low = refl
-at_place past set (suc (suc (suc (suc n)))) low = absurd (omega (arith, low))
+-- the four entries of a set that was read
+pub four_read : (past : History) (set : ℕ) (slots : ℕ → ℕ)
+    → ((place : ℕ) → place < 4 → shown_at past.loads (root_of set place) ≡ Some (slots place))
+    → ((place : ℕ) → place < 4 → HasTen past.reads (slots place))
+    → entries_read past set ≡ map (λ place. entry_of (words_read past.reads (slots place))) (range_with_len 0 4)
+four_read past set slots loaded ten = λ i. each 0 (omega arith) i ++ (each 1 (omega arith) i
+    ++ (each 2 (omega arith) i ++ (each 3 (omega arith) i ++ [])))
+  where
+    each : (place : ℕ) → place < 4
+        → entry_read past (root_of set place) ≡ entry_of (words_read past.reads (slots place)) ∷ []
+    each place low = entry_is past (root_of set place) (slots place) (loaded place low) (ten place low)
+
+-- the entry at a place of it
+pub at_place : (past : History) (set : ℕ) (slots : ℕ → ℕ)
+    → ((place : ℕ) → place < 4 → shown_at past.loads (root_of set place) ≡ Some (slots place))
+    → ((place : ℕ) → place < 4 → HasTen past.reads (slots place)) → (place : ℕ) → place < 4
+    → entry_at (entries_read past set) place ≡ entry_of (words_read past.reads (slots place))
+at_place past set slots loaded ten place low =
+    ap (λ es. entry_at es place) (four_read past set slots loaded ten)
+    ∙ get_or-map-range_with_len (λ p. entry_of (words_read past.reads (slots p))) 0 4 place place None low (omega arith)
 
 -- an entry is replaced
 pub can_replace : (limits : Timeouts) (shape : Shape) (past : History) (number root slot fresh : ℕ) (note : Note)
@@ -108,10 +158,9 @@ pub can_replace : (limits : Timeouts) (shape : Shape) (past : History) (number r
 can_replace limits shape past number root slot fresh note packet own kept out width ten filled owned takes contents
     notes from to keeps at at' long long' read written =
     let from_is : from ≡ words_read past.reads slot =
-    ten_words from (words_read past.reads slot) (long ∙ width) refl (λ word low. (let t = ten word low in
-    let f = found_read past.reads slot word t.0 t.1 in
-    ap (slice_index from) (sym f.3) ∙ read f.0 f.1 f.2 ∙ f.4 ∙ sym (last_read past.reads slot word t.0 t.1)
-    ∙ sym (word_of past.reads slot word low))) in
+    ten_words from (words_read past.reads slot) (long ∙ width) ten (λ word low. (let f = found_read past.reads slot word
+    (slice_index (words_read past.reads slot) word) (last_read past.reads slot ten word low) in
+    ap (slice_index from) (sym f.3) ∙ read f.0 f.1 f.2 ∙ f.4)) in
     let to_is : to ≡ part_words kept = ten_words to (part_words kept) (long' ∙ width) refl
     (λ word low. written word (slice_index (part_words kept) word) (filled word low)) in
     let state = keeps_taken limits contents notes root number from note

@@ -1,31 +1,29 @@
 -- The entries that a pass read since it last entered.
-use Rattle.std.specs.Prelude.{ℕ, List, [], ◌∷◌, Option, unwrap_or, option_and_then}
+use Rattle.std.specs.Prelude.{ℕ, List, [], ◌∷◌, length, Option, None, Some, ◌==◌, if◌then◌else◌, flat_map, filter_map}
+use Rattle.std.specs.List.{range_with_len}
 use Rattle.flow_parts.specs.declared.fragment.Fragment.{Fragment}
 use Rattle.cache_face.specs.Keeping.{entry_of}
 use Rattle.pebr_words.specs.Pasts.{Load, Read, History, shown_at, written_at}
 use Rattle.flow_cache.specs.Places.{root_of, set_of_root}
 
--- The word of a slot, as it was last read.
-abbrev pub word_read : List Read → ℕ → ℕ → ℕ
-word_read reads slot word = unwrap_or (written_at reads slot word) 0
+-- The words of a slot that were read, in their order, each as it was read last.
+unfoldable pub words_read : List Read → ℕ → List ℕ
+words_read reads slot = filter_map (written_at reads slot) (range_with_len 0 10)
 
--- The ten words of a slot.
-abbrev pub words_read : List Read → ℕ → List ℕ
-words_read reads slot =
-    word_read reads slot 0 ∷ word_read reads slot 1 ∷ word_read reads slot 2 ∷ word_read reads slot 3
-    ∷ word_read reads slot 4
-    ∷ word_read reads slot 5 ∷ word_read reads slot 6 ∷ word_read reads slot 7 ∷ word_read reads slot 8
-    ∷ word_read reads slot 9 ∷ []
+-- The entry of the slot that was found in a root, as a list of one; nothing where no slot was found, or one of its ten
+-- words wasn't read.
+abbrev pub entry_found : List Read → Option ℕ → List (Option Fragment)
+entry_found reads None = []
+entry_found reads (Some slot) = if length (words_read reads slot) == 10 then entry_of (words_read reads slot) ∷ []
+    else []
 
 -- The entry of a root: that of the slot which its last load found there.
-abbrev pub entry_read : History → ℕ → Option Fragment
-entry_read past root = option_and_then (λ slot. entry_of (words_read past.reads slot)) (shown_at past.loads root)
+abbrev pub entry_read : History → ℕ → List (Option Fragment)
+entry_read past root = entry_found past.reads (shown_at past.loads root)
 
--- The four entries of a set.
+-- The entries of a set that were read: four, where its four roots were loaded and all words of their slots read.
 abbrev pub entries_read : History → ℕ → List (Option Fragment)
-entries_read past set =
-    entry_read past (root_of set 0) ∷ entry_read past (root_of set 1) ∷ entry_read past (root_of set 2)
-    ∷ entry_read past (root_of set 3) ∷ []
+entries_read past set = flat_map (λ place. entry_read past (root_of set place)) (range_with_len 0 4)
 
 -- The set of the root that was loaded last.
 abbrev pub set_read : List Load → ℕ

@@ -1,12 +1,12 @@
 -- How far a try is.
-use Rattle.std.specs.Prelude.{◌≡◌, ℕ, ◌<◌, true, false, List, [], ◌∷◌, Option, Some}
+use Rattle.std.specs.Prelude.{◌≡◌, ℕ, ◌<◌, true, false, List, [], ◌∷◌, ◌++◌, length, Option, Some}
 use Rattle.packet_accept.specs.declared.packet.Packet.{Packet}
 use Rattle.flow_parts.specs.declared.fragment.Fragment.{Fragment}
 use Rattle.flow_parts.specs.declared.timeouts.Timeouts.{Timeouts}
 use Rattle.flow_parts.specs.Sharing.{SharesOut}
 use Rattle.cache_face.specs.declared.metered.How.{How}
 use Rattle.cache_face.specs.Choice.{IsChoice}
-use Rattle.cache_face.specs.Keeping.{IsSmall}
+use Rattle.cache_face.specs.Keeping.{IsSmall, entry_of}
 use Rattle.cache_face.specs.Laws.{CanMeter}
 use Rattle.cache_face.specs.Notes.{Note}
 use Rattle.pebr_core.specs.declared.kinds.ShieldAt.TheVariants as shield
@@ -14,7 +14,7 @@ use Rattle.pebr_core.specs.State.{Seat, has, shield_at}
 use Rattle.pebr_words.specs.Pasts.{Read, History, shown_at, written_at}
 use Rattle.pebr_roots.specs.Under.{slot_at}
 use Rattle.flow_cache.specs.Places.{root_of}
-use Rattle.flow_cache.specs.Reading.{entries_read, set_read}
+use Rattle.flow_cache.specs.Reading.{words_read, entries_read, set_read}
 
 -- The packet's own fragment, which a pass of this note can meter.
 pub record IsOwn (limits : Timeouts) (note : Note) (packet : Packet) (own : Fragment) : Type 0 where
@@ -50,12 +50,21 @@ HasMore old new = (slot word value : ℕ) → written_at old slot word ≡ Some 
 
 -- The ten words of a slot were read.
 abbrev pub HasTen : List Read → ℕ → Type 0
-HasTen reads slot = (word : ℕ) → word < 10 → (value : ℕ) × (written_at reads slot word ≡ Some value)
+HasTen reads slot = length (words_read reads slot) ≡ 10
 
--- The fragment was put in by the choice over the entries read of the set.
+-- The reads grew by the ten words of a slot, and these show the entry.
+pub record HasReadTen (slot : ℕ) (entry : Option Fragment) (old new : List Read) : Type 0 where
+  pub reads : List Read
+  pub grown : new ≡ reads ++ old
+  pub many : length reads ≡ 10
+  pub ten : HasTen reads slot
+  pub shows : entry_of (words_read reads slot) ≡ entry
+
+-- The fragment was put in by the choice over the four entries read of the set.
 pub record HasChosen (limits : Timeouts) (set : ℕ) (past : History) (own : Fragment) (how : How)
     (out : Option Fragment) : Type 0 where
   pub last : set_read past.loads ≡ set
+  pub four : length (entries_read past set) ≡ 4
   pub place : ℕ
   pub kept : Fragment
   pub chosen : IsChoice limits (entries_read past set) own how place out kept

@@ -1,10 +1,10 @@
 //! The cache as a shared cache, and who opens and closes such caches.
 
-ghost use Rattle.std.specs.Prelude.{◌≡◌, ◌+◌, ◌*◌, ◌<◌, ◌≤◌, ◌^◌, ◌∷◌, [], All};
+ghost use Rattle.std.specs.Prelude.{◌≡◌, ◌≢◌, ◌+◌, ◌*◌, ◌<◌, ◌≤◌, ◌^◌, ◌∷◌, [], All};
 ghost use Rattle.cache_face.specs.Meaning.{IsMetered};
 ghost use Rattle.cache_face.specs.Notes.{metering};
 ghost use Rattle.flow_cache.specs.Closed.{metered_by};
-ghost use Rattle.flow_cache.specs.Shown.{means_of, shown_of, retired_of, slots_of, IsOf, IsTryOf};
+ghost use Rattle.flow_cache.specs.Shown.{means_of, shown_of, retired_of, ejections_of, slots_of, IsOf, IsTryOf};
 
 use crate::cache::{PebrCache, PebrPass};
 use crate::stop::Never;
@@ -36,6 +36,7 @@ impl FlowCache for PebrCache {
         ensures answer { IsMetered (means_of self.now) IsTryOf (shown_of pass.old)
             (shown_of pass.new) packet.now result.how result.out }
         ensures retired { retired_of pass.new ≤ slots_of self.now }
+        ensures ejections { retired_of pass.old ≢ slots_of self.now → ejections_of pass.new ≡ ejections_of pass.old }
     {
         self.meter_stopping(pass, packet, &mut Never)
     }

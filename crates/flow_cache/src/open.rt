@@ -57,7 +57,7 @@ impl PebrCache {
         Ok(passes)
     }
 
-    /// A cache of so many sets, and a pass for each seat.
+    /// A cache of so many sets, 1 to 65,536, and a pass for each of 1 to 64 seats.
     ///
     /// # Errors
     ///

@@ -11,7 +11,7 @@ ghost use Rattle.pebr_roots.specs.Under.{slot_at, is_valid_at};
 ghost use Rattle.pebr_roots.specs.Passes.{known_by, note_by, past_by, IsOf, IsSame};
 ghost use Rattle.flow_cache.specs.Reading.{words_read, entries_read, set_read};
 ghost use Rattle.flow_cache.specs.Shown.{roots_of};
-ghost use Rattle.flow_cache.specs.Trying.{AreLoaded, AreProtected, IsUnlost, HasMore, HasTen};
+ghost use Rattle.flow_cache.specs.Trying.{AreLoaded, AreProtected, IsUnlost, HasMore, HasTen, HasReadTen};
 
 use crate::cache::PebrCache;
 use crate::protocol::CacheRule;
@@ -101,7 +101,8 @@ impl PebrCache {
               (past_by pass.new).steps;
           reads = (past_by pass.new).reads;
         } }
-        ensures count { length (past_by pass.new).reads ≡ 10 + length (past_by pass.old).reads }
+        ensures grown { HasReadTen (slot_at (known_by pass.old) place) result (past_by pass.old).reads
+            (past_by pass.new).reads }
         ensures more { HasMore (past_by pass.old).reads (past_by pass.new).reads }
         ensures ten { HasTen (past_by pass.new).reads (slot_at (known_by pass.old) place) }
         ensures entry { result ≡ entry_of (words_read (past_by pass.new).reads (slot_at (known_by pass.old) place)) }
@@ -127,7 +128,8 @@ impl PebrCache {
               (past_by pass.new).steps;
           reads = (past_by pass.new).reads;
         } }
-        ensures count { length (past_by pass.new).reads ≡ 10 + length (past_by pass.old).reads }
+        ensures grown { HasReadTen (slot_at (known_by pass.old) place) (entry_of words.new) (past_by pass.old).reads
+            (past_by pass.new).reads }
         ensures more { HasMore (past_by pass.old).reads (past_by pass.new).reads }
         ensures read { (word : ℕ) → word < 10 → written_at (past_by pass.new).reads
             (slot_at (known_by pass.old) place) word ≡ Some (slice_index words.new word) }

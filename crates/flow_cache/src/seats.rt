@@ -1,4 +1,4 @@
-//! The cache as one sees it who keeps an entry of it: its roots, and the seat of a pass.
+//! What a watcher needs of the cache: its roots, and the seat of a pass.
 
 ghost use Rattle.std.specs.Prelude.{◌≡◌, ◌+◌, ◌≤◌, ◌<◌, ◌∷◌, ◌^◌, ◌-◌, length, min, IsTrue, false};
 ghost use Rattle.std.specs.List.{list_all};

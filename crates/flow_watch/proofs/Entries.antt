@@ -4,12 +4,12 @@ use Rattle.flow_parts.specs.declared.fragment.Fragment.{Fragment}
 use Rattle.cache_face.specs.Choice.{entry_at}
 use Rattle.cache_face.specs.Keeping.{entry_of}
 use Rattle.pebr_core.specs.State.{Seat}
-use Rattle.pebr_words.specs.Pasts.{History, shown_at}
+use Rattle.pebr_words.specs.Pasts.{Load, History, shown_at}
 use Rattle.pebr_roots.specs.Under.{slot_at, is_valid, is_valid_at}
 use Rattle.flow_cache.specs.Places.{root_of}
-use Rattle.flow_cache.specs.Reading.{words_read, entries_read, entry_read}
+use Rattle.flow_cache.specs.Reading.{words_read, entries_read}
 use Rattle.flow_cache.specs.Trying.{AreProtected, HasTen, HasMore}
-use Rattle.flow_cache.proofs.Sets.{at_place, entry_is, words_stay, ten_stay}
+use Rattle.flow_cache.proofs.Sets.{at_place, words_stay, ten_stay}
 use Rattle.flow_watch.specs.Holding.{IsHolding}
 
 -- what the shields are is what stands under them
@@ -19,27 +19,25 @@ slot_still old new place same = ap (λ shields. slot_at (record old { shields = 
 -- a fragment that was found among the entries read is under its shield
 pub holds : (set place : ℕ) (fragment : Fragment) (known known' : Seat) (past old past' : History)
     (entries : List (Option Fragment)) → place < 4 → AreProtected set known old → entries ≡ entries_read past set
-    → entry_at entries place ≡ Some fragment → past.loads ≡ old.loads → HasTen past.reads (slot_at known place)
+    → entry_at entries place ≡ Some fragment → past.loads ≡ old.loads
+    → ((p : ℕ) → p < 4 → HasTen past.reads (slot_at known p))
     → known'.shields ≡ known.shields → past'.reads ≡ past.reads
     → IsHolding place fragment known' past'
 holds set place fragment known known' past old past' entries low protected is found loads ten shields reads =
     let p = protected.each place low in
     let slot : slot_at known' place ≡ slot_at known place = slot_still known known' place shields in
-    let shown : shown_by past ≡ Some (slot_at known place) =
-    ap (λ ls. shown_by (record old { loads = ls })) loads ∙ p.1.0 in
+    let shown : (p : ℕ) → p < 4 → shown_at past.loads (root_of set p) ≡ Some (slot_at known p) =
+    λ p lt. ap (λ (ls : List Load). shown_at ls (root_of set p)) loads ∙ (protected.each p lt).1.0 in
     let entry : entry_of (words_read past.reads (slot_at known place)) ≡ Some fragment =
-    sym (entry_is past (root_of set place) (slot_at known place) shown) ∙ sym (at_place past set place low)
-    ∙ ap (λ es. entry_at es place) (sym is) ∙ found in
+    sym (at_place past set (slot_at known) shown ten place low) ∙ ap (λ es. entry_at es place) (sym is) ∙ found in
     record {
       within = low;
       valid = ap (λ shields. is_valid_at (record known { shields = shields }) place) shields ∙ ap is_valid p.0;
-      ten = subst (λ rs. HasTen rs (slot_at known' place)) (sym reads) (subst (HasTen past.reads) (sym slot) ten);
+      ten = subst (λ rs. HasTen rs (slot_at known' place)) (sym reads)
+          (subst (HasTen past.reads) (sym slot) (ten place low));
       entry = ap (λ rs. entry_of (words_read rs (slot_at known' place))) reads
           ∙ ap (λ s. entry_of (words_read past.reads s)) slot ∙ entry;
     }
-  where
-    shown_by : History → Option ℕ
-    shown_by p = shown_at p.loads (root_of set place)
 
 -- what is held is read again
 pub again : (place : ℕ) (fragment : Fragment) (known : Seat) (old new : History) (result : Option Fragment)

@@ -1,5 +1,5 @@
 -- An entry that is held, and an entry that isn't there.
-use Rattle.std.specs.Prelude.{◌≡◌, ℕ, ◌<◌, IsTrue, Some}
+use Rattle.std.specs.Prelude.{◌≡◌, ℕ, ◌<◌, IsTrue, Some, length}
 use Rattle.flow_key.specs.declared.key.FlowKey.{FlowKey}
 use Rattle.flow_parts.specs.declared.fragment.Fragment.{Fragment}
 use Rattle.cache_face.specs.Choice.{HasKey, HasNone, IsLowest, entry_at}
@@ -17,12 +17,13 @@ pub record IsHolding (place : ℕ) (fragment : Fragment) (known : Seat) (past : 
   pub ten : HasTen past.reads (slot_at known place)
   pub entry : entry_of (words_read past.reads (slot_at known place)) ≡ Some fragment
 
--- Of the four entries that were read of the set, the lowest with the key is this fragment.
+-- The four entries of the set were read, and the lowest of them with the key is this fragment.
 pub record IsHeld (set : ℕ) (key : FlowKey) (past : History) (fragment : Fragment) : Type 0 where
+  pub four : length (entries_read past set) ≡ 4
   pub place : ℕ
   pub lowest : IsLowest (HasKey key) (entries_read past set) place
   pub is : entry_at (entries_read past set) place ≡ Some fragment
 
--- None of the four entries that were read of the set has the key.
+-- The four entries of the set were read, and none of them has the key.
 abbrev pub IsAbsent : ℕ → FlowKey → History → Type 0
-IsAbsent set key past = HasNone (HasKey key) (entries_read past set)
+IsAbsent set key past = (length (entries_read past set) ≡ 4) × HasNone (HasKey key) (entries_read past set)

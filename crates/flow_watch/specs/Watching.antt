@@ -1,5 +1,6 @@
 -- What a watcher holds, and what came of its asking.
-use Rattle.std.specs.Prelude.{◌≡◌, ◌≢◌, ◌<◌, List, ◌++◌, Option, Some, None, MatchOption, IfSome, option_map, replicate}
+use Rattle.std.specs.Prelude.{◌≡◌, ◌≢◌, ℕ, ◌<◌, List, ◌++◌, Option, Some, None, MatchOption, IfSome, option_map}
+use Rattle.std.specs.Prelude.{replicate}
 use Rattle.flow_key.specs.Key.{set_number}
 use Rattle.flow_key.specs.declared.key.FlowKey.{FlowKey}
 use Rattle.flow_parts.specs.declared.fragment.Fragment.{Fragment}
@@ -9,8 +10,10 @@ use Rattle.pebr_words.specs.Pasts.{History, was_ejected}
 use Rattle.pebr_words.specs.Pasts as pasts
 use Rattle.pebr_roots.specs.Passes as roots
 use Rattle.pebr_roots.specs.Passes.{known_by, note_by, past_by, lost_by, count_by_pass, IsUnitedPass}
+use Rattle.pebr_roots.specs.Under.{slot_at}
 use Rattle.flow_cache.specs.declared.cache.PebrCache.{PebrCache}
 use Rattle.flow_cache.specs.Shown.{roots_of}
+use Rattle.flow_cache.specs.Trying.{HasReadTen}
 use Rattle.flow_watch.specs.declared.watcher.Watcher.{Watcher}
 use Rattle.flow_watch.specs.declared.watcher.Watch.{Watch}
 use Rattle.flow_watch.specs.declared.watcher.Watch.TheVariants.{Held, Absent, Lost}
@@ -19,6 +22,10 @@ use Rattle.flow_watch.specs.Holding.{IsHolding, IsHeld, IsAbsent}
 -- The fragment that a watcher holds, and none where it is idle.
 abbrev pub held_by : Watcher → Option Fragment
 held_by watcher = option_map (λ hold. hold.fragment) watcher.held
+
+-- The slot that it holds.
+abbrev pub slot_held_by : Watcher → Option ℕ
+slot_held_by watcher = option_map (λ hold. slot_at (known_by watcher.seat) hold.place) watcher.held
 
 -- What the watcher's seat has done as a pass of the cache, its steps, and the tries that it lost, the newest first.
 abbrev pub note_of : Watcher → Note
@@ -36,6 +43,11 @@ pub record IsOf (cache : PebrCache) (watcher : Watcher) : Type 0 where
   pub seats : (note_of watcher).seats ≡ count_by_pass watcher.seat
   pub united : IsUnitedPass empty_note watcher.seat
   pub holds : IfSome watcher.held (λ hold. IsHolding hold.place hold.fragment (known_by watcher.seat) (past_of watcher))
+
+-- The reads of the watcher's seat grew by the ten words of the slot that it holds, and these are the fragment's.
+abbrev pub HasRead : Fragment → Watcher → Watcher → Type 0
+HasRead fragment old new =
+    MatchOption (slot_held_by old) ⊥ (λ slot. HasReadTen slot (Some fragment) (past_of old).reads (past_of new).reads)
 
 -- What came of asking for a key, and why. Held and Absent: the four entries of the key's set were read in this call,
 -- since the watcher entered in it. Lost: in this call it was ejected three times, and there is another seat.

@@ -1,12 +1,12 @@
 //! What a watcher is asked to do.
 
-ghost use Rattle.std.specs.Prelude.{◌≡◌, ◌≢◌, ◌<◌, ◌+◌, ◌∷◌, length, map, IsNone, IfSome, Some, None};
+ghost use Rattle.std.specs.Prelude.{◌≡◌, ◌≢◌, ◌<◌, ◌∷◌, map, IsNone, IfSome, Some, None};
 ghost use Rattle.flow_cache.specs.declared.cache.PebrCache.{PebrCache};
 ghost use Rattle.flow_cache.specs.Shown as shown;
 ghost use Rattle.flow_cache.specs.Shown.{means_of, shown_of, try_of};
 ghost use Rattle.flow_key.specs.Key.{set_number};
 ghost use Rattle.pebr_words.specs.Pasts.{was_ejected};
-ghost use Rattle.flow_watch.specs.Watching.{IsOf, IsWatched, held_by, note_of, past_of, lost_of};
+ghost use Rattle.flow_watch.specs.Watching.{IsOf, IsWatched, HasRead, held_by, slot_held_by, note_of, past_of, lost_of};
 
 use crate::hold::{Tried, attempt};
 use crate::watcher::{Watch, Watcher};
@@ -92,7 +92,8 @@ impl Watcher {
         ensures note { note_of self.new ≡ note_of self.old }
         ensures held { held_by self.new ≡ held_by self.old }
         ensures read { Some result ≡ held_by self.old }
-        ensures ten { length (past_of self.new).reads ≡ 10 + length (past_of self.old).reads }
+        ensures slot { slot_held_by self.new ≡ slot_held_by self.old }
+        ensures ten { HasRead result self.old self.new }
     {
         let Some(hold) = self.held else {
             unreachable!()

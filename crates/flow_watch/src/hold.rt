@@ -1,4 +1,4 @@
-//! Holding a flow, reading it and releasing it.
+//! One try to hold a flow: the entries of its set are read, and the shields stay up where one is kept.
 
 ghost use Rattle.std.specs.Prelude.{◌≡◌, ◌<◌, IsTrue, IsNone, IfSome, Some, false};
 ghost use Rattle.std.specs.List.{list_all};

@@ -4,7 +4,7 @@
 //!     metering_alone WORKERS WINDOW SETS < CAPTURE
 //!
 //! It writes one line: how many records there are, how many of them are packets, and the octets of these. The status is
-//! 0, 1 where the capture isn't metered, 2 where the words are no such numbers.
+//! 0, 1 where the capture isn't metered or the line can't be written, 2 where the words are no such numbers.
 #![tactic(auto)]
 
 ghost use Rattle.std.specs.Prelude.{◌≤◌, ◌^◌};

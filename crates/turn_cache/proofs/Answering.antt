@@ -14,6 +14,7 @@ use Rattle.cache_face.specs.Tries.{LostTry, turn_taken}
 use Rattle.turn_cache.specs.Hands.{Hand, entries_of}
 use Rattle.turn_cache.specs.Moves.{filled, after_tries, passed_by}
 use Rattle.turn_cache.specs.Shown.{IsTryOf}
+use Rattle.turn_cache.proofs.Writing.{shown_there}
 
 -- what a seat's knowledge means
 abbrev pub hand_means : Hand → PassMeans
@@ -78,12 +79,13 @@ answer_is cache old new own out place kept how.PassedBy tries set four chosen lo
 
 pub answered : (cache : CacheMeans) (hand : Hand) (own : Fragment) (out : Option Fragment) (place : ℕ) (kept : Fragment)
     (by : How) (set tries : ℕ) (words : List ℕ) (packets : List Packet)
-    → set ≡ set_number own.key cache.sets → tries < 3 → IsChoice cache.limits (entries_of words) own by place out kept
+    → set ≡ set_number own.key cache.sets → tries < 3 → length words ≡ 40
+    → IsChoice cache.limits (entries_of words) own by place out kept
     → IsAnswer cache IsTryOf (hand_means hand)
     (hand_means (filled words packets out (after_tries set tries hand))) own by out
-answered cache hand own out place kept by set tries words packets is_set few chosen =
+answered cache hand own out place kept by set tries words packets is_set few long chosen =
     answer_is cache (hand_means hand) (hand_means (filled words packets out (after_tries set tries hand))) own out place
-    kept by (tries_at tries set) is_set refl chosen
+    kept by (tries_at tries set) is_set (ap length (shown_there words long)) chosen
     (listed hand.lost tries set, subst (λ n. All (IsTryOf n) (tries_at tries set)) is_set (all_at_set tries set))
     (let many = so_many tries set in omega (arith, many, few))
 

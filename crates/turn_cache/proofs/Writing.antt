@@ -1,7 +1,9 @@
 -- Ten words that are read and written one after another.
 use Rattle.std.proofs.Common.{◌≡◌, ℕ, zero, suc, ◌+◌, ◌*◌, ◌<◌, List, [], ◌∷◌, ◌++◌, length, map, get_or, set, take}
-use Rattle.std.proofs.Common.{drop, sym, refl, ap, ◌∙◌, arith, append_assoc, length-append, None}
+use Rattle.std.proofs.Common.{drop, sym, refl, ap, ◌∙◌, arith, append_assoc, length-append, Option, None}
+use Rattle.std.specs.Prelude.{◌==◌, if◌then◌else◌}
 use Rattle.std.proofs.lemmas.List.{append-nil}
+use Rattle.flow_parts.specs.declared.fragment.Fragment.{Fragment}
 use Rattle.cache_face.specs.Keeping.{entry_of}
 use Rattle.turn_cache.specs.Hands.{Hand, entries_of}
 use Rattle.turn_cache.specs.Moves.{more_read}
@@ -99,7 +101,21 @@ pub mixed_stays : (k : ℕ) (new old : List ℕ) → k < length new → k < leng
     → mixed (k + 1) new old ≡ mixed k new old
 mixed_stays k new old low low' e = ap (λ m. mixed m new old) (sym (next_is k)) ∙ mixed_same k new old low low' e
 
--- four entries, each of ten words
+-- four times ten words
+pub forty : (a b c d : List ℕ) → length a ≡ 10 → length b ≡ 10 → length c ≡ 10 → length d ≡ 10
+    → length (a ++ (b ++ (c ++ d))) ≡ 40
+forty a b c d p q r s = let l = length-append a (b ++ (c ++ d)) in let m = length-append b (c ++ d) in
+    let n = length-append c d in omega (arith, l, m, n, p, q, r, s)
+
+-- the entries that forty words show
+abbrev pub shown_in : List ℕ → List (Option Fragment)
+shown_in words = entry_of (take 10 words) ∷ entry_of (take 10 (drop 10 words)) ∷ entry_of (take 10 (drop 20 words))
+    ∷ entry_of (take 10 (drop 30 words)) ∷ []
+
+pub shown_there : (words : List ℕ) → length words ≡ 40 → entries_of words ≡ shown_in words
+shown_there words long = ap (λ n. if n == 40 then shown_in words else []) long
+
+-- the entries of four times ten words
 pub four_entries : (a b c d : List ℕ) → length a ≡ 10 → length b ≡ 10 → length c ≡ 10 → length d ≡ 10
     → entries_of (a ++ (b ++ (c ++ d))) ≡ entry_of a ∷ entry_of b ∷ entry_of c ∷ entry_of d ∷ []
 four_entries a b c d p q r s =
@@ -112,8 +128,10 @@ four_entries a b c d p q r s =
     ap (drop 30) (sym (append_assoc a b (c ++ d)) ∙ sym (append_assoc (a ++ b) c d))
     ∙ drop_front ((a ++ b) ++ c) d 30 (let l = length-append (a ++ b) c in let m = length-append a b in
     omega (arith, l, m, p, q, r)) in
-    λ i. entry_of (front i) ∷ entry_of ((ap (take 10) one ∙ take_front b (c ++ d) 10 q) i)
-    ∷ entry_of ((ap (take 10) two ∙ take_front c d 10 r) i) ∷ entry_of ((ap (take 10) three ∙ take_whole d 10 s) i) ∷ []
+    shown_there (a ++ (b ++ (c ++ d))) (forty a b c d p q r s)
+    ∙ (λ i. entry_of (front i) ∷ entry_of ((ap (take 10) one ∙ take_front b (c ++ d) 10 q) i)
+    ∷ entry_of ((ap (take 10) two ∙ take_front c d 10 r) i) ∷ entry_of ((ap (take 10) three ∙ take_whole d 10 s) i)
+    ∷ [])
 
 -- the words at a place of four, what stands before and what behind
 pub piece : (a b c d : List ℕ) (place : ℕ) → place < 4 → length a ≡ 10 → length b ≡ 10 → length c ≡ 10

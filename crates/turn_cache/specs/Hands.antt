@@ -1,6 +1,6 @@
 -- What a seat knows.
-use Rattle.std.specs.Prelude.{ℕ, suc, ◌+◌, ◌-◌, Bool, false, ◌==◌, ◌&&◌, cond, List, [], ◌∷◌, ◌++◌, Option, take, drop}
-use Rattle.std.specs.Prelude.{nat_lt, slice_index_or}
+use Rattle.std.specs.Prelude.{ℕ, suc, ◌+◌, ◌-◌, Bool, false, ◌==◌, ◌&&◌, cond, if◌then◌else◌, List, [], ◌∷◌, ◌++◌}
+use Rattle.std.specs.Prelude.{length, Option, take, drop, nat_lt, slice_index_or}
 use Rattle.flow_parts.specs.declared.fragment.Fragment.{Fragment}
 use Rattle.cache_face.specs.Keeping.{entry_of}
 use Rattle.cache_face.specs.Notes.{Note, unused, first_note, empty_note, merged}
@@ -68,10 +68,12 @@ abbrev pub total : (Hand → ℕ) → List Hand → ℕ
 total f [] = 0
 total f (hand ∷ hands) = f hand + total f hands
 
--- The four entries that forty words show.
+-- The four entries that forty words show; none where there are more words or fewer.
 abbrev pub entries_of : List ℕ → List (Option Fragment)
-entries_of words = entry_of (take 10 words) ∷ entry_of (take 10 (drop 10 words)) ∷ entry_of (take 10 (drop 20 words))
+entries_of words = if length words == 40
+    then entry_of (take 10 words) ∷ entry_of (take 10 (drop 10 words)) ∷ entry_of (take 10 (drop 20 words))
     ∷ entry_of (take 10 (drop 30 words)) ∷ []
+    else []
 
 -- At a split the new seat gets the first number, and the other keeps the rest.
 abbrev pub rest_of : List ℕ → List ℕ

@@ -145,7 +145,7 @@ impl TurnCache {
         requires own { moves.IsOwn self.now.timeouts seat.old.me.0.note K.packets own.now }
         requires none_out { metered.old.out ≡ None }
         ensures at { seat.new.table_id ≡ seat.old.table_id }
-        ensures filled { (words : List ℕ)
+        ensures filled { (words : List ℕ) × (length words ≡ 40)
             × (seat.new.me ≡ (moves.filled words K.packets metered.new.out seat.old.me.0, seat.old.me.1))
             × ((place : ℕ) × (kept : Fragment) × choice.IsChoice self.now.timeouts
             (entries_of words) own.now metered.new.how place metered.new.out kept) }

@@ -1,7 +1,7 @@
 //! The program behind `checks/two_threads.sh`: two threads meter the capture of standard input into one cache of four
 //! sets. It writes `whole` where the fragments have just the packets and octets of the tally, `differs` where they
-//! don't, and
-//! `not metered` where the capture isn't metered; the status is 0, 1 or 2.
+//! don't, and `not metered` where the capture isn't metered; the status is 0, 1 or 2, and 3 where the line can't be
+//! written.
 #![tactic(auto)]
 
 ghost use Rattle.std.specs.Prelude.{◌<◌, ◌≤◌, ◌^◌, length};

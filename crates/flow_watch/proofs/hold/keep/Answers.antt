@@ -1,4 +1,5 @@
-use Rattle.std.proofs.Common.{◌≡◌, ◌<◌, ℕ, List, Option, Some, None, false, refl, sym, ap, ◌∙◌, subst, length, arith}
+use Rattle.std.proofs.Common.{rules, ◌≡◌, ◌<◌, ℕ, List, Option, Some, None, false, refl, sym, ap, ◌∙◌, subst, length}
+use Rattle.std.proofs.Common.{arith}
 use Rattle.std.specs.Prelude.{IfSome, IsNone, is_some}
 use Rattle.flow_parts.specs.declared.fragment.Fragment.{Fragment}
 use Rattle.cache_face.specs.Choice.{HasKey, HasNone, IsLowest, entry_at}
@@ -32,21 +33,23 @@ returns-clause-held c =
     let is : entries ≡ entries_read (past_by mid) set = c.read_set-entries.ensures.entries set c.requires.protected in
     let same : entries_read (past_by end) set ≡ entries_read (past_by mid) set =
     ap (λ (p : History). entries_read p set) c.leave.ensures.past in
+    let four : length entries ≡ 4 = search rules in
     with_some
     (λ (hold : Hold). IsLowest (HasKey key) entries hold.place × (entry_at entries hold.place ≡ Some hold.fragment))
     (λ (hold : Hold). IsHolding hold.place hold.fragment (known_by end) (past_by end)
     × IsHeld set key (past_by end) hold.fragment)
     c.lowest_of-hold.result c.lowest_of-hold.ensures.some
     (λ hold some h. (let low : hold.place < 4 =
-    (let b = h.0.below in let four : length entries ≡ 4 = ap length is in omega (arith, b, four)) in (
+    (let b = h.0.below in omega (arith, b, four)) in (
       holds set hold.place hold.fragment (known_by start) (known_by end) (past_by mid) (past_by start)
           (past_by end) entries low c.requires.protected is h.1
           (ap (λ (p : History). p.loads) c.read_set-entries.ensures.past)
-          (c.read_set-entries.ensures.ten hold.place low)
+          c.read_set-entries.ensures.ten
           (c.leave.ensures.held (c.is_some.ensures ∙ ap is_some some)
           ∙ ap (λ (k : Seat). k.shields) c.read_set-entries.ensures.known)
           (ap (λ (p : History). p.reads) c.leave.ensures.past),
       record {
+        four = ap length (same ∙ sym is) ∙ four;
         place = hold.place;
         lowest = subst (λ es. IsLowest (HasKey key) es hold.place) (is ∙ sym same) h.0;
         is = subst (λ es. entry_at es hold.place ≡ Some hold.fragment) (is ∙ sym same) h.1;
@@ -61,7 +64,11 @@ returns-clause-absent c none =
     let end = c.leave.new.seat in
     let is : entries ≡ entries_read (past_by mid) set = c.read_set-entries.ensures.entries set c.requires.protected in
     let same : entries_read (past_by end) set ≡ entries_read (past_by mid) set =
-    ap (λ (p : History). entries_read p set) c.leave.ensures.past in (
+    ap (λ (p : History). entries_read p set) c.leave.ensures.past in
+    let four : length entries ≡ 4 = search rules in (
       c.leave.ensures.down (c.is_some.ensures ∙ none_is c.lowest_of-hold.result none),
-      subst (HasNone (HasKey c.args.key.now)) (is ∙ sym same) (c.lowest_of-hold.ensures.none none),
+      (
+        ap length (same ∙ sym is) ∙ four,
+        subst (HasNone (HasKey c.args.key.now)) (is ∙ sym same) (c.lowest_of-hold.ensures.none none),
+      ),
     )

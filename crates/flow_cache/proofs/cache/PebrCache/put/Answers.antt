@@ -1,6 +1,7 @@
 use Rattle.std.proofs.Common.{rules, ◌≡◌, ◌<◌, ◌∙◌, ◌∷◌, [], ℕ, false, List, map, Option, Some, inr, refl, sym, ap}
 use Rattle.std.proofs.Common.{subst}
 use Rattle.std.specs.Prelude.{slice_index}
+use Rattle.std.proofs.lemmas.List.{length-map}
 use Rattle.flow_parts.specs.declared.fragment.Fragment.{Fragment}
 use Rattle.flow_parts.specs.declared.timeouts.Timeouts.{Timeouts}
 use Rattle.flow_parts.specs.Parts.{part_words}
@@ -25,7 +26,7 @@ use Rattle.flow_cache.specs.Reading.{words_read, set_read}
 use Rattle.flow_cache.specs.Trying.{HasTen, HasChosen}
 use Rattle.flow_cache.proofs.Choosing.{choice_is}
 use Rattle.flow_cache.proofs.Histories.{chosen_of, lost_here}
-use Rattle.flow_cache.proofs.Sets.{can_replace, at_place, entry_is}
+use Rattle.flow_cache.proofs.Sets.{can_replace, at_place}
 use Rattle.flow_cache.proofs.cache.PebrCache.put.Goals as goal
 
 pub replace-requires-clause-keeps : goal.replace-requires-clause-keeps
@@ -53,11 +54,13 @@ replace-requires-clause-keeps g c =
     let reads : (past_by end).reads ≡ (past_by mid).reads = ap (λ (p : History). p.reads) c.fill.ensures.past in
     let loads : (past_by mid).loads ≡ (past_by start).loads =
     ap (λ (p : History). p.loads) c.read_contents.ensures.past in
-    let loaded : shown_at (past_by mid).loads root ≡ Some slot =
-    ap (λ (ls : List Load). shown_at ls root) loads ∙ (c.requires.protected.each place low).1.0 in
+    let loaded : (p : ℕ) → p < 4
+    → shown_at (past_by mid).loads (root_of c.args.set p) ≡ Some (slot_at (known_by start) p)
+    = λ p lt. ap (λ (ls : List Load). shown_at ls (root_of c.args.set p)) loads
+    ∙ (c.requires.protected.each p lt).1.0 in
     let entry : entry_at (map entry_of contents) place ≡ entry_of (words_read (past_by end).reads slot)
     = ap (λ es. entry_at es place) (c.read_contents.ensures.entries c.args.set c.requires.protected)
-    ∙ at_place (past_by mid) c.args.set place low ∙ entry_is (past_by mid) root slot loaded
+    ∙ at_place (past_by mid) c.args.set (slot_at (known_by start)) loaded c.read_contents.ensures.ten place low
     ∙ ap (λ (rs : List Read). entry_of (words_read rs slot)) (sym reads) in
     let takes : Takes cache.timeouts c.args.own.now (entry_of (words_read (past_by end).reads slot)) out kept
     = subst (λ e. Takes cache.timeouts c.args.own.now e out kept) entry
@@ -113,6 +116,7 @@ returns-in-Replaced-clause-done g c done =
     = chosen_of limits c.args.set (past_by mid) (past_by new) c.args.own.now chosen.0 how place out
     (map entry_of contents)
     (ap (λ (p : History). set_read p.loads) c.read_contents.ensures.past ∙ c.requires.protected.last)
+    (length-map contents entry_of ∙ (search rules))
     (c.read_contents.ensures.entries c.args.set c.requires.protected) choice loads reads in (
       subst (λ r. note_by first_note new ≡ replaced_note r (packets (note_by first_note end)) (note_by first_note end))
           c.in-Replaced.is c.replace.ensures.note ∙ ap packets note_is

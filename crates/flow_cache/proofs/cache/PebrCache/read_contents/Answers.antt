@@ -5,14 +5,14 @@ use Rattle.flow_parts.specs.declared.fragment.Fragment.{Fragment}
 use Rattle.cache_face.specs.Keeping.{entry_of, IsWhole}
 use Rattle.cache_face.proofs.Four.{all_four}
 use Rattle.pebr_core.specs.State.{Seat}
-use Rattle.pebr_words.specs.Pasts.{Load, Read, History, shown_at}
+use Rattle.pebr_words.specs.Pasts.{Load, Read, History, shown_at, written_at}
 use Rattle.pebr_roots.specs.Under.{slot_at}
 use Rattle.pebr_roots.specs.Passes.{known_by, past_by}
 use Rattle.flow_cache.specs.Places.{root_of}
-use Rattle.flow_cache.specs.Reading.{words_read, entry_read}
+use Rattle.flow_cache.specs.Reading.{words_read}
 use Rattle.flow_cache.specs.Trying.{HasMore, HasTen}
 use Rattle.flow_cache.proofs.Histories.{more_more}
-use Rattle.flow_cache.proofs.Sets.{ten_stay, words_stay, words_are, entry_is}
+use Rattle.flow_cache.proofs.Sets.{has_ten, ten_stay, words_stay, words_are, four_read}
 use Rattle.flow_cache.proofs.cache.PebrCache.read_contents.Goals as goal
 
 each_of_four : (P : ℕ → Type 0) → P 0 → P 1 → P 2 → P 3 → (place : ℕ) → place < 4 → P place
@@ -27,11 +27,12 @@ same_four : (a b c d a' b' c' d' : Option Fragment) → a ≡ a' → b ≡ b' �
 same_four a b c d a' b' c' d' p q r s = λ i. p i ∷ q i ∷ r i ∷ s i ∷ []
 
 -- an entry as it was read first is read so at the end
-read_so : (result : Option Fragment) (then : List Read) (past : History) (root slot : ℕ)
-    → result ≡ entry_of (words_read then slot) → HasMore then past.reads → HasTen then slot
-    → shown_at past.loads root ≡ Some slot → result ≡ entry_read past root
-read_so result then past root slot is more ten loaded =
-    is ∙ ap entry_of (words_stay then past.reads slot more ten) ∙ sym (entry_is past root slot loaded)
+read_so : (words : List ℕ) (then reads : List Read) (slot slot' : ℕ) → length words ≡ 10
+    → ((word : ℕ) → word < 10 → written_at then slot word ≡ Some (slice_index words word)) → HasMore then reads
+    → slot ≡ slot' → entry_of words ≡ entry_of (words_read reads slot')
+read_so words then reads slot slot' long each more same = ap entry_of (words_are then slot words long each)
+    ∙ ap entry_of (words_stay then reads slot more (has_ten then slot words long each))
+    ∙ ap (λ s. entry_of (words_read reads s)) same
 
 -- four contents, each put in its place
 four_set : (contents : List (List ℕ)) (a b c d : List ℕ) → length contents ≡ 4
@@ -57,14 +58,13 @@ returns-clause-ten c =
     let from_a = more_more (past_by a.new.pass).reads (past_by b.new.pass).reads r b.ensures.more from_b in
     each_of_four (λ place. HasTen r (slot_at known place))
     (ten_stay (past_by a.new.pass).reads r (slot_at known 0) from_a
-    (λ word low. (slice_index a.new.words word, a.ensures.read word low)))
-    (subst (HasTen r) at_b
-    (ten_stay (past_by b.new.pass).reads r (slot_at (known_by a.new.pass) 1) from_b
-    (λ word low. (slice_index b.new.words word, b.ensures.read word low))))
-    (subst (HasTen r) at_d
-    (ten_stay (past_by d.new.pass).reads r (slot_at (known_by b.new.pass) 2) e.ensures.more
-    (λ word low. (slice_index d.new.words word, d.ensures.read word low))))
-    (subst (HasTen r) at_e (λ word low. (slice_index e.new.words word, e.ensures.read word low)))
+    (has_ten (past_by a.new.pass).reads (slot_at known 0) a.new.words a.ensures.long a.ensures.read))
+    (subst (HasTen r) at_b (ten_stay (past_by b.new.pass).reads r (slot_at (known_by a.new.pass) 1) from_b
+    (has_ten (past_by b.new.pass).reads (slot_at (known_by a.new.pass) 1) b.new.words b.ensures.long b.ensures.read)))
+    (subst (HasTen r) at_d (ten_stay (past_by d.new.pass).reads r (slot_at (known_by b.new.pass) 2) e.ensures.more
+    (has_ten (past_by d.new.pass).reads (slot_at (known_by b.new.pass) 2) d.new.words d.ensures.long d.ensures.read)))
+    (subst (HasTen r) at_e
+    (has_ten r (slot_at (known_by d.new.pass) 3) e.new.words e.ensures.long e.ensures.read))
 
 pub returns-clause-entries : goal.returns-clause-entries
 returns-clause-entries c set protected =
@@ -84,27 +84,19 @@ returns-clause-entries c set protected =
     let from_a = more_more (past_by a.new.pass).reads (past_by b.new.pass).reads past.reads b.ensures.more from_b in
     let at : (place : ℕ) → place < 4 → shown_at past.loads (root_of set place) ≡ Some (slot_at known place) =
     λ place low. ap (λ (ls : List Load). shown_at ls (root_of set place)) loads ∙ (protected.each place low).1.0 in
+    let entry : ℕ → Option Fragment = λ place. entry_of (words_read past.reads (slot_at known place)) in
     ap (map entry_of) (four_set c.args.contents.now a.new.words b.new.words d.new.words e.new.words c.told-contents)
     ∙ same_four (entry_of a.new.words) (entry_of b.new.words) (entry_of d.new.words) (entry_of e.new.words)
-    (entry_read past (root_of set 0)) (entry_read past (root_of set 1)) (entry_read past (root_of set 2))
-    (entry_read past (root_of set 3))
-    (read_so (entry_of a.new.words) (past_by a.new.pass).reads past (root_of set 0) (slot_at known 0)
-    (ap entry_of (words_are (past_by a.new.pass).reads (slot_at known 0) a.new.words a.ensures.long a.ensures.read))
-    from_a (λ word low. (slice_index a.new.words word, a.ensures.read word low)) (at 0 (omega arith)))
-    (read_so (entry_of b.new.words) (past_by b.new.pass).reads past (root_of set 1) (slot_at (known_by a.new.pass) 1)
-    (ap entry_of
-    (words_are (past_by b.new.pass).reads (slot_at (known_by a.new.pass) 1) b.new.words b.ensures.long b.ensures.read))
-    from_b (λ word low. (slice_index b.new.words word, b.ensures.read word low))
-    (at 1 (omega arith) ∙ ap (λ n. Some n) (sym at_b)))
-    (read_so (entry_of d.new.words) (past_by d.new.pass).reads past (root_of set 2) (slot_at (known_by b.new.pass) 2)
-    (ap entry_of
-    (words_are (past_by d.new.pass).reads (slot_at (known_by b.new.pass) 2) d.new.words d.ensures.long d.ensures.read))
-    e.ensures.more (λ word low. (slice_index d.new.words word, d.ensures.read word low))
-    (at 2 (omega arith) ∙ ap (λ n. Some n) (sym at_d)))
-    (read_so (entry_of e.new.words) past.reads past (root_of set 3) (slot_at (known_by d.new.pass) 3)
-    (ap entry_of (words_are past.reads (slot_at (known_by d.new.pass) 3) e.new.words e.ensures.long e.ensures.read))
-    (λ slot word value is. is) (λ word low. (slice_index e.new.words word, e.ensures.read word low))
-    (at 3 (omega arith) ∙ ap (λ n. Some n) (sym at_e)))
+    (entry 0) (entry 1) (entry 2) (entry 3)
+    (read_so a.new.words (past_by a.new.pass).reads past.reads (slot_at known 0) (slot_at known 0)
+    a.ensures.long a.ensures.read from_a refl)
+    (read_so b.new.words (past_by b.new.pass).reads past.reads (slot_at (known_by a.new.pass) 1) (slot_at known 1)
+    b.ensures.long b.ensures.read from_b at_b)
+    (read_so d.new.words (past_by d.new.pass).reads past.reads (slot_at (known_by b.new.pass) 2) (slot_at known 2)
+    d.ensures.long d.ensures.read e.ensures.more at_d)
+    (read_so e.new.words past.reads past.reads (slot_at (known_by d.new.pass) 3) (slot_at known 3)
+    e.ensures.long e.ensures.read (λ slot word value is. is) at_e)
+    ∙ sym (four_read past set (slot_at known) at (returns-clause-ten c))
 
 pub returns-clause-whole : goal.returns-clause-whole
 returns-clause-whole c =

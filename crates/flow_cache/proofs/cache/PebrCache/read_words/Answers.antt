@@ -1,16 +1,20 @@
-use Rattle.std.proofs.Common.{◌≡◌, ◌≢◌, ◌+◌, ◌<◌, ◌∙◌, ◌∷◌, ℕ, List, Some, length, set, sym, ap, subst, arith}
+use Rattle.std.proofs.Common.{rules, ◌≡◌, ◌≢◌, ◌+◌, ◌<◌, ◌∙◌, [], ◌∷◌, ℕ, List, Some, length, set, refl, sym, ap, subst}
+use Rattle.std.proofs.Common.{arith}
 use Rattle.std.specs.Prelude.{slice_index}
 use Rattle.std.proofs.lemmas.List.{length-set, get_or-set_same, get_or-set_other}
 use mathlib.Core.Logic.{dite}
 use native.Mathlib.Decide.{ℕ_discrete}
+use Rattle.cache_face.specs.Keeping.{entry_of}
 use Rattle.pebr_core.specs.State.{Seat}
 use Rattle.pebr_core.specs.declared.kinds.Shape.{Shape}
 use Rattle.pebr_words.specs.Pasts.{Read, History, written_at}
 use Rattle.pebr_words.specs.Ruled.{HasReadWhole}
 use Rattle.pebr_roots.specs.Under.{slot_at}
 use Rattle.pebr_roots.specs.Passes.{shape_at, known_by, past_by}
+use Rattle.flow_cache.specs.Reading.{words_read}
 use Rattle.flow_cache.specs.Trying.{HasMore}
 use Rattle.flow_cache.proofs.Histories.{word_here, word_else, read_more, more_more, found_read}
+use Rattle.flow_cache.proofs.Sets.{has_ten, words_are}
 use Rattle.flow_cache.proofs.Tries.{go_on}
 use Rattle.flow_cache.proofs.cache.PebrCache.read_words.Goals as goal
 
@@ -25,6 +29,20 @@ next_word reads slot word value words low before k lt = dite (ℕ_discrete k wor
     (word_here reads slot word value ∙ ap (λ n. Some n) (sym (get_or-set_same words word value 0 low))))
     (λ (apart : k ≢ word). word_else reads slot word value k (λ e. apart (sym e)) ∙ before k (omega (arith, lt, apart))
     ∙ ap (λ n. Some n) (sym (get_or-set_other words word k value 0 apart)))
+
+pub loop-word-init : goal.loop-word-init
+loop-word-init c = record {
+  low = omega arith;
+  long = search rules;
+  same = search rules;
+  note = refl;
+  known = refl;
+  past = refl;
+  grown = ([], refl, refl, λ k lt. absurd (omega (arith, lt)));
+  more = λ slot word value is. is;
+  read = λ k lt. absurd (omega (arith, lt));
+  whole = λ some. absurd (omega (arith, some));
+}
 
 pub loop-word-preserved : goal.loop-word-preserved
 loop-word-preserved c =
@@ -52,14 +70,35 @@ loop-word-preserved c =
       note = c.read.ensures.note ∙ before.note;
       known = c.read.ensures.known ∙ before.known;
       past = ap rest c.read.ensures.step.past ∙ ap rest before.past;
-      count = (let long : length (past_by new).reads ≡ length (past_by old).reads + 1 = ap length reads ∙ omega arith in
-          let so = before.count in omega (arith, long, so));
+      grown = (let g = before.grown in (
+        record { slot = slot; word = word; value = value } ∷ g.0,
+        reads ∙ ap (λ (rs : List Read). record { slot = slot; word = word; value = value } ∷ rs) g.1,
+        (let many = g.2 in omega (arith, many)),
+        next_word g.0 slot word value c.loop-word.words low g.3,
+      ));
       more = more_more (past_by c.args.pass.now).reads (past_by old).reads (past_by new).reads before.more
           (subst (HasMore (past_by old).reads) (sym reads) (read_more (past_by old).reads slot word value again));
       read = λ k lt. subst (λ rs. written_at rs slot k ≡ Some (slice_index (set c.loop-word.words word value) k))
           (sym reads) (next_word (past_by old).reads slot word value c.loop-word.words low before.read k lt);
       whole = λ some content read. c.read.ensures.whole content
           (subst (λ n. HasReadWhole (shape_at roots) (past_by new) n content) (sym slot_is) read);
+    }
+
+pub returns-clause-grown : goal.returns-clause-grown
+returns-clause-grown c =
+    let g = c.loop-word.invariant.grown in
+    let words : List ℕ = c.loop-word.words in
+    let slot : ℕ = slot_at (known_by c.args.pass.now) c.args.place in
+    let whole : c.loop-word.word ≡ 10 = (let t = c.loop-word-test.false in let l = c.loop-word.invariant.low in
+    omega (arith, t, l)) in
+    let each : (k : ℕ) → k < 10 → written_at g.0 slot k ≡ Some (slice_index words k) =
+    λ k lt. g.3 k (omega (arith, lt, whole)) in
+    let is : words ≡ words_read g.0 slot = words_are g.0 slot words c.loop-word.invariant.long each in record {
+      reads = g.0;
+      grown = g.1;
+      many = g.2 ∙ whole;
+      ten = has_ten g.0 slot words c.loop-word.invariant.long each;
+      shows = ap entry_of (sym is);
     }
 
 pub returns-clause-whole : goal.returns-clause-whole

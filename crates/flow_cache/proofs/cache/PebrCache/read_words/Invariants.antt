@@ -1,8 +1,8 @@
-use Rattle.std.proofs.Common.{◌≡◌, ◌<◌, ◌≤◌, ◌+◌, ℕ, List, Some, length}
+use Rattle.std.proofs.Common.{◌≡◌, ◌<◌, ◌≤◌, ◌++◌, ℕ, List, Some, length}
 use Rattle.std.specs.Prelude.{slice_index}
 use Rattle.cache_face.specs.Keeping.{IsWhole}
 use Rattle.cache_face.specs.Notes.{first_note}
-use Rattle.pebr_words.specs.Pasts.{written_at}
+use Rattle.pebr_words.specs.Pasts.{Read, written_at}
 use Rattle.pebr_words.specs.Ruled.{HasReadWhole}
 use Rattle.pebr_roots.specs.Under.{slot_at}
 use Rattle.pebr_roots.specs.Passes.{shape_at, known_by, note_by, past_by, IsSame}
@@ -22,7 +22,9 @@ invariant-loop-word l = record {
         (past_by l.pass).steps;
     reads = (past_by l.pass).reads;
   };
-  count : length (past_by l.pass).reads ≡ l.word + length (past_by l.initial.pass).reads;
+  grown : (reads : List Read) × ((past_by l.pass).reads ≡ reads ++ (past_by l.initial.pass).reads)
+      × (length reads ≡ l.word) × ((k : ℕ) → k < l.word
+      → written_at reads (slot_at (known_by l.initial.pass) l.place) k ≡ Some (slice_index l.words k));
   more : HasMore (past_by l.initial.pass).reads (past_by l.pass).reads;
   read : (k : ℕ) → k < l.word → written_at (past_by l.pass).reads (slot_at (known_by l.initial.pass) l.place) k
       ≡ Some (slice_index l.words k);

@@ -1,6 +1,11 @@
-use Rattle.std.proofs.Common.{◌≡◌, Option, Some, None, sym, ap, ◌∙◌, subst}
-use Rattle.std.specs.Prelude.{IfSome, option_map}
+use Rattle.std.proofs.Common.{◌≡◌, List, Option, Some, None, sym, ap, ◌∙◌, subst}
+use Rattle.std.specs.Prelude.{IfSome, MatchOption, option_map}
+use Rattle.flow_parts.specs.declared.fragment.Fragment.{Fragment}
+use Rattle.pebr_core.specs.State.{Seat}
+use Rattle.pebr_words.specs.Pasts.{Read}
 use Rattle.pebr_roots.specs.Passes.{known_by, past_by}
+use Rattle.pebr_roots.specs.Under.{slot_at}
+use Rattle.flow_cache.specs.Trying.{HasReadTen}
 use Rattle.flow_watch.specs.declared.watcher.Hold.{Hold}
 use Rattle.flow_watch.specs.Holding.{IsHolding}
 use Rattle.flow_watch.proofs.Entries.{again, still_holding}
@@ -43,5 +48,19 @@ returns-clause-read c =
     (past_by c.read_entry.new.pass) c.read_entry.result h c.read_entry.ensures.more c.read_entry.ensures.entry
     ∙ ap (λ o. option_map (λ (hold : Hold). hold.fragment) o) (sym c.in-Some.is)
 
+pub returns-clause-slot : goal.returns-clause-slot
+returns-clause-slot c =
+    ap (λ (known : Seat). option_map (λ (hold : Hold). slot_at known hold.place) c.args.self.now.held)
+    c.read_entry.ensures.known
+
 pub returns-clause-ten : goal.returns-clause-ten
-returns-clause-ten c = c.read_entry.ensures.count
+returns-clause-ten c =
+    let seat = c.args.self.now.seat in
+    let old : List Read = (past_by seat).reads in
+    let new : List Read = (past_by c.read_entry.new.pass).reads in
+    let hold : Hold = c.in-Some.hold in
+    let entry : Option Fragment = c.read_entry.result in
+    let grown : HasReadTen (slot_at (known_by seat) hold.place) entry old new = c.read_entry.ensures.grown in
+    subst (λ (o : Option Hold). MatchOption (option_map (λ (hold : Hold). slot_at (known_by seat) hold.place) o) ⊥
+    (λ slot. HasReadTen slot (Some c.in-Some-read_entry.fragment) old new)) (sym c.in-Some.is)
+    (subst (λ e. HasReadTen (slot_at (known_by seat) hold.place) e old new) c.in-Some-read_entry.is grown)

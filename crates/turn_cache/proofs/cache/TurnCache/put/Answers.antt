@@ -11,7 +11,7 @@ use Rattle.cache_face.proofs.Four.{all_four}
 use Rattle.set_choice.specs.Chosen.{out_of}
 use Rattle.turn_cache.specs.Hands.{Hand, entries_of}
 use Rattle.turn_cache.specs.Moves.{Sat, more_read, filled}
-use Rattle.turn_cache.proofs.Writing.{read_four, piece, four_entries, four_set, entry_there}
+use Rattle.turn_cache.proofs.Writing.{read_four, piece, forty, four_entries, four_set, entry_there}
 use Rattle.turn_cache.proofs.cache.TurnCache.put.Goals as goal
 
 read_on_seat : (me one two three four : Sat) (a b c d : List ℕ) → one ≡ (more_read a me.0, me.1)
@@ -107,6 +107,8 @@ returns-clause-filled g c =
     (four_entries a b e d c.read_entry.ensures.long c.read_entry-2.ensures.long c.read_entry-3.ensures.long
     c.read_entry-4.ensures.long) in (
       words,
+      forty a b e d c.read_entry.ensures.long c.read_entry-2.ensures.long c.read_entry-3.ensures.long
+          c.read_entry-4.ensures.long,
       c.write.ensures.filled
           ∙ (ap (λ (out : Option Fragment). (
             filled c.read_entry-4.new.seat.me.0.read g.K.IsTaken.packets out c.read_entry-4.new.seat.me.0,

@@ -14,13 +14,13 @@ returns-then-take_turn-clause-answer g c =
     let put = c.put.ensures.filled in
     let is : c.put.new.seat.me.0 ≡ filled put.0 g.K.IsTaken.packets c.put.new.metered.out
     (after_tries c.set_of-set.result turn.0 c.args.pass.now.seat.me.0)
-    = ap (λ (m : Sat). m.0) put.1 ∙ ap (λ (m : Sat). filled put.0 g.K.IsTaken.packets c.put.new.metered.out m.0)
+    = ap (λ (m : Sat). m.0) put.2 ∙ ap (λ (m : Sat). filled put.0 g.K.IsTaken.packets c.put.new.metered.out m.0)
     turn.2 in
     subst (λ (h : Hand). IsAnswer (means_of c.args.self.now) IsTryOf (shown_of c.args.pass.now)
     (hand_means h) c.args.own.now c.put.new.metered.how c.put.new.metered.out) (sym is)
-    (answered (means_of c.args.self.now) c.args.pass.now.seat.me.0 c.args.own.now c.put.new.metered.out put.2.0 put.2.1
+    (answered (means_of c.args.self.now) c.args.pass.now.seat.me.0 c.args.own.now c.put.new.metered.out put.3.0 put.3.1
     c.put.new.metered.how c.set_of-set.result turn.0 put.0 g.K.IsTaken.packets
-    c.set_of-set.ensures.number turn.1 put.2.2)
+    c.set_of-set.ensures.number turn.1 put.1 put.3.2)
 
 pub returns-else-take_turn-clause-answer : goal.returns-else-take_turn-clause-answer
 returns-else-take_turn-clause-answer g c =
