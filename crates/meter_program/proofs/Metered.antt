@@ -10,15 +10,8 @@ use Rattle.flow_parts.specs.Laws.{StandsPermuted, CountsAll}
 use Rattle.flow_parts.specs.Sharing.{SharesOut}
 use Rattle.record_ledger.specs.declared.record.FlowRecord.{FlowRecord}
 use Rattle.meter_io.specs.Sides.{Side}
-use Rattle.capture_input.specs.Refusals.{IsRefused}
 use Rattle.meter_workers.specs.Windows.{IsMeteredWhole}
-use Rattle.capture_input.specs.declared.fault.MeterFault.{MeterFault}
-use Rattle.capture_input.specs.declared.fault.MeterFault.TheVariants.{Failed as SourceFailed, TooLarge as MoreBytes}
-use Rattle.capture_input.specs.declared.fault.MeterFault.TheVariants.{NotCapture as NoHeader, LinkUnknown as OtherLink}
-use Rattle.capture_input.specs.declared.fault.MeterFault.TheVariants.{Damaged as DamagedAt, NoMemory as NoRoom}
-use Rattle.meter_program.specs.declared.status.Status.{Status}
-use Rattle.meter_program.specs.Metering.{AreGathered, IsKept, IsReadAndKept, IsGathered, status_for}
-use Rattle.meter_program.specs.Outcome.{MeterRefuses}
+use Rattle.meter_program.specs.Metering.{AreGathered, IsKept, IsReadAndKept, IsGathered}
 
 -- the fragments that a cache kept share out the packets of the file, in whatever order these were metered
 pub read-and-kept : (input : Side) (means limits : Timeouts) (packets : List Packet) (metered : List Fragment)
@@ -40,16 +33,6 @@ read-and-kept input means limits packets metered tally tail permuted same whole 
     tail_is = whole.tail_is;
   };
 }
-
--- each fault of metering is its status
-pub refused-for : (input : Side) (fault : MeterFault) (status : Status) → status ≡ status_for fault
-    → IsRefused input (2 ^ 30) fault → MeterRefuses input status
-refused-for input SourceFailed status is h = subst (MeterRefuses input) (sym is) h
-refused-for input MoreBytes status is h = subst (MeterRefuses input) (sym is) h
-refused-for input NoHeader status is h = subst (MeterRefuses input) (sym is) h
-refused-for input (OtherLink link) status is h = subst (MeterRefuses input) (sym is) h
-refused-for input (DamagedAt at) status is h = subst (MeterRefuses input) (sym is) h
-refused-for input NoRoom status is h = subst (MeterRefuses input) (sym is) tt
 
 -- the fragments have as many packets and octets as the tally
 pub counts-are : (limits : Timeouts) (capture : List ℕ) (metered : List Fragment) (tally : Tally) (tail : ℕ) → CountsAll

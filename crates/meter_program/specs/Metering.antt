@@ -1,4 +1,4 @@
--- The code's own: what the parts of the command `meter` say of one another.
+-- What metering, gathering and writing say of one another, for every program that meters.
 use Rattle.std.specs.Prelude.{◌≡◌, ◌*◌, ◌^◌, ◌⊎◌, ℕ, List, length, Option, Some, None, All}
 use Rattle.pcap_reader.specs.File.{CaptureFile, capture_file, IsKnownLink}
 use Rattle.pcap_reader.specs.Records.{damage_of, tail_of}

@@ -240,16 +240,16 @@ Ends asked seen told (BadSchedule line) = IsRefused asked seen told (BadSchedule
 -- ---- a run
 
 -- The words ask for nothing, or memory was out before they were read: nothing is read, nothing is written, and the
--- notes say so.
-pub record IsUsage (seen : Seen) (status : Status) : Type 0 where
+-- notes took this line.
+pub record IsUsage (seen : Seen) (line : List ℕ) (status : Status) : Type 0 where
   pub usage : (status ≡ Usage) ⊎ (status ≡ NoMemory)
   pub input : IsUntouched seen.input
   pub output : IsUntouched seen.output
-  pub notes : HasTakenOrFailed seen.notes (fault_line status)
+  pub notes : HasTakenOrFailed seen.notes line
 
 -- What a run means, by what its words ask for. At a refusal the notes took the line of the status.
 abbrev pub RunMeans : Option Asked → Seen → Status → Type 0
-RunMeans None seen status = IsUsage seen status
+RunMeans None seen status = IsUsage seen (fault_line status) status
 RunMeans (Some asked) seen status = Ends asked seen (HasTakenOrFailed seen.notes (fault_line status)) status
 
 -- ---- when a run is done

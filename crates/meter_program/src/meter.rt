@@ -62,7 +62,8 @@ pub fn stream_of<'a>(alloc: Global, gathered: &Gathered, size: u32) -> Result<St
     let emitter = Emitter::open(alloc, size as usize, export_time_of(gathered.tally.clock))?;
     match emit_all(emitter, records, &mut octets) {
         Ok(messages) => Ok(Stream { octets, messages }),
-        // Room for more can't be had.
+        // This isn't reached: no write of this sink is named to fail, and it has room for the longest stream of so many
+        // records. No clause says so, and want of memory is the answer that may always come.
         Err(Failed) => Err(NoMemory),
     }
 }
@@ -70,6 +71,13 @@ pub fn stream_of<'a>(alloc: Global, gathered: &Gathered, size: u32) -> Result<St
 /// Writes the stream of these records, in messages of at most `size` octets, and then notes the summary.
 ///
 /// The stream is laid out first, so that no memory is taken behind the first write, and goes out in one piece.
+///
+/// - `Done`: the output took the stream, and the notes the summary.
+/// - `WriteFault`: only where a write failed and the output or the notes counted it. Both took a beginning of what they
+///   were to take, the output all of it where none of its own writes failed.
+/// - `NoMemory`: out of memory; nothing was written.
+///
+/// No other status comes.
 pub fn written<K: Sink, N: Sink>(
     alloc: Global,
     gathered: &Gathered,

@@ -5,7 +5,6 @@ ghost use Rattle.flow_parts.specs.declared.timeouts.Timeouts.{Timeouts};
 ghost use Rattle.meter_io.specs.Sides.{Side, side};
 ghost use Rattle.flow_parts.specs.declared.fragment.Fragment.{Fragment};
 ghost use Rattle.meter_program.specs.Metering.{AreGathered, IsKept, IsReadAndKept, IsGathered, IsReadAndGathered};
-ghost use Rattle.meter_program.specs.Metering.{status_for};
 ghost use Rattle.meter_program.specs.Outcome.{MeterRefuses};
 
 use crate::settings::Settings;
@@ -15,7 +14,7 @@ use capture_tally::Tally;
 use flow_parts::Timeouts;
 use flow_parts::laws::{sharing_out_counts, sharing_out_stands};
 use meter_io::Source;
-use meter_workers::{Gate, MeterFault, meter_windows};
+use meter_workers::{Gate, meter_windows};
 use no_memory::NoMemory;
 use record_ledger::{FlowRecord, gather};
 use std::alloc::Global;
@@ -43,20 +42,6 @@ pub struct Gathered {
     pub tail: u64,
 }
 
-/// The status of a run whose input couldn't be metered.
-fn status_of(fault: MeterFault) -> Status
-    ensures { result ≡ status_for fault }
-{
-    match fault {
-        MeterFault::Failed => Status::ReadFault,
-        MeterFault::TooLarge => Status::TooLarge,
-        MeterFault::NotCapture => Status::NotCapture,
-        MeterFault::LinkUnknown(link) => Status::LinkUnknown(link),
-        MeterFault::Damaged(at) => Status::Damaged(at),
-        MeterFault::NoMemory => Status::NoMemory,
-    }
-}
-
 /// Meters the capture that the input gives through a cache, by all workers at once, and closes the cache.
 fn metered<R: Threads + Sync, S: Source, M: Caches, G: Gate>(
     rt: &R,
@@ -73,7 +58,7 @@ fn metered<R: Threads + Sync, S: Source, M: Caches, G: Gate>(
 {
     sharing_out_stands();
     let (cache, passes) = caches.open(alloc, settings.sets, settings.workers, limits)?;
-    let done = match meter_windows(
+    let done = meter_windows(
         rt,
         alloc,
         input,
@@ -83,10 +68,7 @@ fn metered<R: Threads + Sync, S: Source, M: Caches, G: Gate>(
         settings.piece,
         CAPTURE_LIMIT,
         gate,
-    ) {
-        Ok(done) => done,
-        Err(fault) => return Err(status_of(fault)),
-    };
+    )?;
     caches.close(alloc, cache, done.pass, done.parts)?;
     Ok(Counted {
         tally: done.tally,

@@ -156,7 +156,7 @@ fn append_fault(text: &mut Text, status: &Status)
     }
 }
 
-/// Notes the line of a status.
+/// Notes the line of a status. `Done` and `WriteFault` have none: of them an empty line is noted.
 ///
 /// `Failed` comes only where the count of faults of the notes rose; they then took a beginning of it.
 pub fn fault_line<N: Sink>(notes: &mut N, status: &Status) -> Result<(), Failed>

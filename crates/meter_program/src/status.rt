@@ -2,9 +2,11 @@
 
 ghost use Rattle.std.specs.Prelude.{◌≡◌, IsTrue};
 ghost use Rattle.meter_program.specs.declared.status.Status.TheVariants.{NoMemory};
+ghost use Rattle.meter_program.specs.Metering.{status_for};
 ghost use Rattle.meter_program.specs.Statuses.{exit_status, is_refusal};
 
 use ipfix_reader::StreamFault;
+use meter_workers::MeterFault;
 use no_memory::NoMemory;
 
 /// How a run ends. [`Status::code`] is the exit status of the program.
@@ -22,7 +24,8 @@ pub enum Status {
     NotCapture,
     /// The capture has this link type, which isn't read.
     LinkUnknown(u32),
-    /// The capture is damaged at this offset.
+    /// The record header at this offset, in octets from the beginning of the input, claims more than 262,144 captured
+    /// octets.
     Damaged(u64),
     /// The input is larger than the command's limit.
     TooLarge,
@@ -39,6 +42,22 @@ impl From<NoMemory> for Status {
 
     fn from(_error: NoMemory) -> Status {
         Status::NoMemory
+    }
+}
+
+/// The status of a run whose input couldn't be metered.
+impl From<MeterFault> for Status {
+    ghost from_gives = { λ fault status. status ≡ status_for fault };
+
+    fn from(fault: MeterFault) -> Status {
+        match fault {
+            MeterFault::Failed => Status::ReadFault,
+            MeterFault::TooLarge => Status::TooLarge,
+            MeterFault::NotCapture => Status::NotCapture,
+            MeterFault::LinkUnknown(link) => Status::LinkUnknown(link),
+            MeterFault::Damaged(at) => Status::Damaged(at),
+            MeterFault::NoMemory => Status::NoMemory,
+        }
     }
 }
 

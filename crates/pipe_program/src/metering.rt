@@ -1,8 +1,8 @@
 //! Metering a capture in batches through one cache, and gathering what the cache gave.
 
-ghost use Rattle.std.specs.Prelude.{◌≡◌, IfOk, IfErr};
+ghost use Rattle.std.specs.Prelude.{IfOk, IfErr};
 ghost use Rattle.meter_io.specs.Sides.{IsUntouched, side};
-ghost use Rattle.meter_program.specs.Metering.{IsReadAndKept, IsReadAndGathered, status_for};
+ghost use Rattle.meter_program.specs.Metering.{IsReadAndKept, IsReadAndGathered};
 ghost use Rattle.meter_program.specs.Outcome.{MeterRefuses, Ends};
 ghost use Rattle.meter_program.specs.Seen.{seen_of};
 ghost use Rattle.pipe_program.specs.Words.{as_meter, piping};
@@ -13,7 +13,7 @@ use flow_parts::Timeouts;
 use flow_parts::laws::sharing_out_stands;
 use meter_io::{Sink, Source};
 use meter_program::{Counted, Gathered, Status, gathered_of, written};
-use meter_workers::{Gate, MeterFault};
+use meter_workers::Gate;
 use pipe_workers::meter_batches;
 use std::alloc::Global;
 use std::sync::Wait;
@@ -24,20 +24,6 @@ const CAPTURE_LIMIT: u64 = 1 << 30;
 
 /// The seats of the cache beside those of the workers: the reader's, and that of what is left in the queue in the end.
 const OTHER_SEATS: usize = 2;
-
-/// The status of a run whose input couldn't be metered.
-fn status_of(fault: MeterFault) -> Status
-    ensures { result ≡ status_for fault }
-{
-    match fault {
-        MeterFault::Failed => Status::ReadFault,
-        MeterFault::TooLarge => Status::TooLarge,
-        MeterFault::NotCapture => Status::NotCapture,
-        MeterFault::LinkUnknown(link) => Status::LinkUnknown(link),
-        MeterFault::Damaged(at) => Status::Damaged(at),
-        MeterFault::NoMemory => Status::NoMemory,
-    }
-}
 
 /// Meters the capture that the input gives through a cache, by the reader and all workers at once, and closes the
 /// cache.
@@ -57,7 +43,7 @@ fn metered<R: Threads + Wait + Sync, S: Source, M: Caches, G: Gate>(
     sharing_out_stands();
     let seats = settings.workers + OTHER_SEATS;
     let (cache, passes) = caches.open(alloc, settings.sets, seats, limits)?;
-    let done = match meter_batches(
+    let done = meter_batches(
         rt,
         alloc,
         input,
@@ -67,10 +53,7 @@ fn metered<R: Threads + Wait + Sync, S: Source, M: Caches, G: Gate>(
         settings.batch,
         CAPTURE_LIMIT,
         gate,
-    ) {
-        Ok(done) => done,
-        Err(fault) => return Err(status_of(fault)),
-    };
+    )?;
     caches.close(alloc, cache, done.pass, done.parts)?;
     Ok(Counted {
         tally: done.tally,

@@ -8,7 +8,8 @@ ghost use Rattle.pipe_program.specs.Lines.{pipe_line};
 use meter_io::{Failed, Sink, write_all};
 use meter_program::{Status, fault_line};
 
-/// Notes the line of a status: `usage: pipe` for words that are no command line, and else that of `meter`.
+/// Notes the line of a status: `usage: pipe` for words that are no command line, and else that of `meter`. `Done` and
+/// `WriteFault` have none: of them an empty line is noted.
 ///
 /// `Failed` comes only where the count of faults of the notes rose; they then took a beginning of it.
 pub fn pipe_line<N: Sink>(notes: &mut N, status: &Status) -> Result<(), Failed>

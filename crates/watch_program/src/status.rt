@@ -18,7 +18,8 @@ pub enum WatchStatus {
     NotCapture,
     /// The capture has this link type, which isn't read.
     LinkUnknown(u32),
-    /// The capture is damaged at this offset.
+    /// The record header at this offset, in octets from the beginning of the input, claims more than 262,144 captured
+    /// octets.
     Damaged(u64),
     /// The input is larger than the limit.
     TooLarge,

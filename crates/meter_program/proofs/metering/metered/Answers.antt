@@ -5,15 +5,16 @@ use Rattle.meter_program.proofs.metering.metered.Goals as goal
 
 pub close-requires-clause-handed : goal.close-requires-clause-handed
 close-requires-clause-handed g c =
-    IsPermutation-sym (g.M.Cache.FlowCache.shown c.in-Ok.done.pass).note.handed c.in-Ok.done.parts.items
-    c.in-Ok.ensures.parts
+    IsPermutation-sym (g.M.Cache.FlowCache.shown c.in_ok-done.done.pass).note.handed c.in_ok-done.done.parts.items
+    c.in_ok-done.ensures.parts
 
 pub returns-clause-kept : goal.returns-clause-kept
 returns-clause-kept g c =
     let means = g.M.Cache.FlowCache.means c.in_ok-cache.cache in
-    let note = (g.M.Cache.FlowCache.shown c.in-Ok.done.pass).note in
+    let note = (g.M.Cache.FlowCache.shown c.in_ok-done.done.pass).note in
     read-and-kept (side g.S.Source.left g.S.Source.faults c.args.input.now c.meter_windows.new.source) means.limits
     c.args.limits note.packets
-    (g.M.Caches.metered c.close.new.self) c.in-Ok.done.tally c.in-Ok.done.tail c.sharing_out_stands.ensures.permuted
+    (g.M.Caches.metered c.close.new.self) c.in_ok-done.done.tally c.in_ok-done.done.tail
+    c.sharing_out_stands.ensures.permuted
     c.in_ok-cache.ensures.cache.2
-    c.in-Ok.ensures.metered c.in_ok-close.ensures.shared
+    c.in_ok-done.ensures.metered c.in_ok-close.ensures.shared
