@@ -153,25 +153,28 @@ fn stopped_at(alloc: Global, point: Point) -> Result<Came, NoMemory> {
     stopped::<Brand>(alloc, cache, first, second, point)
 }
 
-/// Where the other pass replaces an entry behind the first load, the first try is lost; else none is. No packet is lost
-/// or counted twice.
+/// Where the other pass meters while this one is in and hasn't replaced yet, the first try is lost: it was ejected, or
+/// its root has another slot. Else none is. No packet is lost or counted twice.
+///
+/// While this pass is out, the other one gets its slots back each time that it has retired 32. While it is in, it holds
+/// them up, until all 40 are retired and it is ejected.
 #[test]
 fn stopped_at_each_point(rt: HostRuntime) {
     let table = [
-        (Point::Enter, 0, How::Replaced),
-        (Point::Load, 1, How::Replaced),
-        (Point::Check, 1, How::Replaced),
-        (Point::Read, 1, How::Replaced),
-        (Point::Write, 1, How::Replaced),
-        (Point::Replace, 1, How::Replaced),
-        (Point::Clear, 0, How::Opened),
-        (Point::Leave, 0, How::Opened),
+        (Point::Enter, 0, How::Replaced, 32),
+        (Point::Load, 1, How::Replaced, 40),
+        (Point::Check, 1, How::Replaced, 40),
+        (Point::Read, 1, How::Replaced, 40),
+        (Point::Write, 1, How::Replaced, 40),
+        (Point::Replace, 1, How::Replaced, 40),
+        (Point::Clear, 0, How::Opened, 40),
+        (Point::Leave, 0, How::Opened, 40),
     ];
-    for (point, lost, how) in table {
+    for (point, lost, how, most) in table {
         let Ok(came) = stopped_at(rt.alloc(), point) else {
             panic!(rt; "no memory");
         };
         assert!(rt; came.lost == lost && came.how == how);
-        assert!(rt; came.most <= 40 && came.packets == 201);
+        assert!(rt; came.most == most && came.packets == 201);
     }
 }
