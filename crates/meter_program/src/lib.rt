@@ -19,8 +19,8 @@
 //!    output.
 //! 5. **The end.** At a refusal the notes get its line (`notes.rt`), and nothing else was written.
 //!
-//! A program that meters in its own way gathers and writes as this one by [`gathered_of`] and [`written`], and notes by
-//! [`summary`] and [`fault_line`].
+//! A program that meters in its own way gathers and writes as this one by [`gathered_of`] and [`write_stream`], and
+//! notes by [`summary`] and [`fault_line`].
 //!
 //! `specs/Outcome.antt` says what a run means, by its words and its status: that is the contract of `run`, and the file
 //! to read first. `Seen` there is what is seen of input, output and notes before and after; `Words` the command lines;
@@ -43,8 +43,8 @@ mod show;
 mod status;
 mod words;
 
-pub use meter::written;
-pub use metering::{Counted, Gathered, gathered_of};
+pub use meter::write_stream;
+pub use metering::{CaptureCount, Gathered, gathered_of};
 pub use notes::{fault_line, summary};
 pub use running::run;
 pub use settings::{Making, Settings};

@@ -78,7 +78,7 @@ pub fn stream_of<'a>(alloc: Global, gathered: &Gathered, size: u32) -> Result<St
 /// - `NoMemory`: out of memory; nothing was written.
 ///
 /// No other status comes.
-pub fn written<K: Sink, N: Sink>(
+pub fn write_stream<K: Sink, N: Sink>(
     alloc: Global,
     gathered: &Gathered,
     size: u32,
@@ -129,7 +129,7 @@ pub fn meter<R: Threads + Sync, S: Source, K: Sink, N: Sink, M: Caches, G: Gate>
         seen (IsUntouched seen.notes) result }
 {
     match gathered_from(rt, alloc, settings, input, caches, gate) {
-        Ok(gathered) => written(alloc, &gathered, settings.size, output, notes),
+        Ok(gathered) => write_stream(alloc, &gathered, settings.size, output, notes),
         Err(status) => status,
     }
 }

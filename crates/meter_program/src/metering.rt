@@ -29,7 +29,7 @@ const WINDOW: usize = 1 << 22;
 /// What is known of a capture whose packets a cache has metered: its tally, and how many bytes are left behind its last
 /// record.
 #[derive(Clone, Copy)]
-pub struct Counted {
+pub struct CaptureCount {
     pub tally: Tally,
     pub tail: u64,
 }
@@ -43,7 +43,7 @@ pub struct Gathered {
 }
 
 /// Meters the capture that the input gives through a cache, by all workers at once, and closes the cache.
-fn metered<R: Threads + Sync, S: Source, M: Caches, G: Gate>(
+fn meter_input<R: Threads + Sync, S: Source, M: Caches, G: Gate>(
     rt: &R,
     alloc: Global,
     settings: &Settings,
@@ -51,7 +51,7 @@ fn metered<R: Threads + Sync, S: Source, M: Caches, G: Gate>(
     input: &mut S,
     caches: &mut M,
     gate: &G,
-) -> Result<Counted, Status>
+) -> Result<CaptureCount, Status>
     ensures kept { IfOk result
         (λ r. IsReadAndKept (side S.left S.faults input.old input.new) limits (M.metered caches.new) r.tally r.tail) }
     ensures refused { IfErr result (λ status. MeterRefuses (side S.left S.faults input.old input.new) status) }
@@ -70,7 +70,7 @@ fn metered<R: Threads + Sync, S: Source, M: Caches, G: Gate>(
         gate,
     )?;
     caches.close(alloc, cache, done.pass, done.parts)?;
-    Ok(Counted {
+    Ok(CaptureCount {
         tally: done.tally,
         tail: done.tail,
     })
@@ -100,7 +100,7 @@ pub fn gathered_of<M: Caches>(
     alloc: Global,
     caches: &M,
     limits: Timeouts,
-    counted: Counted,
+    counted: CaptureCount,
 ) -> Result<Gathered, NoMemory>
     requires { (capture : List ℕ) × IsKept limits capture (M.metered caches.now) counted.tally counted.tail }
     ensures { IfOk result (λ g. (idle active : ℕ) (capture : List ℕ) → limits.idle ≡ 1000 * idle
@@ -109,7 +109,7 @@ pub fn gathered_of<M: Caches>(
         → IsGathered idle active capture (M.metered caches.now) g.records.items g.tally g.tail) }
 {
     sharing_out_counts();
-    let Counted { tally, tail } = counted;
+    let CaptureCount { tally, tail } = counted;
     let records = records_of(
         alloc,
         caches,
@@ -140,7 +140,7 @@ pub fn gathered_from<R: Threads + Sync, S: Source, M: Caches, G: Gate>(
     ensures refused { IfErr result (λ status. MeterRefuses (side S.left S.faults input.old input.new) status) }
 {
     let limits = Timeouts::new(settings.idle, settings.active);
-    let counted = metered(rt, alloc, settings, limits, input, caches, gate)?;
+    let counted = meter_input(rt, alloc, settings, limits, input, caches, gate)?;
     let gathered = gathered_of(alloc, caches, limits, counted)?;
     Ok(gathered)
 }

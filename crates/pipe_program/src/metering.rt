@@ -12,7 +12,7 @@ use cache_face::Caches;
 use flow_parts::Timeouts;
 use flow_parts::laws::sharing_out_stands;
 use meter_io::{Sink, Source};
-use meter_program::{Counted, Gathered, Status, gathered_of, written};
+use meter_program::{CaptureCount, Gathered, Status, gathered_of, write_stream};
 use meter_workers::Gate;
 use pipe_workers::meter_batches;
 use std::alloc::Global;
@@ -27,7 +27,7 @@ const OTHER_SEATS: usize = 2;
 
 /// Meters the capture that the input gives through a cache, by the reader and all workers at once, and closes the
 /// cache.
-fn metered<R: Threads + Wait + Sync, S: Source, M: Caches, G: Gate>(
+fn meter_input<R: Threads + Wait + Sync, S: Source, M: Caches, G: Gate>(
     rt: &R,
     alloc: Global,
     settings: &PipeSettings,
@@ -35,7 +35,7 @@ fn metered<R: Threads + Wait + Sync, S: Source, M: Caches, G: Gate>(
     input: &mut S,
     caches: &mut M,
     gate: &G,
-) -> Result<Counted, Status>
+) -> Result<CaptureCount, Status>
     ensures kept { IfOk result
         (λ r. IsReadAndKept (side S.left S.faults input.old input.new) limits (M.metered caches.new) r.tally r.tail) }
     ensures refused { IfErr result (λ status. MeterRefuses (side S.left S.faults input.old input.new) status) }
@@ -55,7 +55,7 @@ fn metered<R: Threads + Wait + Sync, S: Source, M: Caches, G: Gate>(
         gate,
     )?;
     caches.close(alloc, cache, done.pass, done.parts)?;
-    Ok(Counted {
+    Ok(CaptureCount {
         tally: done.tally,
         tail: done.tail,
     })
@@ -76,14 +76,14 @@ fn gathered_from<R: Threads + Wait + Sync, S: Source, M: Caches, G: Gate>(
     ensures refused { IfErr result (λ status. MeterRefuses (side S.left S.faults input.old input.new) status) }
 {
     let limits = Timeouts::new(settings.idle, settings.active);
-    let counted = metered(rt, alloc, settings, limits, input, caches, gate)?;
+    let counted = meter_input(rt, alloc, settings, limits, input, caches, gate)?;
     let gathered = gathered_of(alloc, caches, limits, counted)?;
     Ok(gathered)
 }
 
 /// Reads a capture from the input to its end, meters it through a cache of `caches`, writes the records of its flows to
 /// the output and notes the summary.
-pub fn piped<R: Threads + Wait + Sync, S: Source, K: Sink, N: Sink, M: Caches, G: Gate>(
+pub fn pipe_input<R: Threads + Wait + Sync, S: Source, K: Sink, N: Sink, M: Caches, G: Gate>(
     rt: &R,
     alloc: Global,
     settings: &PipeSettings,
@@ -98,7 +98,7 @@ pub fn piped<R: Threads + Wait + Sync, S: Source, K: Sink, N: Sink, M: Caches, G
         in Ends (as_meter (piping settings.now)) seen (IsUntouched seen.notes) result }
 {
     match gathered_from(rt, alloc, settings, input, caches, gate) {
-        Ok(gathered) => written(alloc, &gathered, settings.size, output, notes),
+        Ok(gathered) => write_stream(alloc, &gathered, settings.size, output, notes),
         Err(status) => status,
     }
 }

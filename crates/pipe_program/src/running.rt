@@ -8,7 +8,7 @@ ghost use Rattle.meter_program.specs.Seen.{seen_of};
 ghost use Rattle.pipe_program.specs.Outcome.{PipeMeans, IsPipeComplete};
 ghost use Rattle.pipe_program.specs.Words.{piping_by};
 
-use crate::metering::piped;
+use crate::metering::pipe_input;
 use crate::notes::pipe_line;
 use crate::words::settings_of;
 use cache_face::Caches;
@@ -74,7 +74,7 @@ pub fn run_pipe<R: Threads + Wait + Sync, S: Source, K: Sink, N: Sink, M: Caches
     let status = match settings_of(alloc, words) {
         Err(OptionsError::NotOptions) => Status::Usage,
         Err(OptionsError::NoMemory) => Status::NoMemory,
-        Ok(settings) => piped(rt, alloc, &settings, input, output, notes, caches, gate),
+        Ok(settings) => pipe_input(rt, alloc, &settings, input, output, notes, caches, gate),
     };
     if status.is_refusal() {
         // A refusal stays what it is where its line can't be written.

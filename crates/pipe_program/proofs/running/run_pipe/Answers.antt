@@ -26,7 +26,7 @@ returns-then-is_refusal-clause-complete g c = λ other is valid quiet. elim c.ma
       (as_meter (piping w.in-Ok.settings)) other c.match-settings_of.input _ c.match-settings_of.output _
       c.match-settings_of.notes _ (side g.N.Sink.held g.N.Sink.faults c.args.notes.now c.pipe_line-noted.new.notes) _ _
       c.match-settings_of.status _ w.input-is w.output-is
-      w.notes-is w.status-is w.piped-status.ensures (sym c.is_refusal.ensures ∙ c.if-is_refusal.true)
+      w.notes-is w.status-is w.pipe_input-status.ensures (sym c.is_refusal.ensures ∙ c.if-is_refusal.true)
       (some-same (as_meter (piping w.in-Ok.settings)) other
       (sym (ap (option_map as_meter) w.in-Ok.ensures.settings) ∙ is)) valid quiet
 ]

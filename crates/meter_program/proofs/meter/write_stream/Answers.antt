@@ -1,7 +1,7 @@
 use Rattle.std.proofs.Common.{◌∙◌, refl}
 use Rattle.meter_io.specs.Sides.{side}
 use Rattle.meter_program.proofs.Streams.{wrote-both, wrote-first, wrote-some}
-use Rattle.meter_program.proofs.meter.written.Goals as goal
+use Rattle.meter_program.proofs.meter.write_stream.Goals as goal
 
 pub returns-in-Err : goal.returns-in-Err
 returns-in-Err g c =

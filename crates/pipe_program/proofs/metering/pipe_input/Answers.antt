@@ -1,7 +1,7 @@
 use Rattle.meter_io.specs.Sides.{side}
 use Rattle.meter_program.specs.Seen.{seen_of}
 use Rattle.meter_program.proofs.Endings.{meter-ends}
-use Rattle.pipe_program.proofs.metering.piped.Goals as goal
+use Rattle.pipe_program.proofs.metering.pipe_input.Goals as goal
 
 pub returns-in-Ok : goal.returns-in-Ok
 returns-in-Ok g c =
@@ -9,7 +9,7 @@ returns-in-Ok g c =
     let gathered = c.in-Ok.gathered in
     meter-ends settings.idle settings.active settings.workers settings.sets settings.batch settings.size
     (seen_of (side g.S.Source.left g.S.Source.faults c.args.input.now c.gathered_from.new.input)
-    (side g.K.Sink.held g.K.Sink.faults c.args.output.now c.written.new.output)
-    (side g.N.Sink.held g.N.Sink.faults c.args.notes.now c.written.new.notes)
+    (side g.K.Sink.held g.K.Sink.faults c.args.output.now c.write_stream.new.output)
+    (side g.N.Sink.held g.N.Sink.faults c.args.notes.now c.write_stream.new.notes)
     (g.M.Caches.metered c.gathered_from.new.caches))
-    gathered.records.items gathered.tally gathered.tail _ c.in-Ok.ensures.records c.written.ensures
+    gathered.records.items gathered.tally gathered.tail _ c.in-Ok.ensures.records c.write_stream.ensures
