@@ -88,8 +88,7 @@ impl CaptureInput {
     /// Reads the first window, and the file header that it begins with. The window keeps it.
     ///
     /// `NotCapture`, `LinkUnknown`: the source was read to its end then, and has neither failed nor given too much;
-    /// else
-    /// `Failed` or `TooLarge`.
+    /// else `Failed` or `TooLarge`.
     pub fn begin<S: Source>(self, source: &mut S) -> Result<(CaptureInput, Head), MeterFault>
         requires empty { (self.window.bytes ≡ []) × (self.taken ≡ 0) }
         requires size { 24 ≤ self.window.size }

@@ -172,8 +172,7 @@ fn work_through<C: FlowCache, G: Gate>(
 }
 
 /// Draws pieces, meters their records through the worker's pass, and tallies them, until none is left: the worker is
-/// then
-/// `Finished`. Before each piece the gate is told.
+/// then `Finished`. Before each piece the gate is told.
 ///
 /// `base` is the number of records before this part of the capture; its records are numbered from there on. `pieces` is
 /// over as many things as `index` has records. The worker is `Going`; it ends `NoMemory` where the fragments that it is

@@ -11,8 +11,7 @@
 //! 4. **The end** (`notes.rt`): at a refusal the notes get its line, and nothing else was written.
 //!
 //! `specs/Outcome.antt` says what a run means: what a run of `meter` means that is asked for the same, by the
-//! definitions of
-//! `meter_program`. `Words` there is the command line, `Lines` the lines of refusals.
+//! definitions of `meter_program`. `Words` there is the command line, `Lines` the lines of refusals.
 #![tactic(auto)]
 
 mod metering;
