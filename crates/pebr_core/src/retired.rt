@@ -152,6 +152,7 @@ impl RetiredSlots {
     }
 }
 
+/// Whether a slot is retired, with a tag or without.
 fn is_retired(slot: Retired) -> bool
     ensures { result ≡ is_retired slot }
 {
@@ -161,6 +162,7 @@ fn is_retired(slot: Retired) -> bool
     }
 }
 
+/// A slot behind a Note of this epoch: one that has no tag gets the epoch as its tag.
 fn tagged(slot: Retired, epoch: u64) -> Retired
     ensures { result ≡ tag_with epoch slot }
 {
@@ -171,6 +173,7 @@ fn tagged(slot: Retired, epoch: u64) -> Retired
     }
 }
 
+/// Tags all retired slots that have no tag.
 fn tag_all(slots: &mut [Retired], epoch: u64)
     ensures { slots.new ≡ map (tag_with epoch) slots.old }
 {
@@ -179,6 +182,7 @@ fn tag_all(slots: &mut [Retired], epoch: u64)
     }
 }
 
+/// Whether a slot has a tag that is at least this epoch.
 fn is_at_least(slot: Retired, epoch: u64) -> bool
     ensures { is_above_tags (is_retired slot ∷ []) (slot ∷ []) epoch ≡ not result }
 {

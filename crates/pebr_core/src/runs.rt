@@ -119,6 +119,7 @@ pub fn replay(alloc: Global, core: Core, steps: &[Step]) -> Result<Replayed, Rep
     Ok(Replayed { core, answers })
 }
 
+/// Puts an answer behind the others.
 fn push_answer(answers: &mut Vec<Answer>, answer: Answer) -> Result<(), NoMemory>
     ensures { OnOk result (answers.new.items ≡ answers.old.items ++ answer ∷ []) }
 {

@@ -35,6 +35,8 @@ impl Core {
         })
     }
 
+    /// Whether the step Scan is enabled: the scan is open, has passed the other seat and hasn't looked at this
+    /// shield of it.
     fn can_scan(&self, seat: usize, other: usize, place: usize) -> bool
         ensures { result ≡ is_enabled self.now (Step.Scan seat other place) }
     {
@@ -58,6 +60,7 @@ impl Core {
         Some(entry.give(epoch))
     }
 
+    /// Whether the step Give is enabled: the scan has passed each other seat and looked at all of its shields.
     fn can_give(&self, seat: usize) -> bool
         ensures { result ≡ is_enabled self.now (Step.Give seat) }
     {

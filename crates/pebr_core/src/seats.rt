@@ -307,6 +307,7 @@ fn is_valid_on(at: ShieldAt, slot: usize) -> bool
     }
 }
 
+/// Whether a shield stands on no slot.
 fn is_down(at: ShieldAt) -> bool
     ensures { result ≡ is_down at }
 {

@@ -18,6 +18,7 @@ impl Core {
         Some(Answer::Word(self.words.get(slot, word, 0)))
     }
 
+    /// Whether the step Read is enabled: a valid shield of the seat stands on the slot, which has such a word.
     fn can_read(&self, seat: usize, slot: usize, word: usize) -> bool
         ensures { result ≡ is_enabled self.now (Step.Read seat slot word) }
     {
@@ -45,6 +46,7 @@ impl Core {
         Some(Answer::Written)
     }
 
+    /// Whether the step Write is enabled: the slot is a fresh one of the seat, and has such a word.
     fn can_write(&self, seat: usize, slot: usize, word: usize) -> bool
         ensures { result ≡ is_enabled self.now (Step.Write seat slot word 0) }
     {
@@ -77,6 +79,8 @@ impl Core {
         Some(Answer::Replaced)
     }
 
+    /// Whether the step Replace is enabled: the seat is in, a valid shield of it stands on the old slot, and the new
+    /// one is a fresh one of its own.
     fn can_replace(&self, seat: usize, root: usize, old: usize, new: usize) -> bool
         ensures { result ≡ is_enabled self.now (Step.Replace seat root old new) }
     {

@@ -81,6 +81,7 @@ fn first_seats(alloc: Global, shape: &Shape) -> Result<Vec<SeatData>, NoMemory>
     Ok(seats)
 }
 
+/// Puts a seat behind the others.
 fn push_seat(seats: &mut Vec<SeatData>, entry: SeatData) -> Result<(), NoMemory>
     ensures { OnOk result (seats.new.items ≡ seats.old.items ++ entry ∷ []) }
 {

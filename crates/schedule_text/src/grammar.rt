@@ -12,12 +12,14 @@ use std::alloc::Global;
 /// A number of a step is at most this, unless it is a value to write.
 const LARGEST: u64 = 65535;
 
+/// Whether a number may stand in a step, where it isn't a value to write.
 fn is_small(number: u64) -> bool
     ensures { result ≡ is_small number }
 {
     number <= LARGEST
 }
 
+/// The step of this name with one number, if there is one.
 fn step_of_one(name: &[u8], i: usize) -> Option<Step>
     ensures { result ≡ step_of_one name.now i }
 {
@@ -42,6 +44,7 @@ fn step_of_one(name: &[u8], i: usize) -> Option<Step>
     None
 }
 
+/// The step of this name with two numbers, if there is one.
 fn step_of_two(name: &[u8], i: usize, j: usize) -> Option<Step>
     ensures { result ≡ step_of_two name.now i j }
 {
@@ -60,6 +63,7 @@ fn step_of_two(name: &[u8], i: usize, j: usize) -> Option<Step>
     None
 }
 
+/// The step of this name with three numbers, if there is one.
 fn step_of_three(name: &[u8], i: usize, j: usize, k: usize) -> Option<Step>
     ensures { result ≡ step_of_three name.now i j k }
 {
@@ -75,6 +79,7 @@ fn step_of_three(name: &[u8], i: usize, j: usize, k: usize) -> Option<Step>
     None
 }
 
+/// The step of this name with four numbers, if there is one: the last is the value to write, which may be any.
 fn step_of_four(name: &[u8], i: usize, j: usize, k: usize, value: u64) -> Option<Step>
     ensures { result ≡ step_of_four name.now i j k value }
 {
@@ -87,6 +92,7 @@ fn step_of_four(name: &[u8], i: usize, j: usize, k: usize, value: u64) -> Option
     None
 }
 
+/// The step of this name with these numbers, if there is one.
 fn step_with(name: &[u8], numbers: &[u64]) -> Option<Step>
     ensures { result ≡ step_with name.now numbers.now }
 {
@@ -103,12 +109,14 @@ fn step_with(name: &[u8], numbers: &[u64]) -> Option<Step>
     }
 }
 
+/// Whether a number is from 1 to `most`.
 fn is_within(number: u64, most: u64) -> bool
     ensures { result ≡ (nat_le 1 number && nat_le number most) }
 {
     1 <= number && number <= most
 }
 
+/// The shape of a core that a line of this name and these numbers gives, if it is the line of one within the limits.
 fn shape_with(name: &[u8], numbers: &[u64]) -> Option<Shape>
     ensures shape { result ≡ shape_with name.now numbers.now }
     ensures limits { IfSome result IsWithinLimits }

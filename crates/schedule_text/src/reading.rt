@@ -58,6 +58,7 @@ pub fn read_schedule(alloc: Global, text: &[u8]) -> Result<Schedule, ScheduleErr
     read_lines(alloc, text)
 }
 
+/// Reads the lines of a text, counted from 1, up to the first bad one.
 fn read_lines(alloc: Global, text: &[u8]) -> Result<Schedule, ScheduleError>
     ensures read { IfOk result (λ schedule. schedule_of text.now ≡ Ok (schedule.shape, schedule.steps.items)) }
     ensures bad { (number : ℕ) → result ≡ Err (ScheduleError.BadLine number) → schedule_of text.now ≡ Err number }
@@ -108,6 +109,7 @@ fn read_steps(alloc: Global, text: &[u8]) -> Result<Vec<Step>, ScheduleError>
     }
 }
 
+/// Puts a step behind the others.
 fn push(steps: &mut Vec<Step>, step: Step) -> Result<(), NoMemory>
     ensures { OnOk result (steps.new.items ≡ steps.old.items ++ step ∷ []) }
 {

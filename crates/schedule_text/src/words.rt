@@ -21,6 +21,7 @@ pub fn cut(text: &[u8], at: u8) -> (&[u8], Option<&[u8]>)
     (text, None)
 }
 
+/// Whether an octet is a decimal digit.
 fn is_digit(byte: u8) -> bool
     ensures { result ≡ is_digit byte }
 {
@@ -83,6 +84,7 @@ pub fn numbers(alloc: Global, text: Option<&[u8]>) -> Result<Option<Vec<u64>>, N
     Ok(Some(numbers))
 }
 
+/// Puts a number behind the others.
 fn push(numbers: &mut Vec<u64>, value: u64) -> Result<(), NoMemory>
     ensures { OnOk result (numbers.new.items ≡ numbers.old.items ++ value ∷ []) }
 {

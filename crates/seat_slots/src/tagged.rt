@@ -73,6 +73,7 @@ pub fn unkeep(tagged: &mut Vec<TaggedSlot>, some_kept: bool)
     }
 }
 
+/// Takes the mark of the scan from each.
 fn unkeep_all(tagged: &mut [TaggedSlot])
     ensures { tagged.new ≡ map unkept tagged.old }
 {

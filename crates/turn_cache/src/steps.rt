@@ -18,6 +18,7 @@ use flow_parts::Fragment;
 use std::marker::Brand;
 
 impl TurnCache {
+    /// Tries to take the turn of a set, in the table's rule that `M` and `K` name. It answers what the turn word had.
     fn take_as<M: IsMove, K: IsTaken>(
         &self,
         seat: &mut Seat<(), Known>,
@@ -81,6 +82,8 @@ impl TurnCache {
         self.table.shared.load::<Loads>(seat, word)
     }
 
+    /// Stores the number of packets of an entry, the step by which its packet counts as metered, in the table's rule
+    /// that `M` and `K` name.
     fn commit_as<M: IsMove, K: IsTaken>(
         &self,
         seat: &mut Seat<(), Known>,
