@@ -15,7 +15,7 @@ use Rattle.batch_queue.specs.declared.batch.Batch.{Batch}
 use Rattle.batch_queue.specs.declared.seen.Seen.{Seen}
 use Rattle.batch_queue.specs.Batches.{IsBefore, AreRising}
 use Rattle.batch_queue.specs.Queueing.{all_seats, all_taken, Fits, Queued, first_seen, with_another, other_seen}
-use Rattle.batch_queue.specs.Queueing.{both_of, spent, more_of, HasPut, HasTaken, Knows}
+use Rattle.batch_queue.specs.Queueing.{both_of, spent_pass, more_of, HasPut, HasTaken, Knows}
 use Rattle.batch_queue.proofs.Lists.{sum-set, flat-same, flat-last, flat-more, flat-less, flat-at, flat-only}
 use Rattle.batch_queue.proofs.Lists.{rising-last, rising-before}
 
@@ -239,7 +239,7 @@ Origin views id other j = (k : ℕ) × (old : Seen) × (get_elem? views k ≡ so
 
 single-merged : (views : List Seen) (id other : ℕ) (v u : Seen) → get_elem? views id ≡ some v
     → get_elem? views other ≡ some u → Single views
-    → Single (set (set views id (both_of v u)) other spent)
+    → Single (set (set views id (both_of v u)) other spent_pass)
 single-merged views id other v u at was single =
     let both : Seen = both_of v u in
     let first : Each (λ j x. x.reader ≡ true → Origin views id other j) (set views id both) =
@@ -249,8 +249,8 @@ single-merged views id other v u at was single =
     (or-true v.reader u.reader is))
     (λ j x apart at' is. (j, x, at', is, inl refl)) in
     let all : Each (λ j x. x.reader ≡ true → (j ≢ other) × Origin views id other j)
-    (set (set views id both) other spent) =
-    each-set (λ j x. x.reader ≡ true → (j ≢ other) × Origin views id other j) (set views id both) other spent
+    (set (set views id both) other spent_pass) =
+    each-set (λ j x. x.reader ≡ true → (j ≢ other) × Origin views id other j) (set views id both) other spent_pass
     (λ is. absurd (true≢false (sym is)))
     (λ j x apart at' is. (apart, first j x at' is)) in
     λ i j x y atx aty isx isy.
@@ -263,30 +263,31 @@ single-merged views id other v u at was single =
     (λ (ai : (a.1.0 ≡ other) × (i ≡ id)). ⊎_elim (λ (bj : b.1.0 ≡ j). absurd (b.0 (sym bj ∙ sym same ∙ ai.0)))
     (λ (bj : (b.1.0 ≡ other) × (j ≡ id)). ai.1 ∙ sym bj.1) b.1.4) a.1.4
 
-pub merges : (id : ℕ) (v : Seen) (other : ℕ) (u : Seen) → Merges Queued id v other u (both_of v u) spent
+pub merges : (id : ℕ) (v : Seen) (other : ℕ) (u : Seen) → Merges Queued id v other u (both_of v u) spent_pass
 merges id v other u items views h at apart at' =
     let both : Seen = both_of v u in
     let vs : List Seen = set views id both in
-    let end : List Seen = set vs other spent in
+    let end : List Seen = set vs other spent_pass in
     let was : get_elem? views other ≡ some u =
     ⊎_elim (λ x. absurd (apart x.0)) (λ x. x.1) (at_set views id other both u at') in
-    let rest : List Seen = set views other spent in
-    let still : get_elem? rest id ≡ some v = set_else views other id spent (λ e. apart (sym e)) ∙ at in
-    let turned : set rest id both ≡ end = sym (set_comm views id other both spent (λ e. apart (sym e))) in
+    let rest : List Seen = set views other spent_pass in
+    let still : get_elem? rest id ≡ some v = set_else views other id spent_pass (λ e. apart (sym e)) ∙ at in
+    let turned : set rest id both ≡ end = sym (set_comm views id other both spent_pass (λ e. apart (sym e))) in
     let count : all_seats end ≡ all_seats views =
-    let a = sum-set seats views id v both at in let b = sum-set seats vs other u spent at' in omega (arith, a, b) in
+    let a = sum-set seats views id v both at in let b = sum-set seats vs other u spent_pass at' in
+    omega (arith, a, b) in
     let F : ℕ → Seen → Type 0 = λ j x. Fits (h.gone ++ items) (all_seats views) x in
     record {
       gone = h.gone;
       rising = h.rising;
       once = IsPermutation-trans h.gone (all_taken views) (all_taken end) h.once
           (IsPermutation-trans (all_taken views) (all_taken rest ++ u.took) (all_taken end)
-          (flat-less took views other u spent was refl)
+          (flat-less took views other u spent_pass was refl)
           (subst (λ l. IsPermutation (all_taken rest ++ u.took) (all_taken l)) turned
           (flat-more took rest id v both u.took still refl)));
       single = single-merged views id other v u at was h.single;
       each = subst (λ n. Each (λ j x. Fits (h.gone ++ items) n x) end) (sym count)
-          (each-set F vs other spent
+          (each-set F vs other spent_pass
           record { reader = λ is. absurd (true≢false (sym is)); other = λ is. (refl, refl); idle = λ none. refl }
           (λ j x _ atx. each-set F views id both
           (fits-both (h.gone ++ items) (all_seats views) v u (h.each id v at) (h.each other u was)

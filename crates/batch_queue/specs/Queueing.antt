@@ -53,8 +53,8 @@ both_of v w =
       took = v.took ++ w.took;
     }
 
-abbrev pub spent : Seen
-spent = record { reader = false; seats = 0; others = 0; put = []; took = [] }
+abbrev pub spent_pass : Seen
+spent_pass = record { reader = false; seats = 0; others = 0; put = []; took = [] }
 
 -- A pass with these batches put and taken besides.
 abbrev pub more_of : List Batch → List Batch → Seen → Seen

@@ -57,9 +57,9 @@ impl Split<Seen> for Seats {
 }
 
 impl Join<Seen> for Seats {
-    ghost use Rattle.batch_queue.specs.Queueing.{both_of, spent};
+    ghost use Rattle.batch_queue.specs.Queueing.{both_of, spent_pass};
 
     ghost both = { both_of };
 
-    ghost spent = { spent };
+    ghost spent = { spent_pass };
 }

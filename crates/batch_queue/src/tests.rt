@@ -71,7 +71,7 @@ fn take<R: Wait>(rt: &R, queue: &BatchQueue, pass: &mut QueuePass) -> Option<u64
 }
 
 /// A queue with room for two batches, the reader's pass, and two others.
-fn opened(alloc: Global) -> Result<(BatchQueue, QueuePass, QueuePass, QueuePass), NoMemory>
+fn open_queue(alloc: Global) -> Result<(BatchQueue, QueuePass, QueuePass, QueuePass), NoMemory>
     ensures own { IfOk result (λ r. IsPassOf r.0 r.1 × IsPassOf r.0 r.2 × IsPassOf r.0 r.3) }
     ensures reader { IfOk result (λ r. IsReaders r.1 × (put_of r.1 ≡ [])) }
 {
@@ -89,7 +89,7 @@ fn opened(alloc: Global) -> Result<(BatchQueue, QueuePass, QueuePass, QueuePass)
 #[test]
 fn batches_go_through_in_order(rt: HostRuntime) -> Result<(), Fail> {
     let alloc = rt.alloc();
-    let (queue, mut reader, mut second, mut third) = opened(alloc)?;
+    let (queue, mut reader, mut second, mut third) = open_queue(alloc)?;
     assert_eq!(rt; take(&rt, &queue, &mut second), None);
     assert_eq!(rt; offer(&rt, &queue, &mut reader, batch(alloc, 0)?), None);
     assert_eq!(rt; offer(&rt, &queue, &mut reader, batch(alloc, 1)?), None);
@@ -104,9 +104,9 @@ fn batches_go_through_in_order(rt: HostRuntime) -> Result<(), Fail> {
     Ok(())
 }
 
-fn shared<T: Sync>(_value: &T) {}
+fn check_sync<T: Sync>(_value: &T) {}
 
-fn moved<T: Send>(value: T) -> T
+fn check_send<T: Send>(value: T) -> T
     ensures { result ≡ value }
 {
     value
@@ -114,10 +114,10 @@ fn moved<T: Send>(value: T) -> T
 
 #[test]
 fn threads_share_a_queue(rt: HostRuntime) -> Result<(), Fail> {
-    let (queue, reader, second, third) = opened(rt.alloc())?;
-    shared(&queue);
-    let all = queue.unite(moved(reader), second);
-    let mut all = queue.unite(all, moved(third));
+    let (queue, reader, second, third) = open_queue(rt.alloc())?;
+    check_sync(&queue);
+    let all = queue.unite(check_send(reader), second);
+    let mut all = queue.unite(all, check_send(third));
     assert_eq!(rt; take(&rt, &queue, &mut all), None);
     Ok(())
 }

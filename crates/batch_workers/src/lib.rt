@@ -19,6 +19,6 @@ mod working;
 
 pub use batch::meter_batch;
 pub use no_memory::NoMemory;
-pub use share::{BatchShare, drained, united};
-pub use worker::{BatchWorker, worked};
+pub use share::{BatchShare, drain_queue, unite_workers};
+pub use worker::{BatchWorker, run_workers};
 pub use working::{Shared, work_batches};

@@ -30,7 +30,7 @@ pub struct BatchShare<C: FlowCache> {
 }
 
 /// What two passes of the cache did.
-fn gained<C: FlowCache>(
+fn unite_two<C: FlowCache>(
     cache: &C,
     pass: C::Pass,
     parts: Vec<Fragment>,
@@ -54,11 +54,11 @@ fn gained<C: FlowCache>(
     let mut parts = parts;
     parts.extend_from_slice(more.as_slice())?;
     let pass = cache.unite(pass, other);
-    Ok((pass, parts, tally.joined(&rest)))
+    Ok((pass, parts, tally.sum_with(&rest)))
 }
 
 /// One worker more, which has worked.
-fn joined<C: FlowCache>(
+fn add_worker<C: FlowCache>(
     queue: &BatchQueue,
     cache: &C,
     share: BatchShare<C>,
@@ -91,7 +91,7 @@ fn joined<C: FlowCache>(
         tally: rest,
         state: _,
     } = worker;
-    let (pass, parts, tally) = gained(cache, pass, parts, tally, other, out, rest)?;
+    let (pass, parts, tally) = unite_two(cache, pass, parts, tally, other, out, rest)?;
     let seat = queue.unite(seat, other_seat);
     Ok(BatchShare {
         seat,
@@ -104,7 +104,7 @@ fn joined<C: FlowCache>(
 /// What the reader and all workers did together, once the workers have worked.
 ///
 /// `NoMemory`: a worker ended so, or memory is out.
-pub fn united<C: FlowCache>(
+pub fn unite_workers<C: FlowCache>(
     queue: &BatchQueue,
     cache: &C,
     share: BatchShare<C>,
@@ -131,7 +131,7 @@ pub fn united<C: FlowCache>(
             WorkState::Finished => {}
             WorkState::Going | WorkState::NoMemory => return Err(NoMemory),
         }
-        share = joined(queue, cache, share, worker)?;
+        share = add_worker(queue, cache, share, worker)?;
     }
     Ok(share)
 }
@@ -140,7 +140,7 @@ pub fn united<C: FlowCache>(
 /// each batch by this number of a worker.
 ///
 /// Where the share's pass of the queue stands for all seats, all batches that were put were metered then.
-pub fn drained<C: FlowCache, G: Gate, R: Wait>(
+pub fn drain_queue<C: FlowCache, G: Gate, R: Wait>(
     rt: &R,
     alloc: Global,
     shared: &Shared,
@@ -173,7 +173,7 @@ pub fn drained<C: FlowCache, G: Gate, R: Wait>(
     work_batches(
         rt, alloc, shared, number, &mut seat, cache, &mut pass, &mut out, &mut rest, gate,
     )?;
-    let (pass, parts, tally) = gained(cache, first, parts, tally, pass, out, rest)?;
+    let (pass, parts, tally) = unite_two(cache, first, parts, tally, pass, out, rest)?;
     Ok(BatchShare {
         seat,
         pass,

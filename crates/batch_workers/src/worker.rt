@@ -95,7 +95,7 @@ fn work_all<C: FlowCache, G: Gate, R: Threads + Wait + Sync>(
 }
 
 /// The workers, once they have worked, all at once: each is `Finished`, or `NoMemory` where memory was out.
-pub fn worked<C: FlowCache, G: Gate, R: Threads + Wait + Sync>(
+pub fn run_workers<C: FlowCache, G: Gate, R: Threads + Wait + Sync>(
     rt: &R,
     alloc: Global,
     shared: &Shared,

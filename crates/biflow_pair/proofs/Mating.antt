@@ -11,10 +11,10 @@ use Rattle.record_ledger.specs.declared.record.FlowRecord.{FlowRecord}
 use Rattle.biflow_pair.specs.Mates.{is_same, is_reverse, are_mates}
 use Rattle.biflow_pair.specs.declared.biflow.Biflow.{Biflow}
 use Rattle.biflow_pair.specs.Pairs.{first_mate, without_mate, IsFirstPair, ArePaired}
-use Rattle.biflow_pair.specs.Chains.{HasKeyAt, IsPlace, IsFirstPlace, ArePlaces, AreLinks, RisesFrom, untaken}
+use Rattle.biflow_pair.specs.Chains.{HasKeyAt, IsPlace, IsFirstPlace, ArePlaces, AreLinks, RisesFrom, untaken_records}
 use Rattle.biflow_pair.specs.Chains.{TakesMate, TakesPair, pair_list}
 use Rattle.biflow_pair.proofs.Keys.{same_key, same_itself}
-use Rattle.biflow_pair.proofs.Taking.{IsSet, none_taken, mate_taken, has_key, front_of, untaken-linked}
+use Rattle.biflow_pair.proofs.Taking.{IsSet, none_taken, mate_taken, has_key, front_of, untaken_records-linked}
 
 differ : false ≡ true → ⊥
 differ is = cc
@@ -193,42 +193,44 @@ pub takes_pair : (idle : ℕ) (records : List FlowRecord) (place : ℕ) (own : F
     → place < length records → own ≡ get_or records place own → old own.part.key ≤ place
     → IsFirstPlace records (place + 1) own.part.key link
     → IsSet old middle own.part.key link → TakesMate idle records (place + 1) own middle new reverse
-    → IsFirstPair idle (untaken old place (drop place records)) (record { forward = own; reverse = reverse })
-    (untaken new (place + 1) (drop (place + 1) records))
+    → IsFirstPair idle (untaken_records old place (drop place records)) (record { forward = own; reverse = reverse })
+    (untaken_records new (place + 1) (drop (place + 1) records))
 takes_pair idle records place own old middle new link reverse inside own_is reached first set takes =
     let more = drop (place + 1) records in
     let front : drop place records ≡ own ∷ more =
     drop-cons records place own inside ∙ (λ i. sym own_is i ∷ drop (sym (add-one place) i) records) in
-    let same : untaken old (place + 1) more ≡ untaken middle (place + 1) more =
-    untaken-linked records old middle own.part.key place (place + 1) link reached (omega arith) first set in
+    let same : untaken_records old (place + 1) more ≡ untaken_records middle (place + 1) more =
+    untaken_records-linked records old middle own.part.key place (place + 1) link reached (omega arith) first set in
     record {
-      others = untaken old (place + 1) more;
-      forward = ap (untaken old place) front
-          ∙ ap (λ (b : Bool). if b then own ∷ untaken old (place + 1) more else untaken old (place + 1) more)
+      others = untaken_records old (place + 1) more;
+      forward = ap (untaken_records old place) front
+          ∙ ap (λ (b : Bool). if b then own
+          ∷ untaken_records old (place + 1) more else untaken_records old (place + 1) more)
           (le-leb (old own.part.key) place reached);
       reverse = takes.mate_is ∙ ap (first_mate idle own) (sym same);
       left = takes.left ∙ ap (without_mate idle own) (sym same);
     }
 
 -- at first no record is taken
-pub untaken-every : (records : List FlowRecord) (heads : FlowKey → ℕ) (m : ℕ) (xs : List FlowRecord)
+pub untaken_records-every : (records : List FlowRecord) (heads : FlowKey → ℕ) (m : ℕ) (xs : List FlowRecord)
     → xs ≡ drop m records
     → ((k : ℕ) (d : FlowRecord) → m ≤ k → k < length records → heads (get_or records k d).part.key ≤ k)
-    → untaken heads m xs ≡ xs
-untaken-every records heads m [] is every = refl
-untaken-every records heads m (g ∷ gs) is every =
+    → untaken_records heads m xs ≡ xs
+untaken_records-every records heads m [] is every = refl
+untaken_records-every records heads m (g ∷ gs) is every =
     let front = front_of records m g gs is in
     let reached : heads g.part.key ≤ m = subst (λ (r : FlowRecord). heads r.part.key ≤ m) front.first_is
     (every m g (omega arith) front.inside) in
-    let rest = untaken-every records heads (m + 1) gs front.behind (λ k d low inside. every k d (omega arith) inside) in
-    ap (λ (b : Bool). if b then g ∷ untaken heads (m + 1) gs else untaken heads (m + 1) gs)
+    let rest = untaken_records-every records heads (m + 1) gs front.behind
+    (λ k d low inside. every k d (omega arith) inside) in
+    ap (λ (b : Bool). if b then g ∷ untaken_records heads (m + 1) gs else untaken_records heads (m + 1) gs)
     (le-leb (heads g.part.key) m reached) ∙ ap (λ xs. g ∷ xs) rest
 
-pub untaken-start : (records : List FlowRecord) (heads : FlowKey → ℕ)
+pub untaken_records-start : (records : List FlowRecord) (heads : FlowKey → ℕ)
     → ((key : FlowKey) → IsFirstPlace records 0 key (heads key))
-    → untaken heads 0 (drop 0 records) ≡ records
-untaken-start records heads first =
-    untaken-every records heads 0 (drop 0 records) refl
+    → untaken_records heads 0 (drop 0 records) ≡ records
+untaken_records-start records heads first =
+    untaken_records-every records heads 0 (drop 0 records) refl
     (λ k d low inside. (first (get_or records k d).part.key).first k low inside
     (has_key records k d (get_or records k d).part.key inside refl))
 
@@ -236,23 +238,23 @@ untaken-start records heads first =
 pub paired-more : (idle : ℕ) (records : List FlowRecord) (place : ℕ) (old new : FlowKey → ℕ) (taken : Option Biflow)
     (pairs more : List Biflow)
     → TakesPair idle records place old new taken → more ≡ pairs ++ pair_list taken
-    → ((rest : List Biflow) → ArePaired idle (untaken old place (drop place records)) rest
+    → ((rest : List Biflow) → ArePaired idle (untaken_records old place (drop place records)) rest
     → ArePaired idle records (pairs ++ rest))
-    → (rest : List Biflow) → ArePaired idle (untaken new (place + 1) (drop (place + 1) records)) rest
+    → (rest : List Biflow) → ArePaired idle (untaken_records new (place + 1) (drop (place + 1) records)) rest
     → ArePaired idle records (more ++ rest)
 paired-more idle records place old new None pairs more takes is before rest paired =
     subst (λ ps. ArePaired idle records (ps ++ rest)) (sym (is ∙ append-nil pairs))
     (before rest (subst (λ left. ArePaired idle left rest) (sym takes) paired))
 paired-more idle records place old new (Some pair) pairs more takes is before rest paired =
     subst (λ ps. ArePaired idle records ps) (sym (append_assoc pairs (pair ∷ []) rest) ∙ ap (λ ps. ps ++ rest) (sym is))
-    (before (pair ∷ rest) (untaken new (place + 1) (drop (place + 1) records), takes, paired))
+    (before (pair ∷ rest) (untaken_records new (place + 1) (drop (place + 1) records), takes, paired))
 
 -- the end
 pub paired-end : (idle : ℕ) (records : List FlowRecord) (heads : FlowKey → ℕ) (place : ℕ) (pairs : List Biflow)
     → length records ≤ place
-    → ((rest : List Biflow) → ArePaired idle (untaken heads place (drop place records)) rest
+    → ((rest : List Biflow) → ArePaired idle (untaken_records heads place (drop place records)) rest
     → ArePaired idle records (pairs ++ rest))
     → ArePaired idle records pairs
 paired-end idle records heads place pairs past before =
     subst (ArePaired idle records) (append-nil pairs)
-    (before [] (ap (untaken heads place) (drop_all place records past)))
+    (before [] (ap (untaken_records heads place) (drop_all place records past)))

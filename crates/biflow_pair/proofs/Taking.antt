@@ -9,7 +9,7 @@ use Rattle.flow_key.specs.declared.key.FlowKey.{FlowKey}
 use Rattle.record_ledger.specs.declared.record.FlowRecord.{FlowRecord}
 use Rattle.biflow_pair.specs.Mates.{is_same, are_mates}
 use Rattle.biflow_pair.specs.Pairs.{first_mate, without_mate}
-use Rattle.biflow_pair.specs.Chains.{HasKeyAt, IsFirstPlace, untaken}
+use Rattle.biflow_pair.specs.Chains.{HasKeyAt, IsFirstPlace, untaken_records}
 use Rattle.biflow_pair.proofs.Keys.{same_key, same_itself}
 
 differ : false ≡ true → ⊥
@@ -49,18 +49,18 @@ front_of records m g gs is = elim (cases_lt m (length records)) [
 ]
 
 -- places that give the same tests leave the same records
-pub untaken-agree : (records : List FlowRecord) (heads heads' : FlowKey → ℕ) (m : ℕ) (xs : List FlowRecord)
+pub untaken_records-agree : (records : List FlowRecord) (heads heads' : FlowKey → ℕ) (m : ℕ) (xs : List FlowRecord)
     → xs ≡ drop m records
     → ((k : ℕ) (d : FlowRecord) → m ≤ k → k < length records
     → nat_le (heads (get_or records k d).part.key) k ≡ nat_le (heads' (get_or records k d).part.key) k)
-    → untaken heads m xs ≡ untaken heads' m xs
-untaken-agree records heads heads' m [] is agree = refl
-untaken-agree records heads heads' m (g ∷ gs) is agree =
+    → untaken_records heads m xs ≡ untaken_records heads' m xs
+untaken_records-agree records heads heads' m [] is agree = refl
+untaken_records-agree records heads heads' m (g ∷ gs) is agree =
     let front = front_of records m g gs is in
     let here : nat_le (heads g.part.key) m ≡ nat_le (heads' g.part.key) m =
     ap (λ (r : FlowRecord). nat_le (heads r.part.key) m) (sym front.first_is) ∙ agree m g (omega arith) front.inside
     ∙ ap (λ (r : FlowRecord). nat_le (heads' r.part.key) m) front.first_is in
-    let rest = untaken-agree records heads heads' (m + 1) gs front.behind
+    let rest = untaken_records-agree records heads heads' (m + 1) gs front.behind
     (λ k d low inside. agree k d (omega arith) inside) in
     λ i. if here i then g ∷ rest i else rest i
 
@@ -77,12 +77,12 @@ set-other : (old new : FlowKey → ℕ) (key other : FlowKey) (place : ℕ) → 
 set-other old new key other place set apart = set other ∙ ap (λ (b : Bool). if b then place else old other) apart
 
 -- the link of a taken record's key changes nothing behind it
-pub untaken-linked : (records : List FlowRecord) (old new : FlowKey → ℕ) (key : FlowKey) (place from link : ℕ)
+pub untaken_records-linked : (records : List FlowRecord) (old new : FlowKey → ℕ) (key : FlowKey) (place from link : ℕ)
     → old key ≤ place → place + 1 ≤ from
     → IsFirstPlace records (place + 1) key link → IsSet old new key link
-    → untaken old from (drop from records) ≡ untaken new from (drop from records)
-untaken-linked records old new key place from link reached later first set =
-    untaken-agree records old new from (drop from records) refl
+    → untaken_records old from (drop from records) ≡ untaken_records new from (drop from records)
+untaken_records-linked records old new key place from link reached later first set =
+    untaken_records-agree records old new from (drop from records) refl
     (λ k d low inside. by k d low inside (is_same (get_or records k d).part.key key) refl)
   where
     by : (k : ℕ) (d : FlowRecord) → from ≤ k → k < length records → (b : Bool)
@@ -116,7 +116,7 @@ pub none_taken : (idle : ℕ) (forward : FlowRecord) (records : List FlowRecord)
     (xs : List FlowRecord) → xs ≡ drop m records
     → ((k : ℕ) (d : FlowRecord) → m ≤ k → k < length records → heads (get_or records k d).part.key ≤ k
     → are_mates idle forward (get_or records k d) ≡ false)
-    → NoneIsTaken idle forward (untaken heads m xs)
+    → NoneIsTaken idle forward (untaken_records heads m xs)
 none_taken idle forward records heads m [] is none = record { mate = refl; rest = refl }
 none_taken idle forward records heads m (g ∷ gs) is none =
     let front = front_of records m g gs is in
@@ -125,12 +125,13 @@ none_taken idle forward records heads m (g ∷ gs) is none =
     (λ k d low inside here. none k d (omega arith) inside here))
   where
     by : (b : Bool) → nat_le (heads g.part.key) m ≡ b → IsFront records m g gs
-        → NoneIsTaken idle forward (untaken heads (m + 1) gs)
-        → NoneIsTaken idle forward (if b then g ∷ untaken heads (m + 1) gs else untaken heads (m + 1) gs)
+        → NoneIsTaken idle forward (untaken_records heads (m + 1) gs)
+        → NoneIsTaken idle forward
+        (if b then g ∷ untaken_records heads (m + 1) gs else untaken_records heads (m + 1) gs)
     by true test front rest =
         let reached : heads (get_or records m g).part.key ≤ m =
         subst (λ (r : FlowRecord). heads r.part.key ≤ m) (sym front.first_is) (leb-true (heads g.part.key) m test) in
-        none_behind idle forward g (untaken heads (m + 1) gs)
+        none_behind idle forward g (untaken_records heads (m + 1) gs)
         (ap (are_mates idle forward) (sym front.first_is) ∙ none m g (omega arith) front.inside reached) rest
     by false test front rest = rest
 
@@ -170,7 +171,7 @@ pub record IsMateAt (idle : ℕ) (forward : FlowRecord) (records : List FlowReco
 pub mate_taken : (idle : ℕ) (forward : FlowRecord) (records : List FlowRecord) (old new : FlowKey → ℕ) (key : FlowKey)
     (j link : ℕ) (mate : FlowRecord)
     (m : ℕ) (xs : List FlowRecord) → IsMateAt idle forward records old new key j link mate → xs ≡ drop m records → m ≤ j
-    → MateIsTaken idle forward mate (untaken old m xs) (untaken new m xs)
+    → MateIsTaken idle forward mate (untaken_records old m xs) (untaken_records new m xs)
 mate_taken idle forward records old new key j link mate m [] there is low =
     absurd (let empty = ap length is ∙ length-drop m records in let inside = there.inside in omega (arith, empty))
 mate_taken idle forward records old new key j link mate m (g ∷ gs) there is low =
@@ -182,8 +183,8 @@ mate_taken idle forward records old new key j link mate m (g ∷ gs) there is lo
       | inr past ↦ here front (omega (arith, low, past))
     ]
   where
-    here : IsFront records m g gs → m ≡ j → MateIsTaken idle forward mate (untaken old m (g ∷ gs))
-        (untaken new m (g ∷ gs))
+    here : IsFront records m g gs → m ≡ j → MateIsTaken idle forward mate (untaken_records old m (g ∷ gs))
+        (untaken_records new m (g ∷ gs))
     here front place_is =
         let g_is : g ≡ mate = sym front.first_is ∙ ap (λ n. get_or records n g) place_is ∙ there.mate_is g in
         let g_key : g.part.key ≡ key = ap (λ (r : FlowRecord). r.part.key) g_is ∙ there.key_is in
@@ -193,27 +194,29 @@ mate_taken idle forward records old new key j link mate m (g ∷ gs) there is lo
         let link_far = there.linked.one.behind in
         let taken : nat_le (old g.part.key) m ≡ true = le-leb (old g.part.key) m (omega arith) in
         let left : nat_le (new g.part.key) m ≡ false = lt-leb (new g.part.key) m (omega arith) in
-        let rest : untaken old (m + 1) gs ≡ untaken new (m + 1) gs =
-        ap (untaken old (m + 1)) front.behind
-        ∙ untaken-linked records old new key j (m + 1) link (omega (arith, there.place))
+        let rest : untaken_records old (m + 1) gs ≡ untaken_records new (m + 1) gs =
+        ap (untaken_records old (m + 1)) front.behind
+        ∙ untaken_records-linked records old new key j (m + 1) link (omega (arith, there.place))
         (omega arith) there.linked there.set
-        ∙ ap (untaken new (m + 1)) (sym front.behind) in
+        ∙ ap (untaken_records new (m + 1)) (sym front.behind) in
         rw (taken, left)
-        (taken_here idle forward g mate (untaken old (m + 1) gs) (untaken new (m + 1) gs)
+        (taken_here idle forward g mate (untaken_records old (m + 1) gs) (untaken_records new (m + 1) gs)
         (ap (are_mates idle forward) g_is ∙ there.mates) g_is (sym rest))
 
     kept : (b : Bool) → (apart_is : are_mates idle forward g ≡ false)
-        → MateIsTaken idle forward mate (untaken old (m + 1) gs) (untaken new (m + 1) gs)
-        → MateIsTaken idle forward mate (if b then g ∷ untaken old (m + 1) gs else untaken old (m + 1) gs)
-        (if b then g ∷ untaken new (m + 1) gs else untaken new (m + 1) gs)
-    kept true apart_is rest = taken_behind idle forward g mate (untaken old (m + 1) gs)
-        (untaken new (m + 1) gs) apart_is rest
+        → MateIsTaken idle forward mate (untaken_records old (m + 1) gs) (untaken_records new (m + 1) gs)
+        → MateIsTaken idle forward mate
+        (if b then g ∷ untaken_records old (m + 1) gs else untaken_records old (m + 1) gs)
+        (if b then g ∷ untaken_records new (m + 1) gs else untaken_records new (m + 1) gs)
+    kept true apart_is rest = taken_behind idle forward g mate (untaken_records old (m + 1) gs)
+        (untaken_records new (m + 1) gs) apart_is rest
     kept false apart_is rest = rest
 
-    by : IsFront records m g gs → MateIsTaken idle forward mate (untaken old (m + 1) gs) (untaken new (m + 1) gs)
+    by : IsFront records m g gs
+        → MateIsTaken idle forward mate (untaken_records old (m + 1) gs) (untaken_records new (m + 1) gs)
         → m < j
         → (b : Bool) → is_same g.part.key key ≡ b
-        → MateIsTaken idle forward mate (untaken old m (g ∷ gs)) (untaken new m (g ∷ gs))
+        → MateIsTaken idle forward mate (untaken_records old m (g ∷ gs)) (untaken_records new m (g ∷ gs))
     by front rest before true same =
         let old_is : old g.part.key ≡ j = ap old (same_key g.part.key key same) ∙ there.place in
         let new_is : new g.part.key ≡ link = set-same old new key g.part.key link there.set same in
@@ -221,6 +224,6 @@ mate_taken idle forward records old new key j link mate m (g ∷ gs) there is lo
         rw (lt-leb (old g.part.key) m (omega arith), lt-leb (new g.part.key) m (omega arith)) rest
     by front rest before false apart =
         let new_is : new g.part.key ≡ old g.part.key = set-other old new key g.part.key link there.set apart in
-        subst (λ n. MateIsTaken idle forward mate (untaken old m (g ∷ gs))
-        (if nat_le n m then g ∷ untaken new (m + 1) gs else untaken new (m + 1) gs)) (sym new_is)
+        subst (λ n. MateIsTaken idle forward mate (untaken_records old m (g ∷ gs))
+        (if nat_le n m then g ∷ untaken_records new (m + 1) gs else untaken_records new (m + 1) gs)) (sym new_is)
         (kept (nat_le (old g.part.key) m) (there.others g apart) rest)

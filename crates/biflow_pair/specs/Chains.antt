@@ -50,23 +50,26 @@ RisesFrom records = (i j : ℕ) (d : FlowRecord) → i ≤ j → j < length reco
     → (slice_index_or records i d).part.first ≤ (slice_index_or records j d).part.first
 
 -- From a place on, the records that aren't taken: those at or behind the place of their key.
-abbrev pub untaken : (FlowKey → ℕ) → ℕ → List FlowRecord → List FlowRecord
-untaken heads place [] = []
-untaken heads place (one ∷ more) =
-    if nat_le (heads one.part.key) place then one ∷ untaken heads (place + 1) more else untaken heads (place + 1) more
+abbrev pub untaken_records : (FlowKey → ℕ) → ℕ → List FlowRecord → List FlowRecord
+untaken_records heads place [] = []
+untaken_records heads place (one ∷ more) =
+    if nat_le (heads one.part.key) place then one ∷ untaken_records heads (place + 1) more
+    else untaken_records heads (place + 1) more
 
 -- From a place on, the first mate is taken out of the records that aren't taken.
 pub record TakesMate (idle : ℕ) (records : List FlowRecord) (from : ℕ) (forward : FlowRecord) (old new : FlowKey → ℕ)
     (mate : Option FlowRecord) : Type 0 where
-  pub mate_is : mate ≡ first_mate idle forward (untaken old from (drop from records))
-  pub left : untaken new from (drop from records) ≡ without_mate idle forward (untaken old from (drop from records))
+  pub mate_is : mate ≡ first_mate idle forward (untaken_records old from (drop from records))
+  pub left : untaken_records new from (drop from records)
+      ≡ without_mate idle forward (untaken_records old from (drop from records))
 
 -- The record at a place and its mate are taken out, or the record was taken already.
 abbrev pub TakesPair : ℕ → List FlowRecord → ℕ → (FlowKey → ℕ) → (FlowKey → ℕ) → Option Biflow → Type 0
 TakesPair idle records place old new None =
-    untaken old place (drop place records) ≡ untaken new (place + 1) (drop (place + 1) records)
+    untaken_records old place (drop place records) ≡ untaken_records new (place + 1) (drop (place + 1) records)
 TakesPair idle records place old new (Some pair) =
-    IsFirstPair idle (untaken old place (drop place records)) pair (untaken new (place + 1) (drop (place + 1) records))
+    IsFirstPair idle (untaken_records old place (drop place records)) pair
+    (untaken_records new (place + 1) (drop (place + 1) records))
 
 -- The list of a biflow, where there is one.
 abbrev pub pair_list : Option Biflow → List Biflow

@@ -9,8 +9,8 @@ pub record Asked : Type 0 where
   pub idle : ℕ
   pub size : ℕ
 
-abbrev pub asked : PairSettings → Asked
-asked settings = record { idle = settings.idle; size = settings.size }
+abbrev pub asked_of : PairSettings → Asked
+asked_of settings = record { idle = settings.idle; size = settings.size }
 
 -- The options of the command: their names, least and greatest values, and defaults.
 abbrev pub options : List Rule

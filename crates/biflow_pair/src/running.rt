@@ -5,7 +5,7 @@ ghost use Rattle.std.specs.String.{string_bytes};
 ghost use Rattle.meter_io.specs.Causes.{Rose};
 ghost use Rattle.meter_io.specs.Sides.{side};
 ghost use Rattle.biflow_pair.specs.Outcome.{Ends, RunMeans, IsComplete};
-ghost use Rattle.biflow_pair.specs.Words.{asked, asked_by};
+ghost use Rattle.biflow_pair.specs.Words.{asked_of, asked_by};
 
 use crate::settings::PairSettings;
 use crate::status::PairStatus;
@@ -28,7 +28,7 @@ fn pair_input<S: Source, K: Sink>(
     input: &mut S,
     output: &mut K,
 ) -> PairStatus
-    ensures { Ends (asked settings.now) (side S.left S.faults input.old input.new)
+    ensures { Ends (asked_of settings.now) (side S.left S.faults input.old input.new)
         (side K.held K.faults output.old output.new) result }
 {
     let stream = match read_all(alloc, input, STREAM_LIMIT) {

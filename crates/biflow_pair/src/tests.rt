@@ -40,7 +40,7 @@ fn record(out: bool, near: u16, far: u16, first: u64, length: u32) -> FlowRecord
     FlowRecord { part, reason: 4 }
 }
 
-fn alone(forward: FlowRecord) -> Biflow {
+fn one_way(forward: FlowRecord) -> Biflow {
     Biflow {
         forward,
         reverse: None,
@@ -66,12 +66,12 @@ fn records_are_put_together_with_their_mates(rt: HostRuntime) -> Result<(), Fail
     let reply = record(false, 40_000, 80, 1_000_010, 100);
     let other = record(true, 40_001, 80, 1_000_005, 0);
     assert!(rt; are_pairs(&rt, &[], &[])?);
-    assert!(rt; are_pairs(&rt, [query].as_slice(), [alone(query)].as_slice())?);
+    assert!(rt; are_pairs(&rt, [query].as_slice(), [one_way(query)].as_slice())?);
     assert!(rt;
         are_pairs(
             &rt,
             [reply, other, query].as_slice(),
-            [both(query, reply), alone(other)].as_slice()
+            [both(query, reply), one_way(other)].as_slice()
         )?
     );
     let later = record(false, 40_000, 80, 1_300_200, 0);
@@ -87,14 +87,14 @@ fn records_are_put_together_with_their_mates(rt: HostRuntime) -> Result<(), Fail
         are_pairs(
             &rt,
             [too_late, query].as_slice(),
-            [alone(query), alone(too_late)].as_slice()
+            [one_way(query), one_way(too_late)].as_slice()
         )?
     );
     assert!(rt;
         are_pairs(
             &rt,
             [query, reply, later].as_slice(),
-            [both(query, reply), alone(later)].as_slice()
+            [both(query, reply), one_way(later)].as_slice()
         )?
     );
     let again = record(true, 40_000, 80, 1_000_300, 0);
@@ -116,7 +116,7 @@ fn a_key_that_is_its_own_reverse_has_no_mate(rt: HostRuntime) -> Result<(), Fail
         are_pairs(
             &rt,
             [own, own].as_slice(),
-            [alone(own), alone(own)].as_slice()
+            [one_way(own), one_way(own)].as_slice()
         )?
     );
     Ok(())
@@ -135,7 +135,7 @@ fn biflows_are_laid_out(rt: HostRuntime) -> Result<(), Fail> {
     let exchange = both(query, reply);
     assert_eq!(rt; laid_out(&rt, &[])?, 308);
     assert_eq!(rt;
-        laid_out(&rt, [alone(query)].as_slice())?,
+        laid_out(&rt, [one_way(query)].as_slice())?,
         308 + 16 + 4 + 48
     );
     assert_eq!(rt;
@@ -143,7 +143,7 @@ fn biflows_are_laid_out(rt: HostRuntime) -> Result<(), Fail> {
         308 + 16 + 4 + 83 + 83
     );
     assert_eq!(rt;
-        laid_out(&rt, [alone(query), exchange].as_slice())?,
+        laid_out(&rt, [one_way(query), exchange].as_slice())?,
         308 + 16 + 4 + 48 + 4 + 83
     );
     Ok(())
@@ -173,7 +173,7 @@ fn the_values_of_a_reverse_flow_stand_behind_those_of_the_forward_one(
 }
 
 /// What the stream of these records becomes: the length of the stream of their biflows.
-fn paired(rt: &HostRuntime, records: &[FlowRecord]) -> Result<usize, Fail> {
+fn paired_length(rt: &HostRuntime, records: &[FlowRecord]) -> Result<usize, Fail> {
     let stream = layout(rt.alloc(), records, 1400, 1000).map_err(|_| Fail::from("no memory"))?;
     let written = pair_stream(rt.alloc(), stream.as_slice(), 300_000, 1400).map_err(|_| Fail::from(
         "refused",
@@ -187,9 +187,12 @@ fn streams_are_paired(rt: HostRuntime) -> Result<(), Fail> {
     let reply = record(false, 40_000, 80, 1_000_010, 100);
     let ask = record(true, 40_001, 53, 1_000_000, 0);
     let answer = record(false, 40_001, 53, 1_000_001, 0);
-    assert_eq!(rt; paired(&rt, &[])?, 308);
-    assert_eq!(rt; paired(&rt, [query].as_slice())?, 376);
-    assert_eq!(rt; paired(&rt, [ask, answer, reply, query].as_slice())?, 494);
+    assert_eq!(rt; paired_length(&rt, &[])?, 308);
+    assert_eq!(rt; paired_length(&rt, [query].as_slice())?, 376);
+    assert_eq!(rt;
+        paired_length(&rt, [ask, answer, reply, query].as_slice())?,
+        494
+    );
     Ok(())
 }
 
@@ -197,7 +200,7 @@ fn streams_are_paired(rt: HostRuntime) -> Result<(), Fail> {
 fn streams_of_others_are_refused(rt: HostRuntime) -> Result<(), Fail> {
     let query = record(true, 40_000, 80, 1_000_000, 200);
     let reply = record(false, 40_000, 80, 1_000_010, 100);
-    let pairs = [alone(query), both(query, reply)];
+    let pairs = [one_way(query), both(query, reply)];
     let stream = bi_layout(rt.alloc(), pairs.as_slice(), 1400, 1000).map_err(|_| Fail::from(
         "no memory",
     ))?;

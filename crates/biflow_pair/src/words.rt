@@ -3,7 +3,7 @@
 ghost use Rattle.std.specs.Prelude.{◌≡◌, Some, None, map, IfOk, IfErr, option_and_then};
 ghost use Rattle.std.specs.String.{string_bytes};
 ghost use Rattle.command_words.specs.Options.{values_of};
-ghost use Rattle.biflow_pair.specs.Words.{asked, asked_with, asked_by, options};
+ghost use Rattle.biflow_pair.specs.Words.{asked_of, asked_with, asked_by, options};
 
 use crate::settings::PairSettings;
 use command_words::{OptionRule, OptionsError, values_of};
@@ -28,7 +28,7 @@ static OPTIONS: [OptionRule<'static>; 2] = [
 /// The settings that the options of the command give.
 fn settings(alloc: Global, words: &[String]) -> Result<PairSettings, OptionsError>
     ensures asked { IfOk result (λ settings. option_and_then asked_with (values_of options (map string_bytes words.now))
-        ≡ Some (asked settings)) }
+        ≡ Some (asked_of settings)) }
     ensures refused { IfErr result (λ error. error ≡ OptionsError.NotOptions
         → option_and_then asked_with (values_of options (map string_bytes words.now)) ≡ None) }
 {
@@ -47,7 +47,7 @@ fn settings(alloc: Global, words: &[String]) -> Result<PairSettings, OptionsErro
 /// - `NotOptions`: exactly where they are no such words.
 /// - `NoMemory`: out of memory.
 pub(crate) fn settings_of(alloc: Global, words: &[String]) -> Result<PairSettings, OptionsError>
-    ensures asked { IfOk result (λ settings. asked_by (map string_bytes words.now) ≡ Some (asked settings)) }
+    ensures asked { IfOk result (λ settings. asked_by (map string_bytes words.now) ≡ Some (asked_of settings)) }
     ensures refused { IfErr result (λ error. error ≡ OptionsError.NotOptions
         → asked_by (map string_bytes words.now) ≡ None) }
 {

@@ -25,7 +25,7 @@ use Rattle.cache_face.specs.Keeping.{Keeps, IsWhole, IsSmall, IsEmptyContent, Is
 use Rattle.cache_face.specs.Keeping.{entry_of, parts_in, packets_in, handed_in}
 use Rattle.cache_face.specs.Laws.{CanMeter, IsUnused, KeepsOpening, KeepsSplit, KeepsMerged, KeepsTaken, KeepsPassed}
 use Rattle.cache_face.specs.Laws.{KeptAtEnd}
-use Rattle.cache_face.specs.Notes.{Note, unused, first_note, empty_note, merged, metering}
+use Rattle.cache_face.specs.Notes.{Note, unused_note, first_note, empty_note, merged_note, note_with}
 use Rattle.cache_face.proofs.Apart.{same, others, apart, anew, snoc, sum_anew, sum_snoc, all_at, all_others, elsewhere}
 use Rattle.cache_face.proofs.Contents.{words_show, empty_shows}
 
@@ -66,7 +66,7 @@ rises_on (p ∷ ps) qs r s above =
 
 -- the note after metering is within bounds
 within_taken : (note : Note) (taken : List Packet) (out : Option Fragment) → IsWithin note → CanMeter note taken
-    → IsWithin (metering note taken out)
+    → IsWithin (note_with note taken out)
 within_taken note taken out w can =
     let all : All IsBounded (note.packets ++ taken) = All-append IsBounded note.packets taken w.each can.bounded in
     let rise : NumbersRise (note.packets ++ taken) =
@@ -156,16 +156,16 @@ module _ (limits : Timeouts) (contents : List (List ℕ)) (notes : List Note) (i
   H = handed_in notes
 
   noted : Option Fragment → List Note
-  noted out = set notes i (metering note taken out)
+  noted out = set notes i (note_with note taken out)
 
   -- the packets and the handed fragments grow
   more_packets : (out : Option Fragment) → IsPermutation (packets_in (noted out)) (P ++ taken)
   unfolding P noted
-  more_packets out = grown packets_of notes i note (metering note taken out) taken at refl
+  more_packets out = grown packets_of notes i note (note_with note taken out) taken at refl
 
   more_handed : (out : Option Fragment) → IsPermutation (handed_in (noted out)) (H ++ option_to_list out)
   unfolding H noted
-  more_handed out = grown handed_of notes i note (metering note taken out) (option_to_list out) at refl
+  more_handed out = grown handed_of notes i note (note_with note taken out) (option_to_list out) at refl
 
   all_shared : SharesOut limits (P ++ taken) ((G ++ H) ++ own ∷ [])
   unfolding P G H
@@ -174,12 +174,12 @@ module _ (limits : Timeouts) (contents : List (List ℕ)) (notes : List Note) (i
 
   all_within : (out : Option Fragment) → All IsWithin (noted out)
   unfolding noted
-  all_within out = All-set IsWithin notes i (metering note taken out)
+  all_within out = All-set IsWithin notes i (note_with note taken out)
       (within_taken note taken out (all_at IsWithin notes i note keeps.each at) can) keeps.each
 
   all_seats : (out : Option Fragment) → sum_by seats_of (noted out) ≤ 64
   unfolding noted
-  all_seats out = let s = sum_anew seats_of notes i note (metering note taken out) at in let few = keeps.seats in
+  all_seats out = let s = sum_anew seats_of notes i note (note_with note taken out) at in let few = keeps.seats in
       omega (arith, s, few)
 
   -- the parts in another order
@@ -194,7 +194,7 @@ module _ (limits : Timeouts) (contents : List (List ℕ)) (notes : List Note) (i
       (IsPermutation-sym (handed_in (noted out)) (H ++ option_to_list out) (more_handed out))))
       shared
 
-  passed : Keeps limits contents (set notes i (metering note taken (Some own)))
+  passed : Keeps limits contents (set notes i (note_with note taken (Some own)))
   unfolding noted P G H
   passed = record {
     whole = keeps.whole;
@@ -356,28 +356,28 @@ alike limits contents notes notes' keeps packets handed few within = record {
 
 pub keeps_split : KeepsSplit
 keeps_split limits contents notes i seats keeps at =
-    let left : List Note = set notes i (unused seats) in
-    let s = sum_anew seats_of notes i (unused (suc seats)) (unused seats) at in
+    let left : List Note = set notes i (unused_note seats) in
+    let s = sum_anew seats_of notes i (unused_note (suc seats)) (unused_note seats) at in
     let t = sum_snoc seats_of left first_note in
     let few = keeps.seats in
     alike limits contents notes (left ++ first_note ∷ []) keeps
     (subst (λ l. IsPermutation l (packets_in notes))
     (sym (snoc packets_of left first_note ∙ append-nil (packets_in left)))
-    (kept_pieces packets_of notes i (unused (suc seats)) (unused seats) at refl))
+    (kept_pieces packets_of notes i (unused_note (suc seats)) (unused_note seats) at refl))
     (subst (λ l. IsPermutation l (handed_in notes)) (sym (snoc handed_of left first_note ∙ append-nil (handed_in left)))
-    (kept_pieces handed_of notes i (unused (suc seats)) (unused seats) at refl))
+    (kept_pieces handed_of notes i (unused_note (suc seats)) (unused_note seats) at refl))
     (omega (arith, s, t, few))
     (All-append IsWithin left (first_note ∷ [])
-    (All-set IsWithin notes i (unused seats) (nothing_within (unused seats) (refl, refl)) keeps.each)
+    (All-set IsWithin notes i (unused_note seats) (nothing_within (unused_note seats) (refl, refl)) keeps.each)
     (All-cons IsWithin first_note [] (nothing_within first_note (refl, refl)) (All-nil IsWithin)))
 
 -- the pieces of two are put together at the first
 gathered : {B : Type 0} (f : Note → List B) (notes : List Note) (i j : ℕ) (one other : Note)
-    → f (merged one other) ≡ f one ++ f other → f empty_note ≡ []
+    → f (merged_note one other) ≡ f one ++ f other → f empty_note ≡ []
     → j ≢ i → get_elem? notes i ≡ some one → get_elem? notes j ≡ some other
-    → IsPermutation (flat_map f (set (set notes i (merged one other)) j empty_note)) (flat_map f notes)
+    → IsPermutation (flat_map f (set (set notes i (merged_note one other)) j empty_note)) (flat_map f notes)
 gathered f notes i j one other sum zero_is ne at at' =
-    let both : Note = merged one other in
+    let both : Note = merged_note one other in
     let left : List Note = set notes j empty_note in
     let rest : List _ = flat_map f (others notes j) in
     let crossed : set (set notes i both) j empty_note ≡ set left i both =
@@ -395,7 +395,7 @@ gathered f notes i j one other sum zero_is ne at at' =
     (IsPermutation-sym (flat_map f notes) (f other ++ rest) (apart f notes j other at')))))
 
 -- two notes put together are within bounds, where they are no single one, or one has nothing
-within_merged : (one other : Note) → IsWithin one → IsWithin other → IsWithin (merged one other)
+within_merged : (one other : Note) → IsWithin one → IsWithin other → IsWithin (merged_note one other)
 within_merged one other w v = record {
   count = (let a = w.count in let b = v.count in let l = length-append one.packets other.packets in
       omega (arith, a, b, l));
@@ -424,7 +424,7 @@ within_merged one other w v = record {
 
 pub keeps_merged : KeepsMerged
 keeps_merged limits contents notes i j one other keeps ne at at' =
-    let both : Note = merged one other in
+    let both : Note = merged_note one other in
     let left : List Note = set notes i both in
     let at_j : get_elem? left j ≡ some other = elsewhere notes i j other both ne at' in
     let s = sum_anew seats_of notes i one both at in

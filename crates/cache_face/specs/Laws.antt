@@ -11,7 +11,7 @@ use Rattle.cache_face.specs.declared.metered.How.{How}
 use Rattle.cache_face.specs.Choice.{IsChoice, Takes, entry_at}
 use Rattle.cache_face.specs.Keeping.{Keeps, IsWhole, IsSmall, IsEmptyContent, IsBounded, NumbersRise, entry_of}
 use Rattle.cache_face.specs.Keeping.{parts_in}
-use Rattle.cache_face.specs.Notes.{Note, unused, first_note, empty_note, merged, metering}
+use Rattle.cache_face.specs.Notes.{Note, unused_note, first_note, empty_note, merged_note, note_with}
 
 -- A pass of one seat can meter these packets: they are bounded, their numbers rise, and stand above its own.
 pub record CanMeter (note : Note) (taken : List Packet) : Type 0 where
@@ -33,14 +33,14 @@ KeepsOpening = (limits : Timeouts) (contents : List (List ℕ)) (notes : List No
 -- A seat of an unused note gets a note of its own.
 abbrev pub KeepsSplit : Type 0
 KeepsSplit = (limits : Timeouts) (contents : List (List ℕ)) (notes : List Note) (i seats : ℕ)
-    → Keeps limits contents notes → get_elem? notes i ≡ some (unused (suc seats))
-    → Keeps limits contents (slice_set notes i (unused seats) ++ first_note ∷ [])
+    → Keeps limits contents notes → get_elem? notes i ≡ some (unused_note (suc seats))
+    → Keeps limits contents (slice_set notes i (unused_note seats) ++ first_note ∷ [])
 
 -- Two notes are merged, and one becomes empty.
 abbrev pub KeepsMerged : Type 0
 KeepsMerged = (limits : Timeouts) (contents : List (List ℕ)) (notes : List Note) (i j : ℕ) (one other : Note)
     → Keeps limits contents notes → j ≢ i → get_elem? notes i ≡ some one → get_elem? notes j ≡ some other
-    → Keeps limits contents (slice_set (slice_set notes i (merged one other)) j empty_note)
+    → Keeps limits contents (slice_set (slice_set notes i (merged_note one other)) j empty_note)
 
 -- A fragment of packets is put into a content: the words are its entry's afterwards, and the note grows.
 abbrev pub KeepsTaken : Type 0
@@ -49,7 +49,7 @@ KeepsTaken = (limits : Timeouts) (contents : List (List ℕ)) (notes : List Note
     (taken : List Packet) (own kept : Fragment) (out : Option Fragment)
     → Keeps limits contents notes → get_elem? contents place ≡ some content → get_elem? notes i ≡ some note
     → CanMeter note taken → SharesOut limits taken (own ∷ []) → Takes limits own (entry_of content) out kept
-    → Keeps limits (slice_set contents place (part_words kept)) (slice_set notes i (metering note taken out))
+    → Keeps limits (slice_set contents place (part_words kept)) (slice_set notes i (note_with note taken out))
 
 -- A fragment of packets is handed out as it is: the note grows alone.
 abbrev pub KeepsPassed : Type 0
@@ -57,7 +57,7 @@ KeepsPassed = (limits : Timeouts) (contents : List (List ℕ)) (notes : List Not
     (taken : List Packet) (own : Fragment)
     → Keeps limits contents notes → get_elem? notes i ≡ some note → CanMeter note taken
     → SharesOut limits taken (own ∷ [])
-    → Keeps limits contents (slice_set notes i (metering note taken (Some own)))
+    → Keeps limits contents (slice_set notes i (note_with note taken (Some own)))
 
 -- Where all other notes are unused, the contents and what one was handed share out its packets.
 abbrev pub KeptAtEnd : Type 0

@@ -8,7 +8,7 @@ use Rattle.flow_parts.specs.Parts.{IsAlone}
 use Rattle.cache_face.specs.declared.metered.How.{How}
 use Rattle.cache_face.specs.declared.metered.How.TheVariants.{Joined, Opened, Replaced, PassedBy}
 use Rattle.cache_face.specs.Choice.{IsChoice}
-use Rattle.cache_face.specs.Notes.{Note, first_note, merged}
+use Rattle.cache_face.specs.Notes.{Note, first_note, merged_note}
 use Rattle.cache_face.specs.Tries.{LostTry}
 
 -- A cache: its number of sets, its number of seats, and the time-outs by which its fragments' heaps go.
@@ -78,4 +78,4 @@ IsMetered cache IsTryOf old new packet how out =
 
 -- A pass stands for both of two.
 abbrev pub IsUnited : PassMeans → PassMeans → PassMeans → Type 0
-IsUnited one other both = (both.note ≡ merged one.note other.note) × (both.lost ≡ one.lost ++ other.lost)
+IsUnited one other both = (both.note ≡ merged_note one.note other.note) × (both.lost ≡ one.lost ++ other.lost)

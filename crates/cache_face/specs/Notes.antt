@@ -10,20 +10,20 @@ pub record Note : Type 0 where
   pub handed : List Fragment
 
 -- So many seats that have done nothing.
-abbrev pub unused : ℕ → Note
-unused seats = record { seats = seats; packets = []; handed = [] }
+abbrev pub unused_note : ℕ → Note
+unused_note seats = record { seats = seats; packets = []; handed = [] }
 
 -- A pass of one seat that has done nothing.
 abbrev pub first_note : Note
-first_note = unused 1
+first_note = unused_note 1
 
 -- A pass that was united with another, and has nothing left.
 abbrev pub empty_note : Note
-empty_note = unused 0
+empty_note = unused_note 0
 
 -- Two passes as one.
-abbrev pub merged : Note → Note → Note
-merged one other =
+abbrev pub merged_note : Note → Note → Note
+merged_note one other =
     record {
       seats = one.seats + other.seats;
       packets = one.packets ++ other.packets;
@@ -32,6 +32,6 @@ merged one other =
     }
 
 -- Packets are metered, and a fragment is handed out, or none.
-abbrev pub metering : Note → List Packet → Option Fragment → Note
-metering note taken out =
+abbrev pub note_with : Note → List Packet → Option Fragment → Note
+note_with note taken out =
     record { seats = note.seats; packets = note.packets ++ taken; handed = note.handed ++ option_to_list out }

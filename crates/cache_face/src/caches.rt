@@ -6,7 +6,7 @@ ghost use Rattle.packet_accept.specs.declared.packet.Packet.{Packet};
 ghost use Rattle.flow_parts.specs.declared.fragment.Fragment.{Fragment};
 ghost use Rattle.flow_parts.specs.Sharing.{SharesOut};
 ghost use Rattle.cache_face.specs.Meaning.{CacheMeans, PassMeans, IsFresh, IsMetered, IsUnited};
-ghost use Rattle.cache_face.specs.Notes.{metering};
+ghost use Rattle.cache_face.specs.Notes.{note_with};
 ghost use Rattle.cache_face.specs.Tries.{LostTry};
 
 use crate::metered::Metered;
@@ -42,7 +42,7 @@ pub trait FlowCache: Sync + Drop {
         requires rises { All (λ p. p.number < packet.now.number) (shown pass.old).note.packets }
         requires octets { packet.now.octets < 2 ^ 24 }
         ensures own { is_of self.now pass.new }
-        ensures note { (shown pass.new).note ≡ metering (shown pass.old).note (packet.now ∷ []) result.out }
+        ensures note { (shown pass.new).note ≡ note_with (shown pass.old).note (packet.now ∷ []) result.out }
         ensures answer { IsMetered (means self.now) is_try_of (shown pass.old)
             (shown pass.new) packet.now result.how result.out };
 

@@ -112,7 +112,7 @@ fn last_of(entry: &Option<Fragment>) -> u64
 }
 
 /// The entry with the least last time, the lowest among equals.
-fn oldest(entries: &[Option<Fragment>; 4]) -> usize
+fn oldest_entry(entries: &[Option<Fragment>; 4]) -> usize
     ensures { IsOldest entries.now result }
 {
     let mut best = 0;
@@ -127,7 +127,7 @@ fn oldest(entries: &[Option<Fragment>; 4]) -> usize
 }
 
 /// What becomes of the entry that takes the fragment in.
-fn joined(timeouts: &Timeouts, entry: &Option<Fragment>, own: &Fragment) -> Fragment
+fn join_entry(timeouts: &Timeouts, entry: &Option<Fragment>, own: &Fragment) -> Fragment
     requires joins { CanJoin timeouts.now own.now entry.now }
     requires small { IsSmallEntry entry.now × IsSmall own.now }
     ensures { MatchOption entry.now ⊥ (λ old. IsJoined old own.now result) }
@@ -148,7 +148,7 @@ pub fn choose(timeouts: Timeouts, entries: &[Option<Fragment>; 4], own: Fragment
     ensures chosen { IsChoice timeouts entries.now own result.how result.place result.out result.kept }
 {
     if let Some(place) = lowest_joinable(&timeouts, entries, &own) {
-        let kept = joined(&timeouts, &entries[place], &own);
+        let kept = join_entry(&timeouts, &entries[place], &own);
         return Choice {
             how: How::Joined,
             place,
@@ -156,11 +156,11 @@ pub fn choose(timeouts: Timeouts, entries: &[Option<Fragment>; 4], own: Fragment
             kept,
         };
     }
-    opened(&timeouts, entries, own)
+    open_entry(&timeouts, entries, own)
 }
 
 /// The same, where none takes the fragment in.
-fn opened(_timeouts: &Timeouts, entries: &[Option<Fragment>; 4], own: Fragment) -> Choice
+fn open_entry(_timeouts: &Timeouts, entries: &[Option<Fragment>; 4], own: Fragment) -> Choice
     requires none { HasNone (CanJoin _timeouts.now own) entries.now }
     ensures place { result.place < 4 }
     ensures chosen { IsChoice _timeouts.now entries.now own result.how result.place result.out result.kept }
@@ -176,7 +176,7 @@ fn opened(_timeouts: &Timeouts, entries: &[Option<Fragment>; 4], own: Fragment) 
             kept: own,
         };
     }
-    anew(entries, oldest(entries), own)
+    anew(entries, oldest_entry(entries), own)
 }
 
 /// The entry is put out, and opened anew.

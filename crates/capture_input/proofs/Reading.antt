@@ -10,7 +10,7 @@ use Rattle.std.proofs.lemmas.List.{length-append, length-take, drop-drop}
 use Rattle.meter_io.specs.Sides.{Side, HasFailed, IsRead}
 use Rattle.pcap_reader.specs.File.{CaptureFile, capture_file, IsKnownLink}
 use Rattle.pcap_reader.specs.Records.{begins_with_damage, rest_of, rest_offset, tail_of, damage_of}
-use Rattle.pcap_reader.specs.Windows.{grown, part_with, front_of, GoesOn, GrowsFromFront}
+use Rattle.pcap_reader.specs.Windows.{grown_file, part_with, front_of, GoesOn, GrowsFromFront}
 use Rattle.pcap_reader.specs.Views.{headed_by, part_of}
 use Rattle.pcap_reader.specs.declared.head.Head.{Head}
 use Rattle.pcap_reader.specs.declared.head.CaptureError.{CaptureError}
@@ -44,14 +44,14 @@ part-of_file head file window more from like left =
 pub record Next (file : CaptureFile) (more : List ℕ) : Type 0 where
   pub on : GoesOn file more
   pub is_file : capture_file (file.bytes ++ more)
-      ≡ option_map (λ (f : CaptureFile). grown f more) (capture_file file.bytes)
+      ≡ option_map (λ (f : CaptureFile). grown_file f more) (capture_file file.bytes)
 
 -- the file with what the window has
-pub sound-grown : (head : Head) (window : List ℕ) (from taken : ℕ) (file : CaptureFile) (more : List ℕ)
+pub sound-grown_file : (head : Head) (window : List ℕ) (from taken : ℕ) (file : CaptureFile) (more : List ℕ)
     → Next file more → IsAt head window from taken file more → damage_of (part_with file (rest_of file ++ more)) ≡ None
-    → IsSound head (grown file more)
-sound-grown head window from taken file more next at undamaged = record {
-  is_file = next.is_file ∙ ap (option_map (λ (f : CaptureFile). grown f more)) at.sound.is_file;
+    → IsSound head (grown_file file more)
+sound-grown_file head window from taken file more next at undamaged = record {
+  is_file = next.is_file ∙ ap (option_map (λ (f : CaptureFile). grown_file f more)) at.sound.is_file;
   like = at.sound.like;
   long = omega (arith, at.sound.long, length-append file.bytes more);
   header = omega (arith, at.sound.header, length-append file.bytes more);
@@ -200,9 +200,9 @@ pub damaged-refused : (head : Head) (window bytes : List ℕ) (from taken place 
     (part : CaptureFile) (source : Side) (limit : ℕ)
     → ((f : CaptureFile) (xs : List ℕ) → f.start ≤ length f.bytes → GoesOn f xs)
     → ((xs ys : List ℕ) → 24 ≤ length xs → capture_file (xs ++ ys)
-    ≡ option_map (λ (f : CaptureFile). grown f ys) (capture_file xs))
+    ≡ option_map (λ (f : CaptureFile). grown_file f ys) (capture_file xs))
     → ((f : CaptureFile) (xs : List ℕ) (n : ℕ) → f.start ≤ length f.bytes → damage_of f ≡ Some n
-    → damage_of (grown f xs) ≡ Some n)
+    → damage_of (grown_file f xs) ≡ Some n)
     → ((f : CaptureFile) → f.start ≤ length f.bytes → rest_offset f + tail_of f ≡ length f.bytes)
     → IsAt head window from taken file more → part ≡ part_of head bytes → bytes ≡ drop from window
     → IsKnownLink part.link
@@ -212,7 +212,7 @@ damaged-refused head window bytes from taken place at-part file more part source
     shows known damaged place-is got read =
     let same : part ≡ part_with file (rest_of file ++ more) =
     is ∙ ap (part_of head) shows ∙ part-of_file head file window more from at.sound.like at.left in
-    let there : damage_of (grown file more) ≡ Some (rest_offset file + at-part) =
+    let there : damage_of (grown_file file more) ≡ Some (rest_offset file + at-part) =
     (goes file more at.sound.long).damage ∙ ap (option_map (λ (k : ℕ). rest_offset file + k))
     (ap damage_of (sym same) ∙ damaged) in
     let long : file.start ≤ length (file.bytes ++ more) = omega (arith, at.sound.long, length-append file.bytes more) in
@@ -220,18 +220,20 @@ damaged-refused head window bytes from taken place at-part file more part source
     ap length (shows ∙ at.left) ∙ length-append (rest_of file) more in
     let here : rest_offset file + at-part ≡ place =
     omega (arith, place-is, count, at.count, whole file at.sound.long, length-append file.bytes more) in
-    let all : capture_file ((file.bytes ++ more) ++ got) ≡ Some (grown (grown file more) got) =
+    let all : capture_file ((file.bytes ++ more) ++ got) ≡ Some (grown_file (grown_file file more) got) =
     header (file.bytes ++ more) got (omega (arith, at.sound.header, length-append file.bytes more))
-    ∙ ap (option_map (λ (f : CaptureFile). grown f got))
-    (header file.bytes more at.sound.header ∙ ap (option_map (λ (f : CaptureFile). grown f more)) at.sound.is_file) in
+    ∙ ap (option_map (λ (f : CaptureFile). grown_file f got))
+    (header file.bytes more at.sound.header
+    ∙ ap (option_map (λ (f : CaptureFile). grown_file f more)) at.sound.is_file) in
     record {
       bytes = (file.bytes ++ more) ++ got;
       read = read;
-      fault = is-some _ (grown (grown file more) got) (λ f. IsKnownLink f.link × (damage_of f ≡ Some place)) all (
-        subst IsKnownLink (ap (λ (f : CaptureFile). f.link) same) known,
-        stays (grown file more) got place long
-            (there ∙ ap (λ (k : ℕ). Some k) here),
-      );
+      fault = is-some _ (grown_file (grown_file file more) got)
+          (λ f. IsKnownLink f.link × (damage_of f ≡ Some place)) all (
+            subst IsKnownLink (ap (λ (f : CaptureFile). f.link) same) known,
+            stays (grown_file file more) got place long
+                (there ∙ ap (λ (k : ℕ). Some k) here),
+          );
     }
 
 pub known-link : (head : Head) (file part : CaptureFile) (bytes : List ℕ) → part_with file [] ≡ part_of head []
@@ -254,9 +256,9 @@ pub part-refused : (head : Head) (window bytes : List ℕ) (from count : ℕ) (f
     (limit : ℕ) (error : IndexError) (result : MeterFault)
     → ((f : CaptureFile) (xs : List ℕ) → f.start ≤ length f.bytes → GoesOn f xs)
     → ((xs ys : List ℕ) → 24 ≤ length xs → capture_file (xs ++ ys)
-    ≡ option_map (λ (f : CaptureFile). grown f ys) (capture_file xs))
+    ≡ option_map (λ (f : CaptureFile). grown_file f ys) (capture_file xs))
     → ((f : CaptureFile) (xs : List ℕ) (n : ℕ) → f.start ≤ length f.bytes → damage_of f ≡ Some n
-    → damage_of (grown f xs) ≡ Some n)
+    → damage_of (grown_file f xs) ≡ Some n)
     → ((f : CaptureFile) → f.start ≤ length f.bytes → rest_offset f + tail_of f ≡ length f.bytes)
     → IsAt head window from input.taken file more → part ≡ part_of head bytes → bytes ≡ drop from window
     → IsKnownLink part.link
@@ -298,25 +300,26 @@ consumes-nothing (Some bytes) = refl
 -- bytes that are no capture stay none, however they go on
 pub stays-none : (read got : List ℕ) (ended : Bool) (size : ℕ)
     → ((xs ys : List ℕ) → 24 ≤ length xs → capture_file (xs ++ ys)
-    ≡ option_map (λ (f : CaptureFile). grown f ys) (capture_file xs))
+    ≡ option_map (λ (f : CaptureFile). grown_file f ys) (capture_file xs))
     → (ended ≡ true → got ≡ []) → (ended ≡ false → length read ≡ size) → 24 ≤ size → capture_file read ≡ None
     → capture_file (read ++ got) ≡ None
 stays-none read got true size header still full long none =
     ap (λ (l : List ℕ). capture_file (read ++ l)) (still refl) ∙ ap capture_file (append-nil read) ∙ none
 stays-none read got false size header still full long none =
     header read got (let f = full refl in omega (arith, f, long))
-    ∙ ap (option_map (λ (f : CaptureFile). grown f got)) none
+    ∙ ap (option_map (λ (f : CaptureFile). grown_file f got)) none
 
 -- a file of an unknown link type stays one
 link-stays : (found : Option CaptureFile) (got : List ℕ) (link : ℕ)
     → IsSomeAnd found (λ file. (file.link ≡ link) × ¬ IsKnownLink link)
-    → IsSomeAnd (option_map (λ (f : CaptureFile). grown f got) found) (λ file. (file.link ≡ link) × ¬ IsKnownLink link)
+    → IsSomeAnd (option_map (λ (f : CaptureFile). grown_file f got) found)
+    (λ file. (file.link ≡ link) × ¬ IsKnownLink link)
 link-stays None got link is = is
 link-stays (Some file) got link is = is
 
 pub stays-unknown : (read got : List ℕ) (ended : Bool) (size link : ℕ)
     → ((xs ys : List ℕ) → 24 ≤ length xs → capture_file (xs ++ ys)
-    ≡ option_map (λ (f : CaptureFile). grown f ys) (capture_file xs))
+    ≡ option_map (λ (f : CaptureFile). grown_file f ys) (capture_file xs))
     → (ended ≡ true → got ≡ []) → (ended ≡ false → length read ≡ size) → 24 ≤ size
     → IsSomeAnd (capture_file read) (λ file. (file.link ≡ link) × ¬ IsKnownLink link)
     → IsSomeAnd (capture_file (read ++ got)) (λ file. (file.link ≡ link) × ¬ IsKnownLink link)
@@ -333,7 +336,7 @@ pub head-refused : (first before after : Option (List ℕ)) (faults faults-then 
     (input : CaptureInput) (size : ℕ) (error : CaptureError) (result : MeterFault)
     → faults-then ≡ faults → Consumes first before read → input.taken ≡ length read
     → ((xs ys : List ℕ) → 24 ≤ length xs → capture_file (xs ++ ys)
-    ≡ option_map (λ (f : CaptureFile). grown f ys) (capture_file xs))
+    ≡ option_map (λ (f : CaptureFile). grown_file f ys) (capture_file xs))
     → (input.ended ≡ false → length read ≡ size) → 24 ≤ size
     → (error ≡ NoHeader → capture_file read ≡ None)
     → ((n : ℕ) → error ≡ OtherLink n → IsSomeAnd (capture_file read) (λ file. (file.link ≡ n) × ¬ IsKnownLink n))

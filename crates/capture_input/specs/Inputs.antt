@@ -17,8 +17,8 @@ use Rattle.capture_input.specs.declared.fault.MeterFault.TheVariants.{Failed, To
 use Rattle.capture_input.specs.declared.fault.MeterFault.TheVariants.{Damaged, NoMemory}
 
 -- A source as it was seen from an earlier call on, when it had `first` left.
-abbrev pub began : Option (List ℕ) → Side → Side
-began first source =
+abbrev pub side_from : Option (List ℕ) → Side → Side
+side_from first source =
     record {
       before = first;
       after = source.after;

@@ -110,7 +110,7 @@ impl CaptureInput {
     /// Why the input is refused whose last part, of so many bytes, has no index: out of memory, or damaged. Where it is
     /// damaged, the source is read to its end first, and the place counts from the beginning of the input; reading may
     /// have a fault of its own.
-    pub fn refused<S: Source>(self, source: &mut S, count: usize, error: IndexError) -> MeterFault
+    pub fn refusal<S: Source>(self, source: &mut S, count: usize, error: IndexError) -> MeterFault
         requires within { (count ≤ self.taken) × (self.taken ≤ self.limit) × (self.limit ≤ 2 ^ 30) }
         requires bounded { (at : ℕ) → error ≡ IndexError.Damaged at → at ≤ count }
         requires size { 0 < self.window.size }

@@ -4,7 +4,7 @@ ghost use Rattle.std.specs.Prelude.{◌≡◌, ◌+◌, ◌*◌, ◌<◌, ◌^�
 ghost use Rattle.std.specs.Option.{ForSome};
 ghost use Rattle.packet_accept.specs.declared.packet.Packet.{Packet};
 ghost use Rattle.packet_accept.specs.declared.ignored.Ignored.{Ignored};
-ghost use Rattle.packet_accept.specs.Clock.{later};
+ghost use Rattle.packet_accept.specs.Clock.{later_clock};
 ghost use Rattle.capture_tally.specs.Tallies.{IsTallyOf, HasRoom, cause_number};
 
 use crate::Tally;
@@ -28,7 +28,7 @@ fn place_of(cause: Ignored) -> usize
 fn later_of(one: Option<u64>, other: Option<u64>) -> Option<u64>
     requires one { ForSome one (λ time. time < 1000 * 2 ^ 32) }
     requires other { ForSome other (λ time. time < 1000 * 2 ^ 32) }
-    ensures later { result ≡ later one other }
+    ensures later { result ≡ later_clock one other }
     ensures early { ForSome result (λ time. time < 1000 * 2 ^ 32) }
 {
     match one {
@@ -101,7 +101,7 @@ impl Tally {
     }
 
     /// The tally of the records of both.
-    pub fn joined(self, other: &Tally) -> Tally
+    pub fn sum_with(self, other: &Tally) -> Tally
         requires one { HasRoom self }
         requires two { HasRoom other.now }
         ensures { (answers others : List (Result Packet Ignored)) → IsTallyOf self answers → IsTallyOf other.now others

@@ -89,14 +89,14 @@ fn two_tallies_are_added_up(rt: HostRuntime) -> Result<(), Fail> {
     let one = of_a_packet();
     assert_eq!(rt; added, one);
     let other = of_all_causes();
-    let both = one.joined(&other);
+    let both = one.sum_with(&other);
     assert_eq!(rt; both.captured, 6);
     assert_eq!(rt; both.accepted, 1);
     assert_eq!(rt; both.ignored, [1; 5]);
     assert_eq!(rt; both.octets, 28);
     assert_eq!(rt; both.clock, Some(60));
-    assert_eq!(rt; other.joined(&one), both);
+    assert_eq!(rt; other.sum_with(&one), both);
     let none = Tally::new();
-    assert_eq!(rt; none.joined(&one), one);
+    assert_eq!(rt; none.sum_with(&one), one);
     Ok(())
 }

@@ -30,13 +30,13 @@ name_and_value text = (
 )
 
 -- The same of a text that isn't empty.
-abbrev pub named : List ℕ → Option (List ℕ × Option (List ℕ))
-named [] = None
-named (first ∷ rest) = Some (name_and_value (first ∷ rest))
+abbrev pub named_value : List ℕ → Option (List ℕ × Option (List ℕ))
+named_value [] = None
+named_value (first ∷ rest) = Some (name_and_value (first ∷ rest))
 
 -- A word `--name` or `--name=value` as its name and its value; another word is none such.
 abbrev pub option_word : List ℕ → Option (List ℕ × Option (List ℕ))
-option_word word = option_and_then named (option_and_then behind_hyphen (behind_hyphen word))
+option_word word = option_and_then named_value (option_and_then behind_hyphen (behind_hyphen word))
 
 -- What is given for an option: its name and the text of its value.
 abbrev pub Given : Type 0

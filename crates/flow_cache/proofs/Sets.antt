@@ -13,7 +13,7 @@ use Rattle.flow_parts.specs.declared.timeouts.Timeouts.{Timeouts}
 use Rattle.flow_parts.specs.Parts.{part_words}
 use Rattle.cache_face.specs.Choice.{Takes, entry_at}
 use Rattle.cache_face.specs.Keeping.{Keeps, IsWhole, entry_of}
-use Rattle.cache_face.specs.Notes.{Note, metering}
+use Rattle.cache_face.specs.Notes.{Note, note_with}
 use Rattle.cache_face.proofs.Apart.{here, all_at}
 use Rattle.cache_face.proofs.Keeping.{keeps_taken, keeps_passed}
 use Rattle.pebr_core.specs.declared.kinds.Shape.{Shape}
@@ -110,7 +110,7 @@ entry_is past root slot shown ten = ap (entry_found past.reads) shown
 
 -- what an act makes of a note
 abbrev pub after_act : Note → Packet × Option Fragment → Note
-after_act note act = metering note (act.0 ∷ []) act.1
+after_act note act = note_with note (act.0 ∷ []) act.1
 
 -- a note that stays
 set_self : {A : Type 0} (l : List A) (i : ℕ) (a : A) → get_elem? l i ≡ some a → set l i a ≡ l
@@ -154,7 +154,7 @@ pub can_replace : (limits : Timeouts) (shape : Shape) (past : History) (number r
     → shape.width ≡ 10 → HasTen past.reads slot
     → ((word : ℕ) → word < 10 → written_at past.written fresh word ≡ Some (slice_index (part_words kept) word))
     → IsOwn limits note packet own → Takes limits own (entry_of (words_read past.reads slot)) out kept
-    → CanReplace (Keeps limits) IsWhole shape past number root slot fresh note (metering note (packet ∷ []) out)
+    → CanReplace (Keeps limits) IsWhole shape past number root slot fresh note (note_with note (packet ∷ []) out)
 can_replace limits shape past number root slot fresh note packet own kept out width ten filled owned takes contents
     notes from to keeps at at' long long' read written =
     let from_is : from ≡ words_read past.reads slot =
@@ -167,6 +167,6 @@ can_replace limits shape past number root slot fresh note packet own kept out wi
     (packet ∷ []) own kept out keeps at at' owned.can owned.shares
     (subst (λ c. Takes limits own (entry_of c) out kept) (sym from_is) takes) in
     let kept_state =
-    subst (λ c. Keeps limits (set contents root c) (set notes number (metering note (packet ∷ []) out)))
+    subst (λ c. Keeps limits (set contents root c) (set notes number (note_with note (packet ∷ []) out)))
     (sym to_is) state in
     (all_at IsWhole (set contents root to) root to kept_state.whole (here contents root from to at), kept_state)

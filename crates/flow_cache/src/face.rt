@@ -2,7 +2,7 @@
 
 ghost use Rattle.std.specs.Prelude.{◌≡◌, ◌≢◌, ◌+◌, ◌*◌, ◌<◌, ◌≤◌, ◌^◌, ◌∷◌, [], All};
 ghost use Rattle.cache_face.specs.Meaning.{IsMetered};
-ghost use Rattle.cache_face.specs.Notes.{metering};
+ghost use Rattle.cache_face.specs.Notes.{note_with};
 ghost use Rattle.flow_cache.specs.Closed.{metered_by};
 ghost use Rattle.flow_cache.specs.Shown.{means_of, shown_of, retired_of, ejections_of, slots_of, IsOf, IsTryOf};
 
@@ -32,7 +32,7 @@ impl FlowCache for PebrCache {
         requires rises { All (λ p. p.number < packet.now.number) (shown_of pass.old).note.packets }
         requires octets { packet.now.octets < 2 ^ 24 }
         ensures own { IsOf self.now pass.new }
-        ensures note { (shown_of pass.new).note ≡ metering (shown_of pass.old).note (packet.now ∷ []) result.out }
+        ensures note { (shown_of pass.new).note ≡ note_with (shown_of pass.old).note (packet.now ∷ []) result.out }
         ensures answer { IsMetered (means_of self.now) IsTryOf (shown_of pass.old)
             (shown_of pass.new) packet.now result.how result.out }
         ensures retired { retired_of pass.new ≤ slots_of self.now }

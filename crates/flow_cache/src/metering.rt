@@ -3,7 +3,7 @@
 ghost use Rattle.std.specs.Prelude.{◌≡◌, ◌≢◌, ◌+◌, ◌*◌, ◌<◌, ◌≤◌, ◌^◌, ◌∷◌, [], All, None, IsTrue};
 ghost use Rattle.std.specs.List.{list_all};
 ghost use Rattle.cache_face.specs.Meaning.{IsMetered};
-ghost use Rattle.cache_face.specs.Notes.{first_note, metering};
+ghost use Rattle.cache_face.specs.Notes.{first_note, note_with};
 ghost use Rattle.pebr_core.specs.State.{is_out, is_down};
 ghost use Rattle.pebr_core.specs.Frames.{fresh_count, retired_count};
 ghost use Rattle.pebr_roots.specs.Passes.{shape_at, known_by, note_by, past_by, IsOf, IsSame};
@@ -105,7 +105,7 @@ impl PebrCache {
         ensures down { IsTrue (list_all is_down (known_by pass.new).shields) }
         ensures ejections { (past_by pass.new).ejections ≡ (past_by pass.old).ejections }
         ensures note { note_by first_note pass.new
-            ≡ metering (note_by first_note pass.old) (packet.now ∷ []) metered.new.out }
+            ≡ note_with (note_by first_note pass.old) (packet.now ∷ []) metered.new.out }
         ensures lost { HaveLost set result (past_by pass.old) (past_by pass.new) }
         ensures outcome { IsOutcome self.now.timeouts (shape_at self.now.roots).seats set
             (past_by pass.new) own.now result metered.new.how metered.new.out }
@@ -139,7 +139,7 @@ impl PebrCache {
         requires rises { All (λ p. p.number < packet.now.number) (shown_of pass.old).note.packets }
         requires octets { packet.now.octets < 2 ^ 24 }
         ensures own { shown.IsOf self.now pass.new }
-        ensures note { (shown_of pass.new).note ≡ metering (shown_of pass.old).note (packet.now ∷ []) result.out }
+        ensures note { (shown_of pass.new).note ≡ note_with (shown_of pass.old).note (packet.now ∷ []) result.out }
         ensures answer { IsMetered (means_of self.now) IsTryOf (shown_of pass.old)
             (shown_of pass.new) packet.now result.how result.out }
         ensures retired { retired_of pass.new ≤ slots_of self.now }

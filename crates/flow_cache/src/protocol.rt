@@ -26,7 +26,7 @@ pub struct CacheRule;
 
 impl RootProtocol for CacheRule {
     ghost use Rattle.std.specs.Prelude.{[], ◌∷◌};
-    ghost use Rattle.cache_face.specs.Notes.{first_note, empty_note, merged, metering};
+    ghost use Rattle.cache_face.specs.Notes.{first_note, empty_note, merged_note, note_with};
     ghost use Rattle.cache_face.proofs.Keeping.{keeps_merged};
 
     type Note = SeatNote;
@@ -44,9 +44,9 @@ impl RootProtocol for CacheRule {
 
     ghost empty = { empty_note };
 
-    ghost merged = { merged };
+    ghost merged = { merged_note };
 
-    ghost after = { λ note act. metering note (act.0 ∷ []) act.1 };
+    ghost after = { λ note act. note_with note (act.0 ∷ []) act.1 };
 
     ghost unites = { λ fixed contents notes i j a b kept apart at at'. keeps_merged fixed contents notes i j a b kept
         apart at at' };

@@ -3,7 +3,7 @@
 ghost use Rattle.std.specs.Prelude.{◌≡◌, ◌≢◌, ℕ, ◌<◌, ◌∷◌, [], IsTrue, Option, Some, None, true, false, if◌then◌else◌};
 ghost use Rattle.std.specs.Prelude.{slice_index};
 ghost use Rattle.std.specs.List.{list_all};
-ghost use Rattle.cache_face.specs.Notes.{first_note, metering};
+ghost use Rattle.cache_face.specs.Notes.{first_note, note_with};
 ghost use Rattle.cache_face.specs.Keeping.{IsWhole};
 ghost use Rattle.pebr_core.specs.State.{is_out, is_down};
 ghost use Rattle.pebr_core.specs.Frames.{fresh_count};
@@ -107,7 +107,7 @@ impl PebrCache {
         ensures entered { is_out (known_by pass.new).status ≡ false }
         ensures ejections { (past_by pass.new).ejections ≡ (past_by pass.old).ejections }
         ensures done { IsTrue result
-            → (note_by first_note pass.new ≡ metering (note_by first_note pass.old) (packet.now ∷ []) metered.new.out)
+            → (note_by first_note pass.new ≡ note_with (note_by first_note pass.old) (packet.now ∷ []) metered.new.out)
             × ((past_by pass.new).lost ≡ (past_by pass.old).lost)
             × HasChosen self.now.timeouts set (past_by pass.new) own.now metered.new.how metered.new.out }
         ensures undone { result ≡ false → (note_by first_note pass.new ≡ note_by first_note pass.old)
@@ -154,7 +154,7 @@ impl PebrCache {
         ensures entered { is_out (known_by pass.new).status ≡ false }
         ensures ejections { (past_by pass.new).ejections ≡ (past_by pass.old).ejections }
         ensures done { IsTrue result
-            → (note_by first_note pass.new ≡ metering (note_by first_note pass.old) (packet.now ∷ []) metered.new.out)
+            → (note_by first_note pass.new ≡ note_with (note_by first_note pass.old) (packet.now ∷ []) metered.new.out)
             × ((past_by pass.new).lost ≡ (past_by pass.old).lost)
             × HasChosen self.now.timeouts set (past_by pass.new) own.now metered.new.how metered.new.out }
         ensures undone { result ≡ false → (note_by first_note pass.new ≡ note_by first_note pass.old)
@@ -202,7 +202,7 @@ impl PebrCache {
         ensures down { IsTrue (list_all is_down (known_by pass.new).shields) }
         ensures fresh { (known_by pass.new).fresh ≡ (known_by pass.old).fresh }
         ensures note { note_by first_note pass.new
-            ≡ (if passes_by then metering (note_by first_note pass.old) (packet.now ∷ []) (Some own.now)
+            ≡ (if passes_by then note_with (note_by first_note pass.old) (packet.now ∷ []) (Some own.now)
             else note_by first_note pass.old) }
         ensures past { past_by pass.new ≡ record (past_by pass.old) {
           last = (past_by pass.new).last;
@@ -242,12 +242,12 @@ impl PebrCache {
         ensures down { IsTrue (list_all is_down (known_by pass.new).shields) }
         ensures ejections { (past_by pass.new).ejections ≡ (past_by pass.old).ejections }
         ensures done { IsTrue result
-            → (note_by first_note pass.new ≡ metering (note_by first_note pass.old) (packet.now ∷ []) metered.new.out)
+            → (note_by first_note pass.new ≡ note_with (note_by first_note pass.old) (packet.now ∷ []) metered.new.out)
             × ((past_by pass.new).lost ≡ (past_by pass.old).lost)
             × HasChosen self.now.timeouts set (past_by pass.new) own.now metered.new.how metered.new.out }
         ensures undone { result ≡ false
             → (note_by first_note pass.new ≡ (if last
-            then metering (note_by first_note pass.old) (packet.now ∷ []) (Some own.now)
+            then note_with (note_by first_note pass.old) (packet.now ∷ []) (Some own.now)
             else note_by first_note pass.old))
             × ((known_by pass.new).fresh ≡ (known_by pass.old).fresh) × ((shape_at self.now.roots).seats ≢ 1)
             × ((try : Lost) × ((past_by pass.new).lost ≡ try ∷ (past_by pass.old).lost) × IsTryOf set (try_of try)) }

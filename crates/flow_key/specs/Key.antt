@@ -13,12 +13,12 @@ words_of k =
     ∷ (k.destination / 2 ^ 64) ∷ (k.destination % 2 ^ 64) ∷ []
 
 -- One more word taken into a hash of 64 bits.
-abbrev pub mixed : ℕ → ℕ → ℕ
-mixed hash word = bit_xor hash word * 0x9E3779B97F4A7C15 % 2 ^ 64
+abbrev pub mixed_hash : ℕ → ℕ → ℕ
+mixed_hash hash word = bit_xor hash word * 0x9E3779B97F4A7C15 % 2 ^ 64
 
 -- The set of a key in a table of so many sets: the upper half of the hash of its words, modulo the number of sets.
 abbrev pub set_number : FlowKey → ℕ → ℕ
-set_number k sets = fold mixed 0 (words_of k) / 2 ^ 32 % sets
+set_number k sets = fold mixed_hash 0 (words_of k) / 2 ^ 32 % sets
 
 -- The order of keys: by their fields, in the order of the declaration.
 abbrev pub key_order : FlowKey → FlowKey → Ordering

@@ -46,10 +46,10 @@ impl FlowKey {
         let transport = (self.protocol as u64) << 32 | ports;
         [
             (self.version as u64) << 40 | transport,
-            upper(self.source),
-            lower(self.source),
-            upper(self.destination),
-            lower(self.destination),
+            upper_half(self.source),
+            lower_half(self.source),
+            upper_half(self.destination),
+            lower_half(self.destination),
         ]
     }
 
@@ -68,8 +68,8 @@ impl FlowKey {
             destination_low,
         ] = *words;
         let version = first >> 40;
-        let source = joined(source_high, source_low);
-        let destination = joined(destination_high, destination_low);
+        let source = address_of(source_high, source_low);
+        let destination = address_of(destination_high, destination_low);
         let narrow = source >> 32 == 0 && destination >> 32 == 0;
         if version == 6 || version == 4 && narrow {
             Some(FlowKey {
@@ -110,21 +110,21 @@ impl FlowKey {
 }
 
 /// The upper half of an address.
-fn upper(address: u128) -> u64
+fn upper_half(address: u128) -> u64
     ensures { result ≡ address / 2 ^ 64 }
 {
     (address >> 64) as u64
 }
 
 /// The lower half of an address.
-fn lower(address: u128) -> u64
+fn lower_half(address: u128) -> u64
     ensures { result ≡ address % 2 ^ 64 }
 {
     (address & u64::MAX as u128) as u64
 }
 
 /// The address with these two halves.
-fn joined(high: u64, low: u64) -> u128
+fn address_of(high: u64, low: u64) -> u128
     ensures { result ≡ high * 2 ^ 64 + low }
 {
     (high as u128) << 64 | low as u128

@@ -53,7 +53,7 @@ impl Fragment {
             → SharesOut limits others rest
             → SharesOut limits (others ++ packet.now ∷ []) (result ∷ rest) }
     {
-        alone(packet.key, packet.time, packet.octets, packet.flags)
+        of_one_packet(packet.key, packet.time, packet.octets, packet.flags)
     }
 
     /// Whether the fragment is closed: one of its packets ends its flow ([`Packet::ends`]).
@@ -132,7 +132,7 @@ impl Fragment {
 }
 
 /// The fragment of one packet with these values.
-fn alone(key: FlowKey, time: u64, octets: u32, flags: u16) -> Fragment
+fn of_one_packet(key: FlowKey, time: u64, octets: u32, flags: u16) -> Fragment
     ensures key { result.key ≡ key }
     ensures packets { result.packets ≡ 1 }
     ensures octets { result.octets ≡ octets }

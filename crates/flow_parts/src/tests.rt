@@ -123,7 +123,7 @@ fn web(protocol: u8) -> FlowKey {
 }
 
 /// A fragment of two packets from 1 s to 2 s.
-fn second(protocol: u8, flags: u16) -> Fragment {
+fn two_packets(protocol: u8, flags: u16) -> Fragment {
     Fragment {
         key: web(protocol),
         packets: 2,
@@ -158,7 +158,7 @@ fn ends_of_flows(rt: HostRuntime) {
         (17, 0x015, false, 3000, 0x010, true),
         (17, 0x010, false, 1500, 0x015, true),
     ] {
-        let part = second(protocol, flags);
+        let part = two_packets(protocol, flags);
         let packet = Packet {
             number: 3,
             key: web(protocol),

@@ -60,7 +60,7 @@ struct Came {
 }
 
 /// Meters a packet of flow 1 at 1 s, holds the flow, lets the crowd put it out, reads it, and asks for it again.
-fn watched(cache: &PebrCache, mut pass: PebrPass, other: PebrPass) -> Came
+fn watch_flow(cache: &PebrCache, mut pass: PebrPass, other: PebrPass) -> Came
     requires first { IsOf cache.now pass × IsFresh (shown_of pass) }
     requires second { IsOf cache.now other × IsFresh (shown_of other) }
 {
@@ -96,7 +96,7 @@ fn held_while_it_is_put_out(rt: HostRuntime) {
     );
     let first = take(&cache, &mut passes).expect(&rt, "a pass");
     let second = take(&cache, &mut passes).expect(&rt, "a pass");
-    let came = watched(&cache, first, second);
+    let came = watch_flow(&cache, first, second);
     assert!(rt; came.before == Watch::Held && came.behind == Watch::Absent);
     assert_eq!(rt; came.most, 32);
     let read = came.read.expect(&rt, "the flow that is held");

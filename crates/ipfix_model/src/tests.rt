@@ -18,7 +18,7 @@ fn least_of(rt: &HostRuntime, fields: &[FieldSpec]) -> Result<u64, Fail>
         options: false,
         fields: FieldList::of(fields.to_vec(rt.alloc())?),
     };
-    Ok(template.least())
+    Ok(template.least_length())
 }
 
 #[test]

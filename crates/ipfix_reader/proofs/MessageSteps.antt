@@ -6,7 +6,7 @@ use Rattle.ipfix_reader.specs.declared.fault.StreamFault.{StreamFault}
 use Rattle.ipfix_reader.specs.declared.fault.StreamError.{StreamError}
 use Rattle.ipfix_reader.specs.Outcome.{IsFaultOf}
 use Rattle.octets.specs.Outcome.{◌>>=◌}
-use Rattle.ipfix_reader.specs.Part.{Part, behind, first}
+use Rattle.ipfix_reader.specs.Part.{Part, behind, first_part}
 use Rattle.ipfix_reader.specs.Walk.{all_items}
 use Rattle.ipfix_reader.specs.Known.{Sequences, expected_in, with_expected}
 use Rattle.ipfix_reader.specs.Sets.{Contents, message_sets}
@@ -44,7 +44,7 @@ pub stream_message-takes : TakesBytes stream_message
 stream_message-takes go other before part same =
     same_choice (length part.bytes == 0) _ _ _ (λ some.
     same_behind (checked_length before.sequences part) _ _ (λ size fine.
-    same_behind (message_sets (message_domain part) before.contents (behind 16 (first size part))) _ _ (λ after is.
+    same_behind (message_sets (message_domain part) before.contents (behind 16 (first_part size part))) _ _ (λ after is.
     let bounds = checked_length-bounds before.sequences part size fine in
     same (behind_message part before after) (behind size part) (message-shorter size part.bytes bounds.0 bounds.1))))
 
@@ -64,7 +64,7 @@ stream_messages-bad before part fault some is =
 -- a message, and those behind it
 pub stream_messages-next : (before : Progress) (after : Contents) (part : Part) (size : ℕ) → 0 < length part.bytes
     → checked_length before.sequences part ≡ Ok size
-    → message_sets (message_domain part) before.contents (behind 16 (first size part)) ≡ Ok after
+    → message_sets (message_domain part) before.contents (behind 16 (first_part size part)) ≡ Ok after
     → stream_messages before part ≡ stream_messages (behind_message part before after) (behind size part)
 unfolding stream_messages
 stream_messages-next before after part size some fine is =
@@ -73,12 +73,12 @@ stream_messages-next before after part size some fine is =
 -- a message whose sets have a fault
 pub stream_messages-fault : (before : Progress) (part : Part) (size : ℕ) (error : StreamError) → 0 < length part.bytes
     → checked_length before.sequences part ≡ Ok size
-    → IsFaultOf (message_sets (message_domain part) before.contents (behind 16 (first size part))) error
+    → IsFaultOf (message_sets (message_domain part) before.contents (behind 16 (first_part size part))) error
     → IsFaultOf (stream_messages before part) error
 unfolding stream_messages
 stream_messages-fault before part size error some fine is =
     let rule = λ (after : Contents). all_items stream_message (behind_message part before after) (behind size part) in
-    let sets = message_sets (message_domain part) before.contents (behind 16 (first size part)) in
+    let sets = message_sets (message_domain part) before.contents (behind 16 (first_part size part)) in
     fault_of-same (all_items stream_message before part) (sets >>= rule) error
     (goes_on stream_message stream_message-takes before part ∙ rw (above-eqb (length part.bytes) some, fine) refl)
     (fault_behind sets rule error is)
@@ -86,7 +86,8 @@ stream_messages-fault before part size error some fine is =
 -- the step, with the names of the code
 pub message-read : (before : Progress) (after : Contents) (part sets rest : Part) (size domain number : ℕ)
     (sequences : Sequences) → 0 < length part.bytes
-    → checked_length before.sequences part ≡ Ok size → domain ≡ message_domain part → sets ≡ behind 16 (first size part)
+    → checked_length before.sequences part ≡ Ok size → domain ≡ message_domain part
+    → sets ≡ behind 16 (first_part size part)
     → message_sets domain before.contents sets ≡ Ok after
     → number ≡ next_number part before.contents after → sequences ≡ with_expected before.sequences domain number
     → rest ≡ behind size part
@@ -94,7 +95,7 @@ pub message-read : (before : Progress) (after : Contents) (part sets rest : Part
 message-read before after part sets rest size domain number sequences some fine domain_is sets_are is number_is
     sequences_are rest_is =
     stream_messages-next before after part size some fine
-    (sym (ap (λ d. message_sets d before.contents (behind 16 (first size part))) domain_is)
+    (sym (ap (λ d. message_sets d before.contents (behind 16 (first_part size part))) domain_is)
     ∙ sym (ap (message_sets domain before.contents) sets_are) ∙ is)
     ∙ sym (ap (λ s. stream_messages (record { contents = after; sequences = s }) rest)
     (sequences_are ∙ ap (λ d. with_expected before.sequences d number) domain_is
@@ -103,12 +104,13 @@ message-read before after part sets rest size domain number sequences some fine 
 
 pub message-refused : (before : Progress) (part sets : Part) (size domain : ℕ) (error : StreamError)
     → 0 < length part.bytes
-    → checked_length before.sequences part ≡ Ok size → domain ≡ message_domain part → sets ≡ behind 16 (first size part)
+    → checked_length before.sequences part ≡ Ok size → domain ≡ message_domain part
+    → sets ≡ behind 16 (first_part size part)
     → IsFaultOf (message_sets domain before.contents sets) error → IsFaultOf (stream_messages before part) error
 message-refused before part sets size domain error some fine domain_is sets_are is =
     stream_messages-fault before part size error some fine
     (fault_of-same _ (message_sets domain before.contents sets) error
-    (sym (ap (λ d. message_sets d before.contents (behind 16 (first size part))) domain_is)
+    (sym (ap (λ d. message_sets d before.contents (behind 16 (first_part size part))) domain_is)
     ∙ sym (ap (message_sets domain before.contents) sets_are)) is)
 
 -- the whole stream

@@ -17,10 +17,11 @@ use Rattle.ipfix_reader.specs.Part.{Part, behind}
 use Rattle.octets.specs.Numbers.{number_at}
 use Rattle.ipfix_reader.specs.Walk.{all_items}
 use Rattle.ipfix_reader.specs.Values.{Values, coded_length, values_of}
-use Rattle.ipfix_reader.specs.Specifiers.{Fields, specifier_length, record_header, is_bad_header, fields_of, checked}
+use Rattle.ipfix_reader.specs.Specifiers.{Fields, specifier_length, record_header, is_bad_header, fields_of}
+use Rattle.ipfix_reader.specs.Specifiers.{nonempty_fields}
 use Rattle.ipfix_reader.specs.Specifiers.{template_fields}
 use Rattle.ipfix_reader.specs.Known.{Templates, with_template}
-use Rattle.ipfix_reader.specs.Records.{padded, template_record, data_record, template_records, data_records}
+use Rattle.ipfix_reader.specs.Records.{padding_end, template_record, data_record, template_records, data_records}
 use Rattle.ipfix_reader.specs.Cursors.{IsPaddingChecked}
 use Rattle.ipfix_reader.proofs.Items.{TakesBytes, goes_on, same_behind, same_choice, behind_ok, not_fault, same_ok}
 use Rattle.ipfix_reader.proofs.Items.{fault_behind, fault_of-same}
@@ -74,7 +75,7 @@ template_fields-takes options part read whole is =
     let headed = not_fault (is_bad_header options part.bytes) (BadTemplate part.at) _ read counted.1 in
     let listed =
     behind_ok (fields_of (BadTemplate part.at) (number_at 2 2 part.bytes) [] (behind (record_header options) part))
-    (checked (BadTemplate part.at)) read headed.1 in
+    (nonempty_fields (BadTemplate part.at)) read headed.1 in
     let some = not_fault (least_length (listed.0).fields == 0) (BadTemplate part.at) (Ok listed.0) read listed.2 in
     let same : length (listed.0).rest.bytes ≡ length read.rest.bytes =
     ap (λ (r : Fields). length r.rest.bytes) (same_ok listed.0 read some.1) in
@@ -127,7 +128,7 @@ template_records-fault options domain before part error whole is =
 
 -- the end of the template records
 pub template_records-end : (options : Bool) (domain : ℕ) (before : Templates) (part : Part) → length part.bytes < 4
-    → template_records options domain before part ≡ padded before part
+    → template_records options domain before part ≡ padding_end before part
 unfolding template_records
 template_records-end options domain before part short =
     goes_on (template_record options domain) (template_record-takes options domain) before part
@@ -165,32 +166,32 @@ data_records-fault domain number fields before part error some whole is =
 -- the end of the data records
 pub data_records-end : (domain number : ℕ) (fields : List FieldSpec) (before : List DataRecord) (part : Part)
     → 0 < least_length fields → length part.bytes < least_length fields
-    → data_records domain number fields before part ≡ padded before part
+    → data_records domain number fields before part ≡ padding_end before part
 unfolding data_records
 data_records-end domain number fields before part some short =
     goes_on (data_record domain number fields) (data_record-takes domain number fields some) before part
     ∙ rw (lt-ltb (length part.bytes) (least_length fields) short) refl
 
 -- what the check of the padding gives
-padded-ok : {S : Type 0} (before : S) (part : Part) (result : Result (Unit {0}) StreamError)
+padding_end-ok : {S : Type 0} (before : S) (part : Part) (result : Result (Unit {0}) StreamError)
     → IsPaddingChecked part result
-    → OnOk result (padded before part ≡ Ok before)
-padded-ok before part (Ok read) is = rw is.ok refl
-padded-ok before part (Err error) is = tt
+    → OnOk result (padding_end before part ≡ Ok before)
+padding_end-ok before part (Ok read) is = rw is.ok refl
+padding_end-ok before part (Err error) is = tt
 
-padded-fault : {S : Type 0} (before : S) (part : Part) (result : Result (Unit {0}) StreamError)
+padding_end-fault : {S : Type 0} (before : S) (part : Part) (result : Result (Unit {0}) StreamError)
     → IsPaddingChecked part result
-    → IfErr result (IsFaultOf (padded before part))
-padded-fault before part (Ok read) is = tt
-padded-fault before part (Err error) is = rw (is.fault.1, is.fault.0) refl
+    → IfErr result (IsFaultOf (padding_end before part))
+padding_end-fault before part (Ok read) is = tt
+padding_end-fault before part (Err error) is = rw (is.fault.1, is.fault.0) refl
 
 -- the same of readings that end there
 pub ends-ok : {S : Type 0} (all : Result S StreamFault) (before : S) (part : Part)
     (result : Result (Unit {0}) StreamError)
-    → all ≡ padded before part → IsPaddingChecked part result → OnOk result (all ≡ Ok before)
-ends-ok all before part result is checks = rw is (padded-ok before part result checks)
+    → all ≡ padding_end before part → IsPaddingChecked part result → OnOk result (all ≡ Ok before)
+ends-ok all before part result is checks = rw is (padding_end-ok before part result checks)
 
 pub ends-fault : {S : Type 0} (all : Result S StreamFault) (before : S) (part : Part)
     (result : Result (Unit {0}) StreamError)
-    → all ≡ padded before part → IsPaddingChecked part result → IfErr result (IsFaultOf all)
-ends-fault all before part result is checks = rw is (padded-fault before part result checks)
+    → all ≡ padding_end before part → IsPaddingChecked part result → IfErr result (IsFaultOf all)
+ends-fault all before part result is checks = rw is (padding_end-fault before part result checks)

@@ -8,7 +8,7 @@ use Rattle.ipfix_reader.specs.declared.fault.StreamFault.TheVariants.{BadLength}
 use Rattle.ipfix_reader.specs.declared.fault.StreamError.{StreamError}
 use Rattle.ipfix_reader.specs.Outcome.{IsFaultOf}
 use Rattle.octets.specs.Outcome.{◌>>=◌}
-use Rattle.ipfix_reader.specs.Part.{Part, behind, first}
+use Rattle.ipfix_reader.specs.Part.{Part, behind, first_part}
 use Rattle.octets.specs.Numbers.{number_at}
 use Rattle.ipfix_reader.specs.Walk.{all_items}
 use Rattle.ipfix_reader.specs.Known.{fields_in}
@@ -44,7 +44,7 @@ message_set-takes domain go other before part same =
     same_choice (length part.bytes == 0) _ _ _ (λ some.
     same_choice (is_bad_length part) _ _ _ (λ good.
     same_behind
-    (set_contents domain (number_at 0 2 part.bytes) part.at before (behind 4 (first (set_length part) part))) _ _
+    (set_contents domain (number_at 0 2 part.bytes) part.at before (behind 4 (first_part (set_length part) part))) _ _
     (λ after is.
     let bounds = set_length-bounds part good in
     same after (behind (set_length part) part) (set-shorter (set_length part) part.bytes bounds.0 bounds.1))))
@@ -68,7 +68,8 @@ message_sets-bad domain before part some bad =
 -- a set, and those behind it
 pub message_sets-next : (domain : ℕ) (before after : Contents) (part : Part) → 0 < length part.bytes
     → is_bad_length part ≡ false
-    → set_contents domain (number_at 0 2 part.bytes) part.at before (behind 4 (first (set_length part) part)) ≡ Ok after
+    → set_contents domain (number_at 0 2 part.bytes) part.at before (behind 4 (first_part (set_length part) part))
+    ≡ Ok after
     → message_sets domain before part ≡ message_sets domain after (behind (set_length part) part)
 unfolding message_sets
 message_sets-next domain before after part some good is =
@@ -79,13 +80,13 @@ message_sets-next domain before after part some good is =
 pub message_sets-fault : (domain : ℕ) (before : Contents) (part : Part) (error : StreamError) → 0 < length part.bytes
     → is_bad_length part ≡ false
     → IsFaultOf
-    (set_contents domain (number_at 0 2 part.bytes) part.at before (behind 4 (first (set_length part) part))) error
+    (set_contents domain (number_at 0 2 part.bytes) part.at before (behind 4 (first_part (set_length part) part))) error
     → IsFaultOf (message_sets domain before part) error
 unfolding message_sets
 message_sets-fault domain before part error some good is =
     let rule = λ (after : Contents). all_items (message_set domain) after (behind (set_length part) part) in
     let contents = set_contents domain (number_at 0 2 part.bytes) part.at before
-    (behind 4 (first (set_length part) part)) in
+    (behind 4 (first_part (set_length part) part)) in
     fault_of-same (all_items (message_set domain) before part) (contents >>= rule) error
     (goes_on (message_set domain) (message_set-takes domain) before part
     ∙ rw (above-eqb (length part.bytes) some, good) refl)
@@ -140,17 +141,18 @@ if_err-behind (Err error) all read rule is fault =
 -- what was read of a set, by its number and length
 contents-same : (domain kind size : ℕ) (before : Contents) (part content : Part) → kind ≡ number_at 0 2 part.bytes
     → size ≡ set_length part
-    → content ≡ behind 4 (first size part)
-    → set_contents domain (number_at 0 2 part.bytes) part.at before (behind 4 (first (set_length part) part))
+    → content ≡ behind 4 (first_part size part)
+    → set_contents domain (number_at 0 2 part.bytes) part.at before (behind 4 (first_part (set_length part) part))
     ≡ set_contents domain kind part.at before content
 contents-same domain kind size before part content kind_is size_is content_is =
-    sym (ap (λ k. set_contents domain k part.at before (behind 4 (first (set_length part) part))) kind_is)
-    ∙ sym (ap (λ p. set_contents domain kind part.at before p) (content_is ∙ ap (λ n. behind 4 (first n part)) size_is))
+    sym (ap (λ k. set_contents domain k part.at before (behind 4 (first_part (set_length part) part))) kind_is)
+    ∙ sym (ap (λ p. set_contents domain kind part.at before p) (content_is
+    ∙ ap (λ n. behind 4 (first_part n part)) size_is))
 
 -- the step, with the names of the code
 pub set-read : (domain kind size : ℕ) (before after : Contents) (part content rest : Part) → 0 < length part.bytes
     → is_bad_length part ≡ false
-    → kind ≡ number_at 0 2 part.bytes → size ≡ set_length part → content ≡ behind 4 (first size part)
+    → kind ≡ number_at 0 2 part.bytes → size ≡ set_length part → content ≡ behind 4 (first_part size part)
     → rest ≡ behind size part
     → set_contents domain kind part.at before content ≡ Ok after
     → message_sets domain before part ≡ message_sets domain after rest
@@ -161,7 +163,7 @@ set-read domain kind size before after part content rest some good kind_is size_
 
 pub set-refused : (domain kind size : ℕ) (before : Contents) (part content : Part) (error : StreamError)
     → 0 < length part.bytes → is_bad_length part ≡ false
-    → kind ≡ number_at 0 2 part.bytes → size ≡ set_length part → content ≡ behind 4 (first size part)
+    → kind ≡ number_at 0 2 part.bytes → size ≡ set_length part → content ≡ behind 4 (first_part size part)
     → IsFaultOf (set_contents domain kind part.at before content) error
     → IsFaultOf (message_sets domain before part) error
 set-refused domain kind size before part content error some good kind_is size_is content_is is =

@@ -5,7 +5,7 @@ use Rattle.ipfix_model.specs.declared.values.DataRecord.{DataRecord}
 use Rattle.ipfix_reader.specs.declared.fault.StreamFault.{StreamFault}
 use Rattle.ipfix_reader.specs.declared.fault.StreamFault.TheVariants.{Cut, BadVersion, BadLength, BadSequence}
 use Rattle.octets.specs.Outcome.{◌>>=◌}
-use Rattle.ipfix_reader.specs.Part.{Part, behind, first}
+use Rattle.ipfix_reader.specs.Part.{Part, behind, first_part}
 use Rattle.octets.specs.Numbers.{number_at}
 use Rattle.ipfix_reader.specs.Walk.{Reading, all_items}
 use Rattle.ipfix_reader.specs.Known.{Sequences, expected_in, with_expected}
@@ -62,7 +62,7 @@ abbrev pub stream_message : Reading Progress → Reading Progress
 stream_message go_on before part =
     if length part.bytes == 0 then Ok before
     else checked_length before.sequences part
-    >>= λ size. message_sets (message_domain part) before.contents (behind 16 (first size part))
+    >>= λ size. message_sets (message_domain part) before.contents (behind 16 (first_part size part))
     >>= λ after. go_on (behind_message part before after) (behind size part)
 
 -- The messages of a stream.

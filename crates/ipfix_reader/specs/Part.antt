@@ -12,8 +12,8 @@ abbrev pub behind : ℕ → Part → Part
 behind size part = record { at = part.at + size; bytes = drop size part.bytes }
 
 -- Its first `size` bytes.
-abbrev pub first : ℕ → Part → Part
-first size part = record { at = part.at; bytes = take size part.bytes }
+abbrev pub first_part : ℕ → Part → Part
+first_part size part = record { at = part.at; bytes = take size part.bytes }
 
 -- All bytes are 0.
 abbrev pub are_zeros : List ℕ → Bool

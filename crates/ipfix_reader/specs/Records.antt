@@ -13,21 +13,21 @@ use Rattle.ipfix_reader.specs.Specifiers.{template_fields}
 use Rattle.ipfix_reader.specs.Known.{Templates, with_template}
 
 -- What is left at the end of a set is padding: its bytes are 0.
-abbrev pub padded : {S : Type 0} → Reading S
-padded before part = if are_zeros part.bytes then Ok before else Err (BadPadding part.at)
+abbrev pub padding_end : {S : Type 0} → Reading S
+padding_end before part = if are_zeros part.bytes then Ok before else Err (BadPadding part.at)
 
 -- A template record, or an options template record, of four bytes or more, or the padding. Behind it the template is
 -- known.
 abbrev pub template_record : Bool → ℕ → Reading Templates → Reading Templates
 template_record options domain go_on before part =
-    if nat_lt (length part.bytes) 4 then padded before part
+    if nat_lt (length part.bytes) 4 then padding_end before part
     else template_fields options part
     >>= λ read. go_on (with_template before domain (number_at 0 2 part.bytes) read.fields) read.rest
 
 -- A data record of a template with these fields, or the padding, which is shorter than any.
 abbrev pub data_record : ℕ → ℕ → List FieldSpec → Reading (List DataRecord) → Reading (List DataRecord)
 data_record domain number fields go_on before part =
-    if nat_lt (length part.bytes) (least_length fields) then padded before part
+    if nat_lt (length part.bytes) (least_length fields) then padding_end before part
     else values_of (BadLength part.at) fields [] part
     >>= λ read. go_on (before ++ record { domain = domain; template = number; fields = read.values } ∷ []) read.rest
 

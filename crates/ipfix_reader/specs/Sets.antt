@@ -5,7 +5,7 @@ use Rattle.ipfix_model.specs.declared.fields.FieldSpec.{FieldSpec}
 use Rattle.ipfix_model.specs.declared.values.DataRecord.{DataRecord}
 use Rattle.ipfix_reader.specs.declared.fault.StreamFault.TheVariants.{BadLength, NoTemplate}
 use Rattle.octets.specs.Outcome.{◌>>=◌}
-use Rattle.ipfix_reader.specs.Part.{Part, behind, first}
+use Rattle.ipfix_reader.specs.Part.{Part, behind, first_part}
 use Rattle.octets.specs.Numbers.{number_at}
 use Rattle.ipfix_reader.specs.Walk.{Reading, all_items}
 use Rattle.ipfix_reader.specs.Known.{Templates, fields_in}
@@ -52,7 +52,7 @@ abbrev pub message_set : ℕ → Reading Contents → Reading Contents
 message_set domain go_on before part =
     if length part.bytes == 0 then Ok before
     else if is_bad_length part then Err (BadLength part.at)
-    else set_contents domain (number_at 0 2 part.bytes) part.at before (behind 4 (first (set_length part) part))
+    else set_contents domain (number_at 0 2 part.bytes) part.at before (behind 4 (first_part (set_length part) part))
     >>= λ after. go_on after (behind (set_length part) part)
 
 -- The sets of a message, behind its header.

@@ -50,8 +50,8 @@ is_bad_header options bytes =
     || (options && ((number_at 4 2 bytes == 0) || nat_lt (number_at 2 2 bytes) (number_at 4 2 bytes)))
 
 -- Fields of which a record takes no byte are no template.
-abbrev pub checked : StreamFault → Fields → Result Fields StreamFault
-checked empty fields = if least_length fields.fields == 0 then Err empty else Ok fields
+abbrev pub nonempty_fields : StreamFault → Fields → Result Fields StreamFault
+nonempty_fields empty fields = if least_length fields.fields == 0 then Err empty else Ok fields
 
 -- The fields of the template record at the front of a part of four bytes or more. A count of 0 withdraws a template
 -- (section 8.1).
@@ -60,4 +60,4 @@ template_fields options part =
     if number_at 2 2 part.bytes == 0 then Err (Withdrawal part.at)
     else if is_bad_header options part.bytes then Err (BadTemplate part.at)
     else fields_of (BadTemplate part.at) (number_at 2 2 part.bytes) [] (behind (record_header options) part)
-    >>= checked (BadTemplate part.at)
+    >>= nonempty_fields (BadTemplate part.at)

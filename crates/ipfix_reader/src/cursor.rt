@@ -11,7 +11,7 @@ pub struct Cursor<'a> {
 }
 
 impl<'a> Cursor<'a> {
-    ghost use Rattle.ipfix_reader.specs.Part.{behind, first, are_zeros};
+    ghost use Rattle.ipfix_reader.specs.Part.{behind, first_part, are_zeros};
     ghost use Rattle.octets.specs.Numbers.{number_at};
     ghost use Rattle.ipfix_reader.specs.Cursors.{part_of};
 
@@ -38,9 +38,9 @@ impl<'a> Cursor<'a> {
 
     /// The first `size` bytes.
     #[inline]
-    pub fn first(self, size: usize) -> Cursor<'a>
+    pub fn first_part(self, size: usize) -> Cursor<'a>
         requires { size ≤ length self.bytes.now }
-        ensures { part_of result ≡ first size (part_of self.entry) }
+        ensures { part_of result ≡ first_part size (part_of self.entry) }
     {
         let (bytes, _) = self.bytes.split_at(size);
         Cursor { at: self.at, bytes }

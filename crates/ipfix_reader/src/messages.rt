@@ -86,7 +86,7 @@ fn read_message<'a>(
     };
     let domain = part.u32_at(12);
     let before = records.len();
-    let sets = part.first(size).behind(MESSAGE_HEADER);
+    let sets = part.first_part(size).behind(MESSAGE_HEADER);
     match read_sets(alloc, domain, table, records, sets) {
         Ok(()) => {}
         Err(error) => return Err(error),

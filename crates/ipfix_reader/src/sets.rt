@@ -2,7 +2,7 @@
 
 ghost use Rattle.std.specs.Prelude.{◌≡◌, ◌<◌, ◌≤◌, ◌==◌, IfOk, IfErr, OnOk, Ok, length, vec_len};
 ghost use Rattle.ipfix_reader.specs.Outcome.{IsFaultOf};
-ghost use Rattle.ipfix_reader.specs.Part.{behind, first};
+ghost use Rattle.ipfix_reader.specs.Part.{behind, first_part};
 ghost use Rattle.octets.specs.Numbers.{number_at};
 ghost use Rattle.ipfix_reader.specs.Sets.{set_contents, set_length, is_bad_length, message_sets};
 ghost use Rattle.ipfix_reader.specs.Cursors.{part_of, contents_of};
@@ -70,7 +70,7 @@ fn read_set<'a>(
         return Err(StreamError::Fault(StreamFault::BadLength { at: part.at }));
     }
     let size = usize::from(part.u16_at(2));
-    let content = part.first(size).behind(SET_HEADER);
+    let content = part.first_part(size).behind(SET_HEADER);
     match read_content(
         alloc,
         domain,

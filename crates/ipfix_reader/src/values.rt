@@ -46,7 +46,7 @@ fn value_of(
     requires inside { prefix + size ≤ length part.bytes.now }
     ensures { IfOk result (λ value. value ≡ value_of field.now part.entry.bytes.now) }
 {
-    let bytes = part.behind(prefix).first(size).bytes;
+    let bytes = part.behind(prefix).first_part(size).bytes;
     Ok(FieldValue {
         element: field.element,
         enterprise: field.enterprise,

@@ -24,7 +24,7 @@ use Rattle.packet_accept.specs.declared.packet.Packet.{Packet}
 use Rattle.packet_accept.specs.declared.ignored.Ignored.{Ignored}
 use Rattle.packet_accept.specs.Cause.{or_cause}
 use Rattle.packet_accept.specs.Key.{Headers, key_fields, key_of, or_bad_header}
-use Rattle.packet_accept.specs.Acceptance.{time_of, transport_part, headers_of, accepted}
+use Rattle.packet_accept.specs.Acceptance.{time_of, transport_part, headers_of, accepted_packet}
 use Rattle.packet_accept.specs.Packets.{answer_to, packets_in, packets_of}
 use Rattle.flow_parts.specs.declared.fragment.Fragment.{Fragment}
 use Rattle.flow_parts.specs.declared.timeouts.Timeouts.{Timeouts}
@@ -132,8 +132,8 @@ key-protocol fields key once is =
     ap (λ (f : KeyFields). f.protocol) told
 
 packet-soon : (place payload key n : ℕ) (packet : Packet) → AnswersOnce → place < 1000000
-    → accepted 101 false (read place payload key) n ≡ Ok packet → IsSoon packet
-unfolding accepted
+    → accepted_packet 101 false (read place payload key) n ≡ Ok packet → IsSoon packet
+unfolding accepted_packet
 packet-soon place payload key n packet once small h =
     let rec = read place payload key in
     let time = bind-ok (time_of false rec.seconds rec.fraction) _ packet h in
@@ -174,10 +174,10 @@ all-soon file keys state place (suc count) n once link nanos few =
     let others =
     map (answer_to file)
     (enumerate_from (n + 1) (map (packet_record Little) (made-parts keys behind (suc place) count))) in
-    soon-more (accepted file.link file.nanos (read place payload key) n) others
+    soon-more (accepted_packet file.link file.nanos (read place payload key) n) others
     (λ p is. packet-soon place payload key n p once (omega (arith, few))
-    (subst (λ (l : ℕ). accepted l false (read place payload key) n ≡ Ok p) link
-    (subst (λ (b : Bool). accepted file.link b (read place payload key) n ≡ Ok p) nanos is)))
+    (subst (λ (l : ℕ). accepted_packet l false (read place payload key) n ≡ Ok p) link
+    (subst (λ (b : Bool). accepted_packet file.link b (read place payload key) n ≡ Ok p) nanos is)))
     (all-soon file keys behind (suc place) count (n + 1) once link nanos (omega (arith, few)))
 
 packets-soon : (seed packets keys : ℕ) → AnswersOnce → packets ≤ 1000000

@@ -25,9 +25,9 @@ abbrev pub next_call : ℕ → ℕ
 next_call calls = one_more calls
 
 -- how many bytes one read of a source gives into a buffer
-abbrev pub given : SourceState → ℕ → ℕ
-given s buffer = min (min s.piece buffer) (length s.left)
+abbrev pub given_count : SourceState → ℕ → ℕ
+given_count s buffer = min (min s.piece buffer) (length s.left)
 
 -- how many bytes one write to a sink takes of a piece
-abbrev pub taken : SinkState → ℕ → ℕ
-taken s offered = min (min s.piece offered) (s.room - length s.held)
+abbrev pub taken_count : SinkState → ℕ → ℕ
+taken_count s offered = min (min s.piece offered) (s.room - length s.held)

@@ -6,7 +6,7 @@ ghost use Rattle.std.specs.Io.{WritesAtMost};
 ghost use Rattle.std.specs.Io.KnownBytes.{WriteAppends};
 ghost use Rattle.std.specs.Vec.{vec_capacity};
 ghost use Rattle.meter_io.specs.Causes.{HasCause, CountsCall};
-ghost use Rattle.meter_io.specs.Memory.{SinkState, next_call, taken};
+ghost use Rattle.meter_io.specs.Memory.{SinkState, next_call, taken_count};
 
 use crate::fault::count_fault;
 use crate::{Failed, NoMemory};
@@ -113,7 +113,7 @@ impl<'a> Sink for MemSink<'a> {
         ensures counted { CountsCall self.old.faults self.new.faults result }
         ensures fails { IsErr result
             ↔ (Contains self.old.fails (next_call self.old.calls) ⊎ (length self.old.held ≡ self.old.room)) }
-        ensures taken { IfOk result (λ count. count ≡ taken self.old (length piece.now)) }
+        ensures taken { IfOk result (λ count. count ≡ taken_count self.old (length piece.now)) }
         ensures calls { self.new.calls ≡ next_call self.old.calls }
         ensures settings { (self.new.room ≡ self.old.room) × (self.new.piece ≡ self.old.piece)
             × (self.new.fails ≡ self.old.fails) }

@@ -5,7 +5,7 @@ ghost use Rattle.std.specs.declared.option.Option.{Option};
 ghost use Rattle.std.specs.Io.{ReadsAtMost};
 ghost use Rattle.std.specs.Io.KnownBytes.{ReadConsumes};
 ghost use Rattle.meter_io.specs.Causes.{HasCause, CountsCall};
-ghost use Rattle.meter_io.specs.Memory.{SourceState, next_call, given};
+ghost use Rattle.meter_io.specs.Memory.{SourceState, next_call, given_count};
 
 use crate::Failed;
 use crate::fault::count_fault;
@@ -86,7 +86,7 @@ impl<'a> Source for MemSource<'a> {
         ensures cause { HasCause self.old.faults self.new.faults result }
         ensures counted { CountsCall self.old.faults self.new.faults result }
         ensures fails { IsErr result ↔ Contains self.old.fails (next_call self.old.calls) }
-        ensures given { IfOk result (λ count. count ≡ given self.old (length buf.old)) }
+        ensures given { IfOk result (λ count. count ≡ given_count self.old (length buf.old)) }
         ensures calls { self.new.calls ≡ next_call self.old.calls }
         ensures settings { (self.new.piece ≡ self.old.piece) × (self.new.fails ≡ self.old.fails) }
     {

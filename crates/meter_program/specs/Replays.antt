@@ -5,7 +5,7 @@ use Rattle.pebr_core.specs.Runs.{state_after, answers_of, first_refused}
 use Rattle.pebr_core.specs.declared.kinds.Shape.{Shape}
 use Rattle.pebr_core.specs.declared.kinds.Step.{Step}
 use Rattle.schedule_text.specs.Grammar.{schedule_of}
-use Rattle.schedule_text.specs.Printed.{printed}
+use Rattle.schedule_text.specs.Printed.{printed_text}
 
 -- The line of the first step that isn't enabled; the first step stands on line 2.
 abbrev pub refused_line : Shape → List Step → Option ℕ
@@ -22,4 +22,4 @@ bad_line text = bad_line_by (schedule_of text)
 
 -- What a replay of these steps from the start prints: the answers and the state behind them.
 abbrev pub replay_text : Shape → List Step → List ℕ
-replay_text shape steps = printed (answers_of (start_state shape) steps) (state_after (start_state shape) steps)
+replay_text shape steps = printed_text (answers_of (start_state shape) steps) (state_after (start_state shape) steps)

@@ -69,9 +69,10 @@ asked_by (name ∷ options) =
     else asked_to_make name options))
 
 -- What a command asks for.
-abbrev pub asked : Command → Asked
-asked (Meter settings) = meter settings.idle settings.active settings.workers settings.sets settings.piece settings.size
-asked Show = show
-asked (Make settings) = make settings.seed settings.packets settings.keys
-asked Schedule = schedule
-asked (Selftest settings) = selftest settings.seed settings.packets settings.keys
+abbrev pub asked_of : Command → Asked
+asked_of (Meter settings) = meter settings.idle settings.active settings.workers settings.sets settings.piece
+    settings.size
+asked_of Show = show
+asked_of (Make settings) = make settings.seed settings.packets settings.keys
+asked_of Schedule = schedule
+asked_of (Selftest settings) = selftest settings.seed settings.packets settings.keys

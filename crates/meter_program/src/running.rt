@@ -6,7 +6,7 @@ ghost use Rattle.meter_io.specs.Causes.{Rose};
 ghost use Rattle.meter_program.specs.Outcome.{RunMeans, IsComplete, Ends};
 ghost use Rattle.meter_io.specs.Sides.{IsUntouched, side};
 ghost use Rattle.meter_program.specs.Seen.{seen_of};
-ghost use Rattle.meter_program.specs.Words.{asked_by, asked};
+ghost use Rattle.meter_program.specs.Words.{asked_by, asked_of};
 
 use crate::make::make;
 use crate::meter::meter;
@@ -36,7 +36,7 @@ fn command<R: Threads + Sync, S: Source, K: Sink, N: Sink, M: Caches, G: Gate>(
 ) -> Status
     ensures { let seen = seen_of (side S.left S.faults input.old input.new) (side K.held K.faults output.old output.new)
         (side N.held N.faults notes.old notes.new) (M.metered caches.new)
-        in Ends (asked command.now) seen (IsUntouched seen.notes) result }
+        in Ends (asked_of command.now) seen (IsUntouched seen.notes) result }
 {
     match command {
         Command::Meter(settings) => meter(rt, alloc, settings, input, output, notes, caches, gate),
@@ -105,7 +105,7 @@ pub fn run<R: Threads + Sync, S: Source, K: Sink, N: Sink, M: Caches, G: Gate>(
     let status = match command_of(alloc, words) {
         Err(OptionsError::NotOptions) => Status::Usage,
         Err(OptionsError::NoMemory) => Status::NoMemory,
-        Ok(asked) => command(rt, alloc, &asked, input, output, notes, caches, gate),
+        Ok(asked_of) => command(rt, alloc, &asked_of, input, output, notes, caches, gate),
     };
     if status.is_refusal() {
         // A refusal stays what it is where its line can't be written.

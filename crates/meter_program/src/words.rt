@@ -4,7 +4,7 @@ ghost use Rattle.std.specs.Prelude.{◌≡◌, [], None, Some, map, IfOk, IfErr}
 ghost use Rattle.std.specs.String.{string_bytes};
 ghost use Rattle.command_words.specs.Options.{values_of};
 ghost use Rattle.meter_program.specs.Words.{meter_options, make_options, meter_with, make_with, selftest_with};
-ghost use Rattle.meter_program.specs.Words.{asked_with, asked_to_make, asked_by, asked, meter, make, selftest};
+ghost use Rattle.meter_program.specs.Words.{asked_with, asked_to_make, asked_by, asked_of, meter, make, selftest};
 
 use crate::settings::{Making, Settings};
 use command_words::{OptionRule, OptionsError, values_of};
@@ -149,7 +149,7 @@ fn nothing(alloc: Global, options: &[String]) -> Result<(), OptionsError>
 /// The command of this name that makes a capture.
 fn making_command(alloc: Global, name: &str, options: &[String]) -> Result<Command, OptionsError>
     ensures command { IfOk result (λ command. asked_to_make name.now (map string_bytes options.now)
-        ≡ Some (asked command)) }
+        ≡ Some (asked_of command)) }
     ensures refused { IfErr result (λ error. error ≡ OptionsError.NotOptions
         → asked_to_make name.now (map string_bytes options.now) ≡ None) }
 {
@@ -173,7 +173,7 @@ fn making_command(alloc: Global, name: &str, options: &[String]) -> Result<Comma
 /// - `NotOptions`: exactly where the words are no such command line.
 /// - `NoMemory`: out of memory.
 pub fn command_of(alloc: Global, words: &[String]) -> Result<Command, OptionsError>
-    ensures command { IfOk result (λ command. asked_by (map string_bytes words.now) ≡ Some (asked command)) }
+    ensures command { IfOk result (λ command. asked_by (map string_bytes words.now) ≡ Some (asked_of command)) }
     ensures refused { IfErr result (λ error. error ≡ OptionsError.NotOptions
         → asked_by (map string_bytes words.now) ≡ None) }
 {

@@ -9,7 +9,7 @@ use Rattle.std.proofs.lemmas.Grind.{common_steps}
 use Rattle.pcap_reader.specs.File.{CaptureFile}
 use Rattle.pcap_reader.specs.Records.{PacketRecord, records_of}
 use Rattle.packet_accept.specs.declared.packet.Packet.{Packet}
-use Rattle.packet_accept.specs.Acceptance.{accepted}
+use Rattle.packet_accept.specs.Acceptance.{accepted_packet}
 use Rattle.packet_accept.specs.Packets.{packets_in, answer_to}
 use Rattle.packet_accept.proofs.FileAnswers.{answer-at, length-answers}
 use Rattle.flow_parts.specs.declared.fragment.Fragment.{Fragment}
@@ -48,7 +48,7 @@ did-none a out t = record {
 
 -- the answer to a record stands at its place
 pub answer-found : (base n : ℕ) (file : CaptureFile) (rec : PacketRecord) → slice_get (records_of file) n ≡ Some rec
-    → slice_get (answers_from base file) n ≡ Some (accepted file.link file.nanos rec (base + n))
+    → slice_get (answers_from base file) n ≡ Some (accepted_packet file.link file.nanos rec (base + n))
 answer-found base n file rec found = answer-at (answer_to file) base n (records_of file) rec found
 
 pub range-next : (xs : List Answer) (a i : ℕ) (x : Answer) → a ≤ i → slice_get xs i ≡ Some x

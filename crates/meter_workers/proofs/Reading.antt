@@ -8,7 +8,7 @@ use Rattle.std.specs.Io.KnownBytes.{Consumes, IsAtEnd}
 use Rattle.std.proofs.lemmas.List.Sorted.{IsPermutation-refl, IsPermutation-trans, IsPermutation-append_left}
 use Rattle.pcap_reader.specs.File.{CaptureFile, capture_file, IsKnownLink}
 use Rattle.pcap_reader.specs.Records.{PacketRecord, records_of, rest_of, damage_of}
-use Rattle.pcap_reader.specs.Windows.{grown, part_with, front_of, GoesOn, GrowsFromFront}
+use Rattle.pcap_reader.specs.Windows.{grown_file, part_with, front_of, GoesOn, GrowsFromFront}
 use Rattle.pcap_reader.specs.Views.{headed_by, part_of}
 use Rattle.pcap_reader.specs.declared.head.Head.{Head}
 use Rattle.packet_accept.specs.declared.packet.Packet.{Packet}
@@ -16,7 +16,7 @@ use Rattle.packet_accept.specs.Packets.{answers_of, answer_to, packets_in, packe
 use Rattle.capture_tally.specs.declared.tally.Tally.{Tally}
 use Rattle.capture_tally.specs.Tallies.{IsTallyOf}
 use Rattle.capture_input.specs.Places.{IsSound, IsAt}
-use Rattle.capture_input.proofs.Reading.{Next, part-of_file, sound-grown, seen}
+use Rattle.capture_input.proofs.Reading.{Next, part-of_file, sound-grown_file, seen}
 use Rattle.meter_workers.specs.Answers.{Answer, answers_from}
 use Rattle.meter_workers.specs.Work.{IsTallied}
 use Rattle.meter_workers.specs.Windows.{IsMeteredWhole}
@@ -44,10 +44,11 @@ answers-append file n (rec ∷ records) others =
     ++ map (answer_to file) (enumerate_from k others)) on)
 
 pub answers-grown : (file : CaptureFile) (more left : List ℕ)
-    → records_of (grown file more) ≡ records_of file ++ records_of (part_with file left)
-    → answers_of (grown file more) ≡ answers_of file ++ answers_from (length (records_of file)) (part_with file left)
+    → records_of (grown_file file more) ≡ records_of file ++ records_of (part_with file left)
+    → answers_of (grown_file file more) ≡ answers_of file
+    ++ answers_from (length (records_of file)) (part_with file left)
 answers-grown file more left is =
-    let g = grown file more in
+    let g = grown_file file more in
     let part = part_with file left in
     ap (λ (l : List PacketRecord). map (answer_to g) (enumerate_from 0 l)) is
     ∙ answers-append g 0 (records_of file) (records_of part)
@@ -73,13 +74,13 @@ metered-to : (packets packets' : List Packet) (tally tally' : Tally) (file : Cap
     packets'
     → ((earlier : List Answer) → IsTallyOf tally earlier
     → IsTallyOf tally' (earlier ++ answers_from tally.captured (part_with file (rest_of file ++ more))))
-    → IsMetered (grown file more) packets' tally'
+    → IsMetered (grown_file file more) packets' tally'
 metered-to packets packets' tally tally' file more together next did counted perm counts =
     let part = part_with file (rest_of file ++ more) in
-    let all : answers_of (grown file more) ≡ answers_of file ++ answers_from tally.captured part =
+    let all : answers_of (grown_file file more) ≡ answers_of file ++ answers_from tally.captured part =
     answers-grown file more (rest_of file ++ more) next.on.records
     ∙ ap (λ (k : ℕ). answers_of file ++ answers_from k part) (sym counted) in
-    let mine : packets_of (grown file more) ≡ packets_of file ++ packets_in (answers_from tally.captured part) =
+    let mine : packets_of (grown_file file more) ≡ packets_of file ++ packets_in (answers_from tally.captured part) =
     ap packets_in all ∙ together (answers_of file) (answers_from tally.captured part) in
     record {
       metered = subst (λ (l : List Packet). IsPermutation l packets') (sym mine)
@@ -142,14 +143,14 @@ pub stepped : (head : Head) (window bytes : List ℕ) (from taken : ℕ) (packet
     → ((one two : List Answer) → packets_in (one ++ two) ≡ packets_in one ++ packets_in two)
     → ((f : CaptureFile) (xs : List ℕ) → f.start ≤ length f.bytes → GoesOn f xs)
     → ((xs ys : List ℕ) → 24 ≤ length xs → capture_file (xs ++ ys)
-    ≡ option_map (λ (f : CaptureFile). grown f ys) (capture_file xs))
+    ≡ option_map (λ (f : CaptureFile). grown_file f ys) (capture_file xs))
     → ((f : CaptureFile) → length (answers_of f) ≡ length (records_of f))
     → IsAt head window from taken file more → IsMetered file packets tally → part ≡ part_of head bytes
     → bytes ≡ drop from window → damage_of part ≡ None
     → IsPermutation (packets ++ packets_in (answers_from tally.captured part)) packets'
     → ((earlier : List Answer) → IsTallyOf tally earlier
     → IsTallyOf tally' (earlier ++ answers_from tally.captured part))
-    → IsMeteredTo head (grown file more) packets' tally' (rest_of part)
+    → IsMeteredTo head (grown_file file more) packets' tally' (rest_of part)
 stepped head window bytes from taken packets packets' tally tally' file more part together goes header counts at did is
     shows sound perm adds =
     let same : part ≡ part_with file (rest_of file ++ more) =
@@ -157,7 +158,7 @@ stepped head window bytes from taken packets packets' tally tally' file more par
     let next : Next file more =
     record { on = goes file more at.sound.long; is_file = header file.bytes more at.sound.header } in
     record {
-      sound = sound-grown head window from taken file more next at
+      sound = sound-grown_file head window from taken file more next at
           (subst (λ (p : CaptureFile). damage_of p ≡ None) same sound);
       rest_is = next.on.rest ∙ ap rest_of (sym same);
       did = metered-to packets packets' tally tally' file more together next did (did.tallied.captured ∙ counts file)

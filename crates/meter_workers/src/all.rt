@@ -59,7 +59,7 @@ fn append(parts: &mut Vec<Fragment>, out: &Vec<Fragment>) -> Result<(), NoMemory
 }
 
 /// The workers' passes become one, and their lists too. The packets of each pass are numbered below `base`.
-pub(crate) fn united<C: FlowCache>(
+pub(crate) fn unite_passes<C: FlowCache>(
     cache: &C,
     base: u64,
     helds: Vec<Held<C>>,
@@ -119,6 +119,6 @@ pub fn meter_all<C: FlowCache, G: Gate, R: Threads + Sync>(
 {
     let helds = held_of(alloc, cache, passes)?;
     let (helds, tally) = meter_part(rt, alloc, capture, index, 0, cache, helds, piece, gate)?;
-    let (pass, parts) = united(cache, index.count(), helds)?;
+    let (pass, parts) = unite_passes(cache, index.count(), helds)?;
     Ok(Gathered { pass, parts, tally })
 }

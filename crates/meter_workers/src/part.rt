@@ -26,7 +26,7 @@ use std::thread::Threads;
 use work_pieces::{DrawPass, Pieces};
 
 /// A worker for each pass of the cache and of the pieces.
-fn seated<C: FlowCache>(
+fn seat_workers<C: FlowCache>(
     alloc: Global,
     cache: &C,
     pieces: &Pieces,
@@ -116,7 +116,7 @@ fn work_all<C: FlowCache, G: Gate, R: Threads + Sync>(
 }
 
 /// The workers, once they have worked.
-fn worked<C: FlowCache, G: Gate, R: Threads + Sync>(
+fn run_workers<C: FlowCache, G: Gate, R: Threads + Sync>(
     rt: &R,
     alloc: Global,
     capture: &Capture<'_>,
@@ -169,7 +169,7 @@ fn all_finished<C: FlowCache>(workers: &Vec<Worker<C>>) -> bool
 }
 
 /// What the workers hold, and their tallies added up. They are all that drew, so each piece was drawn once.
-fn unseated<C: FlowCache>(
+fn unseat_workers<C: FlowCache>(
     alloc: Global,
     capture: &Capture<'_>,
     base: u64,
@@ -224,7 +224,7 @@ fn unseated<C: FlowCache>(
             state: _,
         } = next;
         draw = pieces.unite(draw, other);
-        tally = tally.joined(&more);
+        tally = tally.sum_with(&more);
         helds.push(Held { pass, out })?;
     }
     let draw = pieces.complete(draw);
@@ -263,12 +263,12 @@ pub(crate) fn meter_part<C: FlowCache, G: Gate, R: Threads + Sync>(
     packets_law();
     let seats = helds.len();
     let (pieces, draws) = Pieces::open(alloc, index.count(), piece, seats)?;
-    let workers = seated(alloc, cache, &pieces, base, helds, draws)?;
-    let workers = worked(
+    let workers = seat_workers(alloc, cache, &pieces, base, helds, draws)?;
+    let workers = run_workers(
         rt, alloc, capture, index, base, cache, &pieces, workers, gate,
     );
     if !all_finished(&workers) {
         return Err(NoMemory);
     }
-    unseated(alloc, capture, base, cache, &pieces, workers)
+    unseat_workers(alloc, capture, base, cache, &pieces, workers)
 }

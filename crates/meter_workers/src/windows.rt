@@ -16,10 +16,10 @@ ghost use Rattle.meter_workers.specs.Answers.{Answer, answers_from};
 ghost use Rattle.meter_workers.specs.Work.{IsTallied};
 ghost use Rattle.meter_workers.specs.Sharing.{IsHeld};
 ghost use Rattle.capture_input.specs.Refusals.{IsRefused, HasFaults};
-ghost use Rattle.capture_input.specs.Inputs.{began};
+ghost use Rattle.capture_input.specs.Inputs.{side_from};
 ghost use Rattle.meter_workers.specs.Windows.{IsMeteredWhole};
 
-use crate::all::{held_of, united};
+use crate::all::{held_of, unite_passes};
 use crate::gate::Gate;
 use crate::part::meter_part;
 use crate::worker::Held;
@@ -100,7 +100,7 @@ fn meter_window<C: FlowCache, G: Gate, R: Threads + Sync>(
         Ok((helds, more)) => Ok(Metering {
             helds,
             index,
-            tally: tally.joined(&more),
+            tally: tally.sum_with(&more),
         }),
         Err(NoMemory) => Err(IndexError::NoMemory),
     }
@@ -134,11 +134,11 @@ fn meter_input<S: Source, C: FlowCache, G: Gate, R: Threads + Sync>(
         m.helds.items) }
     ensures metered { IfOk result (λ m. (first : Option (List ℕ))
         → Consumes first (S.left source.old) input.window.bytes
-        → IsMeteredWhole (began first (side S.left S.faults source.old source.new)) input.limit
+        → IsMeteredWhole (side_from first (side S.left S.faults source.old source.new)) input.limit
         (flat_map (λ h. (C.shown h.pass).note.packets) m.helds.items) m.tally m.index.tail) }
     ensures refused { IfErr result (λ fault. (first : Option (List ℕ))
         → Consumes first (S.left source.old) input.window.bytes
-        → IsRefused (began first (side S.left S.faults source.old source.new)) input.limit fault) }
+        → IsRefused (side_from first (side S.left S.faults source.old source.new)) input.limit fault) }
     ensures faults { HasFaults (side S.left S.faults source.old source.new) result }
 {
     parts_law();
@@ -152,7 +152,7 @@ fn meter_input<S: Source, C: FlowCache, G: Gate, R: Threads + Sync>(
         let part = Capture::part(head, bytes);
         metering = match meter_window(rt, alloc, &part, metering, cache, piece, gate) {
             Ok(metering) => metering,
-            Err(error) => return Err(input.refused(source, count, error)),
+            Err(error) => return Err(input.refusal(source, count, error)),
         };
         if input.ended {
             return Ok(metering);
@@ -169,7 +169,7 @@ fn meter_input<S: Source, C: FlowCache, G: Gate, R: Threads + Sync>(
 }
 
 /// An input of which nothing was read, and what stays from one window to the next before there is one.
-fn begun<C: FlowCache>(
+fn begin_metering<C: FlowCache>(
     alloc: Global,
     cache: &C,
     passes: Vec<C::Pass>,
@@ -198,7 +198,10 @@ fn begun<C: FlowCache>(
 }
 
 /// What all workers have in the end.
-fn gathered<C: FlowCache>(cache: &C, metering: Metering<C>) -> Result<WindowGathered<C>, NoMemory>
+fn gather_windows<C: FlowCache>(
+    cache: &C,
+    metering: Metering<C>,
+) -> Result<WindowGathered<C>, NoMemory>
     requires held { All (λ h. C.is_of cache.now h.pass × IsHeld metering.tally.captured (C.shown h.pass) h.out.items)
         metering.helds.items }
     requires some { 0 < length metering.helds.items }
@@ -215,7 +218,7 @@ fn gathered<C: FlowCache>(cache: &C, metering: Metering<C>) -> Result<WindowGath
         index,
         tally,
     } = metering;
-    let (pass, parts) = united(cache, tally.captured, helds)?;
+    let (pass, parts) = unite_passes(cache, tally.captured, helds)?;
     Ok(WindowGathered {
         pass,
         parts,
@@ -259,12 +262,12 @@ pub fn meter_windows<S: Source, C: FlowCache, G: Gate, R: Threads + Sync>(
     ensures refused { IfErr result (λ fault. IsRefused (side S.left S.faults source.old source.new) limit fault) }
     ensures faults { HasFaults (side S.left S.faults source.old source.new) result }
 {
-    let Ok((input, metering)) = begun(alloc, cache, passes, window, limit) else {
+    let Ok((input, metering)) = begin_metering(alloc, cache, passes, window, limit) else {
         return Err(MeterFault::NoMemory);
     };
     let (input, head) = input.begin(source)?;
     let metering = meter_input(rt, alloc, source, input, head, metering, cache, piece, gate)?;
-    let Ok(all) = gathered(cache, metering) else {
+    let Ok(all) = gather_windows(cache, metering) else {
         return Err(MeterFault::NoMemory);
     };
     Ok(all)

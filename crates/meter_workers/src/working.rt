@@ -4,7 +4,7 @@ ghost use Rattle.std.specs.Prelude.{◌≡◌, ◌≢◌, ◌+◌, ◌-◌, ◌*
 ghost use Rattle.std.specs.Prelude.{min, IfOk, OnOk, OnErr, slice_range, option_to_list};
 ghost use Rattle.pcap_reader.specs.Views.{file_of, record_read};
 ghost use Rattle.pcap_reader.specs.Index.{IsIndexOf};
-ghost use Rattle.packet_accept.specs.Acceptance.{accepted};
+ghost use Rattle.packet_accept.specs.Acceptance.{accepted_packet};
 ghost use Rattle.packet_accept.specs.Packets.{packets_in};
 ghost use Rattle.packet_accept.specs.declared.packet.Packet.{Packet};
 ghost use Rattle.packet_accept.specs.declared.ignored.Ignored.{Ignored};
@@ -67,10 +67,11 @@ fn meter_record<C: FlowCache>(
     requires tallied { IsTallied tally.old }
     ensures own { C.is_of cache.now pass.new }
     ensures did { let file = file_of capture.now in OnOk result (Did (C.shown pass.old) out.old.items tally.old
-        (accepted file.link file.nanos (record_read rec.now) number ∷ []) (C.shown pass.new) out.new.items tally.new) }
+        (accepted_packet file.link file.nanos (record_read rec.now) number ∷ [])
+        (C.shown pass.new) out.new.items tally.new) }
     ensures metered { let file = file_of capture.now in
         (C.shown pass.new).note.packets ≡ (C.shown pass.old).note.packets
-        ++ packets_in (accepted file.link file.nanos (record_read rec.now) number ∷ []) }
+        ++ packets_in (accepted_packet file.link file.nanos (record_read rec.now) number ∷ []) }
     ensures below { AreBelow (number + 1) (C.shown pass.new).note.packets }
     ensures tallied { IsTallied tally.new }
     ensures captured { tally.new.captured ≡ tally.old.captured + 1 }

@@ -23,7 +23,7 @@ impl Model for MeteredList {
 }
 
 /// Two lists put together.
-fn together(mut parts: Vec<Fragment>, others: Vec<Fragment>) -> Result<Vec<Fragment>, NoMemory>
+fn join_lists(mut parts: Vec<Fragment>, others: Vec<Fragment>) -> Result<Vec<Fragment>, NoMemory>
     ensures { IfOk result (λ all. all.items ≡ parts.items ++ others.items) }
 {
     parts.extend_from_slice(others.as_slice())?;
@@ -44,7 +44,7 @@ impl MeteredList {
         ensures kept { OnOk result (self.new ≡ handed.items ++ entries.items) }
         ensures stays { OnErr result (self.new ≡ self.old) }
     {
-        let all = together(handed, entries)?;
+        let all = join_lists(handed, entries)?;
         self.parts = Some(all);
         Ok(())
     }

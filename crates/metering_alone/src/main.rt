@@ -56,7 +56,7 @@ fn setting_of(words: &[String]) -> Option<Setting> {
 }
 
 /// The tally of the capture of a source, once it is metered.
-fn metered<R: Threads + Sync, S: Source>(
+fn meter_source<R: Threads + Sync, S: Source>(
     rt: &R,
     alloc: Global,
     input: &mut S,
@@ -104,7 +104,7 @@ fn main(rt: HostRuntime) -> ExitCode {
         return ExitCode::from(2);
     };
     let mut input = StdSource::new(rt.stdin());
-    match metered(&rt, rt.alloc(), &mut input, setting) {
+    match meter_source(&rt, rt.alloc(), &mut input, setting) {
         Some(tally) => {
             let (records, packets, octets) = (tally.captured, tally.accepted, tally.octets);
             match println!(rt; "records {records} packets {packets} octets {octets}") {

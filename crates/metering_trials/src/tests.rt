@@ -73,7 +73,7 @@ fn are_few(parts: &[Fragment]) -> bool
 }
 
 /// Meters what a source gives, and gathers the records.
-fn metered<R: Threads + Sync, S: Source, G: Gate>(
+fn meter_source<R: Threads + Sync, S: Source, G: Gate>(
     rt: &R,
     alloc: Global,
     source: &mut S,
@@ -102,10 +102,10 @@ fn metered<R: Threads + Sync, S: Source, G: Gate>(
         Err(fault) => return Ok(Err(fault)),
     };
     caches.close(alloc, cache, gathered.pass, gathered.parts)?;
-    if !are_few(caches.metered()) {
+    if !are_few(caches.meter_source()) {
         return Err(Fail::from("more packets than there are"));
     }
-    let records = gather(alloc, caches.metered(), limits, gathered.tally.clock)?;
+    let records = gather(alloc, caches.meter_source(), limits, gathered.tally.clock)?;
     Ok(Ok(Outcome {
         records,
         tally: gathered.tally,

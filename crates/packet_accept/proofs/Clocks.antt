@@ -8,7 +8,7 @@ use Rattle.std.proofs.Math.ListN.{get_or-append}
 use Rattle.std.proofs.lemmas.List.{get_or-append-add, append-nil}
 use Rattle.packet_accept.specs.declared.packet.Packet.{Packet}
 use Rattle.packet_accept.specs.Extremes.{IsGreatest}
-use Rattle.packet_accept.specs.Clock.{IsClock, later}
+use Rattle.packet_accept.specs.Clock.{IsClock, later_clock}
 
 module _ {X : Type 0} (f : X → ℕ) where
   -- none is above a greater number either
@@ -41,7 +41,7 @@ module _ {X : Type 0} (f : X → ℕ) where
   }
 
 pub clock_together : (packets others : List Packet) (one two : Option ℕ) → IsClock packets one → IsClock others two
-    → IsClock (packets ++ others) (later one two)
+    → IsClock (packets ++ others) (later_clock one two)
 clock_together packets others None two one_is two_is = subst (λ ps. IsClock (ps ++ others) two) (sym one_is) two_is
 clock_together packets others (Some time) None one_is two_is =
     subst (λ ps. IsClock (packets ++ ps) (Some time)) (sym two_is) (rw append-nil one_is)

@@ -10,7 +10,7 @@ use Rattle.pcap_reader.specs.File.{CaptureFile}
 use Rattle.pcap_reader.specs.Records.{PacketRecord, records_of}
 use Rattle.packet_accept.specs.declared.packet.Packet.{Packet}
 use Rattle.packet_accept.specs.declared.ignored.Ignored.{Ignored}
-use Rattle.packet_accept.specs.Acceptance.{accepted}
+use Rattle.packet_accept.specs.Acceptance.{accepted_packet}
 use Rattle.packet_accept.proofs.Permuted.{filter_map-permutation}
 use Rattle.packet_accept.specs.Packets.{answer_to, answers_of, packets_in, packets_of}
 
@@ -33,7 +33,7 @@ answer-at answer from (suc n) (y ∷ xs) x found =
 
 -- so the answer to a file's record stands at the record's place
 pub answer-placed : (file : CaptureFile) (n : ℕ) (rec : PacketRecord) → slice_get (records_of file) n ≡ Some rec
-    → slice_get (answers_of file) n ≡ Some (accepted file.link file.nanos rec n)
+    → slice_get (answers_of file) n ≡ Some (accepted_packet file.link file.nanos rec n)
 answer-placed file n rec found =
     let zero_first : 0 + n ≡ n = omega arith in
     rw zero_first at (answer-at (answer_to file) 0 n (records_of file) rec found)
@@ -59,9 +59,9 @@ one_more (y ∷ xs) (suc n) x found = ap (λ l. y ∷ l) (one_more xs n x found)
 
 pub packets_next : (file : CaptureFile) (n : ℕ) (rec : PacketRecord) → slice_get (records_of file) n ≡ Some rec
     → packets_in (take (n + 1) (answers_of file))
-    ≡ packets_in (take n (answers_of file)) ++ packets_in (accepted file.link file.nanos rec n ∷ [])
+    ≡ packets_in (take n (answers_of file)) ++ packets_in (accepted_packet file.link file.nanos rec n ∷ [])
 packets_next file n rec found =
-    let answer : Result Packet Ignored = accepted file.link file.nanos rec n in
+    let answer : Result Packet Ignored = accepted_packet file.link file.nanos rec n in
     let longer : take (n + 1) (answers_of file) ≡ take n (answers_of file) ++ answer ∷ []
     = ap (λ k. take k (answers_of file)) (add-one n)
     ∙ one_more (answers_of file) n answer (answer-placed file n rec found) in

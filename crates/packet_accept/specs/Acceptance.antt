@@ -50,8 +50,8 @@ headers_of link rec = do
 
 -- The answer to the record with number `n` of a capture of this link type, whose fractions of a second are
 -- nanoseconds or microseconds: the time is looked at first, then the headers.
-unfoldable pub accepted : ℕ → Bool → PacketRecord → ℕ → Result Packet Ignored
-accepted link nanos rec n = do
+unfoldable pub accepted_packet : ℕ → Bool → PacketRecord → ℕ → Result Packet Ignored
+accepted_packet link nanos rec n = do
   time ← time_of nanos rec.seconds rec.fraction
   headers ← headers_of link rec
   key ← key_of headers

@@ -8,7 +8,7 @@ abbrev pub IsClock : List Packet → Option ℕ → Type 0
 IsClock packets clock = MatchOption clock (packets ≡ []) (IsGreatest (λ (p : Packet). p.time) packets)
 
 -- The later of two clocks.
-abbrev pub later : Option ℕ → Option ℕ → Option ℕ
-later None other = other
-later (Some time) None = Some time
-later (Some time) (Some other) = Some (max time other)
+abbrev pub later_clock : Option ℕ → Option ℕ → Option ℕ
+later_clock None other = other
+later_clock (Some time) None = Some time
+later_clock (Some time) (Some other) = Some (max time other)

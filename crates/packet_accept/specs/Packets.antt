@@ -6,11 +6,11 @@ use Rattle.pcap_reader.specs.File.{CaptureFile}
 use Rattle.pcap_reader.specs.Records.{PacketRecord, records_of}
 use Rattle.packet_accept.specs.declared.packet.Packet.{Packet}
 use Rattle.packet_accept.specs.declared.ignored.Ignored.{Ignored}
-use Rattle.packet_accept.specs.Acceptance.{accepted}
+use Rattle.packet_accept.specs.Acceptance.{accepted_packet}
 
 -- The answer to a record of a file, by its place among the records, counted from 0.
 abbrev pub answer_to : CaptureFile → ℕ × PacketRecord → Result Packet Ignored
-answer_to file (place, rec) = accepted file.link file.nanos rec place
+answer_to file (place, rec) = accepted_packet file.link file.nanos rec place
 
 -- The answers to the records of a file, in file order.
 abbrev pub answers_of : CaptureFile → List (Result Packet Ignored)

@@ -6,7 +6,7 @@ ghost use Rattle.flow_key.specs.KeyWith.{key_with};
 ghost use Rattle.packet_headers.specs.Link.{IsIpVersion};
 ghost use Rattle.pcap_reader.specs.Views.{file_of, record_read};
 ghost use Rattle.packet_accept.specs.Key.{Headers, key_fields};
-ghost use Rattle.packet_accept.specs.Acceptance.{accepted, headers_of, time_of};
+ghost use Rattle.packet_accept.specs.Acceptance.{accepted_packet, headers_of, time_of};
 ghost use Rattle.packet_accept.specs.Shown.{headers_shown};
 
 use crate::headers::{HeaderViews, headers_of};
@@ -28,7 +28,8 @@ use pcap_reader::{Capture, Record};
 /// Takes no memory, and copies no captured byte.
 #[inline]
 pub fn accept(capture: &Capture<'_>, rec: &Record<'_>, n: u64) -> Result<Packet, Ignored>
-    ensures answer { let file = file_of capture.now in result ≡ accepted file.link file.nanos (record_read rec.now) n }
+    ensures answer { let file = file_of capture.now in
+        result ≡ accepted_packet file.link file.nanos (record_read rec.now) n }
     // Where the time and the headers have no fault there is a packet: what octets hold fits the fields of a key.
     ensures complete { let file = file_of capture.now in let read = record_read rec.now in
         (time : ℕ) (headers : Headers)
@@ -46,10 +47,10 @@ pub fn accept(capture: &Capture<'_>, rec: &Record<'_>, n: u64) -> Result<Packet,
 /// The same for a record of frames with this link type, 1, 101 or 113, whose fractions of a second are nanoseconds or
 /// microseconds.
 #[inline]
-#[tactic(auto, unfolding(crate::specs::Acceptance::accepted))]
+#[tactic(auto, unfolding(crate::specs::Acceptance::accepted_packet))]
 pub fn accept_linked(link: u32, nanos: bool, rec: &Record<'_>, n: u64) -> Result<Packet, Ignored>
     requires { IsKnownLink link }
-    ensures answer { result ≡ accepted link nanos (record_read rec.now) n }
+    ensures answer { result ≡ accepted_packet link nanos (record_read rec.now) n }
     ensures complete { let read = record_read rec.now in (time : ℕ) (headers : Headers)
         → time_of nanos read.seconds read.fraction ≡ Ok time → headers_of link read ≡ Ok headers → IsOk result }
     ensures number { IfOk result (λ packet. packet.number ≡ n) }

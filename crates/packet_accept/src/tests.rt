@@ -182,7 +182,7 @@ fn put_record(alloc: Global, file: &mut Vec<u8>, row: &Row) -> Result<(), AllocE
 }
 
 /// The answer that is wanted of a record with this number.
-fn wanted(want: Want, number: u64) -> Result<Packet, Ignored> {
+fn wanted_answer(want: Want, number: u64) -> Result<Packet, Ignored> {
     let (version, protocol, source_port, destination_port, time, octets, flags) = match want {
         No(cause) => return Err(cause),
         Gives(v, p, s, d, time, octets, flags) => (v, p, s, d, time, octets, flags),
@@ -229,7 +229,7 @@ fn check(rt: &impl Abort, alloc: Global, rows: &[Row]) -> Result<(), Fail> {
         for n in 0..2 {
             let record = capture.record(&index, n);
             let answer = accept(&capture, &record, n);
-            assert!(rt; answer == wanted(row.want, n), "record {place}");
+            assert!(rt; answer == wanted_answer(row.want, n), "record {place}");
             let linked = accept_linked(capture.link(), capture.nanos(), &record, n);
             assert!(rt; linked == answer, "record {place}");
         }
@@ -279,7 +279,7 @@ fn two_packets_of_a_flow(rt: HostRuntime) -> Result<(), Fail> {
     for n in 0..2 {
         let record = capture.record(&index, n);
         let want = Gives(4, 17, 4000, 53, 1_000_000 + 1000 * n, 28, 0);
-        assert!(rt; accept(&capture, &record, n) == wanted(want, n));
+        assert!(rt; accept(&capture, &record, n) == wanted_answer(want, n));
     }
     Ok(())
 }

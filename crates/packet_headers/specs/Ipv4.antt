@@ -5,7 +5,7 @@ use Rattle.packet_headers.specs.declared.fault.HeaderFault.{HeaderFault}
 use Rattle.packet_headers.specs.declared.fault.HeaderFault.TheVariants.{Short, BadHeader}
 use Rattle.octets.specs.Numbers.{octet_at, number_at}
 use Rattle.octets.specs.Outcome.{◌>>=◌}
-use Rattle.packet_headers.specs.Packet.{IpPart, limited, behind_header}
+use Rattle.packet_headers.specs.Packet.{IpPart, limited_octets, behind_header}
 
 -- The version, and the header's length in words of four octets: the upper and the lower four bits of
 -- the first octet.
@@ -28,9 +28,9 @@ header_length rest =
 unfoldable pub packet_length : List ℕ → ℕ → ℕ → Result ℕ HeaderFault
 packet_length rest original header =
     let total = number_at 2 2 rest in
-    if total == 0 then limited (max original header)
+    if total == 0 then limited_octets (max original header)
     else if nat_lt total header then Err BadHeader
-    else limited total
+    else limited_octets total
 
 -- The fragment offset is the lower 13 bits of octets 6 and 7.
 abbrev pub fragment_offset : List ℕ → ℕ

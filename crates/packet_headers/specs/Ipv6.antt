@@ -4,7 +4,7 @@ use Rattle.packet_headers.specs.declared.fault.HeaderFault.{HeaderFault}
 use Rattle.packet_headers.specs.declared.fault.HeaderFault.TheVariants.{Short, BadHeader}
 use Rattle.octets.specs.Numbers.{octet_at, number_at}
 use Rattle.octets.specs.Outcome.{◌>>=◌}
-use Rattle.packet_headers.specs.Packet.{IpPart, limited, behind_header}
+use Rattle.packet_headers.specs.Packet.{IpPart, limited_octets, behind_header}
 use Rattle.packet_headers.specs.Extensions.{upper_part}
 
 -- The octets of the packet: the header's 40 and the payload length. A payload length of 0 in front of
@@ -13,8 +13,8 @@ use Rattle.packet_headers.specs.Extensions.{upper_part}
 unfoldable pub packet_length : List ℕ → ℕ → Result ℕ HeaderFault
 packet_length rest original =
     let payload = number_at 4 2 rest in
-    if (payload == 0) && not (octet_at 6 rest == 59) then limited (max original 40)
-    else limited (40 + payload)
+    if (payload == 0) && not (octet_at 6 rest == 59) then limited_octets (max original 40)
+    else limited_octets (40 + payload)
 
 -- The octets of a packet of version 6 with its whole header.
 unfoldable pub checked_length : List ℕ → ℕ → Result ℕ HeaderFault

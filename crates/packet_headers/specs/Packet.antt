@@ -15,8 +15,8 @@ pub record IpPart : Type 0 where
   pub payload : List ℕ
 
 -- A packet of at most 16,777,215 octets. Only an offloaded one can be longer.
-abbrev pub limited : ℕ → Result ℕ HeaderFault
-limited octets = if nat_lt 16777215 octets then Err BadHeader else Ok octets
+abbrev pub limited_octets : ℕ → Result ℕ HeaderFault
+limited_octets octets = if nat_lt 16777215 octets then Err BadHeader else Ok octets
 
 -- What lies behind the first `header` octets of a packet of so many octets, as far as it was captured:
 -- up to the packet's end or the captured end, whichever comes first. What is captured behind the packet's

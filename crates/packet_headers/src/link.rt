@@ -62,9 +62,9 @@ impl<'a> LinkView<'a> {
         ensures never_bad_header { result ≢ Err HeaderFault.BadHeader }
     {
         match LinkType::of(link) {
-            Some(LinkType::Ethernet) => typed(captured, ETHERNET_TYPE),
-            Some(LinkType::RawIp) => raw(captured),
-            Some(LinkType::LinuxCooked) => typed(captured, COOKED_TYPE),
+            Some(LinkType::Ethernet) => typed_link(captured, ETHERNET_TYPE),
+            Some(LinkType::RawIp) => raw_link(captured),
+            Some(LinkType::LinuxCooked) => typed_link(captured, COOKED_TYPE),
             None => unreachable!(),
         }
     }
@@ -72,7 +72,7 @@ impl<'a> LinkView<'a> {
 
 /// The link part of raw IP.
 #[tactic(auto, unfolding(crate::specs::Link::raw_part))]
-fn raw(captured: &[u8]) -> Result<LinkView<'_>, HeaderFault>
+fn raw_link(captured: &[u8]) -> Result<LinkView<'_>, HeaderFault>
     ensures fields { IfOk result (λ view. raw_part captured.now ≡ Ok (link_shown view)) }
     ensures fault { IfErr result (λ fault. raw_part captured.now ≡ Err fault) }
     ensures version { IfOk result (λ view. IsIpVersion view.version) }
@@ -96,7 +96,7 @@ fn raw(captured: &[u8]) -> Result<LinkView<'_>, HeaderFault>
 
 /// The link part of a frame whose link header ends with a type, which stands at `place`.
 #[tactic(auto, unfolding(crate::specs::Link::typed_part))]
-fn typed(frame: &[u8], place: usize) -> Result<LinkView<'_>, HeaderFault>
+fn typed_link(frame: &[u8], place: usize) -> Result<LinkView<'_>, HeaderFault>
     requires { place ≤ 14 }
     ensures fields { IfOk result (λ view. typed_part place frame.now ≡ Ok (link_shown view)) }
     ensures fault { IfErr result (λ fault. typed_part place frame.now ≡ Err fault) }

@@ -1,7 +1,7 @@
 //! What both versions of IP share: the limit of a packet's length, and what lies behind a header.
 
 ghost use Rattle.std.specs.Prelude.{◌≡◌, ◌≤◌, length};
-ghost use Rattle.packet_headers.specs.Packet.{limited, behind_header};
+ghost use Rattle.packet_headers.specs.Packet.{limited_octets, behind_header};
 
 use crate::fault::HeaderFault;
 
@@ -11,7 +11,7 @@ pub const GREATEST: u64 = 16_777_215;
 /// The number of octets of a packet, where it isn't above the greatest.
 #[inline]
 pub fn limited_length(octets: u64) -> Result<u32, HeaderFault>
-    ensures { result ≡ limited octets }
+    ensures { result ≡ limited_octets octets }
 {
     if octets > GREATEST {
         return Err(HeaderFault::BadHeader);

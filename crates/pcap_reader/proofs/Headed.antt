@@ -11,7 +11,7 @@ use Rattle.octets.specs.declared.endianness.Endianness.TheVariants.{Big}
 use Rattle.octets.specs.Numbers.{ordered_number_at}
 use Rattle.octets.proofs.Reading.{number-drop-append}
 use Rattle.pcap_reader.specs.File.{CaptureFile, capture_file, file_header_len, told_by_magic, is_version_2_4}
-use Rattle.pcap_reader.specs.Windows.{grown, front_of, GrowsFromFront}
+use Rattle.pcap_reader.specs.Windows.{grown_file, front_of, GrowsFromFront}
 use Rattle.pcap_reader.specs.Records.{packet_record}
 use Rattle.pcap_reader.proofs.InParts.{at_front}
 
@@ -41,14 +41,14 @@ told bytes m =
     else None
 
 version-cases : (version : Bool) (file : CaptureFile) (more : List ℕ)
-    → (if version then Some (grown file more) else None)
-    ≡ option_map (λ (f : CaptureFile). grown f more) (if version then Some file else None)
+    → (if version then Some (grown_file file more) else None)
+    ≡ option_map (λ (f : CaptureFile). grown_file f more) (if version then Some file else None)
 version-cases true file more = refl
 version-cases false file more = refl
 
 magic-cases : (bytes more : List ℕ) (magic : Option (Endianness × Bool)) → 24 ≤ length bytes
     → option_and_then (told (bytes ++ more)) magic
-    ≡ option_map (λ (f : CaptureFile). grown f more) (option_and_then (told bytes) magic)
+    ≡ option_map (λ (f : CaptureFile). grown_file f more) (option_and_then (told bytes) magic)
 magic-cases bytes more None long = refl
 magic-cases bytes more (Some m) long =
     rw (version-same m.0 bytes more long, at-same m.0 20 4 bytes more (omega arith))
@@ -63,7 +63,7 @@ magic-cases bytes more (Some m) long =
     }) more)
 
 pub header_grown : (bytes more : List ℕ) → 24 ≤ length bytes
-    → capture_file (bytes ++ more) ≡ option_map (λ (file : CaptureFile). grown file more) (capture_file bytes)
+    → capture_file (bytes ++ more) ≡ option_map (λ (file : CaptureFile). grown_file file more) (capture_file bytes)
 unfolding capture_file
 header_grown bytes more long =
     let one : nat_lt (length bytes) file_header_len ≡ false = grind (arith, nat_tests) in
@@ -104,11 +104,11 @@ headed bytes file is =
     ]
 
 -- a file that more bytes make of another
-grown-back : (found : Option CaptureFile) (more : List ℕ) (file : CaptureFile)
-    → Some file ≡ option_map (λ (f : CaptureFile). grown f more) found
-    → (f : CaptureFile) × (found ≡ Some f) × (grown f more ≡ file)
-grown-back None more file is = absurd cc
-grown-back (Some f) more file is = (f, refl, cc)
+grown_file-back : (found : Option CaptureFile) (more : List ℕ) (file : CaptureFile)
+    → Some file ≡ option_map (λ (f : CaptureFile). grown_file f more) found
+    → (f : CaptureFile) × (found ≡ Some f) × (grown_file f more ≡ file)
+grown_file-back None more file is = absurd cc
+grown_file-back (Some f) more file is = (f, refl, cc)
 
 pub grows_from_front : (bytes : List ℕ) (file : CaptureFile) → capture_file bytes ≡ Some file → GrowsFromFront file
 grows_from_front bytes file is =
@@ -117,7 +117,7 @@ grows_from_front bytes file is =
     let more = drop 24 bytes in
     let split : first ++ more ≡ bytes = take-append-drop 24 bytes in
     let long : 24 ≤ length first = omega (arith, h.long, length-take 24 bytes) in
-    let found = grown-back (capture_file first) more file
+    let found = grown_file-back (capture_file first) more file
     (sym is ∙ ap capture_file (sym split) ∙ header_grown first more long) in
     let f = found.0 in
     let his = headed first f found.1 in
@@ -132,7 +132,7 @@ grows_from_front bytes file is =
     ∙ ap (λ (x : CaptureFile). let y : CaptureFile =
     record { bytes = take file.start file.bytes; start = x.start; order = x.order; nanos = x.nanos; link = x.link } in
     y) found.2 in
-    let back : grown (front_of file) (drop file.start file.bytes) ≡ file =
+    let back : grown_file (front_of file) (drop file.start file.bytes) ≡ file =
     ap (λ (l : List ℕ). let x : CaptureFile =
     record { bytes = l; start = file.start; order = file.order; nanos = file.nanos; link = file.link } in x)
     (take-append-drop file.start file.bytes) in

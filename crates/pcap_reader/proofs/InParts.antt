@@ -9,12 +9,13 @@ use Rattle.std.proofs.lemmas.List.Folds.{concat-append}
 use Rattle.pcap_reader.specs.File.{CaptureFile}
 use Rattle.pcap_reader.specs.Records.{begins_with_record, begins_with_damage, packet_record, parts_of, rest_of}
 use Rattle.pcap_reader.specs.Records.{rest_offset, records_of, damage_of}
-use Rattle.pcap_reader.specs.Windows.{grown, front_of, part_with, parts_from, place_behind, IsReadIn}
+use Rattle.pcap_reader.specs.Windows.{grown_file, front_of, part_with, parts_from, place_behind, IsReadIn}
 use Rattle.pcap_reader.proofs.Parts.{record_parts-rest}
 use Rattle.pcap_reader.proofs.Joined.{grows, goes_on, damage_stays, next_part}
 
 -- more, and more again
-grown-twice : (file : CaptureFile) (one two : List ℕ) → grown (grown file one) two ≡ grown file (one ++ two)
+grown-twice : (file : CaptureFile) (one two : List ℕ) → grown_file (grown_file file one) two
+    ≡ grown_file file (one ++ two)
 grown-twice file one two =
     ap (λ (l : List ℕ). let f : CaptureFile =
     record { bytes = l; start = file.start; order = file.order; nanos = file.nanos; link = file.link } in f)
@@ -25,24 +26,24 @@ grown-long : (file : CaptureFile) (more : List ℕ) → file.start ≤ length fi
 grown-long file more h = omega (arith, h, length-append file.bytes more)
 
 -- the parts of the pieces behind a file are those behind the longer file
-from-grown : (file : CaptureFile) (more left : List ℕ) (pieces : List (List ℕ))
-    → parts_from (grown file more) left pieces ≡ parts_from file left pieces
-from-grown file more left [] = refl
-from-grown file more left (piece ∷ pieces) =
+from-grown_file : (file : CaptureFile) (more left : List ℕ) (pieces : List (List ℕ))
+    → parts_from (grown_file file more) left pieces ≡ parts_from file left pieces
+from-grown_file file more left [] = refl
+from-grown_file file more left (piece ∷ pieces) =
     ap (λ (l : List CaptureFile). part_with file (left ++ piece) ∷ l)
-    (from-grown file more (rest_of (part_with file (left ++ piece))) pieces)
+    (from-grown_file file more (rest_of (part_with file (left ++ piece))) pieces)
 
 -- and they begin with its rest
 from-next : (file : CaptureFile) (piece : List ℕ) (pieces : List (List ℕ)) → file.start ≤ length file.bytes
     → parts_from file (rest_of file) (piece ∷ pieces)
-    ≡ next_part file piece ∷ parts_from (grown file piece) (rest_of (grown file piece)) pieces
+    ≡ next_part file piece ∷ parts_from (grown_file file piece) (rest_of (grown_file file piece)) pieces
 from-next file piece pieces h =
     ap (λ (l : List CaptureFile). next_part file piece ∷ l)
     (ap (λ (left : List ℕ). parts_from file left pieces) (grows file piece h).rest
-    ∙ sym (from-grown file piece (rest_of (grown file piece)) pieces))
+    ∙ sym (from-grown_file file piece (rest_of (grown_file file piece)) pieces))
 
 records-behind : (file : CaptureFile) (pieces : List (List ℕ)) → file.start ≤ length file.bytes
-    → records_of (grown file (concat pieces)) ≡ records_of file
+    → records_of (grown_file file (concat pieces)) ≡ records_of file
     ++ flat_map records_of (parts_from file (rest_of file) pieces)
 records-behind file [] h =
     ap (λ (l : List ℕ). records_of (record {
@@ -54,7 +55,7 @@ records-behind file [] h =
     })) (append-nil file.bytes)
     ∙ sym (append-nil (records_of file))
 records-behind file (piece ∷ pieces) h =
-    let longer = grown file piece in
+    let longer = grown_file file piece in
     ap records_of (sym (grown-twice file piece (concat pieces)))
     ∙ records-behind longer pieces (grown-long file piece h)
     ∙ ap (λ l. l ++ flat_map records_of (parts_from longer (rest_of longer) pieces)) (goes_on file piece h).records
@@ -64,7 +65,8 @@ records-behind file (piece ∷ pieces) h =
 
 rest-behind : (file : CaptureFile) (pieces : List (List ℕ)) (earlier : List CaptureFile) (last : CaptureFile)
     → file.start ≤ length file.bytes
-    → parts_from file (rest_of file) pieces ≡ earlier ++ last ∷ [] → rest_of (grown file (concat pieces)) ≡ rest_of last
+    → parts_from file (rest_of file) pieces ≡ earlier ++ last ∷ []
+    → rest_of (grown_file file (concat pieces)) ≡ rest_of last
 rest-behind file [] earlier last h is = absurd
     (let e = ap length is in omega (arith, e, length-append earlier (last ∷ [])))
 rest-behind file (piece ∷ []) [] last h is =
@@ -76,7 +78,7 @@ rest-behind file (piece ∷ []) [] last h is =
     ∙ (goes_on file piece h).rest ∙ ap rest_of same
 rest-behind file (piece ∷ other ∷ pieces) [] last h is = absurd (let e = ap length is in omega (arith, e))
 rest-behind file (piece ∷ pieces) (first ∷ earlier) last h is =
-    let longer = grown file piece in
+    let longer = grown_file file piece in
     let next : parts_from longer (rest_of longer) pieces ≡ earlier ++ last ∷ [] =
     (let e = sym (from-next file piece pieces h) ∙ is in cc) in
     ap rest_of (sym (grown-twice file piece (concat pieces)))
@@ -85,12 +87,12 @@ rest-behind file (piece ∷ pieces) (first ∷ earlier) last h is =
 damage-behind : (file : CaptureFile) (pieces : List (List ℕ)) (earlier later : List CaptureFile) (part : CaptureFile)
     (at : ℕ) → file.start ≤ length file.bytes
     → parts_from file (rest_of file) pieces ≡ earlier ++ part ∷ later → damage_of part ≡ Some at
-    → damage_of (grown file (concat pieces))
+    → damage_of (grown_file file (concat pieces))
     ≡ Some (rest_offset file + length (concat (flat_map parts_of earlier)) + at)
 damage-behind file [] earlier later part at h is damaged =
     absurd (let e = ap length is in omega (arith, e, length-append earlier (part ∷ later)))
 damage-behind file (piece ∷ pieces) [] later part at h is damaged =
-    let longer = grown file piece in
+    let longer = grown_file file piece in
     let same : next_part file piece ≡ part = cc in
     let there : damage_of longer ≡ Some (rest_offset file + at) =
     (goes_on file piece h).damage ∙ ap (option_map (λ (k : ℕ). rest_offset file + k)) (ap damage_of same ∙ damaged) in
@@ -99,7 +101,7 @@ damage-behind file (piece ∷ pieces) [] later part at h is damaged =
     ∙ damage_stays longer (concat pieces) (rest_offset file + at) (grown-long file piece h) there
     ∙ ap (λ (k : ℕ). Some k) place
 damage-behind file (piece ∷ pieces) (first ∷ earlier) later part at h is damaged =
-    let longer = grown file piece in
+    let longer = grown_file file piece in
     let split = sym (from-next file piece pieces h) ∙ is in
     let same : next_part file piece ≡ first = cc in
     let next : parts_from longer (rest_of longer) pieces ≡ earlier ++ part ∷ later = cc in
@@ -118,13 +120,13 @@ damage-behind file (piece ∷ pieces) (first ∷ earlier) later part at h is dam
 
 sound-behind : (file : CaptureFile) (pieces : List (List ℕ)) → file.start ≤ length file.bytes → damage_of file ≡ None
     → AllByRecursion (λ part. damage_of part ≡ None) (parts_from file (rest_of file) pieces)
-    → damage_of (grown file (concat pieces)) ≡ None
+    → damage_of (grown_file file (concat pieces)) ≡ None
 sound-behind file [] h sound all =
     ap (λ (l : List ℕ). damage_of
     (record { bytes = l; start = file.start; order = file.order; nanos = file.nanos; link = file.link }))
     (append-nil file.bytes) ∙ sound
 sound-behind file (piece ∷ pieces) h sound all =
-    let longer = grown file piece in
+    let longer = grown_file file piece in
     let each : AllByRecursion (λ part. damage_of part ≡ None)
     (next_part file piece ∷ parts_from longer (rest_of longer) pieces) =
     subst (AllByRecursion (λ part. damage_of part ≡ None)) (from-next file piece pieces h) all in
@@ -177,9 +179,9 @@ at_front file h =
     }
 
 -- the file is its front, grown
-is-grown : (file : CaptureFile) (pieces : List (List ℕ)) → drop file.start file.bytes ≡ concat pieces
-    → grown (front_of file) (concat pieces) ≡ file
-is-grown file pieces cut =
+is-grown_file : (file : CaptureFile) (pieces : List (List ℕ)) → drop file.start file.bytes ≡ concat pieces
+    → grown_file (front_of file) (concat pieces) ≡ file
+is-grown_file file pieces cut =
     ap (λ (l : List ℕ). let f : CaptureFile =
     record { bytes = l; start = file.start; order = file.order; nanos = file.nanos; link = file.link } in f)
     (ap (λ (l : List ℕ). take file.start file.bytes ++ l) (sym cut) ∙ take-append-drop file.start file.bytes)
@@ -188,15 +190,15 @@ is-grown file pieces cut =
 from-front : (file : CaptureFile) (parts : List CaptureFile) (is : IsReadIn file parts) → file.start ≤ length file.bytes
     → parts ≡ parts_from (front_of file) (rest_of (front_of file)) is.pieces
 from-front file parts is h =
-    is.come ∙ ap (λ (f : CaptureFile). parts_from f [] is.pieces) (sym (is-grown file is.pieces is.cut))
-    ∙ from-grown (front_of file) (concat is.pieces) [] is.pieces
+    is.come ∙ ap (λ (f : CaptureFile). parts_from f [] is.pieces) (sym (is-grown_file file is.pieces is.cut))
+    ∙ from-grown_file (front_of file) (concat is.pieces) [] is.pieces
     ∙ ap (λ (left : List ℕ). parts_from (front_of file) left is.pieces) (sym (at_front file h).rest)
 
 pub records_in_parts : (file : CaptureFile) (parts : List CaptureFile) → file.start ≤ length file.bytes
     → IsReadIn file parts
     → records_of file ≡ flat_map records_of parts
 records_in_parts file parts h is =
-    ap records_of (sym (is-grown file is.pieces is.cut))
+    ap records_of (sym (is-grown_file file is.pieces is.cut))
     ∙ records-behind (front_of file) is.pieces (at_front file h).long
     ∙ ap (λ (l : List (List ℕ)). map (packet_record file.order) l
     ++ flat_map records_of (parts_from (front_of file) (rest_of (front_of file)) is.pieces)) (at_front file h).parts
@@ -206,7 +208,7 @@ pub rest_in_parts : (file : CaptureFile) (parts earlier : List CaptureFile) (las
     → file.start ≤ length file.bytes
     → IsReadIn file parts → parts ≡ earlier ++ last ∷ [] → rest_of file ≡ rest_of last
 rest_in_parts file parts earlier last h is split =
-    ap rest_of (sym (is-grown file is.pieces is.cut))
+    ap rest_of (sym (is-grown_file file is.pieces is.cut))
     ∙ rest-behind (front_of file) is.pieces earlier last (at_front file h).long
     (sym (from-front file parts is h) ∙ split)
 
@@ -214,7 +216,7 @@ pub damage_in_parts : (file : CaptureFile) (parts earlier later : List CaptureFi
     → file.start ≤ length file.bytes → IsReadIn file parts → parts ≡ earlier ++ part ∷ later → damage_of part ≡ Some at
     → damage_of file ≡ Some (place_behind file earlier + at)
 damage_in_parts file parts earlier later part at h is split damaged =
-    ap damage_of (sym (is-grown file is.pieces is.cut))
+    ap damage_of (sym (is-grown_file file is.pieces is.cut))
     ∙ damage-behind (front_of file) is.pieces earlier later part at (at_front file h).long
     (sym (from-front file parts is h) ∙ split) damaged
     ∙ ap (λ (k : ℕ). Some (k + length (concat (flat_map parts_of earlier)) + at)) (at_front file h).offset
@@ -223,6 +225,6 @@ pub sound_in_parts : (file : CaptureFile) (parts : List CaptureFile) → file.st
     → IsReadIn file parts
     → AllByRecursion (λ part. damage_of part ≡ None) parts → damage_of file ≡ None
 sound_in_parts file parts h is all =
-    ap damage_of (sym (is-grown file is.pieces is.cut))
+    ap damage_of (sym (is-grown_file file is.pieces is.cut))
     ∙ sound-behind (front_of file) is.pieces (at_front file h).long (at_front file h).sound
     (subst (AllByRecursion (λ part. damage_of part ≡ None)) (from-front file parts is h) all)

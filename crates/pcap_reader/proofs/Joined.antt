@@ -11,7 +11,7 @@ use Rattle.octets.specs.declared.endianness.Endianness.{Endianness}
 use Rattle.pcap_reader.specs.File.{CaptureFile}
 use Rattle.pcap_reader.specs.Records.{claimed_len, most_captured, begins_with_record, begins_with_damage, parts_of}
 use Rattle.pcap_reader.specs.Records.{rest_of, rest_offset, tail_of, damage_of, packet_record, IsRecord, IsCutInto}
-use Rattle.pcap_reader.specs.Windows.{grown, part_with, GoesOn, BeginsWithMore}
+use Rattle.pcap_reader.specs.Windows.{grown_file, part_with, GoesOn, BeginsWithMore}
 use Rattle.pcap_reader.proofs.Cutting.{file_is_cut, file_is_cut_once, claimed_len-append, ends_at}
 use Rattle.pcap_reader.proofs.Parts.{record_parts-record, record_parts-rest}
 use Rattle.pcap_reader.proofs.Search.{damage-no_record}
@@ -26,9 +26,9 @@ abbrev pub next_part : CaptureFile → List ℕ → CaptureFile
 next_part file more = part_with file (rest_of file ++ more)
 
 -- the file with more bytes is cut into its records, then those of the next part, and that part's rest
-cut-grown : (file : CaptureFile) (more : List ℕ) → file.start ≤ length file.bytes
-    → IsCutInto (grown file more) (parts_of file ++ parts_of (next_part file more)) (rest_of (next_part file more))
-cut-grown file more h =
+cut-grown_file : (file : CaptureFile) (more : List ℕ) → file.start ≤ length file.bytes
+    → IsCutInto (grown_file file more) (parts_of file ++ parts_of (next_part file more)) (rest_of (next_part file more))
+cut-grown_file file more h =
     let part = next_part file more in
     let one = file_is_cut file h in
     let two = file_is_cut part (omega arith) in
@@ -50,17 +50,17 @@ cut-grown file more h =
     }
 
 pub record Grows (file : CaptureFile) (more : List ℕ) : Type 0 where
-  pub parts : parts_of file ++ parts_of (next_part file more) ≡ parts_of (grown file more)
-  pub rest : rest_of (next_part file more) ≡ rest_of (grown file more)
-  pub offset : rest_offset (grown file more) ≡ rest_offset file + rest_offset (next_part file more)
+  pub parts : parts_of file ++ parts_of (next_part file more) ≡ parts_of (grown_file file more)
+  pub rest : rest_of (next_part file more) ≡ rest_of (grown_file file more)
+  pub offset : rest_offset (grown_file file more) ≡ rest_offset file + rest_offset (next_part file more)
 
 pub grows : (file : CaptureFile) (more : List ℕ) → file.start ≤ length file.bytes → Grows file more
 grows file more h =
     let part = next_part file more in
     let long : file.start ≤ length (file.bytes ++ more) = omega (arith, h, length-append file.bytes more) in
-    let same = (file_is_cut_once (grown file more) long).only (parts_of file ++ parts_of part) (rest_of part)
-    (cut-grown file more h) in
-    let lengths : length (concat (parts_of (grown file more)))
+    let same = (file_is_cut_once (grown_file file more) long).only (parts_of file ++ parts_of part) (rest_of part)
+    (cut-grown_file file more h) in
+    let lengths : length (concat (parts_of (grown_file file more)))
     ≡ length (concat (parts_of file)) + length (concat (parts_of part)) =
     ap (λ (ps : List (List ℕ)). length (concat ps)) (sym same.0)
     ∙ ap length (concat-append (parts_of file) (parts_of part))
@@ -103,7 +103,7 @@ damage-there file at h =
 
 pub damage_stays : (file : CaptureFile) (more : List ℕ) (at : ℕ) → file.start ≤ length file.bytes
     → damage_of file ≡ Some at
-    → damage_of (grown file more) ≡ Some at
+    → damage_of (grown_file file more) ≡ Some at
 damage_stays file more at h damaged =
     let there = damage-there file at damaged in
     let part = next_part file more in
@@ -114,8 +114,8 @@ damage_stays file more at h damaged =
     let g = grows file more h in
     let nothing : length (concat (parts_of part)) ≡ 0 = ap (λ (ps : List (List ℕ)). length (concat ps)) none in
     let begin : rest_offset part ≡ 0 = omega (arith, nothing) in
-    let here : rest_offset (grown file more) ≡ at = omega (arith, g.offset, nothing, there.1) in
-    let left : rest_of (grown file more) ≡ rest_of file ++ more =
+    let here : rest_offset (grown_file file more) ≡ at = omega (arith, g.offset, nothing, there.1) in
+    let left : rest_of (grown_file file more) ≡ rest_of file ++ more =
     sym g.rest ∙ ap (λ (k : ℕ). drop k (rest_of file ++ more)) begin in
     rw (left, d, here) refl
 

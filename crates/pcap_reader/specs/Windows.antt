@@ -6,8 +6,8 @@ use Rattle.pcap_reader.specs.File.{CaptureFile, capture_file}
 use Rattle.pcap_reader.specs.Records.{parts_of, rest_offset, rest_of, records_of, damage_of}
 
 -- The file with more bytes behind it.
-abbrev pub grown : CaptureFile → List ℕ → CaptureFile
-grown file more =
+abbrev pub grown_file : CaptureFile → List ℕ → CaptureFile
+grown_file file more =
     record { bytes = file.bytes ++ more; start = file.start; order = file.order; nanos = file.nanos; link = file.link }
 
 -- A part of the file: bytes that are read as the file is, and whose records begin at their first byte.
@@ -23,9 +23,10 @@ parts_from file left (piece ∷ pieces) =
 -- What more bytes bring. The records behind those of the file are those of the part that begins with its rest; the rest
 -- is that part's; and so is the damage, its place counted from where that part begins.
 pub record GoesOn (file : CaptureFile) (more : List ℕ) : Type 0 where
-  pub records : records_of (grown file more) ≡ records_of file ++ records_of (part_with file (rest_of file ++ more))
-  pub rest : rest_of (grown file more) ≡ rest_of (part_with file (rest_of file ++ more))
-  pub damage : damage_of (grown file more)
+  pub records : records_of (grown_file file more) ≡ records_of file
+      ++ records_of (part_with file (rest_of file ++ more))
+  pub rest : rest_of (grown_file file more) ≡ rest_of (part_with file (rest_of file ++ more))
+  pub damage : damage_of (grown_file file more)
       ≡ option_map (λ at. rest_offset file + at) (damage_of (part_with file (rest_of file ++ more)))
 
 -- The file is read in these parts: its bytes behind the file header are cut into pieces, anywhere, and the parts come
@@ -51,7 +52,7 @@ front_of file =
 pub record GrowsFromFront (file : CaptureFile) : Type 0 where
   pub is_file : capture_file (front_of file).bytes ≡ Some (front_of file)
   pub long : file.start ≤ length (front_of file).bytes
-  pub whole : grown (front_of file) (drop file.start file.bytes) ≡ file
+  pub whole : grown_file (front_of file) (drop file.start file.bytes) ≡ file
   pub none : records_of (front_of file) ≡ []
   pub rest : rest_of (front_of file) ≡ []
   pub sound : damage_of (front_of file) ≡ None

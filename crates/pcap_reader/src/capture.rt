@@ -88,7 +88,7 @@ impl<'a> Capture<'a> {
         ensures undamaged { OnOk result (damage_of (file_of self.now) ≡ None) }
         ensures damaged { (at : ℕ) → result ≡ Err (IndexError.Damaged at) → damage_of (file_of self.now) ≡ Some at }
     {
-        let mut offsets = index.cleared();
+        let mut offsets = index.into_offsets();
         let mut at = self.start;
         'records: loop {
             match front_at(self.head.order, self.bytes, at) {

@@ -50,7 +50,7 @@ impl RecordIndex {
     }
 
     /// The memory of the offsets, without any.
-    pub(crate) fn cleared(self) -> Vec<u32>
+    pub(crate) fn into_offsets(self) -> Vec<u32>
         ensures { result.items ≡ [] }
     {
         let mut offsets = self.offsets;

@@ -5,7 +5,7 @@ ghost use Rattle.std.specs.List.{AllByRecursion};
 ghost use Rattle.std.specs.Option.{option_map};
 ghost use Rattle.pcap_reader.specs.File.{CaptureFile, capture_file, file_header_len};
 ghost use Rattle.pcap_reader.specs.Records.{most_captured, records_of, rest_of, rest_offset, tail_of, damage_of};
-ghost use Rattle.pcap_reader.specs.Windows.{grown, part_with, place_behind, IsReadIn, GoesOn, GrowsFromFront};
+ghost use Rattle.pcap_reader.specs.Windows.{grown_file, part_with, place_behind, IsReadIn, GoesOn, GrowsFromFront};
 ghost use Rattle.pcap_reader.specs.Windows.{BeginsWithMore};
 
 /// The law of parts. The records of a file are those of its parts in order, where each part but the first begins with
@@ -31,9 +31,9 @@ pub fn parts_law()
     ensures next { (file : CaptureFile) (more : List ℕ) → file.start ≤ length file.bytes → GoesOn file more }
     ensures stays { (file : CaptureFile) (more : List ℕ) (at : ℕ) → file.start ≤ length file.bytes
         → damage_of file ≡ Some at
-        → damage_of (grown file more) ≡ Some at }
+        → damage_of (grown_file file more) ≡ Some at }
     ensures header { (bytes more : List ℕ) → file_header_len ≤ length bytes
-        → capture_file (bytes ++ more) ≡ option_map (λ file. grown file more) (capture_file bytes) }
+        → capture_file (bytes ++ more) ≡ option_map (λ file. grown_file file more) (capture_file bytes) }
 
     ensures front { (bytes : List ℕ) (file : CaptureFile) → capture_file bytes ≡ Some file → GrowsFromFront file }
 

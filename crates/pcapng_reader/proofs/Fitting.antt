@@ -14,7 +14,7 @@ use Rattle.octets.specs.declared.endianness.Endianness.TheVariants.{Little, Big}
 use Rattle.octets.specs.Numbers.{number, AreOctets}
 use Rattle.pcapng_reader.specs.declared.time.Stamp.{Stamp}
 use Rattle.pcapng_reader.specs.declared.index.Place.{Place}
-use Rattle.pcapng_reader.specs.Records.{fitting, moved, told_time, captured_len}
+use Rattle.pcapng_reader.specs.Records.{fitting_stamp, moved_stamp, told_time, captured_len}
 use Rattle.pcapng_reader.specs.Index.{IsPlaceIn, record_at, records_at}
 use Rattle.pcapng_reader.specs.Filtered.{LinkedFits}
 
@@ -33,22 +33,22 @@ record StampFits (stamp : Stamp) : Type 0 where
   pub seconds : stamp.seconds < 2 ^ 32
   pub fraction : stamp.fraction < 2 ^ 32
 
-fitting-fits : (seconds fraction : ℕ) → fraction < 2 ^ 32 → StampFits (fitting seconds fraction)
-fitting-fits seconds fraction small =
+fitting_stamp-fits : (seconds fraction : ℕ) → fraction < 2 ^ 32 → StampFits (fitting_stamp seconds fraction)
+fitting_stamp-fits seconds fraction small =
     elim (cases_Bool (nat_lt seconds (2 ^ 32))) [
       | inl low ↦ let is : seconds < 2 ^ 32 = grind (arith, nat_tests) in
           rw low (record { seconds = is; fraction = small })
       | inr high ↦ rw high (record { seconds = omega arith; fraction = omega arith })
     ]
 
-moved-fits : (seconds offset fraction : ℕ) → fraction < 2 ^ 32 → StampFits (moved seconds offset fraction)
-moved-fits seconds offset fraction small =
+moved_stamp-fits : (seconds offset fraction : ℕ) → fraction < 2 ^ 32 → StampFits (moved_stamp seconds offset fraction)
+moved_stamp-fits seconds offset fraction small =
     elim (cases_Bool (nat_lt offset (2 ^ 63))) [
-      | inl ahead ↦ rw ahead (fitting-fits (seconds + offset) fraction small)
+      | inl ahead ↦ rw ahead (fitting_stamp-fits (seconds + offset) fraction small)
       | inr behind ↦
           elim (cases_Bool (nat_lt (seconds + offset) (2 ^ 64))) [
             | inl early ↦ rw (behind, early) (record { seconds = omega arith; fraction = omega arith })
-            | inr later ↦ rw (behind, later) (fitting-fits (seconds + offset - 2 ^ 64) fraction small)
+            | inr later ↦ rw (behind, later) (fitting_stamp-fits (seconds + offset - 2 ^ 64) fraction small)
           ]
     ]
 
@@ -64,7 +64,7 @@ place-fits bytes (Place.Enhanced from to order interface) each at =
     let octets = take-octets (to - from) (drop from bytes) (drop-octets from bytes each) in
     let units = at.units in
     let rest : told_time order part % interface.units < interface.units = omega arith in
-    let stamp = moved-fits (told_time order part / interface.units) interface.offset _
+    let stamp = moved_stamp-fits (told_time order part / interface.units) interface.offset _
     (fraction-fits (told_time order part % interface.units) interface.units rest) in
     record {
       seconds = stamp.seconds;

@@ -43,10 +43,10 @@ capture-begun records n = ap capture_of (sym (take-append-drop n records))
     ∙ capture-together (take n records) (drop n records)
 
 -- some octets more, with what is gathered and not written yet
-pub gathered-more : (done piece old new next : List ℕ) (before more : List ℕ) → done ++ old ≡ before
+pub contents_of_roots-more : (done piece old new next : List ℕ) (before more : List ℕ) → done ++ old ≡ before
     → next ≡ old ++ more
     → piece ++ new ≡ next → (done ++ piece) ++ new ≡ before ++ more
-gathered-more done piece old new next before more first second third =
+contents_of_roots-more done piece old new next before more first second third =
     append_assoc done piece new ∙ ap (λ (rest : List ℕ). done ++ rest) (third ∙ second)
     ∙ sym (append_assoc done old more)
     ∙ ap (λ (rest : List ℕ). rest ++ more) first

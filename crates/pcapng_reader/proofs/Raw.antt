@@ -21,7 +21,7 @@ use Rattle.packet_accept.specs.declared.packet.Packet.{Packet}
 use Rattle.packet_accept.specs.declared.ignored.Ignored.{Ignored}
 use Rattle.packet_accept.specs.Cause.{or_cause}
 use Rattle.packet_accept.specs.Key.{Headers, key_of}
-use Rattle.packet_accept.specs.Acceptance.{time_of, transport_part, headers_of, accepted}
+use Rattle.packet_accept.specs.Acceptance.{time_of, transport_part, headers_of, accepted_packet}
 use Rattle.pcapng_reader.specs.Records.{LinkedRecord}
 use Rattle.pcapng_reader.specs.Filtered.{raw_record, raw_if, raw_of, Fits}
 use Rattle.std.proofs.lemmas.List.{length-drop}
@@ -57,19 +57,19 @@ packet_with n parts = record {
   flags = parts.headers.transport.flags;
 }
 
-parts-of : (link : ℕ) (rec : PacketRecord) (n : ℕ) (packet : Packet) → accepted link true rec n ≡ Ok packet
+parts-of : (link : ℕ) (rec : PacketRecord) (n : ℕ) (packet : Packet) → accepted_packet link true rec n ≡ Ok packet
     → Parts link rec
-unfolding accepted
+unfolding accepted_packet
 parts-of link rec n packet h =
     let one = bind-ok (time_of true rec.seconds rec.fraction) _ packet h in
     let two = bind-ok (headers_of link rec) _ packet one.2 in
     let three = bind-ok (key_of two.0) _ packet two.2 in
     record { time = one.0; is_time = one.1; headers = two.0; is_headers = two.1; key = three.0; is_key = three.1 }
 
-accepted-with : (link : ℕ) (rec : PacketRecord) (n : ℕ) (parts : Parts link rec)
-    → accepted link true rec n ≡ Ok (packet_with n parts)
-unfolding accepted
-accepted-with link rec n parts = rw (parts.is_time, parts.is_headers, parts.is_key) refl
+accepted_packet-with : (link : ℕ) (rec : PacketRecord) (n : ℕ) (parts : Parts link rec)
+    → accepted_packet link true rec n ≡ Ok (packet_with n parts)
+unfolding accepted_packet
+accepted_packet-with link rec n parts = rw (parts.is_time, parts.is_headers, parts.is_key) refl
 
 -- what headers are made of
 record Layers (link : ℕ) (rec : PacketRecord) (headers : Headers) : Type 0 where
@@ -164,13 +164,13 @@ raw_headers link rec headers layers =
 pub record IsRawOf (linked : LinkedRecord) (n : ℕ) (packet : Packet) : Type 0 where
   pub raw : PacketRecord
   pub is_raw : raw_of linked ≡ Some raw
-  pub gives : accepted 101 true raw n ≡ Ok packet
+  pub gives : accepted_packet 101 true raw n ≡ Ok packet
   pub fits : Fits linked.rec → Fits raw
 
-pub raw-accepted : (linked : LinkedRecord) (n : ℕ) (packet : Packet)
-    → accepted linked.link true linked.rec n ≡ Ok packet
+pub raw-accepted_packet : (linked : LinkedRecord) (n : ℕ) (packet : Packet)
+    → accepted_packet linked.link true linked.rec n ≡ Ok packet
     → IsRawOf linked n packet
-raw-accepted linked n packet h =
+raw-accepted_packet linked n packet h =
     let parts = parts-of linked.link linked.rec n packet h in
     let layers = layers-of linked.link linked.rec parts.headers parts.is_headers in
     let raw = raw_record linked.rec layers.frame in
@@ -182,12 +182,12 @@ raw-accepted linked n packet h =
       key = parts.key;
       is_key = parts.is_key;
     } in
-    let first = accepted-with linked.link linked.rec 0 parts in
+    let first = accepted_packet-with linked.link linked.rec 0 parts in
     record {
       raw = raw;
       is_raw = ap (λ (r : Result Packet Ignored). raw_if r linked) first
           ∙ ap (λ (r : Result LinkPart HeaderFault). option_map (raw_record linked.rec) (result_ok r)) layers.is_frame;
-      gives = accepted-with 101 raw n others ∙ sym (accepted-with linked.link linked.rec n parts) ∙ h;
+      gives = accepted_packet-with 101 raw n others ∙ sym (accepted_packet-with linked.link linked.rec n parts) ∙ h;
       fits = λ f. record {
         seconds = f.seconds;
         fraction = f.fraction;
@@ -196,13 +196,14 @@ raw-accepted linked n packet h =
       };
     }
 
-pub raw-ignored : (linked : LinkedRecord) (n : ℕ) (cause : Ignored) → accepted linked.link true linked.rec n ≡ Err cause
+pub raw-ignored : (linked : LinkedRecord) (n : ℕ) (cause : Ignored) → accepted_packet linked.link true linked.rec n
+    ≡ Err cause
     → raw_of linked ≡ None
 raw-ignored linked n cause h =
-    elim (result-cases (accepted linked.link true linked.rec 0)) [
+    elim (result-cases (accepted_packet linked.link true linked.rec 0)) [
       | inl found ↦
           let parts = parts-of linked.link linked.rec 0 found.0 found.1 in
-          let other = accepted-with linked.link linked.rec n parts in
+          let other = accepted_packet-with linked.link linked.rec n parts in
           absurd (cc)
       | inr found ↦ ap (λ (r : Result Packet Ignored). raw_if r linked) found.1
     ]

@@ -13,69 +13,73 @@ use Rattle.pcap_reader.specs.Records.{PacketRecord, packet_record, claimed_len, 
 use Rattle.pcap_reader.specs.Records.{parts_of, rest_of, records_of, damage_of, IsRecord, IsCutInto}
 use Rattle.pcap_reader.proofs.Cutting.{file_is_cut_once}
 use Rattle.packet_accept.specs.declared.packet.Packet.{Packet}
-use Rattle.packet_accept.specs.Acceptance.{accepted}
+use Rattle.packet_accept.specs.Acceptance.{accepted_packet}
 use Rattle.packet_accept.specs.Packets.{answer_to, packets_in, packets_of}
 use Rattle.pcapng_reader.specs.Records.{LinkedRecord}
-use Rattle.pcapng_reader.specs.Filtered.{packets_from, raw_records, four, record_octets, file_header, octets_of_record}
+use Rattle.pcapng_reader.specs.Filtered.{packets_from, raw_records, four_octets, record_octets, file_header}
+use Rattle.pcapng_reader.specs.Filtered.{octets_of_record}
 use Rattle.pcapng_reader.specs.Filtered.{capture_of, Fits, LinkedFits}
-use Rattle.pcapng_reader.proofs.Raw.{result-cases, raw-accepted, raw-ignored}
+use Rattle.pcapng_reader.proofs.Raw.{result-cases, raw-accepted_packet, raw-ignored}
 
-four-reads : (n : ℕ) (rest : List ℕ) → n < 2 ^ 32 → number Little 4 (four n ++ rest) ≡ n
+four_octets-reads : (n : ℕ) (rest : List ℕ) → n < 2 ^ 32 → number Little 4 (four_octets n ++ rest) ≡ n
 unfolding number ordered_octets
-four-reads n rest h = little_number-reads_back 4 n rest h
+four_octets-reads n rest h = little_number-reads_back 4 n rest h
 
-four-length : (n : ℕ) → length (four n) ≡ 4
+four_octets-length : (n : ℕ) → length (four_octets n) ≡ 4
 unfolding ordered_octets
-four-length n = length-bytes_low_first 0 4 n
+four_octets-length n = length-bytes_low_first 0 4 n
 
-four-behind : (n : ℕ) (rest : List ℕ) → drop 4 (four n ++ rest) ≡ rest
-four-behind n rest = drop_at (four n) rest 4 (four-length n)
+four_octets-behind : (n : ℕ) (rest : List ℕ) → drop 4 (four_octets n ++ rest) ≡ rest
+four_octets-behind n rest = drop_at (four_octets n) rest 4 (four_octets-length n)
 
 -- where the fields of a record stand
 record Fields (rec : PacketRecord) : Type 0 where
-  pub second : drop 4 (record_octets rec) ≡ four rec.fraction
-      ++ (four (length rec.captured) ++ (four rec.original ++ rec.captured))
-  pub third : drop 8 (record_octets rec) ≡ four (length rec.captured) ++ (four rec.original ++ rec.captured)
-  pub fourth : drop 12 (record_octets rec) ≡ four rec.original ++ rec.captured
+  pub second : drop 4 (record_octets rec) ≡ four_octets rec.fraction
+      ++ (four_octets (length rec.captured) ++ (four_octets rec.original ++ rec.captured))
+  pub third : drop 8 (record_octets rec) ≡ four_octets (length rec.captured)
+      ++ (four_octets rec.original ++ rec.captured)
+  pub fourth : drop 12 (record_octets rec) ≡ four_octets rec.original ++ rec.captured
   pub behind : drop 16 (record_octets rec) ≡ rec.captured
 
 fields-of : (rec : PacketRecord) → Fields rec
 fields-of rec =
     let part = record_octets rec in
     let one =
-    four-behind rec.seconds (four rec.fraction
-    ++ (four (length rec.captured) ++ (four rec.original ++ rec.captured))) in
+    four_octets-behind rec.seconds (four_octets rec.fraction
+    ++ (four_octets (length rec.captured) ++ (four_octets rec.original ++ rec.captured))) in
     let two = sym (drop-drop 4 4 part) ∙ ap (drop 4) one
-    ∙ four-behind rec.fraction (four (length rec.captured) ++ (four rec.original ++ rec.captured)) in
+    ∙ four_octets-behind rec.fraction (four_octets (length rec.captured)
+    ++ (four_octets rec.original ++ rec.captured)) in
     let three = sym (drop-drop 4 8 part) ∙ ap (drop 4) two
-    ∙ four-behind (length rec.captured) (four rec.original ++ rec.captured) in
-    let last = sym (drop-drop 4 12 part) ∙ ap (drop 4) three ∙ four-behind rec.original rec.captured in
+    ∙ four_octets-behind (length rec.captured) (four_octets rec.original ++ rec.captured) in
+    let last = sym (drop-drop 4 12 part) ∙ ap (drop 4) three ∙ four_octets-behind rec.original rec.captured in
     record { second = one; third = two; fourth = three; behind = last }
 
 claim-reads : (rec : PacketRecord) → Fits rec → claimed_len Little (record_octets rec) ≡ length rec.captured
 claim-reads rec fits = ap (number Little 4) (fields-of rec).third
-    ∙ four-reads (length rec.captured) _ (omega (arith, fits.captured))
+    ∙ four_octets-reads (length rec.captured) _ (omega (arith, fits.captured))
 
 octets-length : (rec : PacketRecord) → length (record_octets rec) ≡ 16 + length rec.captured
 octets-length rec = omega (
   arith,
-  four-length rec.seconds,
-  four-length rec.fraction,
-  four-length (length rec.captured),
-  four-length rec.original,
-  length-append (four rec.seconds) (four rec.fraction
-      ++ (four (length rec.captured) ++ (four rec.original ++ rec.captured))),
-  length-append (four rec.fraction) (four (length rec.captured) ++ (four rec.original ++ rec.captured)),
-  length-append (four (length rec.captured)) (four rec.original ++ rec.captured),
-  length-append (four rec.original) rec.captured,
+  four_octets-length rec.seconds,
+  four_octets-length rec.fraction,
+  four_octets-length (length rec.captured),
+  four_octets-length rec.original,
+  length-append (four_octets rec.seconds) (four_octets rec.fraction
+      ++ (four_octets (length rec.captured) ++ (four_octets rec.original ++ rec.captured))),
+  length-append (four_octets rec.fraction) (four_octets (length rec.captured)
+      ++ (four_octets rec.original ++ rec.captured)),
+  length-append (four_octets (length rec.captured)) (four_octets rec.original ++ rec.captured),
+  length-append (four_octets rec.original) rec.captured,
 )
 
 record-reads : (rec : PacketRecord) → Fits rec → packet_record Little (record_octets rec) ≡ rec
 record-reads rec fits =
     let fields = fields-of rec in
-    let seconds : number Little 4 (record_octets rec) ≡ rec.seconds = four-reads rec.seconds _ fits.seconds in
-    let fraction = ap (number Little 4) fields.second ∙ four-reads rec.fraction _ fits.fraction in
-    let original = ap (number Little 4) fields.fourth ∙ four-reads rec.original _ fits.original in
+    let seconds : number Little 4 (record_octets rec) ≡ rec.seconds = four_octets-reads rec.seconds _ fits.seconds in
+    let fraction = ap (number Little 4) fields.second ∙ four_octets-reads rec.fraction _ fits.fraction in
+    let original = ap (number Little 4) fields.fourth ∙ four_octets-reads rec.original _ fits.original in
     rw (seconds, fraction, original, fields.behind) refl
 
 is-record : (rec : PacketRecord) → Fits rec → IsRecord Little (record_octets rec)
@@ -102,9 +106,9 @@ records-read (raw ∷ raws) fits = rw (record-reads raw fits.0, records-read raw
 raws-fit : (records : List LinkedRecord) → AllByRecursion LinkedFits records → AllByRecursion Fits (raw_records records)
 raws-fit [] fits = tt
 raws-fit (linked ∷ records) fits =
-    elim (result-cases (accepted linked.link true linked.rec 0)) [
+    elim (result-cases (accepted_packet linked.link true linked.rec 0)) [
       | inl found ↦
-          let one = raw-accepted linked 0 found.0 found.1 in
+          let one = raw-accepted_packet linked 0 found.0 found.1 in
           subst (λ (o : Option PacketRecord). AllByRecursion Fits (cons_option o (raw_records records)))
           (sym one.is_raw)
           (one.fits fits.0, raws-fit records fits.1)
@@ -118,9 +122,9 @@ written-raws : (records : List LinkedRecord)
     → concat (map octets_of_record records) ≡ concat (map record_octets (raw_records records))
 written-raws [] = refl
 written-raws (linked ∷ records) =
-    elim (result-cases (accepted linked.link true linked.rec 0)) [
+    elim (result-cases (accepted_packet linked.link true linked.rec 0)) [
       | inl found ↦
-          let one = raw-accepted linked 0 found.0 found.1 in
+          let one = raw-accepted_packet linked 0 found.0 found.1 in
           rw one.is_raw (ap (λ (rest : List ℕ). record_octets one.raw ++ rest) (written-raws records))
       | inr found ↦ rw (raw-ignored linked 0 found.0 found.1) (written-raws records)
     ]
@@ -189,9 +193,9 @@ packets-same : (file : CaptureFile) (n : ℕ) (records : List LinkedRecord) → 
     → packets_in (map (answer_to file) (enumerate_from n (raw_records records))) ≡ packets_from n records
 packets-same file n [] link nanos = refl
 packets-same file n (linked ∷ records) link nanos =
-    elim (result-cases (accepted linked.link true linked.rec n)) [
+    elim (result-cases (accepted_packet linked.link true linked.rec n)) [
       | inl found ↦
-          let one = raw-accepted linked n found.0 found.1 in
+          let one = raw-accepted_packet linked n found.0 found.1 in
           rw (one.is_raw, link, nanos, one.gives, found.1, packets_from)
           (ap (λ (rest : List Packet). found.0 ∷ rest) (packets-same file (n + 1) records link nanos))
       | inr found ↦ rw (raw-ignored linked n found.0 found.1, found.1, packets_from)

@@ -9,7 +9,7 @@ use Rattle.pcap_reader.specs.Records.{PacketRecord, most_captured}
 use Rattle.packet_headers.specs.Link.{LinkPart, link_part}
 use Rattle.packet_accept.specs.declared.packet.Packet.{Packet}
 use Rattle.packet_accept.specs.declared.ignored.Ignored.{Ignored}
-use Rattle.packet_accept.specs.Acceptance.{accepted}
+use Rattle.packet_accept.specs.Acceptance.{accepted_packet}
 use Rattle.pcapng_reader.specs.Records.{LinkedRecord}
 
 -- The packets among records: those that are accepted, with these numbers: the first `number`, the next one more, and so
@@ -17,7 +17,7 @@ use Rattle.pcapng_reader.specs.Records.{LinkedRecord}
 abbrev pub packets_from : ℕ → List LinkedRecord → List Packet
 packets_from number [] = []
 packets_from number (linked ∷ records) =
-    elim (accepted linked.link true linked.rec number) [
+    elim (accepted_packet linked.link true linked.rec number) [
       | Ok packet ↦ packet ∷ packets_from (number + 1) records
       | Err cause ↦ packets_from number records
     ]
@@ -38,21 +38,22 @@ raw_if (Ok packet) linked = option_map (raw_record linked.rec) (result_ok (link_
 raw_if (Err cause) linked = None
 
 abbrev pub raw_of : LinkedRecord → Option PacketRecord
-raw_of linked = raw_if (accepted linked.link true linked.rec 0) linked
+raw_of linked = raw_if (accepted_packet linked.link true linked.rec 0) linked
 
 -- The accepted records, as such of raw IP.
 abbrev pub raw_records : List LinkedRecord → List PacketRecord
 raw_records records = filter_map raw_of records
 
 -- A number of four octets, the least significant first.
-abbrev pub four : ℕ → List ℕ
-four number = ordered_octets Little 4 number
+abbrev pub four_octets : ℕ → List ℕ
+four_octets number = ordered_octets Little 4 number
 
 -- A record of a classic capture (draft-ietf-opsawg-pcap, section 5): seconds, fraction, captured and original length,
 -- and the captured octets.
 abbrev pub record_octets : PacketRecord → List ℕ
 record_octets rec =
-    four rec.seconds ++ (four rec.fraction ++ (four (length rec.captured) ++ (four rec.original ++ rec.captured)))
+    four_octets rec.seconds
+    ++ (four_octets rec.fraction ++ (four_octets (length rec.captured) ++ (four_octets rec.original ++ rec.captured)))
 
 -- The header of a classic capture (draft-ietf-opsawg-pcap, section 4): least significant octet first and nanoseconds,
 -- version 2.4, at most 262,144 captured octets a record, and raw IP, 101.

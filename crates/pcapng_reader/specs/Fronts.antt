@@ -3,7 +3,7 @@ use Rattle.std.specs.Prelude.{ℕ, ◌+◌, ◌≤◌, List, length, ⊤}
 use Rattle.pcapng_reader.specs.declared.front.Front.{Front}
 use Rattle.pcapng_reader.specs.declared.options.NextOption.{NextOption}
 use Rattle.pcapng_reader.specs.declared.options.NextOption.TheVariants as Next
-use Rattle.pcapng_reader.specs.Options.{padded}
+use Rattle.pcapng_reader.specs.Options.{padded_length}
 
 -- a block has at least 12 octets
 pub record IsLenOf (bytes : List ℕ) (len : ℕ) : Type 0 where
@@ -17,6 +17,6 @@ IsFrontOf bytes Front.Malformed = ⊤
 
 -- the value of an option, padded, ends within the octets
 abbrev pub IsNextOf : List ℕ → NextOption → Type 0
-IsNextOf octets (Next.Coded code len) = 4 + padded len ≤ length octets
+IsNextOf octets (Next.Coded code len) = 4 + padded_length len ≤ length octets
 IsNextOf octets Next.Last = ⊤
 IsNextOf octets Next.Beyond = ⊤

@@ -12,8 +12,8 @@ pub record CodedValue : Type 0 where
   pub value : List ℕ
 
 -- So many octets, padded to a multiple of four.
-abbrev pub padded : ℕ → ℕ
-padded len = (len + 3) / 4 * 4
+abbrev pub padded_length : ℕ → ℕ
+padded_length len = (len + 3) / 4 * 4
 
 -- What some octets begin with: an option of this code, with a value of so many octets, which is padded; an option that
 -- goes beyond the last of them; or no option, behind the last one. Code 0 ends the options, and so do fewer than four
@@ -24,7 +24,7 @@ next_option order octets =
     let len = ordered_number_at order 2 2 octets in
     if nat_lt (length octets) 4 then Next.Last
     else if code == 0 then Next.Last
-    else if nat_lt (length octets) (4 + padded len) then Next.Beyond
+    else if nat_lt (length octets) (4 + padded_length len) then Next.Beyond
     else Next.Coded code len
 
 -- The options, one behind the other, of which the first begins behind the first `skip` octets. One that goes beyond the
@@ -38,7 +38,7 @@ options_from order zero (octet ∷ octets) =
       | Next.Beyond ↦ None ∷ []
       | Next.Coded code len ↦
           Some (record { code = code; value = take len (drop 4 (octet ∷ octets)) })
-          ∷ options_from order (3 + padded len) octets
+          ∷ options_from order (3 + padded_length len) octets
     ]
 
 -- The options in these octets.

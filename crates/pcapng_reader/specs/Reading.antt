@@ -8,7 +8,7 @@ use Rattle.pcap_reader.specs.Records.{most_captured}
 use Rattle.pcapng_reader.specs.declared.interface.Interface.{Interface}
 use Rattle.pcapng_reader.specs.declared.content.Content.{Content}
 use Rattle.pcapng_reader.specs.Blocks.{Block, pieces_of}
-use Rattle.pcapng_reader.specs.Options.{padded}
+use Rattle.pcapng_reader.specs.Options.{padded_length}
 use Rattle.pcapng_reader.specs.Interfaces.{interface_told}
 use Rattle.pcapng_reader.specs.Records.{LinkedRecord, enhanced_record, simple_record, captured_len}
 
@@ -22,7 +22,7 @@ section_content order part =
 unfoldable pub enhanced_content : List Interface → Endianness → List ℕ → Option Content
 enhanced_content interfaces order part =
     if nat_le 32 (length part) && (nat_le (captured_len order part) most_captured
-    && nat_le (28 + padded (captured_len order part) + 4) (length part))
+    && nat_le (28 + padded_length (captured_len order part) + 4) (length part))
     then option_map Content.Enhanced (slice_get interfaces (ordered_number_at order 8 4 part))
     else None
 

@@ -16,23 +16,23 @@ abbrev pub no_time : Stamp
 no_time = record { seconds = 0; fraction = 4294967295 }
 
 -- Seconds and a fraction in nanoseconds, where the seconds fit 32 bits.
-abbrev pub fitting : ℕ → ℕ → Stamp
-fitting seconds fraction =
+abbrev pub fitting_stamp : ℕ → ℕ → Stamp
+fitting_stamp seconds fraction =
     if nat_lt seconds (2 ^ 32) then record { seconds = seconds; fraction = fraction } else no_time
 
 -- The same with an offset in seconds, which is a signed number in two's complement: from 2^63 on it is the number less
 -- 2^64, and a time before 1970 is none.
-abbrev pub moved : ℕ → ℕ → ℕ → Stamp
-moved seconds offset fraction =
-    if nat_lt offset (2 ^ 63) then fitting (seconds + offset) fraction
+abbrev pub moved_stamp : ℕ → ℕ → ℕ → Stamp
+moved_stamp seconds offset fraction =
+    if nat_lt offset (2 ^ 63) then fitting_stamp (seconds + offset) fraction
     else if nat_lt (seconds + offset) (2 ^ 64) then no_time
-    else fitting (seconds + offset - 2 ^ 64) fraction
+    else fitting_stamp (seconds + offset - 2 ^ 64) fraction
 
 -- A time of so many units since 1970, by its interface: whole seconds, moved by the offset, and the rest in
 -- nanoseconds, rounded down.
 abbrev pub stamp_of : Interface → ℕ → Stamp
 stamp_of interface time =
-    moved (time / interface.units) interface.offset (time % interface.units * 1000000000 / interface.units)
+    moved_stamp (time / interface.units) interface.offset (time % interface.units * 1000000000 / interface.units)
 
 -- The time of an enhanced packet: the upper half stands at 12, the lower at 16.
 abbrev pub told_time : Endianness → List ℕ → ℕ

@@ -5,7 +5,7 @@ ghost use Rattle.pcapng_reader.specs.Reading.{section_content, enhanced_content,
 ghost use Rattle.pcapng_reader.specs.Index.{HasUnits, IsSound};
 
 use crate::interface::{Interface, interface_told};
-use crate::options::padded;
+use crate::options::padded_length;
 use octets::Endianness;
 
 /// The most captured octets of a packet.
@@ -49,7 +49,7 @@ fn enhanced_content(interfaces: &[Interface], order: Endianness, part: &[u8]) ->
         return None;
     }
     let captured = order.u32_at(part, 20);
-    if captured > MOST_CAPTURED || part.len() < 28 + padded(captured as usize) + 4 {
+    if captured > MOST_CAPTURED || part.len() < 28 + padded_length(captured as usize) + 4 {
         return None;
     }
     let number = order.u32_at(part, 8) as usize;

@@ -5,7 +5,7 @@ ghost use Rattle.pcapng_reader.specs.Options.{CodedValue, options_in};
 ghost use Rattle.pcapng_reader.specs.Interfaces.{units_of, with_option, with_options, interface_told};
 ghost use Rattle.pcapng_reader.specs.Index.{HasUnits};
 
-use crate::options::{NextOption, next_option, padded};
+use crate::options::{NextOption, next_option, padded_length};
 use octets::Endianness;
 
 /// The code of the option that tells the resolution of times.
@@ -93,7 +93,7 @@ fn with_options(order: Endianness, first: Interface, octets: &[u8]) -> Option<In
                     None => return None,
                     Some(next) => interface = next,
                 }
-                let (_, rest) = left.split_at(4 + padded(len));
+                let (_, rest) = left.split_at(4 + padded_length(len));
                 left = rest;
             }
         }

@@ -1,7 +1,7 @@
 //! The options of a block.
 
 ghost use Rattle.std.specs.Prelude.{◌≡◌, ◌+◌, ◌≤◌, length};
-ghost use Rattle.pcapng_reader.specs.Options.{next_option, padded};
+ghost use Rattle.pcapng_reader.specs.Options.{next_option, padded_length};
 ghost use Rattle.pcapng_reader.specs.Fronts.{IsNextOf};
 
 use octets::Endianness;
@@ -21,9 +21,9 @@ pub(crate) enum NextOption {
 }
 
 /// So many octets, padded to a multiple of four.
-pub(crate) fn padded(len: usize) -> usize
+pub(crate) fn padded_length(len: usize) -> usize
     requires { len ≤ 262144 }
-    ensures { result ≡ padded len }
+    ensures { result ≡ padded_length len }
 {
     (len + 3) / 4 * 4
 }
@@ -42,7 +42,7 @@ pub(crate) fn next_option(order: Endianness, octets: &[u8]) -> NextOption
         return NextOption::Last;
     }
     let len = order.u16_at(octets, 2);
-    if octets.len() < OPTION_HEADER + padded(len as usize) {
+    if octets.len() < OPTION_HEADER + padded_length(len as usize) {
         return NextOption::Beyond;
     }
     NextOption::Coded(code, len)

@@ -236,7 +236,7 @@ const PACKETS: &[Row] = files! {
 };
 
 /// The bytes of the pieces, one behind the other.
-fn joined(alloc: Global, pieces: &[&[u8]]) -> Result<Vec<u8>, Fail> {
+fn all_bytes(alloc: Global, pieces: &[&[u8]]) -> Result<Vec<u8>, Fail> {
     let mut all = Vec::new(alloc);
     for piece in pieces {
         all.extend_from_slice(piece)?;
@@ -281,7 +281,7 @@ fn files_tell_their_packets(rt: HostRuntime) -> Result<(), Fail> {
     let alloc = rt.alloc();
     for table in [BLOCKS, INTERFACES, PACKETS] {
         for (n, row) in table.iter().enumerate() {
-            let file = joined(alloc, row.pieces)?;
+            let file = all_bytes(alloc, row.pieces)?;
             assert!(rt; is_told(&rt, alloc, &file, row.want), "row {n}");
         }
     }
@@ -302,7 +302,7 @@ const AFTER_MORE: &[u8] = b"\x24\0\x04\0";
 fn the_longest_packet(rt: HostRuntime) -> Result<(), Fail> {
     let alloc = rt.alloc();
     let data = vec![in alloc; 0u8; 262_144]?;
-    let most = joined(alloc, &[SECTION, ETHERNET, MOST, &data, AFTER_MOST])?;
+    let most = all_bytes(alloc, &[SECTION, ETHERNET, MOST, &data, AFTER_MOST])?;
     assert!(rt; is_told(&rt, alloc, &most, Told(&[(1, 1000, 0, 262_144, 262_144)])));
     Ok(())
 }
@@ -311,7 +311,7 @@ fn the_longest_packet(rt: HostRuntime) -> Result<(), Fail> {
 fn a_longer_packet(rt: HostRuntime) -> Result<(), Fail> {
     let alloc = rt.alloc();
     let data = vec![in alloc; 0u8; 262_148]?;
-    let more = joined(alloc, &[SECTION, ETHERNET, MORE, &data, AFTER_MORE])?;
+    let more = all_bytes(alloc, &[SECTION, ETHERNET, MORE, &data, AFTER_MORE])?;
     assert!(rt; is_told(&rt, alloc, &more, Bad(48)));
     Ok(())
 }
@@ -319,7 +319,7 @@ fn a_longer_packet(rt: HostRuntime) -> Result<(), Fail> {
 #[test]
 fn captured_octets_are_a_part_of_the_file(rt: HostRuntime) -> Result<(), Fail> {
     let alloc = rt.alloc();
-    let file = joined(alloc, &[SECTION, ETHERNET, PACKET, FRAME, AFTER])?;
+    let file = all_bytes(alloc, &[SECTION, ETHERNET, PACKET, FRAME, AFTER])?;
     let capture = PngCapture::open(&file).expect(&rt, "a capture");
     assert!(rt; file.len() < 1 << 32);
     let index = capture.index(alloc).expect(&rt, "an index");
@@ -389,8 +389,8 @@ const RUNS: &[Run] = runs! {
 
 /// Whether a run ends and writes as it should.
 fn is_run(rt: &impl Abort, alloc: Global, run: &Run) -> Result<bool, Fail> {
-    let file = joined(alloc, run.pieces)?;
-    let wanted = joined(alloc, run.written)?;
+    let file = all_bytes(alloc, run.pieces)?;
+    let wanted = all_bytes(alloc, run.written)?;
     let mut words: Vec<String> = Vec::new(alloc);
     for word in run.words {
         words.push(String::from_str(alloc, word)?)?;

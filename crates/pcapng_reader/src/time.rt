@@ -1,7 +1,7 @@
 //! The time of a packet, by the clock of its interface.
 
 ghost use Rattle.std.specs.Prelude.{◌≡◌, ◌<◌, ◌*◌, ◌/◌};
-ghost use Rattle.pcapng_reader.specs.Records.{fitting, moved, stamp_of};
+ghost use Rattle.pcapng_reader.specs.Records.{fitting_stamp, moved_stamp, stamp_of};
 ghost use Rattle.pcapng_reader.specs.Index.{HasUnits};
 
 use crate::interface::Interface;
@@ -20,8 +20,8 @@ pub(crate) const NO_TIME: Stamp = Stamp {
 };
 
 /// Seconds and a fraction, where the seconds fit.
-fn fitting(seconds: u128, fraction: u32) -> Stamp
-    ensures { result ≡ fitting seconds fraction }
+fn fitting_stamp(seconds: u128, fraction: u32) -> Stamp
+    ensures { result ≡ fitting_stamp seconds fraction }
 {
     if seconds < 1 << 32 {
         Stamp {
@@ -34,16 +34,16 @@ fn fitting(seconds: u128, fraction: u32) -> Stamp
 }
 
 /// Seconds that are moved by an offset in two's complement, and a fraction.
-fn moved(seconds: u64, offset: u64, fraction: u32) -> Stamp
-    ensures { result ≡ moved seconds offset fraction }
+fn moved_stamp(seconds: u64, offset: u64, fraction: u32) -> Stamp
+    ensures { result ≡ moved_stamp seconds offset fraction }
 {
     let sum = seconds as u128 + offset as u128;
     if offset < 1 << 63 {
-        fitting(sum, fraction)
+        fitting_stamp(sum, fraction)
     } else if sum < 1 << 64 {
         NO_TIME
     } else {
-        fitting(sum - (1 << 64), fraction)
+        fitting_stamp(sum - (1 << 64), fraction)
     }
 }
 
@@ -62,5 +62,5 @@ pub(crate) fn stamp_of(interface: &Interface, time: u64) -> Stamp
 {
     let units = interface.units;
     let fraction = nanoseconds(time % units, units);
-    moved(time / units, interface.offset, fraction)
+    moved_stamp(time / units, interface.offset, fraction)
 }

@@ -16,16 +16,16 @@ use Rattle.pebr_core.specs.declared.machine.Core.TheInside.{Inside}
 use Rattle.pebr_core.specs.State.{Scan, Seat, State, has, seat_at, root_at, shield_at, scan_of, has_scanned, slot_under}
 use Rattle.pebr_core.specs.State.{is_retired, is_out, is_down, no_scan}
 use Rattle.pebr_core.specs.Steps.{is_seat, is_root, is_place, is_slot, is_shielded, is_scanning, is_complete}
-use Rattle.pebr_core.specs.Steps.{is_enabled, after, next, with_seat, with_scan, with_scanned, with_kept, given}
+use Rattle.pebr_core.specs.Steps.{is_enabled, after, next, with_seat, with_scan, with_scanned, with_kept, given_slots}
 use Rattle.pebr_core.specs.Steps.{after_load, after_shield, after_check, after_replace, after_scan, after_give}
-use Rattle.pebr_core.specs.Steps.{released, united}
+use Rattle.pebr_core.specs.Steps.{slots_without, union_of}
 use Rattle.pebr_core.specs.Kept.{IsSound}
 use Rattle.pebr_core.specs.Marks.{given_marks}
 use Rattle.pebr_core.specs.Shown.{scan_parts, shown_seat, shown_state, HasRoom, IsCore}
 use Rattle.pebr_core.specs.Entries.{loaded_entry, shielded_entry, checked_entry, replaced_entry, kept_with}
 use Rattle.pebr_core.specs.Entries.{scanned_entry, given_entry}
 use Rattle.std.specs.List.{list_all}
-use Rattle.pebr_core.proofs.Marks.{set_anywhere, get_or-map_default, length-released}
+use Rattle.pebr_core.proofs.Marks.{set_anywhere, get_or-map_default, length-slots_without}
 use Rattle.pebr_core.proofs.Law.{step_sound, next_enabled}
 use Rattle.pebr_core.proofs.Written.{written, step_done, seat_known, room_written, shown_written}
 use Rattle.pebr_core.proofs.SeatSteps.{open_scan, open-scan_of}
@@ -356,8 +356,8 @@ given-shown : (epoch : ℕ) (entry : SeatData) → entry.scan.is_open ≡ true
 given-shown epoch entry opened =
     let by : Scan → Seat = λ scan. record (shown_seat entry) {
       noted = epoch;
-      fresh = united entry.fresh (given (with_scan (shown_seat entry) scan));
-      retired = released entry.retired (given (with_scan (shown_seat entry) scan));
+      fresh = union_of entry.fresh (given_slots (with_scan (shown_seat entry) scan));
+      retired = slots_without entry.retired (given_slots (with_scan (shown_seat entry) scan));
       scan = None;
     } in
     ap by (sym (open-scan_of entry opened))
@@ -376,7 +376,7 @@ give_done core state i epoch entry new held same enabled is_epoch read made =
     step_done core state i entry new (step.Give i) held same enabled
     (subst (HasRoom core.shape) (sym made)
     (same_room core.shape entry (given_entry epoch entry)
-    (length-released entry.retired (given_marks entry.retired entry.scan.kept)) refl refl refl refl known.1))
+    (length-slots_without entry.retired (given_marks entry.retired entry.scan.kept)) refl refl refl refl known.1))
     (ap (λ seat. with_seat (shown_state core) i seat)
     (ap (λ e. after_give e (seat_at (shown_state core) i)) (sym is_epoch)
     ∙ (ap (after_give epoch) known.0 ∙ (sym (given-shown epoch entry opened) ∙ ap shown_seat (sym made)))))

@@ -10,12 +10,13 @@ use Rattle.pebr_core.specs.declared.kinds.Step.{Step}
 use Rattle.pebr_core.specs.declared.kinds.Step.TheVariants as step
 use Rattle.pebr_core.specs.State.{Seat, State, has, seat_at, root_at, shield_at, scan_of, nobody, slot_under}
 use Rattle.pebr_core.specs.Steps.{after, with_seat, with_scan, with_passed, with_look, can_pass, epoch_of, found_epoch}
-use Rattle.pebr_core.specs.Steps.{ejected, is_in_at, emptied, validated, checked, is_enabled, after_note, after_pin}
+use Rattle.pebr_core.specs.Steps.{ejected_stance, is_in_at, empty_set_below, validated_shield, checked_shields}
+use Rattle.pebr_core.specs.Steps.{is_enabled, after_note, after_pin}
 use Rattle.pebr_core.specs.Steps.{after_leave, after_look, after_pass, after_load, after_shield, after_check}
 use Rattle.pebr_core.specs.Steps.{after_replace, after_scan, after_give}
 use Rattle.pebr_core.specs.Kept.{Uses}
 use Rattle.pebr_core.specs.Frames.{seat_of, LeavesTheRest, UsesBeginAtLoad, LeavesShields}
-use Rattle.pebr_core.proofs.Marks.{set_anywhere, has-emptied, has-either, get_or-map_default}
+use Rattle.pebr_core.proofs.Marks.{set_anywhere, has-empty_set_below, has-either, get_or-map_default}
 
 there : (state : State) (i j : ℕ) (seat : Seat) → j ≢ i → seat_at (with_seat state i seat) j ≡ seat_at state j
 there state i j seat apart = get_or-set_other state.seats i j seat nobody apart
@@ -101,7 +102,7 @@ leaves_the_rest state (step.Advance i) = pick (eqb state.epoch (seat_at state i)
     pick false = no_change state (step.Advance i)
 leaves_the_rest state (step.Look i j) = own_change state (step.Look i j) _
 leaves_the_rest state (step.Eject i j) =
-    let status = ejected (found_epoch (seat_at state i) j) (seat_at state j).status in
+    let status = ejected_stance (found_epoch (seat_at state i) j) (seat_at state j).status in
     let mid : State = with_seat state j (record (seat_at state j) { status = status }) in
     record {
       shape = refl;
@@ -182,11 +183,11 @@ own_uses state s seat less j slot = set_anywhere
     (λ used. inl used)
 
 -- a seat with the same shields that has seen nothing
-unseen : (old new : Seat) → new.shields ≡ old.shields → new.seen ≡ emptied old.seen → NoMore old new
+unseen : (old new : Seat) → new.shields ≡ old.shields → new.seen ≡ empty_set_below old.seen → NoMore old new
 unseen old new shields seen slot (inl (place, valid)) =
     inl (place, ap (λ l. get_or l place shield.Down) (sym shields) ∙ valid)
 unseen old new shields seen slot (inr (epoch, was_in, has_seen)) =
-    absurd (false≢true (sym (has-emptied old.seen slot) ∙ (ap (λ l. has l slot) (sym seen) ∙ has_seen)))
+    absurd (false≢true (sym (has-empty_set_below old.seen slot) ∙ (ap (λ l. has l slot) (sym seen) ∙ has_seen)))
 
 -- a seat with the same status, shields and seen slots
 same_uses : (old new : Seat) → new.status ≡ old.status → new.shields ≡ old.shields → new.seen ≡ old.seen
@@ -210,13 +211,14 @@ check_uses seat slot (inr in') = inr in'
 check_uses seat slot (inl (place, valid)) = pick seat.status refl valid
   where
     pick : (status : Stance) → seat.status ≡ status
-        → get_or (checked status seat.seen seat.shields) place shield.Down ≡ shield.Valid slot → Uses seat slot
+        → get_or (checked_shields status seat.seen seat.shields) place shield.Down ≡ shield.Valid slot → Uses seat slot
     pick stance.Out is e = inl (place, e)
     pick (stance.Ejected epoch) is e = inl (place, e)
     pick (stance.In epoch) is e = from (shield_at seat place) refl
-        (sym (get_or-map_default (validated seat.seen) seat.shields place shield.Down) ∙ e)
+        (sym (get_or-map_default (validated_shield seat.seen) seat.shields place shield.Down) ∙ e)
       where
-        from : (at : ShieldAt) → shield_at seat place ≡ at → validated seat.seen at ≡ shield.Valid slot → Uses seat slot
+        from : (at : ShieldAt) → shield_at seat place ≡ at → validated_shield seat.seen at ≡ shield.Valid slot
+            → Uses seat slot
         from shield.Down was v = absurd (let e' : shield.Down ≡ shield.Valid slot = v in cc)
         from (shield.Valid other) was v = inl (place, was ∙ v)
         from (shield.Set other) was v = mark (has seat.seen other) refl v
@@ -240,7 +242,7 @@ load_uses slot seat used (inr (epoch, was_in, seen)) = ⊎_elim
     (λ (e : has seat.seen used ≡ true). inl (inr (epoch, was_in, e)))
     (has-either seat.seen slot used seen)
 
-eject_uses : (found : ℕ) (seat : Seat) → NoMore seat (record seat { status = ejected found seat.status })
+eject_uses : (found : ℕ) (seat : Seat) → NoMore seat (record seat { status = ejected_stance found seat.status })
 eject_uses found seat slot (inl valid) = inl valid
 eject_uses found seat slot (inr (epoch, now, seen)) = inr (epoch, pick (is_in_at found seat.status) now, seen)
   where
@@ -266,7 +268,7 @@ uses_begin state (step.Look i j) = own_uses state (step.Look i j)
     (seat_at state i) (epoch_of (seat_at state j).status))
 uses_begin state (step.Eject i j) = λ k slot used.
     let found = found_epoch (seat_at state i) j in
-    let other : Seat = record (seat_at state j) { status = ejected found (seat_at state j).status } in
+    let other : Seat = record (seat_at state j) { status = ejected_stance found (seat_at state j).status } in
     let mid : State = with_seat state j other in
     let in_mid : Uses (seat_at mid k) slot =
     set_anywhere (λ (x : Seat). Uses x slot → Uses (seat_at mid k) slot) mid.seats i

@@ -15,15 +15,16 @@ use Rattle.pebr_core.specs.declared.kinds.ShieldAt.{ShieldAt}
 use Rattle.pebr_core.specs.declared.kinds.ShieldAt.TheVariants as shield
 use Rattle.pebr_core.specs.State.{Scan, Seat, State, has, seat_at, shield_at, retired_at, scan_of, has_scanned}
 use Rattle.pebr_core.specs.State.{is_retired, is_down, slot_count, nobody, no_scan}
-use Rattle.pebr_core.specs.Steps.{with_seat, united, released, each_below, is_complete, given, after_give}
+use Rattle.pebr_core.specs.Steps.{with_seat, union_of, slots_without, each_below, is_complete, given_slots, after_give}
 use Rattle.pebr_core.specs.Kept.{Uses, IsTaggedUpTo, IsSound}
-use Rattle.pebr_core.proofs.Marks.{has-without, has-united, has-inside, released-at, length-without, length-united}
-use Rattle.pebr_core.proofs.Marks.{length-released, each_below-at, is_some-value}
+use Rattle.pebr_core.proofs.Marks.{has-without, has-union_of, has-inside, slots_without-at, length-without}
+use Rattle.pebr_core.proofs.Marks.{length-union_of}
+use Rattle.pebr_core.proofs.Marks.{length-slots_without, each_below-at, is_some-value}
 use Rattle.pebr_core.proofs.SeatChange.{Between, alone, between, seat_kept}
 use Rattle.pebr_core.proofs.ShieldSteps.{held_at_most}
 
 -- a given slot is a candidate that isn't kept
-given-parts : (seat : Seat) (slot : ℕ) → has (given seat) slot ≡ true
+given-parts : (seat : Seat) (slot : ℕ) → has (given_slots seat) slot ≡ true
     → (has (scan_of seat).candidates slot ≡ true) × (has (scan_of seat).kept slot ≡ false)
 given-parts seat slot h =
     let parts = and_parts (has (scan_of seat).candidates slot) (not (has (scan_of seat).kept slot))
@@ -81,9 +82,9 @@ complete-scanned shape i scan j place h inside apart low =
 pub given_unused : (state : State) (i : ℕ) → IsSound state → i < state.shape.seats
     → is_some (seat_at state i).scan ≡ true
     → is_complete state.shape i (scan_of (seat_at state i)) ≡ true → list_all is_down (seat_at state i).shields ≡ true
-    → (j slot : ℕ) → Uses (seat_at state j) slot → has (given (seat_at state i)) slot ≡ false
+    → (j slot : ℕ) → Uses (seat_at state j) slot → has (given_slots (seat_at state i)) slot ≡ false
 given_unused state i sound inside scanning complete down j slot uses =
-    pick (cases_Bool (has (given owner) slot)) (cases_eq j i)
+    pick (cases_Bool (has (given_slots owner) slot)) (cases_eq j i)
   where
     owner : Seat
     owner = seat_at state i
@@ -108,7 +109,7 @@ given_unused state i sound inside scanning complete down j slot uses =
             down_valid e = cc
         nobody_uses (inr seen) = false≢true seen.2
 
-    contradiction : has (given (seat_at state i)) slot ≡ true → j ≢ i → Uses (seat_at state j) slot → ⊥
+    contradiction : has (given_slots (seat_at state i)) slot ≡ true → j ≢ i → Uses (seat_at state j) slot → ⊥
     contradiction is apart u =
         let parts = given-parts (seat_at state i) slot is in
         let low = out_nobody j u in
@@ -132,8 +133,8 @@ given_unused state i sound inside scanning complete down j slot uses =
         out_in : (epoch : ℕ) → stance.Out ≡ stance.In epoch → ⊥
         out_in epoch e = cc
 
-    pick : ((has (given (seat_at state i)) slot ≡ true) ⊎ (has (given (seat_at state i)) slot ≡ false))
-        → ((j ≡ i) ⊎ (j ≡ i → ⊥)) → has (given (seat_at state i)) slot ≡ false
+    pick : ((has (given_slots (seat_at state i)) slot ≡ true) ⊎ (has (given_slots (seat_at state i)) slot ≡ false))
+        → ((j ≡ i) ⊎ (j ≡ i → ⊥)) → has (given_slots (seat_at state i)) slot ≡ false
     pick (inr none) _ = none
     pick (inl is) (inl here) = absurd (own (subst (λ m. Uses (seat_at state m) slot) here uses))
     pick (inl is) (inr there) = absurd (contradiction is there uses)
@@ -143,7 +144,7 @@ given_unused state i sound inside scanning complete down j slot uses =
 -- one set grows by what the other loses
 moved : (fresh marks : List Bool) (rs : List Retired) → length fresh ≡ length marks → length rs ≡ length marks
     → ((s : ℕ) → has marks s ≡ true → (has fresh s ≡ false) × (is_retired (get_or rs s retire.No) ≡ true))
-    → count_by (λ b. b) (united fresh marks) + count_by is_retired (released rs marks)
+    → count_by (λ b. b) (union_of fresh marks) + count_by is_retired (slots_without rs marks)
     ≡ count_by (λ b. b) fresh + count_by is_retired rs
 moved [] [] [] a b h = refl
 moved [] [] (r ∷ rs) a b h = absurd (omega arith)
@@ -153,8 +154,8 @@ moved (f ∷ fs) (m ∷ ms) [] a b h = absurd (omega arith)
 moved (f ∷ fs) (m ∷ ms) (r ∷ rs) a b h =
     let rest = moved fs ms rs (omega arith) (omega arith) (λ s. h (suc s)) in
     let head = here f m r (h zero) in
-    let u = sum_by-cons (λ b. cond b 1 0) (f || m) (united fs ms) in
-    let l = sum_by-cons (λ x. cond (is_retired x) 1 0) (cond m retire.No r) (released rs ms) in
+    let u = sum_by-cons (λ b. cond b 1 0) (f || m) (union_of fs ms) in
+    let l = sum_by-cons (λ x. cond (is_retired x) 1 0) (cond m retire.No r) (slots_without rs ms) in
     let c = sum_by-cons (λ b. cond b 1 0) f fs in
     let d = sum_by-cons (λ x. cond (is_retired x) 1 0) r rs in
     omega (arith, rest, head, u, l, c, d)
@@ -176,18 +177,20 @@ times_moved true false r k = refl
 times_moved false false r k = refl
 
 -- a released slot has no tag, and any other is as it was
-released-tagged : (rs : List Retired) (marks : List Bool) (s tag : ℕ)
-    → get_or (released rs marks) s retire.No ≡ retire.Tagged tag → get_or rs s retire.No ≡ retire.Tagged tag
-released-tagged rs marks s tag h = pick (has marks s) (sym (released-at rs marks s) ∙ h)
+slots_without-tagged : (rs : List Retired) (marks : List Bool) (s tag : ℕ)
+    → get_or (slots_without rs marks) s retire.No ≡ retire.Tagged tag → get_or rs s retire.No ≡ retire.Tagged tag
+slots_without-tagged rs marks s tag h = pick (has marks s) (sym (slots_without-at rs marks s) ∙ h)
   where
     pick : (b : Bool) → cond b retire.No (get_or rs s retire.No) ≡ retire.Tagged tag
         → get_or rs s retire.No ≡ retire.Tagged tag
     pick true e = absurd cc
     pick false e = e
 
-released-bound : (most : ℕ) (rs : List Retired) (marks : List Bool) (s : ℕ) → IsTaggedUpTo most (get_or rs s retire.No)
-    → IsTaggedUpTo most (get_or (released rs marks) s retire.No)
-released-bound most rs marks s h = subst (IsTaggedUpTo most) (sym (released-at rs marks s)) (pick (has marks s))
+slots_without-bound : (most : ℕ) (rs : List Retired) (marks : List Bool) (s : ℕ)
+    → IsTaggedUpTo most (get_or rs s retire.No)
+    → IsTaggedUpTo most (get_or (slots_without rs marks) s retire.No)
+slots_without-bound most rs marks s h = subst (IsTaggedUpTo most) (sym (slots_without-at rs marks s))
+    (pick (has marks s))
   where
     pick : (b : Bool) → IsTaggedUpTo most (cond b retire.No (get_or rs s retire.No))
     pick true = tt
@@ -197,12 +200,12 @@ or_false : (a b : Bool) → a ≡ false → b ≡ false → (a || b) ≡ false
 or_false a b h k = ap (λ x. x || b) h ∙ k
 
 give-between : (epoch : ℕ) (owner : Seat) (j : ℕ) (reader : Seat)
-    → ((slot : ℕ) → Uses reader slot → has (given owner) slot ≡ false) → Between owner j reader
+    → ((slot : ℕ) → Uses reader slot → has (given_slots owner) slot ≡ false) → Between owner j reader
     → Between (after_give epoch owner) j reader
 give-between epoch owner j reader free h = (
-  λ s uses. has-united owner.fresh (given owner) s
-      ∙ or_false (has owner.fresh s) (has (given owner) s) (h.0 s uses) (free s uses),
-  λ s tag e at retired. h.1 s tag e at (released-tagged owner.retired (given owner) s tag retired),
+  λ s uses. has-union_of owner.fresh (given_slots owner) s
+      ∙ or_false (has owner.fresh s) (has (given_slots owner) s) (h.0 s uses) (free s uses),
+  λ s tag e at retired. h.1 s tag e at (slots_without-tagged owner.retired (given_slots owner) s tag retired),
   λ scan e. absurd (none-some scan e),
   λ scan e. absurd (none-some scan e),
   λ scan e. absurd (none-some scan e),
@@ -218,7 +221,7 @@ give_sound state i sound inside scanning complete down =
     let own = sound.kept.scans i scan at in
     let fits = sound.shape.each i inside in
     let scan_fits = fits.scan scan at in
-    let marks = given seat in
+    let marks = given_slots seat in
     let new = after_give state.epoch seat in
     let here = alone state sound.kept i in
     let marks_length : length marks ≡ slot_count state.shape =
@@ -241,20 +244,20 @@ give_sound state i sound inside scanning complete down =
     (record {
       seen = fits.seen;
       shields = fits.shields;
-      fresh = length-united seat.fresh marks (fits.fresh ∙ sym marks_length) ∙ fits.fresh;
-      retired = length-released seat.retired marks ∙ fits.retired;
+      fresh = length-union_of seat.fresh marks (fits.fresh ∙ sym marks_length) ∙ fits.fresh;
+      retired = length-slots_without seat.retired marks ∙ fits.retired;
       scan = λ s e. absurd (none-some s e);
       set = fits.set;
       valid = fits.valid;
     })
-    (λ slot. ap (λ b. cond b 1 0 + cond (is_retired (retired_at new slot)) 1 0) (has-united seat.fresh marks slot)
+    (λ slot. ap (λ b. cond b 1 0 + cond (is_retired (retired_at new slot)) 1 0) (has-union_of seat.fresh marks slot)
     ∙ (ap (λ r. cond (has seat.fresh slot || has marks slot) 1 0 + cond (is_retired r) 1 0)
-    (released-at seat.retired marks slot)
+    (slots_without-at seat.retired marks slot)
     ∙ times_moved (has seat.fresh slot) (has marks slot) (retired_at seat slot) (apart slot)))
     (moved seat.fresh marks seat.retired (fits.fresh ∙ sym marks_length) (fits.retired ∙ sym marks_length) apart) (
       low_epoch state.epoch,
       here.1,
-      λ s. released-bound state.epoch seat.retired marks s (here.2 s),
+      λ s. slots_without-bound state.epoch seat.retired marks s (here.2 s),
       λ s e. absurd
           (none-some s e),
     )

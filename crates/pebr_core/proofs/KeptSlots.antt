@@ -18,7 +18,7 @@ use Rattle.pebr_core.specs.declared.kinds.Step.TheVariants as step
 use Rattle.pebr_core.specs.State.{Scan, Seat, State, has, seat_at, root_at, retired_at, scan_of, found_at, is_retired}
 use Rattle.pebr_core.specs.State.{is_down, slot_count, nobody, no_scan, start_state}
 use Rattle.pebr_core.specs.Steps.{is_above_tags, with_scanned, is_enabled, is_seat, is_scanning, is_complete, without}
-use Rattle.pebr_core.specs.Steps.{united, released, given, after_scan, after_give}
+use Rattle.pebr_core.specs.Steps.{union_of, slots_without, given_slots, after_scan, after_give}
 use Rattle.pebr_core.specs.Kept.{times_held, IsSound}
 use Rattle.pebr_core.specs.Frames.{IsFreshAlone, kept_count, fresh_count, retired_count}
 use Rattle.pebr_core.proofs.Marks.{is_some-value, has-without, has-inside, length-without}
@@ -85,7 +85,7 @@ module _ (state : State) (i epoch : ℕ) (sound : IsSound state) (enabled : is_e
       → length kept ≡ length slots
       → ((s : ℕ) → has candidates s ≡ is_retired (get_or slots s retire.No))
       → ((s : ℕ) → has kept s ≡ true → has candidates s ≡ true)
-      → (count_by is_retired (released slots (without candidates kept)) ≡ count_by (λ mark. mark) kept)
+      → (count_by is_retired (slots_without slots (without candidates kept)) ≡ count_by (λ mark. mark) kept)
       × (count_by (λ mark. mark) (without candidates kept) + count_by (λ mark. mark) kept ≡ count_by is_retired slots)
   still [] [] [] long wide same less = (refl, refl)
   still [] [] (k ∷ kept) long wide same less = absurd (omega (arith, wide))
@@ -97,7 +97,7 @@ module _ (state : State) (i epoch : ℕ) (sound : IsSound state) (enabled : is_e
       (λ s. less (suc s)) in
       let head = one r c k (same zero) (less zero) in
       let a = sum_by-cons (λ x. cond (is_retired x) 1 0) (cond (c && not k) retire.No r)
-      (released slots (without candidates kept)) in
+      (slots_without slots (without candidates kept)) in
       let b = count_mark k kept in
       let d = count_mark (c && not k) (without candidates kept) in
       let e = sum_by-cons (λ x. cond (is_retired x) 1 0) r slots in
@@ -105,7 +105,7 @@ module _ (state : State) (i epoch : ℕ) (sound : IsSound state) (enabled : is_e
       let given = rest.1 in
       let first = head.0 in
       let second = head.1 in
-      (omega (arith, left, first, a, b), omega (arith, given, second, b, d, e))
+      (omega (arith, left, first, a, b), omega (arith, given_slots, second, b, d, e))
     where
       one : (r : Retired) (c k : Bool) → c ≡ is_retired r → (k ≡ true → c ≡ true)
           → (◌≡◌ {A = ℕ} (cond (is_retired (cond (c && not k) retire.No r)) 1 0) (cond k 1 0))
@@ -116,7 +116,7 @@ module _ (state : State) (i epoch : ℕ) (sound : IsSound state) (enabled : is_e
       one r false false is sub = let e : ◌≡◌ {A = ℕ} 0 (cond (is_retired r) 1 0) = ap (λ b. cond b 1 0) is in (sym e, e)
 
   both : (retired_count (after_give epoch (seat_at state i)) ≡ kept_count (seat_at state i))
-      × (count_by (λ mark. mark) (given (seat_at state i)) + kept_count (seat_at state i)
+      × (count_by (λ mark. mark) (given_slots (seat_at state i)) + kept_count (seat_at state i)
       ≡ retired_count (seat_at state i))
   both =
       let own = sound.kept.scans i scan at in
@@ -128,21 +128,21 @@ module _ (state : State) (i epoch : ℕ) (sound : IsSound state) (enabled : is_e
   pub give_leaves : retired_count (after_give epoch (seat_at state i)) ≡ kept_count (seat_at state i)
   give_leaves = both.0
 
-  pub give_gives : count_by (λ mark. mark) (given (seat_at state i)) + kept_count (seat_at state i)
+  pub give_gives : count_by (λ mark. mark) (given_slots (seat_at state i)) + kept_count (seat_at state i)
       ≡ retired_count (seat_at state i)
   give_gives = both.1
 
   -- sets that are apart, put together
   joined : (marks others : List Bool) → length marks ≡ length others
       → ((s : ℕ) → has others s ≡ true → has marks s ≡ false)
-      → count_by (λ mark. mark) (united marks others) ≡ count_by (λ mark. mark) marks + count_by (λ mark. mark) others
+      → count_by (λ mark. mark) (union_of marks others) ≡ count_by (λ mark. mark) marks + count_by (λ mark. mark) others
   joined [] [] long apart = refl
   joined [] (o ∷ os) long apart = absurd (omega (arith, long))
   joined (m ∷ ms) [] long apart = absurd (omega (arith, long))
   joined (m ∷ ms) (o ∷ os) long apart =
       let rest = joined ms os (omega (arith, long)) (λ s. apart (suc s)) in
       let head = one m o (apart zero) in
-      let a = count_mark (m || o) (united ms os) in
+      let a = count_mark (m || o) (union_of ms os) in
       let b = count_mark m ms in
       let c = count_mark o os in
       omega (arith, rest, head, a, b, c)
@@ -154,20 +154,21 @@ module _ (state : State) (i epoch : ℕ) (sound : IsSound state) (enabled : is_e
       one false false h = refl
 
   pub give_freshens : fresh_count (after_give epoch (seat_at state i))
-      ≡ fresh_count (seat_at state i) + count_by (λ mark. mark) (given (seat_at state i))
+      ≡ fresh_count (seat_at state i) + count_by (λ mark. mark) (given_slots (seat_at state i))
   give_freshens =
       let own = sound.kept.scans i scan at in
       let fits = sound.shape.each i inside in
       let scan_fits = fits.scan scan at in
-      let marks_length : length (given owner) ≡ slot_count state.shape =
+      let marks_length : length (given_slots owner) ≡ slot_count state.shape =
       length-without scan.candidates scan.kept ∙ scan_fits.candidates in
-      joined owner.fresh (given owner) (fits.fresh ∙ sym marks_length)
+      joined owner.fresh (given_slots owner) (fits.fresh ∙ sym marks_length)
       (λ s is.
       let retired : is_retired (retired_at owner s) ≡ true =
       sym (own.all_retired s)
       ∙ (and_parts (has scan.candidates s) (not (has scan.kept s))
       (sym (has-without scan.candidates scan.kept s) ∙ is)).0 in
-      let low : s < slot_count state.shape = let l = has-inside (given owner) s is in omega (arith, marks_length) in
+      let low : s < slot_count state.shape = let l = has-inside (given_slots owner) s is in
+      omega (arith, marks_length) in
       alone (has owner.fresh s) (is_retired (retired_at owner s)) (count_by (λ held. eqb held s) state.roots) retired
       (held_at_most state sound s i low))
     where

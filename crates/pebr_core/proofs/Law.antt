@@ -10,7 +10,8 @@ use Rattle.pebr_core.specs.declared.kinds.Step.TheVariants as step
 use Rattle.pebr_core.specs.State.{State, has, seat_at, root_at, scan_of, found_at, has_scanned, is_out, is_down}
 use Rattle.pebr_core.specs.State.{slot_count}
 use Rattle.pebr_core.specs.Steps.{is_seat, is_root, is_place, is_slot, is_shielded, is_complete, after_replace}
-use Rattle.pebr_core.specs.Steps.{is_scanning, is_enabled, after, answer_of, next, last_epoch, with_seat, ejected}
+use Rattle.pebr_core.specs.Steps.{is_scanning, is_enabled, after, answer_of, next, last_epoch, with_seat}
+use Rattle.pebr_core.specs.Steps.{ejected_stance}
 use Rattle.pebr_core.specs.Kept.{IsSound}
 use Rattle.std.specs.List.{list_all}
 use Rattle.pebr_core.specs.declared.kinds.ShieldAt.TheVariants as shield
@@ -51,7 +52,7 @@ eject_step_sound state i j sound h =
     (not-true (has (scan_of (seat_at state i)).passed j) p4.1)
     (with_seat state j
     (record (seat_at state j) {
-      status = ejected (unwrap_or (found_at (scan_of (seat_at state i)) j) 0)
+      status = ejected_stance (unwrap_or (found_at (scan_of (seat_at state i)) j) 0)
           (seat_at state j).status;
     })) refl
 

@@ -9,7 +9,7 @@ use Rattle.std.specs.List.{list_all, range_with_len}
 use Rattle.pebr_core.specs.declared.kinds.Retired.{Retired}
 use Rattle.pebr_core.specs.declared.kinds.Retired.TheVariants as retire
 use Rattle.pebr_core.specs.State.{has}
-use Rattle.pebr_core.specs.Steps.{emptied, without, united, released, each_below}
+use Rattle.pebr_core.specs.Steps.{empty_set_below, without, union_of, slots_without, each_below}
 
 -- what is read at a place of a list after a change
 pub set_at : {A : Type 0} (P : A → Type 0) (xs : List A) (i : ℕ) (v d : A) (j : ℕ) → i < length xs → (j ≡ i → P v)
@@ -42,8 +42,8 @@ get_or-replicate_default (suc n) zero d = refl
 get_or-replicate_default (suc n) (suc i) d = get_or-replicate_default n i d
 
 -- nothing is in an emptied set
-pub has-emptied : (marks : List Bool) (i : ℕ) → has (emptied marks) i ≡ false
-has-emptied marks i = get_or-map_default (λ _. false) marks i false
+pub has-empty_set_below : (marks : List Bool) (i : ℕ) → has (empty_set_below marks) i ≡ false
+has-empty_set_below marks i = get_or-map_default (λ _. false) marks i false
 
 pub has-replicate : (n i : ℕ) → has (replicate n false) i ≡ false
 has-replicate n i = get_or-replicate_default n i false
@@ -151,42 +151,42 @@ has-without (m ∷ ms) [] i = sym (and_true (has (m ∷ ms) i))
 has-without (m ∷ ms) (o ∷ os) zero = refl
 has-without (m ∷ ms) (o ∷ os) (suc i) = has-without ms os i
 
-pub has-united : (marks others : List Bool) (i : ℕ) → has (united marks others) i ≡ (has marks i || has others i)
-has-united [] others i = refl
-has-united (m ∷ ms) [] i = sym (or_false (has (m ∷ ms) i))
+pub has-union_of : (marks others : List Bool) (i : ℕ) → has (union_of marks others) i ≡ (has marks i || has others i)
+has-union_of [] others i = refl
+has-union_of (m ∷ ms) [] i = sym (or_false (has (m ∷ ms) i))
   where
     or_false : (b : Bool) → (b || false) ≡ b
     or_false true = refl
     or_false false = refl
-has-united (m ∷ ms) (o ∷ os) zero = refl
-has-united (m ∷ ms) (o ∷ os) (suc i) = has-united ms os i
+has-union_of (m ∷ ms) (o ∷ os) zero = refl
+has-union_of (m ∷ ms) (o ∷ os) (suc i) = has-union_of ms os i
 
-pub released-at : (rs : List Retired) (marks : List Bool) (i : ℕ)
-    → get_or (released rs marks) i retire.No ≡ cond (has marks i) retire.No (get_or rs i retire.No)
-released-at [] marks i = sym (same_either (has marks i))
+pub slots_without-at : (rs : List Retired) (marks : List Bool) (i : ℕ)
+    → get_or (slots_without rs marks) i retire.No ≡ cond (has marks i) retire.No (get_or rs i retire.No)
+slots_without-at [] marks i = sym (same_either (has marks i))
   where
     same_either : (b : Bool) → cond b retire.No retire.No ≡ retire.No
     same_either true = refl
     same_either false = refl
-released-at (r ∷ rs) [] i = refl
-released-at (r ∷ rs) (m ∷ ms) zero = refl
-released-at (r ∷ rs) (m ∷ ms) (suc i) = released-at rs ms i
+slots_without-at (r ∷ rs) [] i = refl
+slots_without-at (r ∷ rs) (m ∷ ms) zero = refl
+slots_without-at (r ∷ rs) (m ∷ ms) (suc i) = slots_without-at rs ms i
 
 pub length-without : (marks others : List Bool) → length (without marks others) ≡ length marks
 length-without [] others = refl
 length-without (m ∷ ms) [] = refl
 length-without (m ∷ ms) (o ∷ os) = ap suc (length-without ms os)
 
-pub length-united : (marks others : List Bool) → length marks ≡ length others
-    → length (united marks others) ≡ length marks
-length-united [] others h = sym h
-length-united (m ∷ ms) [] h = refl
-length-united (m ∷ ms) (o ∷ os) h = ap suc (length-united ms os (omega arith))
+pub length-union_of : (marks others : List Bool) → length marks ≡ length others
+    → length (union_of marks others) ≡ length marks
+length-union_of [] others h = sym h
+length-union_of (m ∷ ms) [] h = refl
+length-union_of (m ∷ ms) (o ∷ os) h = ap suc (length-union_of ms os (omega arith))
 
-pub length-released : (rs : List Retired) (marks : List Bool) → length (released rs marks) ≡ length rs
-length-released [] marks = refl
-length-released (r ∷ rs) [] = refl
-length-released (r ∷ rs) (m ∷ ms) = ap suc (length-released rs ms)
+pub length-slots_without : (rs : List Retired) (marks : List Bool) → length (slots_without rs marks) ≡ length rs
+length-slots_without [] marks = refl
+length-slots_without (r ∷ rs) [] = refl
+length-slots_without (r ∷ rs) (m ∷ ms) = ap suc (length-slots_without rs ms)
 
 -- a test that each number below a bound passes
 pub each_below-at : (test : ℕ → Bool) (bound i : ℕ) → each_below bound test ≡ true → i < bound → test i ≡ true

@@ -15,11 +15,12 @@ use Rattle.pebr_core.specs.declared.kinds.Retired.TheVariants as retire
 use Rattle.pebr_core.specs.State.{Scan, Seat, State, has, seat_at, retired_at, found_at, has_scanned, scan_of}
 use Rattle.pebr_core.specs.State.{slot_count, nobody, no_scan, is_out, is_retired}
 use Rattle.pebr_core.specs.Steps.{with_seat, with_scan, with_passed, with_look, last_epoch, tag_with, new_scan}
-use Rattle.pebr_core.specs.Steps.{is_above_tags, can_pass, epoch_of, ejected, after_note, after_pin, after_leave}
+use Rattle.pebr_core.specs.Steps.{is_above_tags, can_pass, epoch_of, ejected_stance, after_note, after_pin, after_leave}
 use Rattle.pebr_core.specs.Steps.{after_look, after_pass}
 use Rattle.pebr_core.specs.Kept.{Uses, IsPinnedUpTo, IsTaggedUpTo, HasSeenNoOlder, IsScanOf, HasSeenNoCandidate}
 use Rattle.pebr_core.specs.Kept.{PassedHasSeenNone, ScannedIsKept, LookedIsOlder, IsScanOfShape, IsSeatOfShape, IsSound}
-use Rattle.pebr_core.proofs.Marks.{get_or-map_default, get_or-replicate_default, has-emptied, has-replicate, has-added}
+use Rattle.pebr_core.proofs.Marks.{get_or-map_default, get_or-replicate_default, has-empty_set_below, has-replicate}
+use Rattle.pebr_core.proofs.Marks.{has-added}
 use Rattle.pebr_core.proofs.Marks.{has-either, has-not_added, at_some, is_some-value, set_anywhere}
 use Rattle.pebr_core.proofs.SeatChange.{Alone, Between, alone, between, seat_kept}
 
@@ -182,13 +183,13 @@ pin-second : (owner : Seat) (j : ℕ) (reader : Seat) → Between owner j reader
 pin-second owner j reader h = (
   λ slot uses. elim uses [
     | inl valid ↦ h.0 slot (inl valid)
-    | inr seen ↦ absurd (false≢true (sym (has-emptied reader.seen slot) ∙ seen.2))
+    | inr seen ↦ absurd (false≢true (sym (has-empty_set_below reader.seen slot) ∙ seen.2))
   ],
-  λ slot tag epoch at retired lt. has-emptied reader.seen slot,
-  λ scan e passed epoch at slot candidate. has-emptied reader.seen slot,
+  λ slot tag epoch at retired lt. has-empty_set_below reader.seen slot,
+  λ scan e passed epoch at slot candidate. has-empty_set_below reader.seen slot,
   h.3,
   λ scan e found look waiting.
-      ((h.4 scan e found look waiting).0, λ epoch at. inr (λ slot candidate. has-emptied reader.seen slot)),
+      ((h.4 scan e found look waiting).0, λ epoch at. inr (λ slot candidate. has-empty_set_below reader.seen slot)),
 )
 
 -- a seat without a scan
@@ -226,13 +227,13 @@ leave-second : (owner : Seat) (j : ℕ) (reader : Seat) → Between owner j read
 leave-second owner j reader h = (
   λ slot uses. elim uses [
     | inl valid ↦ h.0 slot (inl valid)
-    | inr seen ↦ absurd (false≢true (sym (has-emptied reader.seen slot) ∙ seen.2))
+    | inr seen ↦ absurd (false≢true (sym (has-empty_set_below reader.seen slot) ∙ seen.2))
   ],
-  λ slot tag epoch at retired lt. has-emptied reader.seen slot,
-  λ scan e passed epoch at slot candidate. has-emptied reader.seen slot,
+  λ slot tag epoch at retired lt. has-empty_set_below reader.seen slot,
+  λ scan e passed epoch at slot candidate. has-empty_set_below reader.seen slot,
   h.3,
   λ scan e found look waiting.
-      ((h.4 scan e found look waiting).0, λ epoch at. inr (λ slot candidate. has-emptied reader.seen slot)),
+      ((h.4 scan e found look waiting).0, λ epoch at. inr (λ slot candidate. has-empty_set_below reader.seen slot)),
 )
 
 leave-shape : (shape : Shape) (seat : Seat) → IsSeatOfShape shape seat → IsSeatOfShape shape (after_leave seat)
@@ -553,49 +554,49 @@ after_look_sound state i j sound inside apart scanning =
 -- Eject
 
 -- a seat that is still in after an attempt to eject it was in with another epoch
-ejected-in : (found epoch : ℕ) (status : Stance) → ejected found status ≡ stance.In epoch
+ejected_stance-in : (found epoch : ℕ) (status : Stance) → ejected_stance found status ≡ stance.In epoch
     → (status ≡ stance.In epoch) × (epoch ≢ found)
-ejected-in found epoch stance.Out e = absurd cc
-ejected-in found epoch (stance.Ejected other) e = absurd cc
-ejected-in found epoch (stance.In other) e = pick (eqb other found) refl e
+ejected_stance-in found epoch stance.Out e = absurd cc
+ejected_stance-in found epoch (stance.Ejected other) e = absurd cc
+ejected_stance-in found epoch (stance.In other) e = pick (eqb other found) refl e
   where
     pick : (b : Bool) → eqb other found ≡ b → cond b (stance.Ejected found) (stance.In other) ≡ stance.In epoch
         → (stance.In other ≡ stance.In epoch) × (epoch ≢ found)
     pick true t k = absurd cc
     pick false f k = (k, λ same. let one : other ≡ epoch = cc in eqb-false other found f (one ∙ same))
 
-ejected-pinned : (most found : ℕ) (status : Stance) → IsPinnedUpTo most status
-    → IsPinnedUpTo most (ejected found status)
-ejected-pinned most found stance.Out h = tt
-ejected-pinned most found (stance.Ejected epoch) h = h
-ejected-pinned most found (stance.In epoch) h = pick (eqb epoch found) refl
+ejected_stance-pinned : (most found : ℕ) (status : Stance) → IsPinnedUpTo most status
+    → IsPinnedUpTo most (ejected_stance found status)
+ejected_stance-pinned most found stance.Out h = tt
+ejected_stance-pinned most found (stance.Ejected epoch) h = h
+ejected_stance-pinned most found (stance.In epoch) h = pick (eqb epoch found) refl
   where
     pick : (b : Bool) → eqb epoch found ≡ b → IsPinnedUpTo most (cond b (stance.Ejected found) (stance.In epoch))
     pick true t = let same = eqb-true epoch found t in omega arith
     pick false f = h
 
 eject-between : (owner : Seat) (j : ℕ) (reader : Seat) (found : ℕ) → Between owner j reader
-    → Between owner j (record reader { status = ejected found reader.status })
+    → Between owner j (record reader { status = ejected_stance found reader.status })
 eject-between owner j reader found h = (
   λ slot uses. elim uses [
     | inl valid ↦ h.0 slot (inl valid)
-    | inr seen ↦ h.0 slot (inr (seen.0, (ejected-in found seen.0 reader.status seen.1).0, seen.2))
+    | inr seen ↦ h.0 slot (inr (seen.0, (ejected_stance-in found seen.0 reader.status seen.1).0, seen.2))
   ],
-  λ slot tag epoch at. h.1 slot tag epoch (ejected-in found epoch reader.status at).0,
-  λ scan e passed epoch at. h.2 scan e passed epoch (ejected-in found epoch reader.status at).0,
+  λ slot tag epoch at. h.1 slot tag epoch (ejected_stance-in found epoch reader.status at).0,
+  λ scan e passed epoch at. h.2 scan e passed epoch (ejected_stance-in found epoch reader.status at).0,
   h.3,
   λ scan e before look waiting. (
     (h.4 scan e before look waiting).0,
     λ epoch at. (h.4 scan e before look waiting).1 epoch
-        (ejected-in found epoch reader.status at).0,
+        (ejected_stance-in found epoch reader.status at).0,
   ),
 )
 
 pub eject_seat_sound : (state : State) (j found : ℕ) → IsSound state → j < state.shape.seats
-    → IsSound (with_seat state j (record (seat_at state j) { status = ejected found (seat_at state j).status }))
+    → IsSound (with_seat state j (record (seat_at state j) { status = ejected_stance found (seat_at state j).status }))
 eject_seat_sound state j found sound inside =
     let seat = seat_at state j in
-    let new = record seat { status = ejected found seat.status } in
+    let new = record seat { status = ejected_stance found seat.status } in
     let here = alone state sound.kept j in
     let fits = sound.shape.each j inside in
     let second : (k : ℕ) → Between (seat_at state k) j new =
@@ -614,10 +615,10 @@ eject_seat_sound state j found sound inside =
     (λ slot. refl)
     refl (
       here.0,
-      ejected-pinned state.epoch found seat.status here.1,
+      ejected_stance-pinned state.epoch found seat.status here.1,
       here.2,
       λ scan e. let old = here.3 scan e in record {
-        out = ap (ejected found) old.out;
+        out = ap (ejected_stance found) old.out;
         all_retired = old.all_retired;
         tagged = old.tagged;
         kept = old.kept;
@@ -635,7 +636,7 @@ pub eject_sound : (state : State) (i j : ℕ) → IsSound state → i < state.sh
     → is_some (found_at (scan_of (seat_at state i)) j) ≡ true → has (scan_of (seat_at state i)).passed j ≡ false
     → (mid : State) → mid ≡ with_seat state j
     (record (seat_at state j) {
-      status = ejected (unwrap_or (found_at (scan_of (seat_at state i)) j) 0)
+      status = ejected_stance (unwrap_or (found_at (scan_of (seat_at state i)) j) 0)
           (seat_at state j).status;
     })
     → IsSound (with_seat mid i (after_pass j (seat_at mid i)))
@@ -644,7 +645,7 @@ eject_sound state i j sound inside other_inside scanning looked waiting mid is_m
     let reader = seat_at state j in
     let scan = scan_of owner in
     let found = unwrap_or (found_at scan j) 0 in
-    let new = record reader { status = ejected found reader.status } in
+    let new = record reader { status = ejected_stance found reader.status } in
     let at : owner.scan ≡ Some scan = is_some-value owner.scan no_scan scanning in
     let own = sound.kept.scans i scan at in
     let at_found : found_at scan j ≡ Some found = is_some-value (found_at scan j) 0 looked in
@@ -656,7 +657,7 @@ eject_sound state i j sound inside other_inside scanning looked waiting mid is_m
     let mid_reader : seat_at mid j ≡ new = ap (λ s. seat_at s j) is_mid
     ∙ get_or-set_same state.seats j new nobody (omega (arith, sound.shape.seats)) in
     let clear : (epoch : ℕ) → new.status ≡ stance.In epoch → HasSeenNoCandidate scan new =
-    λ epoch status. let was = ejected-in found epoch reader.status status in
+    λ epoch status. let was = ejected_stance-in found epoch reader.status status in
     elim ((sound.kept.looked i scan at j found at_found waiting).1 epoch was.0) as
     (λ _. HasSeenNoCandidate scan new) [ inl same ↦ absurd (was.1 same) | inr none ↦ none ] in
     let passed : IsSound (with_seat mid i (with_scan (seat_at mid i) (with_passed scan j))) =

@@ -10,8 +10,10 @@ use Rattle.pebr_core.specs.declared.kinds.Step.TheVariants as step
 use Rattle.pebr_core.specs.State.{Seat, State, has, word_at, seat_at, scan_of, nobody, root_at, shield_at, slot_under}
 use Rattle.pebr_core.specs.State.{is_down}
 use Rattle.pebr_core.specs.Steps.{is_enabled, after, answer_of, with_seat, with_scan, with_passed, with_look, can_pass}
-use Rattle.pebr_core.specs.Steps.{epoch_of, found_epoch, ejected, after_look, after_pass, is_seat, is_slot, is_word}
-use Rattle.pebr_core.specs.Steps.{is_scanning, is_complete, given, after_load, after_shield, after_check, after_replace}
+use Rattle.pebr_core.specs.Steps.{epoch_of, found_epoch, ejected_stance, after_look, after_pass, is_seat, is_slot}
+use Rattle.pebr_core.specs.Steps.{is_word}
+use Rattle.pebr_core.specs.Steps.{is_scanning, is_complete, given_slots, after_load, after_shield, after_check}
+use Rattle.pebr_core.specs.Steps.{after_replace}
 use Rattle.pebr_core.specs.Steps.{after_scan, after_give}
 use Rattle.pebr_core.specs.Kept.{IsSound}
 use Rattle.pebr_core.specs.Runs.{state_after, answers_of, first_refused, GivesNoUsed, KeepsUsedWords, IsSafeRun}
@@ -19,7 +21,7 @@ use Rattle.pebr_core.proofs.Marks.{set_anywhere}
 use Rattle.std.specs.List.{list_all}
 use Rattle.std.proofs.lemmas.Bool.{false≢true, and_parts, ltb-true}
 use Rattle.pebr_core.specs.declared.kinds.ShieldAt.TheVariants as shield
-use Rattle.pebr_core.proofs.Marks.{has-removed, has-united}
+use Rattle.pebr_core.proofs.Marks.{has-removed, has-union_of}
 use Rattle.pebr_core.proofs.GiveStep.{given_unused}
 use Rattle.pebr_core.proofs.Law.{step_sound}
 
@@ -86,8 +88,8 @@ give_gives state i sound h k j slot uses =
     let p1 = and_parts a s p2.0 in
     let free = given_unused state i sound (ltb-true i state.shape.seats p1.0) p1.1 p2.1 p3.1 j slot uses in
     set_anywhere (λ s. has s.fresh slot ≡ false) state.seats i (after_give state.epoch owner) nobody k
-    (λ _. has-united owner.fresh (given owner) slot
-    ∙ (ap (λ b. b || has (given owner) slot) (sound.kept.safe.unused i j slot uses) ∙ free))
+    (λ _. has-union_of owner.fresh (given_slots owner) slot
+    ∙ (ap (λ b. b || has (given_slots owner) slot) (sound.kept.safe.unused i j slot uses) ∙ free))
     (sound.kept.safe.unused k j slot uses)
 
 pub step_gives_no_used : (state : State) (s : Step) → IsSound state → is_enabled state s ≡ true
@@ -109,10 +111,12 @@ step_gives_no_used state (step.Look i j) sound h =
     (look_fresh j (can_pass (scan_of seat).candidates seat.retired status) seat (epoch_of status)))
 step_gives_no_used state (step.Eject i j) sound h =
     let other = seat_at state j in
-    let mid = with_seat state j (record other { status = ejected (found_epoch (seat_at state i) j) other.status }) in
+    let mid = with_seat state j
+    (record other { status = ejected_stance (found_epoch (seat_at state i) j) other.status }) in
     none_given state (after state (step.Eject i j)) sound
     (λ k. fresh_kept mid i (after_pass j (seat_at mid i)) refl k
-    ∙ fresh_kept state j (record other { status = ejected (found_epoch (seat_at state i) j) other.status }) refl k)
+    ∙ fresh_kept state j (record other { status = ejected_stance (found_epoch (seat_at state i) j) other.status })
+    refl k)
 step_gives_no_used state (step.Load i root) sound h =
     none_given state (after state (step.Load i root)) sound
     (fresh_kept state i (after_load (root_at state root) (seat_at state i)) refl)

@@ -8,8 +8,9 @@ use Rattle.pebr_core.specs.declared.seats.SeatData.{SeatData}
 use Rattle.pebr_core.specs.declared.kinds.Step.TheVariants as step
 use Rattle.pebr_core.specs.declared.machine.Core.TheInside.{Inside}
 use Rattle.pebr_core.specs.State.{Seat, State, has, seat_at, scan_of, found_at, no_scan, is_retired, is_out, slot_count}
-use Rattle.pebr_core.specs.Steps.{emptied, tag_with, after_note, after_pin, after_leave, after_look, after_pass}
-use Rattle.pebr_core.specs.Steps.{found_epoch, can_pass, epoch_of, ejected, is_seat, is_scanning, is_enabled, after}
+use Rattle.pebr_core.specs.Steps.{empty_set_below, tag_with, after_note, after_pin, after_leave, after_look, after_pass}
+use Rattle.pebr_core.specs.Steps.{found_epoch, can_pass, epoch_of, ejected_stance, is_seat, is_scanning, is_enabled}
+use Rattle.pebr_core.specs.Steps.{after}
 use Rattle.pebr_core.specs.Steps.{next, with_seat, with_scan, with_passed, with_look}
 use Rattle.pebr_core.specs.Entries.{noted_entry, pinned_entry, left_entry, passing_entry, finding_entry, can_pass_entry}
 use Rattle.pebr_core.specs.Entries.{looking_entry, ejected_entry}
@@ -45,16 +46,19 @@ noted-shown shape epoch entry room =
     } in
     let looked : map (λ _. None) entry.scan.looked ≡ replicate shape.seats None =
     map_same entry.scan.looked None ∙ ap (λ n. replicate n None) room.looked in
-    let passed : emptied entry.scan.passed ≡ replicate shape.seats false =
+    let passed : empty_set_below entry.scan.passed ≡ replicate shape.seats false =
     map_same entry.scan.passed false ∙ ap (λ n. replicate n false) room.passed in
-    let kept : emptied entry.scan.kept ≡ replicate (slot_count shape) false =
+    let kept : empty_set_below entry.scan.kept ≡ replicate (slot_count shape) false =
     map_same entry.scan.kept false ∙ ap (λ n. replicate n false) room.kept in
-    let scanned : map emptied entry.scan.scanned ≡ replicate shape.seats (replicate shape.shields false) =
+    let scanned : map empty_set_below entry.scan.scanned ≡ replicate shape.seats (replicate shape.shields false) =
     map_same_rows entry.scan.scanned false shape.shields (λ j lt. room.shields j (subst (λ n. j < n) room.scanned lt))
     ∙ ap (λ n. replicate n (replicate shape.shields false)) room.scanned in
-    ap (λ l. with l (emptied entry.scan.passed) (map emptied entry.scan.scanned) (emptied entry.scan.kept)) looked
-    ∙ (ap (λ p. with (replicate shape.seats None) p (map emptied entry.scan.scanned) (emptied entry.scan.kept)) passed
-    ∙ (ap (λ s. with (replicate shape.seats None) (replicate shape.seats false) s (emptied entry.scan.kept)) scanned
+    ap (λ l. with l (empty_set_below entry.scan.passed) (map empty_set_below entry.scan.scanned)
+    (empty_set_below entry.scan.kept)) looked
+    ∙ (ap (λ p. with (replicate shape.seats None) p (map empty_set_below entry.scan.scanned)
+    (empty_set_below entry.scan.kept)) passed
+    ∙ (ap (λ s. with (replicate shape.seats None) (replicate shape.seats false) s (empty_set_below entry.scan.kept))
+    scanned
     ∙ ap (λ k. with (replicate shape.seats None) (replicate shape.seats false)
     (replicate shape.seats (replicate shape.shields false)) k) kept))
 
@@ -65,8 +69,8 @@ noted-room shape epoch entry room = record {
       ∙ (length-map entry.retired (tag_with epoch) ∙ (sym (length-map entry.retired is_retired) ∙ room.candidates));
   looked = length-map entry.scan.looked (λ _. None) ∙ room.looked;
   passed = length-map entry.scan.passed (λ _. false) ∙ room.passed;
-  scanned = length-map entry.scan.scanned emptied ∙ room.scanned;
-  shields = λ j lt. ap length (get_or-map_default emptied entry.scan.scanned j [])
+  scanned = length-map entry.scan.scanned empty_set_below ∙ room.scanned;
+  shields = λ j lt. ap length (get_or-map_default empty_set_below entry.scan.scanned j [])
       ∙ (length-map (get_or entry.scan.scanned j []) (λ _. false) ∙ room.shields j lt);
   kept = length-map entry.scan.kept (λ _. false) ∙ room.kept;
 }
@@ -280,10 +284,12 @@ eject_done core state i j found other hit entry new held same enabled is_found r
     let j_inside : j < core.shape.seats = subst (λ n. j < n) (sym (ap (λ z. z.shape.seats) same)) parts.1 in
     let found_shown : found_epoch (seat_at shown i) j ≡ found =
     ap (λ z. found_epoch (seat_at z i) j) same ∙ ap (λ o. unwrap_or o 0) is_found in
-    let hit_shown : shown_seat hit ≡ record (seat_at shown j) { status = ejected found (seat_at shown j).status } =
-    ap shown_seat made_other ∙ ap (λ (seat : Seat). record seat { status = ejected found seat.status }) (sym known.0) in
+    let hit_shown : shown_seat hit
+    ≡ record (seat_at shown j) { status = ejected_stance found (seat_at shown j).status } =
+    ap shown_seat made_other
+    ∙ ap (λ (seat : Seat). record seat { status = ejected_stance found seat.status }) (sym known.0) in
     let mid : State =
-    with_seat shown j (record (seat_at shown j) { status = ejected found (seat_at shown j).status }) in
+    with_seat shown j (record (seat_at shown j) { status = ejected_stance found (seat_at shown j).status }) in
     let mid_shown : shown_state mid_core ≡ mid =
     shown_written core j hit ∙ ap (λ seat. with_seat shown j seat) hit_shown in
     let mid_sound : IsSound (shown_state mid_core) =
@@ -305,7 +311,7 @@ eject_done core state i j found other hit entry new held same enabled is_found r
     let shown_scanning : is_some (seat_at shown i).scan ≡ true = ap (λ z. is_some (seat_at z i).scan) same ∙ parts.2 in
     let mid_scanning : is_some (seat_at mid i).scan ≡ true =
     seat_changed (λ seat. is_some seat.scan ≡ true) shown j
-    (record (seat_at shown j) { status = ejected found (seat_at shown j).status }) i
+    (record (seat_at shown j) { status = ejected_stance found (seat_at shown j).status }) i
     (omega (arith, held.sound.shape.seats)) (λ e. subst (λ k. is_some (seat_at shown k).scan ≡ true) e shown_scanning)
     (λ _. shown_scanning) in
     let opened =
@@ -319,7 +325,7 @@ eject_done core state i j found other hit entry new held same enabled is_found r
     shown_written mid_core i new
     ∙ (ap (λ z. with_seat z i (shown_seat new)) mid_shown ∙ ap (λ seat. with_seat mid i seat) new_shown) in
     let found_mid : ℕ → State = λ f. with_seat shown j
-    (record (seat_at shown j) { status = ejected f (seat_at shown j).status }) in
+    (record (seat_at shown j) { status = ejected_stance f (seat_at shown j).status }) in
     let is_after : shown_state (written mid_core i new) ≡ after shown (step.Eject i j) =
     whole ∙ ap (λ f. with_seat (found_mid f) i (after_pass j (seat_at (found_mid f) i))) (sym found_shown) in
     let shown_enabled : is_enabled shown (step.Eject i j) ≡ true =

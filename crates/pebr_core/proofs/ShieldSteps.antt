@@ -12,7 +12,7 @@ use Rattle.pebr_core.specs.declared.kinds.ShieldAt.{ShieldAt}
 use Rattle.pebr_core.specs.declared.kinds.ShieldAt.TheVariants as shield
 use Rattle.pebr_core.specs.State.{Scan, Seat, State, has, seat_at, root_at, shield_at, retired_at, is_retired}
 use Rattle.pebr_core.specs.State.{slot_count, nobody}
-use Rattle.pebr_core.specs.Steps.{with_seat, validated, checked, after_load, after_shield, after_check}
+use Rattle.pebr_core.specs.Steps.{with_seat, validated_shield, checked_shields, after_load, after_shield, after_check}
 use Rattle.pebr_core.specs.Kept.{times_held, times_in, IsScanOf, HasSeenNoCandidate, IsSeatOfShape, IsSound}
 use Rattle.pebr_core.proofs.Marks.{set_anywhere, get_or-map_default, has-either, has-still_not}
 use Rattle.pebr_core.proofs.SeatChange.{Between, alone, between, seat_kept}
@@ -189,11 +189,11 @@ shield_sound state i place at sound inside low not_valid =
 -- Check
 
 -- a shield that is valid after a check was valid, or it was set on a slot that the seat has seen
-validated-valid : (seen : List Bool) (at : ShieldAt) (slot : ℕ) → validated seen at ≡ shield.Valid slot
+validated_shield-valid : (seen : List Bool) (at : ShieldAt) (slot : ℕ) → validated_shield seen at ≡ shield.Valid slot
     → (at ≡ shield.Valid slot) ⊎ ((at ≡ shield.Set slot) × (has seen slot ≡ true))
-validated-valid seen shield.Down slot e = absurd cc
-validated-valid seen (shield.Valid other) slot e = inl e
-validated-valid seen (shield.Set other) slot e = pick (has seen other) refl e
+validated_shield-valid seen shield.Down slot e = absurd cc
+validated_shield-valid seen (shield.Valid other) slot e = inl e
+validated_shield-valid seen (shield.Set other) slot e = pick (has seen other) refl e
   where
     pick : (b : Bool) → has seen other ≡ b → cond b (shield.Valid other) (shield.Set other) ≡ shield.Valid slot
         → (shield.Set other ≡ shield.Valid slot) ⊎ ((shield.Set other ≡ shield.Set slot) × (has seen slot ≡ true))
@@ -201,11 +201,11 @@ validated-valid seen (shield.Set other) slot e = pick (has seen other) refl e
         inr (ap (λ n. shield.Set n) same, ap (has seen) (sym same) ∙ seen_it)
     pick false not_seen k = absurd cc
 
-validated-set : (seen : List Bool) (at : ShieldAt) (slot : ℕ) → validated seen at ≡ shield.Set slot
+validated_shield-set : (seen : List Bool) (at : ShieldAt) (slot : ℕ) → validated_shield seen at ≡ shield.Set slot
     → at ≡ shield.Set slot
-validated-set seen shield.Down slot e = e
-validated-set seen (shield.Valid other) slot e = e
-validated-set seen (shield.Set other) slot e = pick (has seen other) e
+validated_shield-set seen shield.Down slot e = e
+validated_shield-set seen (shield.Valid other) slot e = e
+validated_shield-set seen (shield.Set other) slot e = pick (has seen other) e
   where
     pick : (b : Bool) → cond b (shield.Valid other) (shield.Set other) ≡ shield.Set slot
         → shield.Set other ≡ shield.Set slot
@@ -213,41 +213,43 @@ validated-set seen (shield.Set other) slot e = pick (has seen other) e
     pick false k = k
 
 -- a shield of a seat after a check
-checked-valid : (seat : Seat) (place slot : ℕ) → shield_at (after_check seat) place ≡ shield.Valid slot
+checked_shields-valid : (seat : Seat) (place slot : ℕ) → shield_at (after_check seat) place ≡ shield.Valid slot
     → (shield_at seat place ≡ shield.Valid slot)
     ⊎ ((shield_at seat place ≡ shield.Set slot)
     × ((epoch : ℕ) × (seat.status ≡ stance.In epoch) × (has seat.seen slot ≡ true)))
-checked-valid seat place slot = pick seat.status
+checked_shields-valid seat place slot = pick seat.status
   where
-    pick : (status : Stance) → get_or (checked status seat.seen seat.shields) place shield.Down ≡ shield.Valid slot
+    pick : (status : Stance) → get_or (checked_shields status seat.seen seat.shields) place shield.Down
+        ≡ shield.Valid slot
         → (shield_at seat place ≡ shield.Valid slot)
         ⊎ ((shield_at seat place ≡ shield.Set slot)
         × ((epoch : ℕ) × (status ≡ stance.In epoch) × (has seat.seen slot ≡ true)))
     pick stance.Out e = inl e
     pick (stance.Ejected epoch) e = inl e
     pick (stance.In epoch) e =
-        elim (validated-valid seat.seen (shield_at seat place) slot
-        (sym (get_or-map_default (validated seat.seen) seat.shields place shield.Down) ∙ e)) [
+        elim (validated_shield-valid seat.seen (shield_at seat place) slot
+        (sym (get_or-map_default (validated_shield seat.seen) seat.shields place shield.Down) ∙ e)) [
           | inl old ↦ inl old
           | inr new ↦ inr (new.0, (epoch, refl, new.1))
         ]
 
-checked-set : (seat : Seat) (place slot : ℕ) → shield_at (after_check seat) place ≡ shield.Set slot
+checked_shields-set : (seat : Seat) (place slot : ℕ) → shield_at (after_check seat) place ≡ shield.Set slot
     → shield_at seat place ≡ shield.Set slot
-checked-set seat place slot = pick seat.status
+checked_shields-set seat place slot = pick seat.status
   where
-    pick : (status : Stance) → get_or (checked status seat.seen seat.shields) place shield.Down ≡ shield.Set slot
+    pick : (status : Stance) → get_or (checked_shields status seat.seen seat.shields) place shield.Down
+        ≡ shield.Set slot
         → shield_at seat place ≡ shield.Set slot
     pick stance.Out e = e
     pick (stance.Ejected epoch) e = e
-    pick (stance.In epoch) e = validated-set seat.seen (shield_at seat place) slot
-        (sym (get_or-map_default (validated seat.seen) seat.shields place shield.Down) ∙ e)
+    pick (stance.In epoch) e = validated_shield-set seat.seen (shield_at seat place) slot
+        (sym (get_or-map_default (validated_shield seat.seen) seat.shields place shield.Down) ∙ e)
 
 checked-length : (status : Stance) (seen : List Bool) (shields : List ShieldAt)
-    → length (checked status seen shields) ≡ length shields
+    → length (checked_shields status seen shields) ≡ length shields
 checked-length stance.Out seen shields = refl
 checked-length (stance.Ejected epoch) seen shields = refl
-checked-length (stance.In epoch) seen shields = length-map shields (validated seen)
+checked-length (stance.In epoch) seen shields = length-map shields (validated_shield seen)
 
 check-shape : (shape : Shape) (seat : Seat) → IsSeatOfShape shape seat → IsSeatOfShape shape (after_check seat)
 check-shape shape seat h = record {
@@ -256,15 +258,15 @@ check-shape shape seat h = record {
   fresh = h.fresh;
   retired = h.retired;
   scan = h.scan;
-  set = λ place slot e. h.set place slot (checked-set seat place slot e);
-  valid = λ place slot e. elim (checked-valid seat place slot e)
+  set = λ place slot e. h.set place slot (checked_shields-set seat place slot e);
+  valid = λ place slot e. elim (checked_shields-valid seat place slot e)
       [ inl old ↦ h.valid place slot old | inr new ↦ h.set place slot new.0 ];
 }
 
 check-between : (owner : Seat) (j : ℕ) (reader : Seat) → Between owner j reader → Between owner j (after_check reader)
 check-between owner j reader h = (
   λ s uses. elim uses [
-    | inl valid ↦ elim (checked-valid reader valid.0 s valid.1) as (λ _. has owner.fresh s ≡ false) [
+    | inl valid ↦ elim (checked_shields-valid reader valid.0 s valid.1) as (λ _. has owner.fresh s ≡ false) [
       | inl old ↦ h.0 s (inl (valid.0, old))
       | inr new ↦ h.0 s (inr new.1)
     ]
@@ -272,7 +274,7 @@ check-between owner j reader h = (
   ],
   h.1,
   h.2,
-  λ scan e place s passed valid candidate scanned. elim (checked-valid reader place s valid) as
+  λ scan e place s passed valid candidate scanned. elim (checked_shields-valid reader place s valid) as
       (λ _. has scan.kept s ≡ true) [
         | inl old ↦ h.3 scan e place s passed old candidate scanned
         | inr new ↦ absurd (false≢true (sym (h.2 scan e passed new.1.0 new.1.1 s candidate) ∙ new.1.2))

@@ -10,28 +10,33 @@ use Rattle.pebr_core.specs.declared.seats.ScanData.{ScanData}
 use Rattle.pebr_core.specs.declared.seats.SeatData.{SeatData}
 use Rattle.pebr_core.specs.State.{is_retired}
 use Rattle.pebr_core.specs.Marks.{given_marks}
-use Rattle.pebr_core.specs.Steps.{emptied, tag_with, can_pass, epoch_of, ejected, checked, united, released}
+use Rattle.pebr_core.specs.Steps.{empty_set_below, tag_with, can_pass, epoch_of, ejected_stance, checked_shields}
+use Rattle.pebr_core.specs.Steps.{union_of, slots_without}
 
 -- the room of a scan, emptied for the next
-abbrev pub reopened : ScanData → ScanData
-reopened scan = record {
+abbrev pub reopened_scan : ScanData → ScanData
+reopened_scan scan = record {
   is_open = true;
   looked = map (λ _. None) scan.looked;
-  passed = emptied scan.passed;
-  scanned = map emptied scan.scanned;
-  kept = emptied scan.kept;
+  passed = empty_set_below scan.passed;
+  scanned = map empty_set_below scan.scanned;
+  kept = empty_set_below scan.kept;
 }
 
 abbrev pub noted_entry : ℕ → SeatData → SeatData
 noted_entry epoch seat =
-    record seat { noted = epoch; retired = map (tag_with epoch) seat.retired; scan = reopened seat.scan }
+    record seat { noted = epoch; retired = map (tag_with epoch) seat.retired; scan = reopened_scan seat.scan }
 
 abbrev pub pinned_entry : SeatData → SeatData
 pinned_entry seat =
-    record seat { status = stance.In seat.noted; seen = emptied seat.seen; scan = record seat.scan { is_open = false } }
+    record seat {
+      status = stance.In seat.noted;
+      seen = empty_set_below seat.seen;
+      scan = record seat.scan { is_open = false };
+    }
 
 abbrev pub left_entry : SeatData → SeatData
-left_entry seat = record seat { status = stance.Out; seen = emptied seat.seen }
+left_entry seat = record seat { status = stance.Out; seen = empty_set_below seat.seen }
 
 -- the scan passes another seat
 abbrev pub passing_entry : ℕ → SeatData → SeatData
@@ -50,7 +55,7 @@ looking_entry other status seat =
     if can_pass_entry seat status then passing_entry other seat else finding_entry other (epoch_of status) seat
 
 abbrev pub ejected_entry : ℕ → SeatData → SeatData
-ejected_entry found seat = record seat { status = ejected found seat.status }
+ejected_entry found seat = record seat { status = ejected_stance found seat.status }
 
 abbrev pub loaded_entry : ℕ → SeatData → SeatData
 loaded_entry slot seat = record seat { seen = slice_set seat.seen slot true }
@@ -59,7 +64,7 @@ abbrev pub shielded_entry : ℕ → ShieldAt → SeatData → SeatData
 shielded_entry place at seat = record seat { shields = slice_set seat.shields place at }
 
 abbrev pub checked_entry : SeatData → SeatData
-checked_entry seat = record seat { shields = checked seat.status seat.seen seat.shields }
+checked_entry seat = record seat { shields = checked_shields seat.status seat.seen seat.shields }
 
 abbrev pub replaced_entry : ℕ → ℕ → SeatData → SeatData
 replaced_entry old new seat =
@@ -82,7 +87,7 @@ scanned_entry other place slot seat = record seat {
 abbrev pub given_entry : ℕ → SeatData → SeatData
 given_entry epoch seat = record seat {
   noted = epoch;
-  fresh = united seat.fresh (given_marks seat.retired seat.scan.kept);
-  retired = released seat.retired (given_marks seat.retired seat.scan.kept);
+  fresh = union_of seat.fresh (given_marks seat.retired seat.scan.kept);
+  retired = slots_without seat.retired (given_marks seat.retired seat.scan.kept);
   scan = record seat.scan { is_open = false };
 }

@@ -24,8 +24,8 @@ abbrev pub last_epoch : ℕ
 last_epoch = 2 ^ 60
 
 -- the empty set, below the same bound
-abbrev pub emptied : List Bool → List Bool
-emptied marks = map (λ _. false) marks
+abbrev pub empty_set_below : List Bool → List Bool
+empty_set_below marks = map (λ _. false) marks
 
 -- a retired slot without a tag gets this one
 abbrev pub tag_with : ℕ → Retired → Retired
@@ -72,8 +72,8 @@ is_in_at epoch (stance.Ejected other) = false
 is_in_at epoch (stance.In other) = other == epoch
 
 -- the status after an attempt to eject a seat that was found in with this epoch
-abbrev pub ejected : ℕ → Stance → Stance
-ejected epoch status = if is_in_at epoch status then stance.Ejected epoch else status
+abbrev pub ejected_stance : ℕ → Stance → Stance
+ejected_stance epoch status = if is_in_at epoch status then stance.Ejected epoch else status
 
 -- a change of one seat
 abbrev pub with_seat : State → ℕ → Seat → State
@@ -101,16 +101,16 @@ with_kept scan (Some slot) = if has scan.candidates slot then record scan { kept
     else scan
 
 -- a shield that is set on a slot of this set becomes valid
-abbrev pub validated : List Bool → ShieldAt → ShieldAt
-validated seen shield.Down = shield.Down
-validated seen (shield.Set slot) = if has seen slot then shield.Valid slot else shield.Set slot
-validated seen (shield.Valid slot) = shield.Valid slot
+abbrev pub validated_shield : List Bool → ShieldAt → ShieldAt
+validated_shield seen shield.Down = shield.Down
+validated_shield seen (shield.Set slot) = if has seen slot then shield.Valid slot else shield.Set slot
+validated_shield seen (shield.Valid slot) = shield.Valid slot
 
 -- the shields of a seat with this status after a check
-abbrev pub checked : Stance → List Bool → List ShieldAt → List ShieldAt
-checked stance.Out seen shields = shields
-checked (stance.In epoch) seen shields = map (validated seen) shields
-checked (stance.Ejected epoch) seen shields = shields
+abbrev pub checked_shields : Stance → List Bool → List ShieldAt → List ShieldAt
+checked_shields stance.Out seen shields = shields
+checked_shields (stance.In epoch) seen shields = map (validated_shield seen) shields
+checked_shields (stance.Ejected epoch) seen shields = shields
 
 -- the numbers of the first set that aren't in the second
 abbrev pub without : List Bool → List Bool → List Bool
@@ -119,16 +119,16 @@ without (mark ∷ marks) [] = mark ∷ marks
 without (mark ∷ marks) (other ∷ others) = (mark && not other) ∷ without marks others
 
 -- the numbers of either set
-abbrev pub united : List Bool → List Bool → List Bool
-united [] others = others
-united (mark ∷ marks) [] = mark ∷ marks
-united (mark ∷ marks) (other ∷ others) = (mark || other) ∷ united marks others
+abbrev pub union_of : List Bool → List Bool → List Bool
+union_of [] others = others
+union_of (mark ∷ marks) [] = mark ∷ marks
+union_of (mark ∷ marks) (other ∷ others) = (mark || other) ∷ union_of marks others
 
 -- the retired slots without those of a set
-abbrev pub released : List Retired → List Bool → List Retired
-released [] marks = []
-released (slot ∷ slots) [] = slot ∷ slots
-released (slot ∷ slots) (mark ∷ marks) = (if mark then retire.No else slot) ∷ released slots marks
+abbrev pub slots_without : List Retired → List Bool → List Retired
+slots_without [] marks = []
+slots_without (slot ∷ slots) [] = slot ∷ slots
+slots_without (slot ∷ slots) (mark ∷ marks) = (if mark then retire.No else slot) ∷ slots_without slots marks
 
 -- each number below a bound passes
 abbrev pub each_below : ℕ → (ℕ → Bool) → Bool
@@ -150,10 +150,10 @@ after_note shape epoch seat = record seat {
 }
 
 abbrev pub after_pin : Seat → Seat
-after_pin seat = record seat { status = stance.In seat.noted; seen = emptied seat.seen; scan = None }
+after_pin seat = record seat { status = stance.In seat.noted; seen = empty_set_below seat.seen; scan = None }
 
 abbrev pub after_leave : Seat → Seat
-after_leave seat = record seat { status = stance.Out; seen = emptied seat.seen }
+after_leave seat = record seat { status = stance.Out; seen = empty_set_below seat.seen }
 
 abbrev pub after_look : ℕ → Stance → Seat → Seat
 after_look other status seat =
@@ -171,7 +171,7 @@ abbrev pub after_shield : ℕ → ShieldAt → Seat → Seat
 after_shield place at seat = record seat { shields = slice_set seat.shields place at }
 
 abbrev pub after_check : Seat → Seat
-after_check seat = record seat { shields = checked seat.status seat.seen seat.shields }
+after_check seat = record seat { shields = checked_shields seat.status seat.seen seat.shields }
 
 abbrev pub after_replace : ℕ → ℕ → Seat → Seat
 after_replace old new seat =
@@ -181,14 +181,14 @@ abbrev pub after_scan : ℕ → ℕ → Option ℕ → Seat → Seat
 after_scan other place slot seat = with_scan seat (with_kept (with_scanned (scan_of seat) other place) slot)
 
 -- the candidates that aren't kept
-abbrev pub given : Seat → List Bool
-given seat = without (scan_of seat).candidates (scan_of seat).kept
+abbrev pub given_slots : Seat → List Bool
+given_slots seat = without (scan_of seat).candidates (scan_of seat).kept
 
 abbrev pub after_give : ℕ → Seat → Seat
 after_give epoch seat = record seat {
   noted = epoch;
-  fresh = united seat.fresh (given seat);
-  retired = released seat.retired (given seat);
+  fresh = union_of seat.fresh (given_slots seat);
+  retired = slots_without seat.retired (given_slots seat);
   scan = None;
 }
 
@@ -261,7 +261,7 @@ after state (step.Look i j) = with_seat state i (after_look j (seat_at state j).
 after state (step.Eject i j) =
     let other = seat_at state j in
     let found = found_epoch (seat_at state i) j in
-    let mid = with_seat state j (record other { status = ejected found other.status }) in
+    let mid = with_seat state j (record other { status = ejected_stance found other.status }) in
     with_seat mid i (after_pass j (seat_at mid i))
 after state (step.Load i root) = with_seat state i (after_load (root_at state root) (seat_at state i))
 after state (step.Shield i place slot) = with_seat state i (after_shield place (shield.Set slot) (seat_at state i))
@@ -312,7 +312,8 @@ answer_of state (step.Replace i root old new) = if root_at state root == old the
 answer_of state (step.Scan i j place) = found_under (slot_under (shield_at (seat_at state j) place))
 answer_of state (step.Give i) =
     let seat = seat_at state i in
-    answer.Given (count_by (λ mark. mark) (given seat)) (count_by is_retired (after_give state.epoch seat).retired)
+    answer.Given (count_by (λ mark. mark) (given_slots seat))
+    (count_by is_retired (after_give state.epoch seat).retired)
 
 -- a step from a state: the answer and the state after it, or no answer and the same state where it isn't enabled
 abbrev pub next : State → Step → Option Answer × State

@@ -9,7 +9,8 @@ ghost use Rattle.pebr_core.specs.declared.kinds.Step.{Step};
 ghost use Rattle.pebr_core.specs.declared.kinds.Step.TheVariants as step;
 ghost use Rattle.pebr_core.specs.State.{State, Seat, start_state, slot_count, seat_at, has, scan_of, found_at};
 ghost use Rattle.pebr_core.specs.State.{retired_at, root_at, is_retired, shield_at};
-ghost use Rattle.pebr_core.specs.Steps.{is_enabled, is_shielded, after, given, after_note, after_look, after_pass};
+ghost use Rattle.pebr_core.specs.Steps.{is_enabled, is_shielded, after, given_slots, after_note, after_look};
+ghost use Rattle.pebr_core.specs.Steps.{after_pass};
 ghost use Rattle.pebr_core.specs.Steps.{after_scan, after_give};
 ghost use Rattle.pebr_core.specs.Kept.{IsSound};
 ghost use Rattle.pebr_core.specs.Frames.{seat_of, LeavesTheRest, UsesBeginAtLoad, LeavesShields, IsFreshAlone};
@@ -79,11 +80,11 @@ pub fn kept_slots_are_counted()
     ensures left { (state : State) (i epoch : ℕ) → IsSound state → IsTrue (is_enabled state (step.Give i))
         → retired_count (after_give epoch (seat_at state i)) ≡ kept_count (seat_at state i) }
     ensures given { (state : State) (i epoch : ℕ) → IsSound state → IsTrue (is_enabled state (step.Give i))
-        → count_by (λ mark. mark) (given (seat_at state i)) + kept_count (seat_at state i)
+        → count_by (λ mark. mark) (given_slots (seat_at state i)) + kept_count (seat_at state i)
         ≡ retired_count (seat_at state i) }
     ensures fresh { (state : State) (i epoch : ℕ) → IsSound state → IsTrue (is_enabled state (step.Give i))
         → fresh_count (after_give epoch (seat_at state i))
-        ≡ fresh_count (seat_at state i) + count_by (λ mark. mark) (given (seat_at state i)) }
+        ≡ fresh_count (seat_at state i) + count_by (λ mark. mark) (given_slots (seat_at state i)) }
 {}
 
 /// Other words of the same lengths keep a state sound. So a start with given contents is sound.

@@ -5,7 +5,7 @@ ghost use Rattle.std.specs.Prelude.{slice_set, count_by, if◌then◌else◌};
 ghost use Rattle.pebr_core.specs.declared.kinds.Retired.{Retired};
 ghost use Rattle.pebr_core.specs.declared.kinds.Retired.TheVariants as retire;
 ghost use Rattle.pebr_core.specs.State.{has, is_retired};
-ghost use Rattle.pebr_core.specs.Steps.{tag_with, is_above_tags, united, released};
+ghost use Rattle.pebr_core.specs.Steps.{tag_with, is_above_tags, union_of, slots_without};
 ghost use Rattle.pebr_core.specs.Marks.{given_marks};
 
 use crate::kinds::Retired;
@@ -100,16 +100,16 @@ impl RetiredSlots {
 
     /// Takes out the retired slots that aren't in a set.
     pub fn release(&mut self, kept: &Row<bool>)
-        ensures { self.new ≡ released self.old (given_marks self.old kept.now) }
+        ensures { self.new ≡ slots_without self.old (given_marks self.old kept.now) }
     {
         for slot in 0..self.len() {
-            let retired = self.released(kept, slot);
+            let retired = self.slot_without(kept, slot);
             self.put(slot, retired);
         }
     }
 
     /// What a slot is once the retired slots that aren't in a set are taken out.
-    fn released(&self, kept: &Row<bool>, slot: usize) -> Retired
+    fn slot_without(&self, kept: &Row<bool>, slot: usize) -> Retired
         ensures { result ≡ (if has (given_marks self.now kept.now) slot then retire.No
             else slice_index_or self.now slot retire.No) }
     {
@@ -123,7 +123,7 @@ impl RetiredSlots {
     /// Adds the retired slots that aren't in a set to another.
     pub fn add_outside(&self, kept: &Row<bool>, marks: &mut Row<bool>)
         requires { length marks.old ≡ length self.now }
-        ensures { marks.new ≡ united marks.old (given_marks self.now kept.now) }
+        ensures { marks.new ≡ union_of marks.old (given_marks self.now kept.now) }
     {
         for slot in 0..self.len() {
             if self.is_outside(kept, slot) {
@@ -163,7 +163,7 @@ fn is_retired(slot: Retired) -> bool
 }
 
 /// A slot behind a Note of this epoch: one that has no tag gets the epoch as its tag.
-fn tagged(slot: Retired, epoch: u64) -> Retired
+fn slot_with_tag(slot: Retired, epoch: u64) -> Retired
     ensures { result ≡ tag_with epoch slot }
 {
     match slot {
@@ -178,7 +178,7 @@ fn tag_all(slots: &mut [Retired], epoch: u64)
     ensures { slots.new ≡ map (tag_with epoch) slots.old }
 {
     for slot in slots.iter_mut() {
-        *slot = tagged(*slot, epoch);
+        *slot = slot_with_tag(*slot, epoch);
     }
 }
 

@@ -20,7 +20,7 @@ impl<T> Model for Row<T> {
 
 impl<T: Copy> Row<T> {
     /// `count` copies of `value`.
-    pub fn filled(alloc: Global, count: usize, value: T) -> Result<Row<T>, NoMemory>
+    pub fn with_copies(alloc: Global, count: usize, value: T) -> Result<Row<T>, NoMemory>
         ensures { IfOk result (λ row. row ≡ replicate count value) }
     {
         let mut entries = Vec::new(alloc);
@@ -80,12 +80,17 @@ impl<T> Model for Grid<T> {
 
 impl<T: Copy + Drop> Grid<T> {
     /// `count` rows of `width` copies of `value`.
-    pub fn filled(alloc: Global, count: usize, width: usize, value: T) -> Result<Grid<T>, NoMemory>
+    pub fn with_copies(
+        alloc: Global,
+        count: usize,
+        width: usize,
+        value: T,
+    ) -> Result<Grid<T>, NoMemory>
         ensures { IfOk result (λ grid. grid ≡ replicate count (replicate width value)) }
     {
         let mut rows = Vec::new(alloc);
         for _ in 0..count {
-            let row = Row::filled(alloc, width, value)?;
+            let row = Row::with_copies(alloc, width, value)?;
             rows.push(row)?;
         }
         Ok(Grid { rows })

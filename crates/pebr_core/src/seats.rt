@@ -4,7 +4,8 @@ ghost use Rattle.std.specs.Prelude.{◌≡◌, true, false, [], ◌&&◌, ◌||�
 ghost use Rattle.std.specs.Prelude.{if◌then◌else◌};
 ghost use Rattle.std.specs.List.{list_any, list_all};
 ghost use Rattle.pebr_core.specs.State.{has, scan_of, has_scanned, is_retired, is_valid_on, is_down};
-ghost use Rattle.pebr_core.specs.Steps.{can_pass, epoch_of, is_in_at, check_answer, validated, each_below, is_complete};
+ghost use Rattle.pebr_core.specs.Steps.{can_pass, epoch_of, is_in_at, check_answer, validated_shield, each_below};
+ghost use Rattle.pebr_core.specs.Steps.{is_complete};
 ghost use Rattle.pebr_core.specs.Marks.{given_marks};
 
 use crate::kinds::{Answer, Retired, Shape, ShieldAt, Stance};
@@ -46,11 +47,11 @@ pub struct SeatData {
 }
 
 impl ScanData {
-    ghost use Rattle.pebr_core.specs.Entries.{reopened};
+    ghost use Rattle.pebr_core.specs.Entries.{reopened_scan};
 
     /// Opens a scan that has looked at nobody.
     fn reopen(&mut self)
-        ensures { self.new ≡ reopened self.old }
+        ensures { self.new ≡ reopened_scan self.old }
     {
         self.is_open = true;
         self.looked.fill(None);
@@ -276,8 +277,8 @@ impl SeatData {
 }
 
 /// The shield after a check of a seat that has seen these slots.
-fn validated(at: ShieldAt, seen: &Row<bool>) -> ShieldAt
-    ensures { result ≡ validated seen.now at }
+fn validated_shield(at: ShieldAt, seen: &Row<bool>) -> ShieldAt
+    ensures { result ≡ validated_shield seen.now at }
 {
     match at {
         ShieldAt::Set(slot) if seen.get(slot, false) => ShieldAt::Valid(slot),
@@ -289,10 +290,10 @@ fn validated(at: ShieldAt, seen: &Row<bool>) -> ShieldAt
 
 /// Makes the shields that are set on slots of this set valid.
 fn validate(shields: &mut Row<ShieldAt>, seen: &Row<bool>)
-    ensures { shields.new ≡ map (validated seen.now) shields.old }
+    ensures { shields.new ≡ map (validated_shield seen.now) shields.old }
 {
     for place in 0..shields.len() {
-        let at = validated(shields.get(place, ShieldAt::Down), seen);
+        let at = validated_shield(shields.get(place, ShieldAt::Down), seen);
         shields.set(place, at);
     }
 }

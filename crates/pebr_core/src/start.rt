@@ -18,7 +18,7 @@ use std::alloc::Global;
 fn first_roots(alloc: Global, count: usize) -> Result<Row<usize>, NoMemory>
     ensures { IfOk result (λ roots. roots ≡ range_with_len 0 count) }
 {
-    let mut roots = Row::filled(alloc, count, 0)?;
+    let mut roots = Row::with_copies(alloc, count, 0)?;
     for root in 0..count {
         roots.set(root, root);
     }
@@ -34,7 +34,7 @@ fn first_fresh(alloc: Global, shape: &Shape, seat: usize) -> Result<Row<bool>, N
 {
     let share = shape.slots_per_seat();
     let first = shape.roots + seat * share;
-    let mut fresh = Row::filled(alloc, shape.slot_count(), false)?;
+    let mut fresh = Row::with_copies(alloc, shape.slot_count(), false)?;
     for slot in first..first + share {
         fresh.set(slot, true);
     }
@@ -52,16 +52,16 @@ fn first_entry(alloc: Global, shape: &Shape, seat: usize) -> Result<SeatData, No
     Ok(SeatData {
         status: Stance::Out,
         noted: 0,
-        seen: Row::filled(alloc, slots, false)?,
-        shields: Row::filled(alloc, shape.shields, ShieldAt::Down)?,
+        seen: Row::with_copies(alloc, slots, false)?,
+        shields: Row::with_copies(alloc, shape.shields, ShieldAt::Down)?,
         fresh: first_fresh(alloc, shape, seat)?,
         retired: RetiredSlots::none(alloc, slots)?,
         scan: ScanData {
             is_open: false,
-            looked: Row::filled(alloc, shape.seats, None)?,
-            passed: Row::filled(alloc, shape.seats, false)?,
-            scanned: Grid::filled(alloc, shape.seats, shape.shields, false)?,
-            kept: Row::filled(alloc, slots, false)?,
+            looked: Row::with_copies(alloc, shape.seats, None)?,
+            passed: Row::with_copies(alloc, shape.seats, false)?,
+            scanned: Grid::with_copies(alloc, shape.seats, shape.shields, false)?,
+            kept: Row::with_copies(alloc, slots, false)?,
         },
     })
 }
@@ -102,7 +102,7 @@ impl Core {
         ensures { IfOk result (λ core. core ≡ start_state shape) }
     {
         let roots = first_roots(alloc, shape.roots)?;
-        let words = Grid::filled(alloc, shape.slot_count(), shape.width, 0)?;
+        let words = Grid::with_copies(alloc, shape.slot_count(), shape.width, 0)?;
         let seats = first_seats(alloc, &shape)?;
         Ok(Core {
             shape,

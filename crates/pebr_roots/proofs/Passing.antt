@@ -16,7 +16,7 @@ use Rattle.pebr_core.specs.declared.kinds.ShieldAt.TheVariants as shield
 use Rattle.pebr_core.specs.declared.kinds.Step.{Step}
 use Rattle.pebr_core.specs.declared.kinds.Answer.{Answer}
 use Rattle.pebr_core.specs.State.{State, Seat, has, seat_at, is_down, shield_at, slot_under, slots_per_seat}
-use Rattle.pebr_core.specs.Steps.{is_enabled, after, validated, checked, after_shield, is_shielded}
+use Rattle.pebr_core.specs.Steps.{is_enabled, after, validated_shield, checked_shields, after_shield, is_shielded}
 use Rattle.pebr_core.specs.Kept.{IsSound, held_count}
 use Rattle.pebr_core.specs.Frames.{seat_of, LeavesTheRest}
 use Rattle.pebr_core.specs.declared.kinds.Step.TheVariants as step
@@ -60,7 +60,7 @@ least_inside (false ∷ marks) h = let r =
 
 -- a check moves no shield
 
-slot_validated : (seen : List Bool) (s : ShieldAt) → slot_under (validated seen s) ≡ slot_under s
+slot_validated : (seen : List Bool) (s : ShieldAt) → slot_under (validated_shield seen s) ≡ slot_under s
 slot_validated seen shield.Down = refl
 slot_validated seen (shield.Set slot) = one (has seen slot)
   where
@@ -70,14 +70,14 @@ slot_validated seen (shield.Set slot) = one (has seen slot)
 slot_validated seen (shield.Valid slot) = refl
 
 all_validated : (seen : List Bool) (shields : List ShieldAt) (place : ℕ)
-    → slot_under (get_or (map (validated seen) shields) place shield.Down)
+    → slot_under (get_or (map (validated_shield seen) shields) place shield.Down)
     ≡ slot_under (get_or shields place shield.Down)
 all_validated seen [] place = refl
 all_validated seen (s ∷ shields) zero = slot_validated seen s
 all_validated seen (s ∷ shields) (suc place) = all_validated seen shields place
 
 slot_checked : (status : Stance) (seen : List Bool) (shields : List ShieldAt) (place : ℕ)
-    → slot_under (get_or (checked status seen shields) place shield.Down)
+    → slot_under (get_or (checked_shields status seen shields) place shield.Down)
     ≡ slot_under (get_or shields place shield.Down)
 slot_checked stance.Out seen shields place = refl
 slot_checked (stance.In epoch) seen shields place = all_validated seen shields place

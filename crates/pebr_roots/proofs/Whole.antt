@@ -16,7 +16,8 @@ use Rattle.pebr_core.specs.declared.kinds.Answer.{Answer}
 use Rattle.pebr_core.specs.declared.kinds.Answer.TheVariants as answer
 use Rattle.pebr_core.specs.State.{State, Seat, nobody, has, scan_of, has_scanned, seat_at, is_out, is_retired}
 use Rattle.pebr_core.specs.State.{slots_per_seat}
-use Rattle.pebr_core.specs.Steps.{is_scanning, is_enabled, after, after_note, after_give, given, tag_with, last_epoch}
+use Rattle.pebr_core.specs.Steps.{is_scanning, is_enabled, after, after_note, after_give, given_slots, tag_with}
+use Rattle.pebr_core.specs.Steps.{last_epoch}
 use Rattle.pebr_core.specs.Kept.{IsSound, held_count}
 use Rattle.pebr_core.specs.Frames.{kept_count, fresh_count, retired_count}
 use Rattle.pebr_words.specs.Making.{IsStepOf, IsAsKnown}
@@ -89,11 +90,11 @@ pub record GiveLaws : Type 0 where
   pub left_law : (state : State) (i epoch : ℕ) → IsSound state → IsTrue (is_enabled state (step.Give i))
       → retired_count (after_give epoch (seat_at state i)) ≡ kept_count (seat_at state i)
   pub given_law : (state : State) (i epoch : ℕ) → IsSound state → IsTrue (is_enabled state (step.Give i))
-      → count_by (λ mark. mark) (given (seat_at state i)) + kept_count (seat_at state i)
+      → count_by (λ mark. mark) (given_slots (seat_at state i)) + kept_count (seat_at state i)
       ≡ retired_count (seat_at state i)
   pub fresh_law : (state : State) (i epoch : ℕ) → IsSound state → IsTrue (is_enabled state (step.Give i))
       → fresh_count (after_give epoch (seat_at state i))
-      ≡ fresh_count (seat_at state i) + count_by (λ mark. mark) (given (seat_at state i))
+      ≡ fresh_count (seat_at state i) + count_by (λ mark. mark) (given_slots (seat_at state i))
 
 abbrev given_in : Answer → ℕ
 given_in (answer.Given a b) = a
@@ -115,7 +116,7 @@ module _ (laws : GiveLaws) (shape : Shape) (me many left : ℕ) (scanned new : S
   is_known : seat_at made.core me ≡ scanned
   is_known = as_known scanned (seat_at made.core me) out made.before
 
-  many_raw : many ≡ count_by (λ mark. mark) (given (seat_at made.core me))
+  many_raw : many ≡ count_by (λ mark. mark) (given_slots (seat_at made.core me))
   many_raw = ap given_in made.answered
 
   left_raw : left ≡ retired_count (after_give made.core.epoch (seat_at made.core me))

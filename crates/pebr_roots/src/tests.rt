@@ -334,7 +334,7 @@ fn two(alloc: Global) -> Result<(Roots<Free>, RootPass<Free>, RootPass<Free>), N
 }
 
 /// The content of the root, after both passes were made one.
-fn ended(
+fn content_at_end(
     roots: Roots<Free>,
     alloc: Global,
     first: RootPass<Free>,
@@ -358,7 +358,7 @@ fn a_reader_keeps_its_slot(rt: HostRuntime) {
         panic!(rt; "no memory");
     };
     assert!(rt; ejected_after_its_check(&roots, &mut first, &mut second));
-    let Ok(content) = ended(roots, alloc, first, second) else {
+    let Ok(content) = content_at_end(roots, alloc, first, second) else {
         panic!(rt; "no memory");
     };
     assert_eq!(rt; content, 7);
@@ -371,7 +371,7 @@ fn a_collection_leaves_one(rt: HostRuntime) {
         panic!(rt; "no memory");
     };
     assert!(rt; all_but_one_are_given(&roots, &mut first, &mut second));
-    let Ok(content) = ended(roots, alloc, first, second) else {
+    let Ok(content) = content_at_end(roots, alloc, first, second) else {
         panic!(rt; "no memory");
     };
     assert_eq!(rt; content, 9);
@@ -402,9 +402,9 @@ fn a_pass_is_stopped_behind_each_call(rt: HostRuntime) {
     }
 }
 
-fn shared<T: Sync>(_value: &T) {}
+fn check_sync<T: Sync>(_value: &T) {}
 
-fn moved<T: Send>(value: T) -> T {
+fn check_send<T: Send>(value: T) -> T {
     value
 }
 
@@ -414,8 +414,8 @@ fn threads_share_roots(rt: HostRuntime) {
     let Ok((roots, first, second)) = two(alloc) else {
         panic!(rt; "no memory");
     };
-    shared(&roots);
-    let first = moved(first);
+    check_sync(&roots);
+    let first = check_send(first);
     assert_eq!(rt; (first.fresh(), first.retired()), (3, 0));
     assert_eq!(rt; second.fresh(), 3);
 }

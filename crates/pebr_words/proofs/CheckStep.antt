@@ -20,21 +20,22 @@ use Rattle.pebr_words.proofs.Signs.{seat_signs}
 use Rattle.pebr_words.proofs.StepLemmas.{and_true, in_list, is_one, in_known, own_made, status_known}
 use Rattle.pebr_words.proofs.Makes.{kept_same}
 use Rattle.pebr_words.proofs.Recalling.{recalls_same}
-use Rattle.pebr_core.specs.Steps.{after_check, validated, checked, check_answer}
+use Rattle.pebr_core.specs.Steps.{after_check, validated_shield, checked_shields, check_answer}
 use Rattle.pebr_core.specs.declared.kinds.ShieldAt.{ShieldAt}
 use Rattle.pebr_words.proofs.Stances.{stance_told}
-use Rattle.pebr_words.specs.Pasts.{Lost, was_ejected, is_ejected, remembered}
+use Rattle.pebr_words.specs.Pasts.{Lost, was_ejected, is_ejected, history_after}
 use Rattle.pebr_words.specs.Facts.{IsBefore}
 use Rattle.std.proofs.Common.{map}
 
 -- a check changes no slot that a shield stands on
 checked_number : (status : Stance) (seen : List Bool) (shields : List ShieldAt) (k : ℕ)
-    → shield_number (get_or (checked status seen shields) k shield.Down) ≡ shield_number (get_or shields k shield.Down)
+    → shield_number (get_or (checked_shields status seen shields) k shield.Down)
+    ≡ shield_number (get_or shields k shield.Down)
 checked_number stance.Out seen shields k = refl
 checked_number (stance.Ejected epoch) seen shields k = refl
 checked_number (stance.In epoch) seen shields k = each shields k
   where
-    one : (at : ShieldAt) → shield_number (validated seen at) ≡ shield_number at
+    one : (at : ShieldAt) → shield_number (validated_shield seen at) ≡ shield_number at
     one shield.Down = refl
     one (shield.Valid slot) = refl
     one (shield.Set slot) = pick (has seen slot)
@@ -44,7 +45,7 @@ checked_number (stance.In epoch) seen shields k = each shields k
         pick false = refl
 
     each : (shields : List ShieldAt) (k : ℕ)
-        → shield_number (get_or (map (validated seen) shields) k shield.Down)
+        → shield_number (get_or (map (validated_shield seen) shields) k shield.Down)
         ≡ shield_number (get_or shields k shield.Down)
     each [] k = refl
     each (at ∷ shields) zero = one at
@@ -77,7 +78,7 @@ lost_try : {A : Type 0} (f : History → A)
     → (a : Answer) (known : Seat) (number : ℕ) (past : History)
     → f (past_after (step.Check number) a known past) ≡ f past
 lost_try f apart last a known number past =
-    last (remembered (step.Check number) a known past) a (past.steps + 1) ∙ pick (is_ejected a) past.has_lost
+    last (history_after (step.Check number) a known past) a (past.steps + 1) ∙ pick (is_ejected a) past.has_lost
   where
     pick : (b c : Bool)
         → f (if b then (if c then past else record past { lost = was_ejected ∷ past.lost; has_lost = true }) else past)

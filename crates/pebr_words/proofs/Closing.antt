@@ -20,7 +20,7 @@ use Rattle.pebr_words.specs.Shown.{Show}
 use Rattle.pebr_words.specs.Ruled.{times_held, contents, remaining, Ruled}
 use Rattle.pebr_words.specs.Making.{number_in, note_in}
 use Rattle.pebr_words.specs.Opening.{slot_of, rows_of}
-use Rattle.pebr_words.specs.Closing.{row_at, gathered}
+use Rattle.pebr_words.specs.Closing.{row_at, contents_of_roots}
 use Rattle.pebr_words.proofs.Numbers.{once_is, total_alone, held_in}
 use Rattle.pebr_words.proofs.Frame.{Table, others_differ}
 
@@ -57,13 +57,15 @@ row_wide shape words root = length-map-range_with_len
     (λ word. get_or words (slots_from shape + get_or words (roots_from shape + root) 0 * shape.width + word) 0) 0
     shape.width
 
-pub gathered_length : (shape : Shape) (words : List ℕ) → length (gathered shape words) ≡ shape.roots * shape.width
+pub gathered_length : (shape : Shape) (words : List ℕ) → length (contents_of_roots shape words)
+    ≡ shape.roots * shape.width
 gathered_length shape words = flat_length (row_at shape words) shape.width (row_wide shape words) 0 shape.roots
 
 -- what is gathered has its rows
 slot_gathered : (shape : Shape) (words : List ℕ) (root : ℕ) → root < shape.roots
-    → row_at shape words root ≡ slot_of shape (gathered shape words) root
-slot_gathered shape words root h = fill_by_all (λ word. get_or (gathered shape words) (root * shape.width + word) 0)
+    → row_at shape words root ≡ slot_of shape (contents_of_roots shape words) root
+slot_gathered shape words root h = fill_by_all
+    (λ word. get_or (contents_of_roots shape words) (root * shape.width + word) 0)
     (row_at shape words root) shape.width 0 (row_wide shape words root)
     (λ word lt. sym (flat_at (row_at shape words) shape.width (row_wide shape words) 0 shape.roots root word h lt
     ∙ ap (λ n. get_or (row_at shape words n) word 0) (let e : 0 + root ≡ root = omega arith in e)))
@@ -91,8 +93,8 @@ module _ (shape : Shape) (words : List ℕ) (core : State) (is_shape : core.shap
       ≡ slots_from shape + (slot * shape.width + word) = omega arith in e)
       ∙ show.each (slot_word slot word) (below, lt))))
 
-  pub contents_gathered : contents core ≡ rows_of shape (gathered shape words)
-  contents_gathered = fill_by_all (slot_of shape (gathered shape words)) (contents core) shape.roots []
+  pub contents_gathered : contents core ≡ rows_of shape (contents_of_roots shape words)
+  contents_gathered = fill_by_all (slot_of shape (contents_of_roots shape words)) (contents core) shape.roots []
       (length-map core.roots (λ slot. get_or core.words slot [])
       ∙ (sound.shape.roots ∙ ap (λ (s : Shape). s.roots) is_shape))
       (λ root h. get_or-map (λ slot. get_or core.words slot []) core.roots root 0 []
@@ -149,8 +151,8 @@ module _ {N : Type 0} (keeps : List (List ℕ) → List N → Type 0) (whole : L
       ∙ sym (length-set (replicate shape.seats empty) own.number own.note ∙ length-replicate shape.seats empty))
       (λ k h. note_at k (subst (λ n. k < n) rule.many h))
 
-  pub closes : keeps (rows_of shape (gathered shape s.words)) last_notes
-  closes = subst (keeps (rows_of shape (gathered shape s.words))) notes_last
+  pub closes : keeps (rows_of shape (contents_of_roots shape s.words)) last_notes
+  closes = subst (keeps (rows_of shape (contents_of_roots shape s.words))) notes_last
       (subst (λ c. keeps c rule.notes) (contents_gathered shape s.words rule.core rule.shape_is rule.sound rule.show)
       rule.kept)
 
@@ -160,12 +162,13 @@ pub closes_at : {N : Type 0} (keeps : List (List ℕ) → List N → Type 0) (wh
     → 0 < length view → length view ≡ shape.seats
     → ((place : ℕ) (held : Held N) → get_elem? (remaining view) place ≡ some held → held.note ≡ empty)
     → (s : table.State (Unit {0}) (List (Held N))) → table.Seen (Ruled keeps whole key) id view s → s.words ≡ words
-    → keeps (rows_of shape (gathered shape words))
+    → keeps (rows_of shape (contents_of_roots shape words))
     (set (replicate shape.seats empty) (number_in view) (note_in blank view))
 closes_at keeps whole shape key empty blank is_key id [] words live all_held rest s seen is =
     absurd (omega (arith, live))
 closes_at {N} keeps whole shape key empty blank is_key id (own ∷ others) words live all_held rest s seen is =
-    subst (λ w. keeps (rows_of shape (gathered shape w)) (set (replicate shape.seats empty) own.number own.note)) is
+    subst (λ w. keeps (rows_of shape (contents_of_roots shape w))
+    (set (replicate shape.seats empty) own.number own.note)) is
     (closes keeps whole shape empty s (subst (λ k. Ruled keeps whole k s) is_key seen.0) id own others seen.1 all_held
     rest)
 

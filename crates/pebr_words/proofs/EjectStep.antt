@@ -9,7 +9,7 @@ use prog.Atomic.{either}
 use Rattle.pebr_core.specs.declared.kinds.Shape.{Shape}
 use Rattle.pebr_core.specs.declared.kinds.Stance.{Stance}
 use Rattle.pebr_core.specs.State.{State, Seat, seat_at, has, Scan, scan_of, found_at, no_scan}
-use Rattle.pebr_core.specs.Steps.{with_seat, is_seat, is_above_tags, after_pass, ejected, is_in_at, is_scanning}
+use Rattle.pebr_core.specs.Steps.{with_seat, is_seat, is_above_tags, after_pass, ejected_stance, is_in_at, is_scanning}
 use Rattle.pebr_core.specs.Steps.{found_epoch}
 use Rattle.pebr_core.specs.Kept.{IsTaggedUpTo}
 use Rattle.pebr_words.specs.Places.{Place, status_word}
@@ -36,7 +36,7 @@ use Rattle.pebr_words.specs.Pasts.{is_ejected}
 
 -- another seat's ejection
 ejected_known : (found : ℕ) (known actual : Seat) → IsAsKnown known actual
-    → IsAsKnown known record actual { status = ejected found actual.status }
+    → IsAsKnown known record actual { status = ejected_stance found actual.status }
 ejected_known found known actual (inl same) = pick (is_in_at found actual.status) refl
   where
     was_in : (s : Stance) → is_in_at found s ≡ true → s ≡ stance.In found
@@ -55,7 +55,7 @@ ejected_known found known actual (inl same) = pick (is_in_at found actual.status
         )
     pick false e = inl same
 ejected_known found known actual (inr (epoch, was_in, now)) =
-    inr (epoch, was_in, ap (λ (s : Seat). record s { status = ejected found s.status }) now)
+    inr (epoch, was_in, ap (λ (s : Seat). record s { status = ejected_stance found s.status }) now)
 
 -- a candidate's tag reaches an epoch that isn't above all tags
 above_newest : (candidates : List Bool) (slots : List Retired) (epoch : ℕ)
@@ -90,7 +90,7 @@ first_of : (b : Bool) → b ≡ true → (x : Ejection) (l : List Ejection) → 
 first_of true is x l = (0, refl)
 first_of false is x l = absurd (false≢true is)
 
-new_ejection : (found : ℕ) (s : Stance) (e : ℕ) → ejected found s ≡ stance.Ejected e
+new_ejection : (found : ℕ) (s : Stance) (e : ℕ) → ejected_stance found s ≡ stance.Ejected e
     → (s ≡ stance.Ejected e) ⊎ ((found ≡ e) × (is_in_at found s ≡ true))
 new_ejection found s e h = pick (is_in_at found s) refl h
   where
@@ -114,26 +114,27 @@ eject_by shape number other epoch known scan is_other scans looked unpassed core
     (sym (sound.kept.scans number scan (ap (λ (s : Seat). s.scan) same ∙ scans)).looked_others
     ∙ (ap (found_at scan) (sym e) ∙ looked)) in
     let found' : ℕ = found_epoch own other in
-    let mid : State = with_seat core other (record their { status = ejected found' their.status }) in
+    let mid : State = with_seat core other (record their { status = ejected_stance found' their.status }) in
     let list = in_list shape core number is_shape sound inside in
     let other_list = in_list shape core other is_shape sound is_other in
     let mid_list : number < length mid.seats =
-    subst (λ n. number < n) (sym (length-set core.seats other (record their { status = ejected found' their.status })))
+    subst (λ n. number < n)
+    (sym (length-set core.seats other (record their { status = ejected_stance found' their.status })))
     list in
     let mid_own : seat_at mid number ≡ own =
-    seat_there core other number (record their { status = ejected found' their.status }) (λ e. apart (sym e)) in
+    seat_there core other number (record their { status = ejected_stance found' their.status }) (λ e. apart (sym e)) in
     let new : Seat = after_pass other (seat_at mid number) in
     let core' : State = with_seat mid number new in
     let outer : (q : Place) → sign_at core' q ≡ sign_at mid q =
     λ q. seat_signs mid number new mid_list q (λ _. refl) (λ k _. refl) in
     let inner : (q : Place) → q ≢ status_word other → sign_at mid q ≡ sign_at core q =
-    λ q ne. seat_signs core other (record their { status = ejected found' their.status }) other_list q
+    λ q ne. seat_signs core other (record their { status = ejected_stance found' their.status }) other_list q
     (λ e. absurd (ne e)) (λ k _. refl) in
-    let their_sign : sign_at core' (status_word other) ≡ of_status (ejected epoch their.status) =
+    let their_sign : sign_at core' (status_word other) ≡ of_status (ejected_stance epoch their.status) =
     outer (status_word other)
     ∙ (ap (λ (s : Seat). of_status s.status)
-    (seat_here core other (record their { status = ejected found' their.status }) other_list)
-    ∙ ap (λ n. of_status (ejected n their.status)) epoch_is) in (
+    (seat_here core other (record their { status = ejected_stance found' their.status }) other_list)
+    ∙ ap (λ n. of_status (ejected_stance n their.status)) epoch_is) in (
       and_true (is_seat core number && is_seat core other && is_scanning own && is_some (found_at (scan_of own) other))
           (not (has (scan_of own).passed other))
           (and_true (is_seat core number && is_seat core other && is_scanning own)
@@ -153,10 +154,10 @@ eject_by shape number other epoch known scan is_other scans looked unpassed core
             (dite (ℕ_discrete j other)
             (λ (is : j ≡ other). subst (λ n. IsAsKnown seat (seat_at mid n)) (sym is)
             (subst (IsAsKnown seat)
-            (sym (seat_here core other (record their { status = ejected found' their.status }) other_list))
+            (sym (seat_here core other (record their { status = ejected_stance found' their.status }) other_list))
             (ejected_known found' seat their (subst (λ n. IsAsKnown seat (seat_at core n)) is h))))
             (λ (differ : j ≢ other). subst (IsAsKnown seat)
-            (sym (seat_there core other j (record their { status = ejected found' their.status }) differ)) h));
+            (sym (seat_there core other j (record their { status = ejected_stance found' their.status }) differ)) h));
         epoch = le_refl core.epoch;
         ejected = λ j e now. dite (ℕ_discrete j number)
             (λ (is : j ≡ number). inl (subst (λ k. (seat_at core k).status ≡ stance.Ejected e) (sym is)
@@ -167,9 +168,9 @@ eject_by shape number other epoch known scan is_other scans looked unpassed core
             sym (ap (λ (s : Seat). s.status) (seat_there mid number j new ne)) ∙ now in
             dite (ℕ_discrete j other)
             (λ (is : j ≡ other).
-            let status' : ejected found' their.status ≡ stance.Ejected e =
+            let status' : ejected_stance found' their.status ≡ stance.Ejected e =
             sym (ap (λ (s : Seat). s.status)
-            (seat_here core other (record their { status = ejected found' their.status }) other_list))
+            (seat_here core other (record their { status = ejected_stance found' their.status }) other_list))
             ∙ subst (λ k. (seat_at mid k).status ≡ stance.Ejected e) is in_mid in
             subst (λ k. ((seat_at core k).status ≡ stance.Ejected e)
             ⊎ ((x : Ejection) × IsEjectionOf core' k e x
@@ -218,7 +219,8 @@ eject_by shape number other epoch known scan is_other scans looked unpassed core
             (new_ejection found' their.status e status')))
             (λ (differ : j ≢ other). inl
             (sym (ap (λ (s : Seat). s.status)
-            (seat_there core other j (record their { status = ejected found' their.status }) differ)) ∙ in_mid)));
+            (seat_there core other j (record their { status = ejected_stance found' their.status }) differ))
+            ∙ in_mid)));
         answered = ap (λ n. if found == 4 * n + 1 then answer.Ejected else answer.Lost)
             (ap (λ (s : Seat). found_epoch s other) (sym same) ∙ epoch_is)
             ∙ ap (λ b. if b then answer.Ejected else answer.Lost)

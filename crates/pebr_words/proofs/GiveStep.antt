@@ -13,13 +13,13 @@ use Rattle.pebr_words.proofs.Signs.{seat_signs}
 use Rattle.pebr_words.proofs.StepLemmas.{and_true, in_list, is_one, scans_known, own_made}
 use Rattle.pebr_words.proofs.Makes.{kept_same}
 use Rattle.pebr_words.proofs.Recalling.{recalls_same}
-use Rattle.pebr_core.specs.Steps.{after_give, is_complete, given, united}
+use Rattle.pebr_core.specs.Steps.{after_give, is_complete, given_slots, union_of}
 use Rattle.pebr_core.specs.State.{is_down}
 use Rattle.std.specs.List.{list_all}
 use Rattle.std.specs.Prelude.{◌||◌}
 
 -- what was fresh still is
-still_fresh : (marks others : List Bool) (slot : ℕ) → has marks slot ≡ true → has (united marks others) slot ≡ true
+still_fresh : (marks others : List Bool) (slot : ℕ) → has marks slot ≡ true → has (union_of marks others) slot ≡ true
 still_fresh [] others slot h = absurd (false≢true h)
 still_fresh (m ∷ ms) [] slot h = h
 still_fresh (m ∷ ms) (o ∷ os) zero h = ap (λ b. b || o) h
@@ -56,10 +56,10 @@ pub give_kept : {N A : Type 0} (keeps : List (List ℕ) → List N → Type 0) (
     → IsKeptBy keeps whole after_act shape (step.Give number) None number known past note left
 give_kept keeps whole after_act number {known} note left =
     kept_same keeps whole after_act (step.Give number) None number note left (λ core. refl) (λ core. refl)
-    (λ found. refl) (λ shape found slot h. still_fresh known.fresh (given known) slot h)
+    (λ found. refl) (λ shape found slot h. still_fresh known.fresh (given_slots known) slot h)
 
 pub give_recalled : {shape : Shape} (number : ℕ) {known : Seat} {past : History} (left : ℕ → ℕ)
     → IsRecalledBy shape (step.Give number) number known past left
 give_recalled number {known} left = recalls_same (step.Give number) number left (λ a. refl) (λ a. refl) (λ a. refl)
-    (λ core found before one. refl) (λ shape found slot h. still_fresh known.fresh (given known) slot h)
+    (λ core found before one. refl) (λ shape found slot h. still_fresh known.fresh (given_slots known) slot h)
     (λ j root e. cc) (λ i slot word value e. cc) (λ i root old new e. cc)

@@ -10,7 +10,7 @@ use Rattle.pebr_core.specs.declared.kinds.ShieldAt.{ShieldAt}
 use Rattle.pebr_core.specs.declared.kinds.ShieldAt.TheVariants as shield
 use Rattle.pebr_core.specs.State.{has, root_at, retired_at, shield_at, slot_under, slots_per_seat}
 use Rattle.pebr_core.specs.Steps.{after, after_replace, after_scan, after_give, with_kept, with_scanned, found_under}
-use Rattle.pebr_core.specs.Steps.{given, united, released, without}
+use Rattle.pebr_core.specs.Steps.{given_slots, union_of, slots_without, without}
 use Rattle.pebr_words.specs.Making.{IsAsKnown}
 use Rattle.pebr_words.proofs.NoteStep.{retired_long}
 use Rattle.pebr_words.proofs.StepLemmas.{noted_known}
@@ -36,7 +36,7 @@ use Rattle.pebr_core.specs.Steps.{with_look, is_above_tags, tag_with, new_scan, 
 use Rattle.pebr_core.specs.Steps.{last_epoch}
 use Rattle.seat_slots.specs.Sets.{Sets, is_above}
 use Rattle.seat_slots.specs.Sets as sets
-use Rattle.pebr_words.specs.Mirrors.{Mirrors, IsFirst, CanTake, CanKeep, kept_after, passes, judged, answer_as}
+use Rattle.pebr_words.specs.Mirrors.{Mirrors, IsFirst, CanTake, CanKeep, kept_after, passes, look_answer, answer_as}
 use Rattle.pebr_words.specs.Mirrors.{looked_from, found_after, IsLow}
 use Rattle.atomic_table.specs.Table as table
 use Rattle.pebr_core.specs.declared.kinds.Step.TheVariants as step
@@ -228,7 +228,7 @@ passes_is noted slots found known m newest is are (stance.In epoch) =
     ∙ (ap (λ l. is_above_tags (map is_retired l) l epoch) (sym m.retired_is) ∙ is epoch)
 
 pub judged_is : (newest : Option ℕ) (known : Seat) (s : Stance) (other : ℕ) (result : Looked)
-    → can_pass (scan_of known).candidates known.retired s ≡ passes newest s → answer_as result ≡ judged newest s
+    → can_pass (scan_of known).candidates known.retired s ≡ passes newest s → answer_as result ≡ look_answer newest s
     → (after_look other s known ≡ looked_from other result known)
     × ((if can_pass (scan_of known).candidates known.retired s then answer.Passed else answer.In (epoch_of s))
     ≡ answer_as result)
@@ -240,7 +240,7 @@ judged_is newest known s other result can is =
       ap (λ b. if b then answer.Passed else answer.In (epoch_of s)) can ∙ sym (is ∙ told),
     )
   where
-    read : (newest : Option ℕ) (s : Stance) → judged newest s
+    read : (newest : Option ℕ) (s : Stance) → look_answer newest s
         ≡ (if passes newest s then answer.Passed else answer.In (epoch_of s))
     read newest stance.Out = refl
     read newest (stance.Ejected epoch) = refl
@@ -278,7 +278,7 @@ pub look_told : {N A : Type 0} (after_act : N → A → N) (whole : List ℕ →
     → ((epoch : ℕ) → is_above_tags (map is_retired slots.retired) slots.retired epoch ≡ is_above newest epoch)
     → is_scanning (known_in me.0) ≡ true → number < shape.seats
     → IsTold after_act whole blank shape (step.Look number other) None found me me'
-    → answer_as result ≡ judged newest (stance_from found)
+    → answer_as result ≡ look_answer newest (stance_from found)
     → (known_in me'.0 ≡ looked_from other result (known_in me.0))
     × IsStepOf shape (step.Look number other) (answer_as result) (known_in me.0) (known_in me'.0)
     × (answer_found (step.Look number other) (known_in me.0) found ≡ answer_as result)
@@ -496,13 +496,15 @@ pub give_mirrors : {shape : Shape} (number epoch : ℕ) {a : Answer} {known : Se
     (found : List ℕ)
     → IsStepOf shape (step.Give number) a known (after_give epoch known) → number < shape.seats
     → Mirrors noted slots found known → is_scanning known ≡ true
-    → slots'.fresh ≡ united slots.fresh (sets.given slots) → slots'.retired ≡ released slots.retired (sets.given slots)
+    → slots'.fresh ≡ union_of slots.fresh (sets.given_slots slots)
+    → slots'.retired ≡ slots_without slots.retired (sets.given_slots slots)
     → Mirrors epoch slots' found (after_give epoch known)
 give_mirrors {shape} number epoch {a} {known} noted slots slots' found made inside m scanning fresh retired = record {
   noted_is = refl;
   low = subst (λ n. n ≤ last_epoch) (sym noted_epoch) made.sound.kept.epochs.epoch;
-  fresh_is = fresh ∙ (ap (λ l. united l (sets.given slots)) m.fresh_is ∙ ap (united known.fresh) given_is);
-  retired_is = retired ∙ (ap (λ l. released l (sets.given slots)) m.retired_is ∙ ap (released known.retired) given_is);
+  fresh_is = fresh ∙ (ap (λ l. union_of l (sets.given_slots slots)) m.fresh_is ∙ ap (union_of known.fresh) given_is);
+  retired_is = retired ∙ (ap (λ l. slots_without l (sets.given_slots slots)) m.retired_is
+      ∙ ap (slots_without known.retired) given_is);
   kept_is = λ scan e. absurd (none-some scan e);
   few = m.few;
   found_is = λ other e h. absurd (none-some e h);
@@ -521,7 +523,7 @@ give_mirrors {shape} number epoch {a} {known} noted slots slots' found made insi
     are = candidates_retired core number known (scan_of known) made.sound core_seat
         (scans_known core number known (scan_of known) made.sound scans made.before) scans
 
-    given_is : sets.given slots ≡ given known
+    given_is : sets.given_slots slots ≡ given_slots known
     given_is = ap (λ l. without (map is_retired l) slots.kept) m.retired_is
         ∙ (ap (λ l. without l slots.kept) (sym are)
         ∙ ap (without (scan_of known).candidates) (m.kept_is (scan_of known) scans))
@@ -537,7 +539,7 @@ pub given_counts : {shape : Shape} (number epoch : ℕ) {a : Answer} {known : Se
     (found : List ℕ) → Mirrors noted slots found known → Mirrors epoch slots' found (after_give epoch known)
     → IsStepOf shape (step.Give number) a known (after_give epoch known) → number < shape.seats
     → is_scanning known ≡ true
-    → (count_by (λ mark. mark) (sets.given slots) ≡ count_by (λ mark. mark) (given known))
+    → (count_by (λ mark. mark) (sets.given_slots slots) ≡ count_by (λ mark. mark) (given_slots known))
     × (count_by is_retired slots'.retired ≡ count_by is_retired (after_give epoch known).retired)
 given_counts {shape} number epoch {a} {known} noted slots slots' found m m' made inside scanning = (
   ap (count_by (λ mark. mark)) (ap (λ l. without (map is_retired l) slots.kept) m.retired_is

@@ -31,7 +31,7 @@ use Rattle.pebr_words.proofs.Recalling.{shields_known, fresh_known, shielded_use
 use Rattle.pebr_core.specs.State.{shield_at}
 use Rattle.pebr_words.specs.Ruled.{CanReplace, AreWhole, IsFreshNowhere}
 use Rattle.pebr_words.specs.Pasts.{Lost, found_other, shown_at, written_at, without_slot, is_shown, with_lost}
-use Rattle.pebr_words.specs.Pasts.{remembered}
+use Rattle.pebr_words.specs.Pasts.{history_after}
 use Rattle.std.proofs.lemmas.Option.{same_Some}
 
 replaced_known : (old new : ℕ) (known actual : Seat) → IsAsKnown known actual
@@ -280,7 +280,7 @@ replace_recalled {shape} number root old new {known} {past} left in_roots law co
         → ((p : History) (tries : List Lost) → f (record p { lost = tries; has_lost = true }) ≡ f p)
         → ((p : History) (a : Answer) (n : ℕ) → f (record p { last = a; steps = n }) ≡ f p)
         → f (past_after (step.Replace number root old new) answer.Other known past) ≡ f past
-    same_but f apart last = last (remembered (step.Replace number root old new) answer.Other known past) answer.Other
+    same_but f apart last = last (history_after (step.Replace number root old new) answer.Other known past) answer.Other
         (past.steps + 1) ∙ pick (is_shown (shown_at past.shown root) old) past.has_lost
       where
         pick : (b c : Bool)

@@ -7,7 +7,7 @@ use native.Mathlib.Decide.{ℕ_discrete}
 use Rattle.pebr_core.specs.declared.kinds.Shape.{Shape}
 use Rattle.pebr_core.specs.declared.kinds.Stance.{Stance}
 use Rattle.pebr_core.specs.State.{State, Seat, seat_at, is_out, Scan}
-use Rattle.pebr_core.specs.Steps.{with_seat, is_seat, answer_of, ejected}
+use Rattle.pebr_core.specs.Steps.{with_seat, is_seat, answer_of}
 use Rattle.pebr_core.specs.Kept.{IsSound}
 use Rattle.pebr_words.specs.Places.{Place}
 use Rattle.pebr_words.specs.Shown.{Tells, sign_at}

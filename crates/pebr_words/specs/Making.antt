@@ -11,7 +11,8 @@ use Rattle.pebr_core.specs.declared.kinds.Step.TheVariants as step
 use Rattle.pebr_core.specs.declared.kinds.Answer.{Answer}
 use Rattle.pebr_core.specs.declared.kinds.Answer.TheVariants as answer
 use Rattle.pebr_core.specs.State.{Seat, State, nobody, seat_at, scan_of, is_retired}
-use Rattle.pebr_core.specs.Steps.{can_pass, epoch_of, found_epoch, found_under, check_answer, given, is_enabled, after}
+use Rattle.pebr_core.specs.Steps.{can_pass, epoch_of, found_epoch, found_under, check_answer, given_slots, is_enabled}
+use Rattle.pebr_core.specs.Steps.{after}
 use Rattle.pebr_core.specs.Steps.{answer_of, after_note, after_pin, after_leave, after_look, after_pass, after_load}
 use Rattle.pebr_core.specs.Steps.{after_shield, after_check, after_replace, after_scan, after_give}
 use Rattle.pebr_core.specs.Kept.{IsSound}
@@ -82,7 +83,7 @@ answer_found (step.Read i slot word) seat found = answer.Word found
 answer_found (step.Write i slot word value) seat found = answer.Written
 answer_found (step.Replace i root old new) seat found = if found == old then answer.Replaced else answer.Other
 answer_found (step.Scan i j place) seat found = found_under (slot_from found)
-answer_found (step.Give i) seat found = answer.Given (count_by (λ mark. mark) (given seat))
+answer_found (step.Give i) seat found = answer.Given (count_by (λ mark. mark) (given_slots seat))
     (count_by is_retired (after_give found seat).retired)
 
 abbrev pub act_on : {N A : Type 0} → (N → A → N) → Option A → N → N

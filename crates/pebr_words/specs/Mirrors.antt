@@ -30,10 +30,10 @@ passes newest (stance.Ejected epoch) = true
 passes newest (stance.In epoch) = is_above newest epoch
 
 -- the answer to a look that found this status
-abbrev pub judged : Option ℕ → Stance → Answer
-judged newest stance.Out = answer.Passed
-judged newest (stance.Ejected epoch) = answer.Passed
-judged newest (stance.In epoch) = if is_above newest epoch then answer.Passed else answer.In epoch
+abbrev pub look_answer : Option ℕ → Stance → Answer
+look_answer newest stance.Out = answer.Passed
+look_answer newest (stance.Ejected epoch) = answer.Passed
+look_answer newest (stance.In epoch) = if is_above newest epoch then answer.Passed else answer.In epoch
 
 abbrev pub answer_as : Looked → Answer
 answer_as looked.Passed = answer.Passed

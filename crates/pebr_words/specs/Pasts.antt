@@ -127,33 +127,33 @@ abbrev pub with_lost : Lost → History → History
 with_lost try past = if past.has_lost then past else record past { lost = try ∷ past.lost; has_lost = true }
 
 -- What a step with this answer adds to the history of a seat that knew this.
-abbrev pub remembered : Step → Answer → Seat → History → History
-remembered (step.Note i) a seat past = record past { notes = past.notes + 1 }
-remembered (step.Pin i) a seat past =
+abbrev pub history_after : Step → Answer → Seat → History → History
+history_after (step.Note i) a seat past = record past { notes = past.notes + 1 }
+history_after (step.Pin i) a seat past =
     record past { pins = past.pins + 1; loads = []; reads = []; shown = []; has_lost = false }
-remembered (step.Leave i) a seat past = past
-remembered (step.Advance i) a seat past = record past { advances = past.advances + 1 }
-remembered (step.Look i j) a seat past = past
-remembered (step.Eject i j) a seat past = record past {
+history_after (step.Leave i) a seat past = past
+history_after (step.Advance i) a seat past = record past { advances = past.advances + 1 }
+history_after (step.Look i j) a seat past = past
+history_after (step.Eject i j) a seat past = record past {
   ejections = if is_ejected a
       then record { by = i; other = j; epoch = found_epoch seat j; tag = newest_tag seat.retired } ∷ past.ejections
       else past.ejections;
 }
 -- what was read of a slot that the seat had no hold of is forgotten, since another seat may have written it
-remembered (step.Load i root) a seat past = record past {
+history_after (step.Load i root) a seat past = record past {
   loads = record { root = root; slot = slot_in a } ∷ past.loads;
   reads = if has_hold seat (slot_in a) then past.reads else without_slot (slot_in a) past.reads;
   shown = record { root = root; slot = slot_in a } ∷ past.shown;
 }
-remembered (step.Shield i place slot) a seat past = past
-remembered (step.Check i) a seat past = if is_ejected a then with_lost was_ejected past else past
-remembered (step.Unshield i place) a seat past = past
-remembered (step.Read i slot word) a seat past =
+history_after (step.Shield i place slot) a seat past = past
+history_after (step.Check i) a seat past = if is_ejected a then with_lost was_ejected past else past
+history_after (step.Unshield i place) a seat past = past
+history_after (step.Read i slot word) a seat past =
     record past { reads = record { slot = slot; word = word; value = value_in a } ∷ past.reads }
-remembered (step.Write i slot word value) a seat past =
+history_after (step.Write i slot word value) a seat past =
     record past { written = record { slot = slot; word = word; value = value } ∷ past.written }
 -- a root that had another slot is a lost try where the seat was shown the old one there
-remembered (step.Replace i root old new) a seat past =
+history_after (step.Replace i root old new) a seat past =
     if is_replaced a
     then record past {
       shown = record { root = root; slot = new } ∷ past.shown;
@@ -161,9 +161,9 @@ remembered (step.Replace i root old new) a seat past =
           without_slot new past.written;
     }
     else (if is_shown (shown_at past.shown root) old then with_lost (found_other root) past else past)
-remembered (step.Scan i j place) a seat past = past
-remembered (step.Give i) a seat past = record past { gives = past.gives + 1 }
+history_after (step.Scan i j place) a seat past = past
+history_after (step.Give i) a seat past = record past { gives = past.gives + 1 }
 
 -- the history after one more step, with its answer
 abbrev pub past_after : Step → Answer → Seat → History → History
-past_after s a seat past = record (remembered s a seat past) { last = a; steps = past.steps + 1 }
+past_after s a seat past = record (history_after s a seat past) { last = a; steps = past.steps + 1 }

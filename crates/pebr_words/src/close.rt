@@ -8,7 +8,7 @@ ghost use Rattle.pebr_core.specs.State.{is_out, slot_count};
 ghost use Rattle.pebr_core.specs.Kept.{IsWithinLimits};
 ghost use Rattle.pebr_words.specs.Places.{word_count, roots_from, slots_from};
 ghost use Rattle.pebr_words.specs.Opening.{rows_of};
-ghost use Rattle.pebr_words.specs.Closing.{row_at, gathered};
+ghost use Rattle.pebr_words.specs.Closing.{row_at, contents_of_roots};
 ghost use Rattle.pebr_words.specs.Seats.{IsAt, IsUnited, shape_of, fixed_of, known_of, number_of, count_of, note_of};
 
 use crate::open::{put, roots_from};
@@ -75,7 +75,7 @@ fn gather(alloc: Global, closed: &Closed<(), Global>, shape: Shape) -> Result<Ve
     requires whole { IsFull closed.now.words × (slots_len closed.now.words ≡ word_count shape) }
     requires below { (root : ℕ) → root < shape.roots
         → slice_index (slots_items closed.now.words) (roots_from shape + root) < slot_count shape }
-    ensures { IfOk result (λ contents. contents.items ≡ gathered shape (slots_items closed.now.words)) }
+    ensures { IfOk result (λ contents. contents.items ≡ contents_of_roots shape (slots_items closed.now.words)) }
 {
     let mut contents = Vec::new(alloc);
     for root in 0..shape.roots {

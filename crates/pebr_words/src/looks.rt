@@ -6,7 +6,7 @@ ghost use Rattle.pebr_core.specs.declared.kinds.Answer.TheVariants as answer;
 ghost use Rattle.pebr_core.specs.State.{has, scan_of, found_at};
 ghost use Rattle.pebr_core.specs.Steps.{is_scanning, after_pass};
 ghost use Rattle.pebr_words.specs.Making.{stance_from};
-ghost use Rattle.pebr_words.specs.Mirrors.{judged, answer_as, in_epoch, looked_from, found_after, IsLow};
+ghost use Rattle.pebr_words.specs.Mirrors.{look_answer, answer_as, in_epoch, looked_from, found_after, IsLow};
 ghost use Rattle.pebr_words.specs.Seats.{IsAt, IsStill, IsStep, shape_of, known_of, number_of, note_of};
 
 use crate::looked::Looked;
@@ -24,7 +24,7 @@ fn epoch_in(word: u64) -> Option<u64>
 
 /// Whether a seat with this status word can be passed.
 fn judge(newest: Option<u64>, word: u64) -> Looked
-    ensures answer { answer_as result ≡ judged newest (stance_from word) }
+    ensures answer { answer_as result ≡ look_answer newest (stance_from word) }
     ensures low { IsLow result }
 {
     let Some(epoch) = epoch_in(word) else {

@@ -114,7 +114,7 @@ impl<P: RootProtocol> Words<P> {
     }
 
     /// A seat of one number that was opened.
-    fn opened(
+    fn open_seat(
         &self,
         inner: TableSeat<P::Note>,
         number: usize,
@@ -155,7 +155,7 @@ impl<P: RootProtocol> Words<P> {
         ensures opened { IsOpenedSeat self.now P.first number result }
     {
         let inner = self.table.shared.split_seat::<Parts>(seat);
-        self.opened(inner, number, slots, found)
+        self.open_seat(inner, number, slots, found)
     }
 
     /// A seat for each number. Each further one is split off.
@@ -174,7 +174,7 @@ impl<P: RootProtocol> Words<P> {
         }
         let slots = self.first_slots(alloc, last)?;
         let found = self.none_found(alloc)?;
-        let next = self.opened(seat, last, slots, found);
+        let next = self.open_seat(seat, last, slots, found);
         put(&mut seats, next)?;
         Ok(seats)
     }

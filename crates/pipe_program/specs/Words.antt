@@ -41,6 +41,6 @@ piping_by [] = None
 piping_by (name ∷ options) = if bytes_eq name (codes "pipe") then piping_with options else None
 
 -- What the settings say.
-abbrev pub piping : PipeSettings → Piping
-piping settings = pipe settings.idle settings.active settings.workers settings.sets settings.queue settings.batch
+abbrev pub piping_of : PipeSettings → Piping
+piping_of settings = pipe settings.idle settings.active settings.workers settings.sets settings.queue settings.batch
     settings.size

@@ -5,7 +5,7 @@ ghost use Rattle.meter_io.specs.Sides.{IsUntouched, side};
 ghost use Rattle.meter_program.specs.Metering.{IsReadAndKept, IsReadAndGathered};
 ghost use Rattle.meter_program.specs.Outcome.{MeterRefuses, Ends};
 ghost use Rattle.meter_program.specs.Seen.{seen_of};
-ghost use Rattle.pipe_program.specs.Words.{as_meter, piping};
+ghost use Rattle.pipe_program.specs.Words.{as_meter, piping_of};
 
 use crate::settings::PipeSettings;
 use cache_face::Caches;
@@ -95,7 +95,7 @@ pub fn pipe_input<R: Threads + Wait + Sync, S: Source, K: Sink, N: Sink, M: Cach
 ) -> Status
     ensures { let seen = seen_of (side S.left S.faults input.old input.new) (side K.held K.faults output.old output.new)
         (side N.held N.faults notes.old notes.new) (M.metered caches.new)
-        in Ends (as_meter (piping settings.now)) seen (IsUntouched seen.notes) result }
+        in Ends (as_meter (piping_of settings.now)) seen (IsUntouched seen.notes) result }
 {
     match gathered_from(rt, alloc, settings, input, caches, gate) {
         Ok(gathered) => write_stream(alloc, &gathered, settings.size, output, notes),

@@ -2,7 +2,7 @@
 
 ghost use Rattle.std.specs.Prelude.{◌≡◌, None, Some, map, IfOk, IfErr};
 ghost use Rattle.std.specs.String.{string_bytes};
-ghost use Rattle.pipe_program.specs.Words.{piping, piping_by, piping_with};
+ghost use Rattle.pipe_program.specs.Words.{piping_of, piping_by, piping_with};
 
 use crate::settings::PipeSettings;
 use command_words::{OptionRule, OptionsError, values_of};
@@ -59,7 +59,7 @@ static PIPE: [OptionRule<'static>; 7] = [
 
 /// The settings that the options of `pipe` give.
 fn settings(alloc: Global, options: &[String]) -> Result<PipeSettings, OptionsError>
-    ensures settings { IfOk result (λ s. piping_with (map string_bytes options.now) ≡ Some (piping s)) }
+    ensures settings { IfOk result (λ s. piping_with (map string_bytes options.now) ≡ Some (piping_of s)) }
     ensures refused { IfErr result (λ error. error ≡ OptionsError.NotOptions
         → piping_with (map string_bytes options.now) ≡ None) }
 {
@@ -93,7 +93,7 @@ fn settings(alloc: Global, options: &[String]) -> Result<PipeSettings, OptionsEr
 /// - `NotOptions`: exactly where the words are no such command line.
 /// - `NoMemory`: out of memory.
 pub fn settings_of(alloc: Global, words: &[String]) -> Result<PipeSettings, OptionsError>
-    ensures settings { IfOk result (λ s. piping_by (map string_bytes words.now) ≡ Some (piping s)) }
+    ensures settings { IfOk result (λ s. piping_by (map string_bytes words.now) ≡ Some (piping_of s)) }
     ensures refused { IfErr result (λ error. error ≡ OptionsError.NotOptions
         → piping_by (map string_bytes words.now) ≡ None) }
 {

@@ -75,7 +75,7 @@ fn run<S: Source, C: FlowCache, G: Gate, R: Threads + Wait + Sync>(
 }
 
 /// Meters a capture, and adds up what the cache kept of it.
-fn metered<G: Gate, R: Threads + Wait + Sync>(
+fn meter_capture<G: Gate, R: Threads + Wait + Sync>(
     rt: &R,
     alloc: Global,
     bytes: &[u8],
@@ -99,7 +99,7 @@ fn metered<G: Gate, R: Threads + Wait + Sync>(
     caches.close(alloc, cache, gathered.pass, gathered.parts)?;
     let mut packets = 0u64;
     let mut octets = 0u64;
-    for part in caches.metered() {
+    for part in caches.meter_capture() {
         packets = packets.saturating_add(part.packets);
         octets = octets.saturating_add(part.octets);
     }

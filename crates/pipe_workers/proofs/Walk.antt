@@ -4,13 +4,13 @@ use Rattle.std.specs.Option.{option_map}
 use Rattle.std.proofs.lemmas.List.{length-append, length-map}
 use Rattle.pcap_reader.specs.File.{CaptureFile, capture_file}
 use Rattle.pcap_reader.specs.Records.{parts_of, packet_record, records_of, rest_of, damage_of}
-use Rattle.pcap_reader.specs.Windows.{grown, part_with, GoesOn}
+use Rattle.pcap_reader.specs.Windows.{grown_file, part_with, GoesOn}
 use Rattle.pcap_reader.specs.Views.{part_of}
 use Rattle.pcap_reader.specs.declared.head.Head.{Head}
 use Rattle.pcap_reader.proofs.Cutting.{few_parts}
 use Rattle.packet_accept.specs.Packets.{answers_of}
 use Rattle.capture_input.specs.Places.{IsSound, IsAt}
-use Rattle.capture_input.proofs.Reading.{Next, part-of_file, sound-grown}
+use Rattle.capture_input.proofs.Reading.{Next, part-of_file, sound-grown_file}
 use Rattle.meter_workers.specs.Answers.{answers_from}
 use Rattle.meter_workers.proofs.Reading.{answers-grown}
 
@@ -26,14 +26,14 @@ at-kept head window window' from taken file more at is = record {
 
 -- the file with what the window has, whose records are those of this part
 pub record IsNext (head : Head) (file : CaptureFile) (more : List ℕ) (base : ℕ) (part : CaptureFile) : Type 0 where
-  pub answers : answers_of (grown file more) ≡ answers_of file ++ answers_from base part
-  pub count : base + length (records_of part) ≡ length (records_of (grown file more))
+  pub answers : answers_of (grown_file file more) ≡ answers_of file ++ answers_from base part
+  pub count : base + length (records_of part) ≡ length (records_of (grown_file file more))
   pub long : file.start ≤ length (file.bytes ++ more)
 
 -- and where the part is undamaged
 pub record IsSoundNext (head : Head) (file : CaptureFile) (more : List ℕ) (part : CaptureFile) : Type 0 where
-  pub sound : IsSound head (grown file more)
-  pub rest : rest_of part ≡ rest_of (grown file more)
+  pub sound : IsSound head (grown_file file more)
+  pub rest : rest_of part ≡ rest_of (grown_file file more)
 
 shown : (head : Head) (window : List ℕ) (taken : ℕ) (file : CaptureFile) (more : List ℕ) (part : CaptureFile)
     → IsAt head window 0 taken file more → part ≡ part_of head window → part ≡ part_with file (rest_of file ++ more)
@@ -60,7 +60,7 @@ next-of head window taken base file more part goes at is counted =
 pub sound-next : (head : Head) (window : List ℕ) (taken : ℕ) (file : CaptureFile) (more : List ℕ) (part : CaptureFile)
     → ((f : CaptureFile) (xs : List ℕ) → f.start ≤ length f.bytes → GoesOn f xs)
     → ((xs ys : List ℕ) → 24 ≤ length xs → capture_file (xs ++ ys)
-    ≡ option_map (λ (f : CaptureFile). grown f ys) (capture_file xs))
+    ≡ option_map (λ (f : CaptureFile). grown_file f ys) (capture_file xs))
     → IsAt head window 0 taken file more → part ≡ part_of head window → damage_of part ≡ None
     → IsSoundNext head file more part
 sound-next head window taken file more part goes header at is undamaged =
@@ -68,7 +68,7 @@ sound-next head window taken file more part goes header at is undamaged =
     let next : Next file more =
     record { on = goes file more at.sound.long; is_file = header file.bytes more at.sound.header } in
     record {
-      sound = sound-grown head window 0 taken file more next at
+      sound = sound-grown_file head window 0 taken file more next at
           (subst (λ (p : CaptureFile). damage_of p ≡ None) same undamaged);
       rest = ap rest_of same ∙ sym next.on.rest;
     }
@@ -79,7 +79,7 @@ pub few-records : (head : Head) (window : List ℕ) (taken limit base : ℕ) (fi
     → IsAt head window 0 taken file more → IsNext head file more base part → taken ≤ limit → limit ≤ 2 ^ 30
     → base + length (records_of part) < 2 ^ 32
 few-records head window taken limit base file more part at next within small =
-    let all = grown file more in
+    let all = grown_file file more in
     let few = few_parts all next.long in
     let records : length (records_of all) ≡ length (parts_of all) =
     length-map (parts_of all) (packet_record all.order) in

@@ -15,7 +15,7 @@ ghost use Rattle.pipe_workers.specs.Batching.{HasRead, IsUnread, IsBatched};
 use crate::reader::read_all;
 use crate::seats::workers_of;
 use batch_queue::BatchQueue;
-use batch_workers::{BatchShare, BatchWorker, Shared, drained, united, worked};
+use batch_workers::{BatchShare, BatchWorker, Shared, drain_queue, run_workers, unite_workers};
 use cache_face::FlowCache;
 use capture_input::MeterFault;
 use capture_tally::{Tally, order_law};
@@ -47,7 +47,7 @@ fn work_all<C: FlowCache, G: Gate, R: Threads + Wait + Sync>(
         result.items }
 {
     let ready = mem::replace(workers, Vec::new(alloc));
-    worked(rt, alloc, shared, cache, ready, gate)
+    run_workers(rt, alloc, shared, cache, ready, gate)
 }
 
 /// The reader and all workers at once. The workers, once they have worked, and how the reader ended.
@@ -169,7 +169,7 @@ fn crew_of<C: FlowCache>(
 
 /// What all did together, once the reader has read and the workers have worked. What is left in the queue is metered
 /// here.
-fn gathered<C: FlowCache, G: Gate, R: Wait>(
+fn gather_pipe<C: FlowCache, G: Gate, R: Wait>(
     rt: &R,
     alloc: Global,
     cache: &C,
@@ -203,8 +203,8 @@ fn gathered<C: FlowCache, G: Gate, R: Wait>(
         last,
     } = crew;
     let drain = workers.len() + 1;
-    let share = united(&shared.queue, cache, share, workers)?;
-    let share = drained(rt, alloc, &shared, drain, cache, share, last, gate)?;
+    let share = unite_workers(&shared.queue, cache, share, workers)?;
+    let share = drain_queue(rt, alloc, &shared, drain, cache, share, last, gate)?;
     let BatchShare {
         pass,
         parts,
@@ -276,7 +276,7 @@ pub fn meter_batches<S: Source, C: FlowCache, G: Gate, R: Threads + Wait + Sync>
         workers,
         last,
     };
-    match gathered(rt, alloc, cache, crew, tail, gate) {
+    match gather_pipe(rt, alloc, cache, crew, tail, gate) {
         Ok(all) => Ok(all),
         Err(NoMemory) => Err(MeterFault::NoMemory),
     }

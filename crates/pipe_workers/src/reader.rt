@@ -10,7 +10,7 @@ ghost use Rattle.pcap_reader.specs.Views.{headed_by};
 ghost use Rattle.capture_tally.specs.Tallies.{IsTallyOf};
 ghost use Rattle.cache_face.specs.Notes.{first_note};
 ghost use Rattle.capture_input.specs.Refusals.{IsRefused, HasFaults};
-ghost use Rattle.capture_input.specs.Inputs.{began};
+ghost use Rattle.capture_input.specs.Inputs.{side_from};
 ghost use Rattle.batch_queue.specs.Passes.{IsPassOf, IsReaders, put_of};
 ghost use Rattle.pipe_workers.specs.Batching.{HasRead, IsUnread};
 
@@ -59,11 +59,11 @@ fn read_windows<S: Source, C: FlowCache, G: Gate, R: Wait>(
     ensures read { IfOk result (λ tail. (before : Option (List ℕ))
         → Consumes before (S.left source.old) going.input.window.bytes
         → HasRead (C.is_of cache.now) C.shown shared.now.queue
-        (began before (side S.left S.faults source.old source.new)) going.input.limit
+        (side_from before (side S.left S.faults source.old source.new)) going.input.limit
         share.old.seat share.new.seat share.new.pass share.new.parts.items share.new.tally tail) }
     ensures refused { IfErr result (λ fault. (before : Option (List ℕ))
         → Consumes before (S.left source.old) going.input.window.bytes
-        → IsRefused (began before (side S.left S.faults source.old source.new)) going.input.limit fault) }
+        → IsRefused (side_from before (side S.left S.faults source.old source.new)) going.input.limit fault) }
     ensures faults { HasFaults (side S.left S.faults source.old source.new) result }
 {
     parts_law();
@@ -82,7 +82,7 @@ fn read_windows<S: Source, C: FlowCache, G: Gate, R: Wait>(
         let part = Capture::part(head, bytes);
         let index = match part.index_into(alloc, index) {
             Ok(index) => index,
-            Err(error) => return Err(input.refused(source, count, error)),
+            Err(error) => return Err(input.refusal(source, count, error)),
         };
         let tail = index.tail();
         let read = Going {

@@ -31,7 +31,7 @@ fn words(alloc: Global, word: &str) -> Result<Vec<String>, Fail> {
 }
 
 /// What a command of the meter writes of these bytes, where it is done.
-fn metered<'a, R: Threads + Sync + Abort>(
+fn meter_output<'a, R: Threads + Sync + Abort>(
     rt: &R,
     alloc: Global,
     word: &str,
@@ -64,8 +64,8 @@ fn the_meter_reads_what_is_written(rt: HostRuntime) -> Result<(), Fail> {
     let status = run_png(alloc, words.as_slice(), &mut input, &mut capture);
     assert!(rt; status == PngStatus::Done);
     assert_eq!(rt; capture.held().len(), 68);
-    let stream = metered(&rt, alloc, "meter", capture.held())?;
-    let text = metered(&rt, alloc, "show", stream.held())?;
+    let stream = meter_output(&rt, alloc, "meter", capture.held())?;
+    let text = meter_output(&rt, alloc, "show", stream.held())?;
     assert_eq!(rt; text.held(), LINE.as_bytes());
     Ok(())
 }

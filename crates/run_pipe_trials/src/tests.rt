@@ -57,7 +57,7 @@ fn sink<'a>(alloc: Global) -> Result<MemSink<'a>, Fail> {
 }
 
 /// A run of the pipelined meter over this input, which is told to this gate.
-fn piped<R: Threads + Wait + Sync, G: Gate>(
+fn run_piped<R: Threads + Wait + Sync, G: Gate>(
     rt: &R,
     alloc: Global,
     line: &str,
@@ -85,7 +85,7 @@ fn piped<R: Threads + Wait + Sync, G: Gate>(
 }
 
 /// A run of `meter` over this input.
-fn metered<R: Threads + Sync>(rt: &R, alloc: Global, input: &[u8]) -> Result<Ran, Fail> {
+fn run_meter<R: Threads + Sync>(rt: &R, alloc: Global, input: &[u8]) -> Result<Ran, Fail> {
     let words = words_of(alloc, "meter")?;
     let mut source = MemSource::new(input, 1000, &[]);
     let (mut output, mut notes) = (sink(alloc)?, sink(alloc)?);

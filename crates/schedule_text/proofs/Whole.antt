@@ -11,7 +11,7 @@ use Rattle.schedule_text.specs.Grammar.{shape_with, step_of, shape_of, with_step
 use Rattle.schedule_text.specs.Grammar.{schedule_of}
 use Rattle.schedule_text.specs.Printed.{line}
 use Rattle.schedule_text.specs.Spelled.{numbers_text, name_of, numbers_in, AreWritable, IsPrintable, step_text}
-use Rattle.schedule_text.specs.Spelled.{shape_text, spelled}
+use Rattle.schedule_text.specs.Spelled.{shape_text, spelled_text}
 use Rattle.schedule_text.proofs.Lines.{some_piece, lines_first}
 use Rattle.schedule_text.proofs.Spelling.{joined_by, joined-pieces, lacks, pieces-at, AreNumbers, words-lack, line-read}
 use Rattle.schedule_text.proofs.Spelling.{line-written, named, name-lacks, writable-numbers, step-written, step-read}
@@ -142,9 +142,9 @@ steps-written number (s ∷ steps) h =
     ∙ ap (with_step (Some s) number) (steps-written (number + 1) steps h.1))
 
 pub whole-written : (shape : Shape) (steps : List Step) → IsPrintable shape → AreWritable steps
-    → schedule_of (spelled shape steps) ≡ Ok (shape, steps)
+    → schedule_of (spelled_text shape steps) ≡ Ok (shape, steps)
 whole-written shape steps h k =
-    lines_first (shape_text shape) (lines_text steps) (pieces_of 10 (spelled shape steps))
+    lines_first (shape_text shape) (lines_text steps) (pieces_of 10 (spelled_text shape steps))
     (line-pieces (shape_text shape) (lines_text steps)
     (words-lack (codes "core") (shape.roots ∷ shape.seats ∷ shape.shields ∷ shape.batch ∷ shape.width ∷ []) refl
     (shape-numbers shape h)))
@@ -192,31 +192,31 @@ same_pair a b x y e = let pair : ◌≡◌ {A = Shape × List Step} (a, x) (b, y
     (ap (λ (p : Shape × List Step). p.0) pair, ap (λ (p : Shape × List Step). p.1) pair)
 
 pub whole-read : (text : List ℕ) (shape : Shape) (steps : List Step) → schedule_of text ≡ Ok (shape, steps)
-    → (text ≡ spelled shape steps) × IsPrintable shape × AreWritable steps
+    → (text ≡ spelled_text shape steps) × IsPrintable shape × AreWritable steps
 whole-read text shape steps h = pick (pieces_of 10 text) (joined-pieces 10 text) h
   where
     found : (first next : List ℕ) (lines : List (List ℕ)) → first ++ 10 ∷ joined_by 10 (next ∷ lines) ≡ text
         → (o : Option Shape) → shape_of first ≡ o → (r : Result (List Step) ℕ) → steps_of 2 (next ∷ lines) ≡ r
         → with_shape o r ≡ Ok (shape, steps)
-        → (text ≡ spelled shape steps) × IsPrintable shape × AreWritable steps
+        → (text ≡ spelled_text shape steps) × IsPrintable shape × AreWritable steps
     found first next lines whole None is r rest k = absurd (err_ok 1 (shape, steps) k)
     found first next lines whole (Some s) is (Err other) rest k = absurd (err_ok other (shape, steps) k)
     found first next lines whole (Some s) is (Ok more) rest k =
         let same = same_pair s shape more steps k in
         let head = shape-read first s is in
         let tail = steps-read 2 (next ∷ lines) more rest in
-        let made : text ≡ spelled s more =
+        let made : text ≡ spelled_text s more =
         sym whole
         ∙ (ap (λ l. first ++ 10 ∷ l) tail.0
         ∙ (ap (λ t. t ++ 10 ∷ lines_text more) head.0
         ∙ sym (append_assoc (shape_text s) (10 ∷ []) (lines_text more)))) in (
-          made ∙ (ap (λ z. spelled z more) same.0 ∙ ap (spelled shape) same.1),
+          made ∙ (ap (λ z. spelled_text z more) same.0 ∙ ap (spelled_text shape) same.1),
           subst IsPrintable same.0 head.1,
           subst AreWritable same.1 tail.1,
         )
 
     pick : (ps : List (List ℕ)) → joined_by 10 ps ≡ text → lines_of ps ≡ Ok (shape, steps)
-        → (text ≡ spelled shape steps) × IsPrintable shape × AreWritable steps
+        → (text ≡ spelled_text shape steps) × IsPrintable shape × AreWritable steps
     pick [] whole e = absurd (err_ok 1 (shape, steps) e)
     pick (first ∷ []) whole e = absurd (err_ok 1 (shape, steps) e)
     pick (first ∷ next ∷ lines) whole e = found first next lines whole (shape_of first) refl

@@ -91,15 +91,15 @@ with_step (Some step) number (Ok steps) = Ok (step ∷ steps)
 with_step (Some step) number (Err other) = Err other
 
 -- what follows the last line end is nothing
-abbrev pub ended : List ℕ → ℕ → Result (List Step) ℕ
-ended [] number = Ok []
-ended (byte ∷ bytes) number = Err number
+abbrev pub end_of_lines : List ℕ → ℕ → Result (List Step) ℕ
+end_of_lines [] number = Ok []
+end_of_lines (byte ∷ bytes) number = Err number
 
 -- The steps of the lines from this number on, of which the last piece is what follows the last line end; or the number
 -- of the first line that is none of a step.
 abbrev pub steps_of : ℕ → List (List ℕ) → Result (List Step) ℕ
 steps_of number [] = Err number
-steps_of number (last ∷ []) = ended last number
+steps_of number (last ∷ []) = end_of_lines last number
 steps_of number (line ∷ next ∷ lines) = with_step (step_of line) number (steps_of (number + 1) (next ∷ lines))
 
 abbrev pub with_shape : Option Shape → Result (List Step) ℕ → Result (Shape × List Step) ℕ

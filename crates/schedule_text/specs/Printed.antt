@@ -82,5 +82,5 @@ state_text state =
     ++ flat_map (seat_line state) (range_with_len 0 state.shape.seats)
 
 -- the answers, a line for each, and then the state
-abbrev pub printed : List Answer → State → List ℕ
-printed answers state = flat_map (λ answer. line (answer_text answer)) answers ++ state_text state
+abbrev pub printed_text : List Answer → State → List ℕ
+printed_text answers state = flat_map (λ answer. line (answer_text answer)) answers ++ state_text state

@@ -92,5 +92,5 @@ shape_text shape = codes "core" ++ numbers_text
     (shape.roots ∷ shape.seats ∷ shape.shields ∷ shape.batch ∷ shape.width ∷ [])
 
 -- the one text of a schedule
-abbrev pub spelled : Shape → List Step → List ℕ
-spelled shape steps = line (shape_text shape) ++ flat_map (λ s. line (step_text s)) steps
+abbrev pub spelled_text : Shape → List Step → List ℕ
+spelled_text shape steps = line (shape_text shape) ++ flat_map (λ s. line (step_text s)) steps

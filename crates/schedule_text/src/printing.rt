@@ -5,7 +5,7 @@ ghost use Rattle.std.specs.List.{range_with_len};
 ghost use Rattle.pebr_core.specs.State.{slot_count, seat_at};
 ghost use Rattle.schedule_text.specs.Printed.{answer_text, line, status_text, fresh_item, retired_item, shield_item};
 ghost use Rattle.schedule_text.specs.Printed.{fresh_list, retired_list, shield_list, root_line, seat_line, state_text};
-ghost use Rattle.schedule_text.specs.Printed.{printed};
+ghost use Rattle.schedule_text.specs.Printed.{printed_text};
 
 use pebr_core::{Answer, Core, NoMemory, Replayed, Retired, ShieldAt, Stance};
 use plain_text::{append, append_numbered};
@@ -201,7 +201,7 @@ fn put_state(out: &mut Vec<u8>, core: &Core) -> Result<(), NoMemory>
 ///
 /// `NoMemory` where no memory was left.
 pub fn print(alloc: Global, replayed: &Replayed) -> Result<Vec<u8>, NoMemory>
-    ensures { IfOk result (λ text. text.items ≡ printed replayed.now.answers.items replayed.now.core) }
+    ensures { IfOk result (λ text. text.items ≡ printed_text replayed.now.answers.items replayed.now.core) }
 {
     let mut out = Vec::new(alloc);
     put_answers(&mut out, &replayed.answers)?;

@@ -4,7 +4,7 @@ ghost use Rattle.std.specs.Prelude.{◌≡◌, ℕ, ◌++◌, ◌∷◌, [], Ok,
 ghost use Rattle.pebr_core.specs.Kept.{IsWithinLimits};
 ghost use Rattle.pebr_core.specs.declared.kinds.Shape.{Shape};
 ghost use Rattle.pebr_core.specs.declared.kinds.Step.{Step};
-ghost use Rattle.schedule_text.specs.Spelled.{IsPrintable, AreWritable, spelled};
+ghost use Rattle.schedule_text.specs.Spelled.{IsPrintable, AreWritable, spelled_text};
 ghost use Rattle.schedule_text.specs.Numbers.{pieces_of};
 ghost use Rattle.schedule_text.specs.Grammar.{steps_of, schedule_of};
 
@@ -46,11 +46,11 @@ pub fn read_schedule(alloc: Global, text: &[u8]) -> Result<Schedule, ScheduleErr
     ensures bad { (number : ℕ) → result ≡ Err (ScheduleError.BadLine number) → schedule_of text.now ≡ Err number }
 
     // What is read is spelled so, and what is spelled so is read.
-    ensures spelled { IfOk result (λ schedule. text.now ≡ spelled schedule.shape schedule.steps.items) }
+    ensures spelled { IfOk result (λ schedule. text.now ≡ spelled_text schedule.shape schedule.steps.items) }
     ensures printable { IfOk result (λ schedule. IsPrintable schedule.shape) }
     ensures writable { IfOk result (λ schedule. AreWritable schedule.steps.items) }
     ensures only { (shape : Shape) (steps : List Step) → IsPrintable shape → AreWritable steps
-        → text.now ≡ spelled shape steps
+        → text.now ≡ spelled_text shape steps
         → MatchResult result (λ schedule. (schedule.shape ≡ shape) × (schedule.steps.items ≡ steps))
         (λ error. error ≡ ScheduleError.NoMemory) }
     ensures limits { IfOk result (λ schedule. IsWithinLimits schedule.shape) }

@@ -9,7 +9,7 @@ use std::alloc::Global;
 use std::test::Fail;
 
 // What is printed of the replay of a text.
-fn shown(alloc: Global, text: &[u8]) -> Result<Vec<u8>, Fail> {
+fn shown_text(alloc: Global, text: &[u8]) -> Result<Vec<u8>, Fail> {
     let schedule = read_schedule(alloc, text)?;
     let core = Core::start(alloc, schedule.shape)?;
     let replayed = replay(alloc, core, &schedule.steps)?;
@@ -45,15 +45,18 @@ const FORCED_SHOWN: &[u8] =
 
 #[test]
 fn worked_schedules(rt: HostRuntime) -> Result<(), Fail> {
-    assert_eq!(rt; shown(rt.alloc(), PINS)?.as_slice(), PINS_SHOWN);
-    assert_eq!(rt; shown(rt.alloc(), UNCHECKED)?.as_slice(), UNCHECKED_SHOWN);
+    assert_eq!(rt; shown_text(rt.alloc(), PINS)?.as_slice(), PINS_SHOWN);
+    assert_eq!(rt;
+        shown_text(rt.alloc(), UNCHECKED)?.as_slice(),
+        UNCHECKED_SHOWN
+    );
     assert!(rt;
-        shown(rt.alloc(), CHECKED)?
+        shown_text(rt.alloc(), CHECKED)?
             .as_slice()
             .starts_with(CHECKED_SHOWN)
     );
     assert!(rt;
-        shown(rt.alloc(), FORCED)?
+        shown_text(rt.alloc(), FORCED)?
             .as_slice()
             .ends_with(FORCED_SHOWN)
     );

@@ -49,7 +49,7 @@ pub fn number(word: &[u8]) -> Option<u64>
     }
     let mut number = 0u64;
     for byte in word {
-        match shifted(number, *byte) {
+        match number_with_digit(number, *byte) {
             Some(more) => number = more,
             None => return None,
         }
@@ -58,7 +58,7 @@ pub fn number(word: &[u8]) -> Option<u64>
 }
 
 /// A number with one more digit, where it fits.
-fn shifted(number: u64, digit: u8) -> Option<u64>
+fn number_with_digit(number: u64, digit: u8) -> Option<u64>
     requires { 48 ≤ digit }
     ensures { MatchOption result (2 ^ 64 ≤ number * 10 + (digit - 48)) (λ more. more ≡ number * 10 + (digit - 48)) }
 {

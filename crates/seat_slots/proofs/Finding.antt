@@ -12,7 +12,8 @@ use Rattle.pebr_core.specs.declared.kinds.Retired.TheVariants as retire
 use Rattle.pebr_core.specs.State.{is_retired}
 use Rattle.pebr_core.specs.Steps.{tag_with}
 use Rattle.seat_slots.specs.declared.tagged.TaggedSlot.{TaggedSlot}
-use Rattle.seat_slots.specs.Shown.{times, is_in, slots_of, tagged_with, is_kept, is_given, unkept, kept_at, found}
+use Rattle.seat_slots.specs.Shown.{times, is_in, slots_of, tagged_with, is_kept, is_given, unkept_entry, kept_at}
+use Rattle.seat_slots.specs.Shown.{value_found}
 use Rattle.seat_slots.proofs.Listing.{times_cons, one_if, none_if, in_cons}
 use Rattle.seat_slots.proofs.Tables.{count_map}
 
@@ -21,10 +22,10 @@ abbrev pub tag_of : TaggedSlot → Retired
 tag_of entry = retire.Tagged entry.tag
 
 abbrev pub tag_at : List TaggedSlot → ℕ → Retired
-tag_at entries slot = found tag_of retire.No entries slot
+tag_at entries slot = value_found tag_of retire.No entries slot
 
 abbrev pub kept_of : List TaggedSlot → ℕ → Bool
-kept_of entries slot = found is_kept false entries slot
+kept_of entries slot = value_found is_kept false entries slot
 
 pub if_true : {A : Type 0} {b : Bool} (x y : A) → b ≡ true → cond b x y ≡ x
 if_true x y h = ap (λ b. cond b x y) h
@@ -44,20 +45,20 @@ rest_few : (slot : ℕ) (e : TaggedSlot) (es : List TaggedSlot) → times slot (
 rest_few slot e es few = let a = times_cons slot e.slot (slots_of es) in omega (arith, a, few)
 
 pub found_absent : {A : Type 0} (value : TaggedSlot → A) (none : A) (entries : List TaggedSlot) (slot : ℕ)
-    → times slot (slots_of entries) ≡ 0 → found value none entries slot ≡ none
+    → times slot (slots_of entries) ≡ 0 → value_found value none entries slot ≡ none
 found_absent value none [] slot h = refl
 found_absent value none (e ∷ es) slot h =
     pick (found_absent value none es slot (let a = times_cons slot e.slot (slots_of es) in omega (arith, a, h)))
     (eqb e.slot slot) refl
   where
-    pick : found value none es slot ≡ none → (b : Bool) → eqb e.slot slot ≡ b
-        → cond (eqb e.slot slot) (value e) (found value none es slot) ≡ none
+    pick : value_found value none es slot ≡ none → (b : Bool) → eqb e.slot slot ≡ b
+        → cond (eqb e.slot slot) (value e) (value_found value none es slot) ≡ none
     pick rest true is =
         absurd (let a = times_cons slot e.slot (slots_of es) in let b = one_if is in omega (arith, a, b, h))
-    pick rest false is = if_false (value e) (found value none es slot) is ∙ rest
+    pick rest false is = if_false (value e) (value_found value none es slot) is ∙ rest
 
 pub found_append : {A : Type 0} (value : TaggedSlot → A) (none : A) (xs ys : List TaggedSlot) (slot : ℕ)
-    → found value none (xs ++ ys) slot ≡ found value (found value none ys slot) xs slot
+    → value_found value none (xs ++ ys) slot ≡ value_found value (value_found value none ys slot) xs slot
 found_append value none [] ys slot = refl
 found_append value none (x ∷ xs) ys slot =
     ap (λ a. cond (eqb x.slot slot) (value x) a) (found_append value none xs ys slot)
@@ -78,10 +79,10 @@ found_tagged epoch (x ∷ xs) slot =
 -- entries that keep their slots
 pub found_map : {A : Type 0} (value : TaggedSlot → A) (none : A) (f : TaggedSlot → TaggedSlot)
     → ((e : TaggedSlot) → (f e).slot ≡ e.slot) → (entries : List TaggedSlot) (slot : ℕ)
-    → found value none (map f entries) slot ≡ found (λ e. value (f e)) none entries slot
+    → value_found value none (map f entries) slot ≡ value_found (λ e. value (f e)) none entries slot
 found_map value none f same [] slot = refl
 found_map value none f same (e ∷ es) slot =
-    ap (λ n. cond (eqb n slot) (value (f e)) (found value none (map f es) slot)) (same e)
+    ap (λ n. cond (eqb n slot) (value (f e)) (value_found value none (map f es) slot)) (same e)
     ∙ ap (λ a. cond (eqb e.slot slot) (value (f e)) a) (found_map value none f same es slot)
 
 pub slots_map : (f : TaggedSlot → TaggedSlot) → ((e : TaggedSlot) → (f e).slot ≡ e.slot) → (entries : List TaggedSlot)
@@ -98,7 +99,7 @@ slots_tagged epoch [] = refl
 slots_tagged epoch (x ∷ xs) = ap (λ l. x ∷ l) (slots_tagged epoch xs)
 
 pub found_same : {A : Type 0} (none : A) (entries : List TaggedSlot) (slot : ℕ)
-    → found (λ e. none) none entries slot ≡ none
+    → value_found (λ e. none) none entries slot ≡ none
 found_same none [] slot = refl
 found_same none (e ∷ es) slot = ap (λ a. cond (eqb e.slot slot) none a) (found_same none es slot)
     ∙ twice (eqb e.slot slot)
@@ -107,12 +108,12 @@ found_same none (e ∷ es) slot = ap (λ a. cond (eqb e.slot slot) none a) (foun
     twice true = refl
     twice false = refl
 
-pub unkept_twice : (entries : List TaggedSlot) → map unkept (map unkept entries) ≡ map unkept entries
+pub unkept_twice : (entries : List TaggedSlot) → map unkept_entry (map unkept_entry entries) ≡ map unkept_entry entries
 unkept_twice [] = refl
-unkept_twice (e ∷ es) = ap (λ l. unkept e ∷ l) (unkept_twice es)
+unkept_twice (e ∷ es) = ap (λ l. unkept_entry e ∷ l) (unkept_twice es)
 
 pub unkept_tagged : (epoch : ℕ) (slots : List ℕ)
-    → map unkept (map (tagged_with epoch) slots) ≡ map (tagged_with epoch) slots
+    → map unkept_entry (map (tagged_with epoch) slots) ≡ map (tagged_with epoch) slots
 unkept_tagged epoch [] = refl
 unkept_tagged epoch (x ∷ xs) = ap (λ l. tagged_with epoch x ∷ l) (unkept_tagged epoch xs)
 
@@ -269,11 +270,11 @@ given_few entries index =
     omega (arith, a, b, d, e)
 
 -- without a kept one, none is left
-pub none_left : (entries : List TaggedSlot) → map unkept entries ≡ entries
-    → map unkept (filter is_kept entries) ≡ filter is_kept entries
-none_left entries h = subst (λ l. map unkept l ≡ l) (sym (none entries) ∙ ap (filter is_kept) h) refl
+pub none_left : (entries : List TaggedSlot) → map unkept_entry entries ≡ entries
+    → map unkept_entry (filter is_kept entries) ≡ filter is_kept entries
+none_left entries h = subst (λ l. map unkept_entry l ≡ l) (sym (none entries) ∙ ap (filter is_kept) h) refl
   where
-    none : (es : List TaggedSlot) → filter is_kept (map unkept es) ≡ []
+    none : (es : List TaggedSlot) → filter is_kept (map unkept_entry es) ≡ []
     none [] = refl
     none (e ∷ es) = none es
 

@@ -19,10 +19,11 @@ use native.Mathlib.Decide.{ℕ_discrete}
 use Rattle.pebr_core.specs.declared.kinds.Retired.{Retired}
 use Rattle.pebr_core.specs.declared.kinds.Retired.TheVariants as retire
 use Rattle.pebr_core.specs.State.{has, is_retired}
-use Rattle.pebr_core.specs.Steps.{tag_with, united, released, without}
+use Rattle.pebr_core.specs.Steps.{tag_with, union_of, slots_without, without}
 use Rattle.seat_slots.specs.declared.tagged.TaggedSlot.{TaggedSlot}
-use Rattle.seat_slots.specs.Sets.{given, is_above}
-use Rattle.seat_slots.specs.Shown.{times, is_in, slots_of, tagged_with, is_kept, is_given, unkept, kept_at, found}
+use Rattle.seat_slots.specs.Sets.{given_slots, is_above}
+use Rattle.seat_slots.specs.Shown.{times, is_in, slots_of, tagged_with, is_kept, is_given, unkept_entry, kept_at}
+use Rattle.seat_slots.specs.Shown.{value_found}
 use Rattle.seat_slots.specs.Shown.{retired_as, sets_of, AreApart, IsNewest}
 use Rattle.seat_slots.proofs.Listing.{one_if, none_if, in_some, in_none, of_in, of_out, times_range}
 use Rattle.seat_slots.proofs.Tables.{map_as, map_to, map_twice, table_at, table_set, count_table, without_map}
@@ -148,11 +149,11 @@ first_fresh room first fresh p slot = ap (nat_lt 0)
 -- Note
 
 abbrev pub noted : ℕ → List ℕ → List TaggedSlot → List TaggedSlot
-noted epoch untagged tagged = map unkept (tagged ++ map (tagged_with epoch) untagged)
+noted epoch untagged tagged = map unkept_entry (tagged ++ map (tagged_with epoch) untagged)
 
 noted_slots : (epoch : ℕ) (untagged : List ℕ) (tagged : List TaggedSlot)
     → slots_of (noted epoch untagged tagged) ≡ slots_of tagged ++ untagged
-noted_slots epoch untagged tagged = slots_map unkept (λ _. refl) (tagged ++ map (tagged_with epoch) untagged)
+noted_slots epoch untagged tagged = slots_map unkept_entry (λ _. refl) (tagged ++ map (tagged_with epoch) untagged)
     ∙ (slots_append tagged (map (tagged_with epoch) untagged)
     ∙ ap (λ l. slots_of tagged ++ l) (slots_tagged epoch untagged))
 
@@ -161,7 +162,7 @@ pub noted_apart : (slots room : ℕ) (fresh untagged : List ℕ) (tagged : List 
 noted_apart slots room fresh untagged tagged epoch h = record {
   once = λ slot. (let a = h.once slot in let b = ap (times slot) (noted_slots epoch untagged tagged) in
       let d = times_both slot (slots_of tagged) untagged in omega (arith, a, b, d));
-  many = (let a = h.many in let b = length-map (tagged ++ map (tagged_with epoch) untagged) unkept in
+  many = (let a = h.many in let b = length-map (tagged ++ map (tagged_with epoch) untagged) unkept_entry in
       let d = length-append tagged (map (tagged_with epoch) untagged) in
       let e = length-map untagged (tagged_with epoch) in omega (arith, a, b, d, e));
 }
@@ -173,7 +174,7 @@ pub noted_newest : (newest newest' : Option ℕ) (untagged : List ℕ) (tagged :
     ≡ (is_above newest e && list_all (λ (entry : TaggedSlot). nat_lt entry.tag e) (map (tagged_with epoch) untagged)))
     → IsNewest newest' (noted epoch untagged tagged)
 noted_newest newest newest' untagged tagged epoch h is e =
-    list_all-map (λ (entry : TaggedSlot). nat_lt entry.tag e) unkept (tagged ++ map (tagged_with epoch) untagged)
+    list_all-map (λ (entry : TaggedSlot). nat_lt entry.tag e) unkept_entry (tagged ++ map (tagged_with epoch) untagged)
     ∙ (list_all-append (λ (entry : TaggedSlot). nat_lt entry.tag e) tagged (map (tagged_with epoch) untagged)
     ∙ (ap (λ b. b && list_all (λ (entry : TaggedSlot). nat_lt entry.tag e) (map (tagged_with epoch) untagged)) (h e)
     ∙ sym (is e)))
@@ -182,21 +183,21 @@ noted_at : (slots room : ℕ) (fresh untagged : List ℕ) (tagged : List TaggedS
     → AreApart slots room fresh untagged tagged → (slot : ℕ)
     → retired_as [] (noted epoch untagged tagged) slot ≡ tag_with epoch (retired_as untagged tagged slot)
 noted_at slots room fresh untagged tagged epoch h slot =
-    found_map tag_of retire.No unkept (λ _. refl) (tagged ++ new) slot
+    found_map tag_of retire.No unkept_entry (λ _. refl) (tagged ++ new) slot
     ∙ (found_append tag_of retire.No tagged new slot ∙ pick (is_in slot untagged) refl)
   where
     new : List TaggedSlot
     new = map (tagged_with epoch) untagged
 
     pick : (b : Bool) → is_in slot untagged ≡ b
-        → found tag_of (tag_at new slot) tagged slot ≡ tag_with epoch (retired_as untagged tagged slot)
+        → value_found tag_of (tag_at new slot) tagged slot ≡ tag_with epoch (retired_as untagged tagged slot)
     pick true is = found_absent tag_of (tag_at new slot) tagged slot
         (let some = of_in (times slot untagged) is in let f = few_of slots slot _ (h.once slot) in
         omega (arith, some, f))
         ∙ (found_tagged epoch untagged slot
         ∙ (if_true (retire.Tagged epoch) retire.No is
         ∙ ap (tag_with epoch) (sym (if_true retire.Untagged (tag_at tagged slot) is))))
-    pick false is = ap (λ r. found tag_of r tagged slot)
+    pick false is = ap (λ r. value_found tag_of r tagged slot)
         (found_tagged epoch untagged slot ∙ if_false (retire.Tagged epoch) retire.No is)
         ∙ (sym (tag_stays epoch tagged slot) ∙ ap (tag_with epoch)
         (sym (if_false retire.Untagged (tag_at tagged slot) is)))
@@ -211,9 +212,10 @@ noted_retired slots room fresh untagged tagged epoch h =
     ∙ sym (map_twice (tag_with epoch) (retired_as untagged tagged) (range_with_len 0 slots))
 
 pub none_kept : (entries : List TaggedSlot) (slots : ℕ) (others : List Retired) → length others ≡ slots
-    → map (kept_of (map unkept entries)) (range_with_len 0 slots) ≡ replicate (length others) false
-none_kept entries slots others long = map_to (kept_of (map unkept entries)) false
-    (λ s. found_map is_kept false unkept (λ _. refl) entries s ∙ found_same false entries s) (range_with_len 0 slots)
+    → map (kept_of (map unkept_entry entries)) (range_with_len 0 slots) ≡ replicate (length others) false
+none_kept entries slots others long = map_to (kept_of (map unkept_entry entries)) false
+    (λ s. found_map is_kept false unkept_entry (λ _. refl) entries s ∙ found_same false entries s)
+    (range_with_len 0 slots)
     ∙ ap (λ n. replicate n false) (length-range_with_len 0 slots ∙ sym long)
 
 -- a replacement
@@ -353,7 +355,7 @@ abbrev pub freed : List ℕ → List ℕ → List TaggedSlot → List ℕ
 freed fresh untagged tagged = (fresh ++ untagged) ++ slots_of (filter is_given tagged)
 
 abbrev pub left : List TaggedSlot → List TaggedSlot
-left tagged = map unkept (filter is_kept tagged)
+left tagged = map unkept_entry (filter is_kept tagged)
 
 freed_times : (fresh untagged : List ℕ) (tagged : List TaggedSlot) (slot : ℕ)
     → times slot (freed fresh untagged tagged)
@@ -381,7 +383,7 @@ given_apart slots room fresh untagged tagged fresh' h p = record {
   once = λ slot. (let was = h.once slot in
       let a = times_permuted slot (freed fresh untagged tagged) fresh' p in
       let b = freed_times fresh untagged tagged slot in
-      let d = ap (times slot) (slots_map unkept (λ _. refl) (filter is_kept tagged)) in
+      let d = ap (times slot) (slots_map unkept_entry (λ _. refl) (filter is_kept tagged)) in
       let e = times_parted tagged slot in
       omega (arith, was, a, b, d, e));
   many = (let was = h.many in
@@ -389,7 +391,7 @@ given_apart slots room fresh untagged tagged fresh' h p = record {
       let b = length-append (fresh ++ untagged) (slots_of (filter is_given tagged)) in
       let d = length-append fresh untagged in
       let e = length-map (filter is_given tagged) (λ (entry : TaggedSlot). entry.slot) in
-      let f = length-map (filter is_kept tagged) unkept in
+      let f = length-map (filter is_kept tagged) unkept_entry in
       let g = lengths_parted tagged in
       omega (arith, was, a, b, d, e, f, g));
 }
@@ -404,11 +406,12 @@ given_is slots untagged tagged = ap (λ l. without l (map (kept_of tagged) (rang
 pub given_fresh : (slots room : ℕ) (fresh untagged : List ℕ) (tagged : List TaggedSlot) (fresh' : List ℕ)
     → AreApart slots room fresh untagged tagged → IsPermutation (freed fresh untagged tagged) fresh'
     → map (λ s. is_in s fresh') (range_with_len 0 slots)
-    ≡ united (map (λ s. is_in s fresh) (range_with_len 0 slots)) (given (sets_of slots room fresh untagged tagged))
+    ≡ union_of (map (λ s. is_in s fresh) (range_with_len 0 slots))
+    (given_slots (sets_of slots room fresh untagged tagged))
 given_fresh slots room fresh untagged tagged fresh' h p =
     map_as (λ s. is_in s fresh') (λ s. is_in s fresh || is_freed untagged tagged s) at (range_with_len 0 slots)
     ∙ (sym (united_map (λ s. is_in s fresh) (is_freed untagged tagged) (range_with_len 0 slots))
-    ∙ ap (united (map (λ s. is_in s fresh) (range_with_len 0 slots))) (sym (given_is slots untagged tagged)))
+    ∙ ap (union_of (map (λ s. is_in s fresh) (range_with_len 0 slots))) (sym (given_is slots untagged tagged)))
   where
     at : (slot : ℕ) → is_in slot fresh' ≡ (is_in slot fresh || is_freed untagged tagged slot)
     at slot =
@@ -422,13 +425,14 @@ given_fresh slots room fresh untagged tagged fresh' h p =
 pub given_retired : (slots room : ℕ) (fresh untagged : List ℕ) (tagged : List TaggedSlot)
     → AreApart slots room fresh untagged tagged
     → map (retired_as [] (left tagged)) (range_with_len 0 slots)
-    ≡ released (map (retired_as untagged tagged) (range_with_len 0 slots))
-    (given (sets_of slots room fresh untagged tagged))
+    ≡ slots_without (map (retired_as untagged tagged) (range_with_len 0 slots))
+    (given_slots (sets_of slots room fresh untagged tagged))
 given_retired slots room fresh untagged tagged h =
     map_as (retired_as [] (left tagged))
     (λ s. cond (is_freed untagged tagged s) retire.No (retired_as untagged tagged s)) at (range_with_len 0 slots)
     ∙ (sym (released_map (retired_as untagged tagged) (is_freed untagged tagged) (range_with_len 0 slots))
-    ∙ ap (released (map (retired_as untagged tagged) (range_with_len 0 slots))) (sym (given_is slots untagged tagged)))
+    ∙ ap (slots_without (map (retired_as untagged tagged) (range_with_len 0 slots)))
+    (sym (given_is slots untagged tagged)))
   where
     and_false : (b : Bool) → (b && false) ≡ false
     and_false true = refl
@@ -452,13 +456,13 @@ given_retired slots room fresh untagged tagged h =
 
     at : (slot : ℕ) → retired_as [] (left tagged) slot
         ≡ cond (is_freed untagged tagged slot) retire.No (retired_as untagged tagged slot)
-    at slot = found_map tag_of retire.No unkept (λ _. refl) (filter is_kept tagged) slot
+    at slot = found_map tag_of retire.No unkept_entry (λ _. refl) (filter is_kept tagged) slot
         ∙ (found_kept tagged slot (let f = few_of slots slot _ (h.once slot) in omega (arith, f))
         ∙ pick slot (kept_of tagged slot) refl)
 
 pub given_number : (slots room : ℕ) (fresh untagged : List ℕ) (tagged : List TaggedSlot)
     → AreApart slots room fresh untagged tagged
-    → count_by (λ m. m) (given (sets_of slots room fresh untagged tagged)) + length (filter is_kept tagged)
+    → count_by (λ m. m) (given_slots (sets_of slots room fresh untagged tagged)) + length (filter is_kept tagged)
     ≡ length untagged + length tagged
 given_number slots room fresh untagged tagged h =
     let a = ap (count_by (λ m. m)) (given_is slots untagged tagged) in

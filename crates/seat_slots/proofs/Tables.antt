@@ -13,7 +13,7 @@ use mathlib.Core.Logic.{dite}
 use native.Mathlib.Decide.{ℕ_discrete}
 use Rattle.pebr_core.specs.declared.kinds.Retired.{Retired}
 use Rattle.pebr_core.specs.declared.kinds.Retired.TheVariants as retire
-use Rattle.pebr_core.specs.Steps.{without, united, released}
+use Rattle.pebr_core.specs.Steps.{without, union_of, slots_without}
 use Rattle.seat_slots.specs.Shown.{times}
 use Rattle.seat_slots.proofs.Listing.{times_cons, one_if}
 
@@ -145,11 +145,11 @@ pub without_map : {A : Type 0} (f g : A → Bool) (xs : List A)
 without_map f g [] = refl
 without_map f g (x ∷ xs) = ap (λ l. (f x && not (g x)) ∷ l) (without_map f g xs)
 
-pub united_map : {A : Type 0} (f g : A → Bool) (xs : List A) → united (map f xs) (map g xs) ≡ map (λ x. f x || g x) xs
+pub united_map : {A : Type 0} (f g : A → Bool) (xs : List A) → union_of (map f xs) (map g xs) ≡ map (λ x. f x || g x) xs
 united_map f g [] = refl
 united_map f g (x ∷ xs) = ap (λ l. (f x || g x) ∷ l) (united_map f g xs)
 
 pub released_map : {A : Type 0} (f : A → Retired) (g : A → Bool) (xs : List A)
-    → released (map f xs) (map g xs) ≡ map (λ x. cond (g x) retire.No (f x)) xs
+    → slots_without (map f xs) (map g xs) ≡ map (λ x. cond (g x) retire.No (f x)) xs
 released_map f g [] = refl
 released_map f g (x ∷ xs) = ap (λ l. cond (g x) retire.No (f x) ∷ l) (released_map f g xs)

@@ -13,8 +13,8 @@ pub record Sets : Type 0 where
   pub room : ℕ
 
 -- the retired slots that the scan doesn't keep
-abbrev pub given : Sets → List Bool
-given sets = without (map is_retired sets.retired) sets.kept
+abbrev pub given_slots : Sets → List Bool
+given_slots sets = without (map is_retired sets.retired) sets.kept
 
 -- the epoch is above a tag, where there is one
 abbrev pub is_above : Option ℕ → ℕ → Bool

@@ -32,28 +32,29 @@ is_kept entry = entry.kept
 abbrev pub is_given : TaggedSlot → Bool
 is_given entry = not entry.kept
 
-abbrev pub unkept : TaggedSlot → TaggedSlot
-unkept entry = record entry { kept = false }
+abbrev pub unkept_entry : TaggedSlot → TaggedSlot
+unkept_entry entry = record entry { kept = false }
 
 -- the entry of a slot on which a shield was found
 abbrev pub kept_at : ℕ → TaggedSlot → TaggedSlot
 kept_at slot entry = record entry { kept = if entry.slot == slot then true else entry.kept }
 
 -- the value of a slot's entry, and another where it has none
-abbrev pub found : {A : Type 0} → (TaggedSlot → A) → A → List TaggedSlot → ℕ → A
-found value none [] slot = none
-found value none (entry ∷ entries) slot = if entry.slot == slot then value entry else found value none entries slot
+abbrev pub value_found : {A : Type 0} → (TaggedSlot → A) → A → List TaggedSlot → ℕ → A
+value_found value none [] slot = none
+value_found value none (entry ∷ entries) slot = if entry.slot == slot then value entry
+    else value_found value none entries slot
 
 abbrev pub retired_as : List ℕ → List TaggedSlot → ℕ → Retired
 retired_as untagged tagged slot = if is_in slot untagged then retire.Untagged
-    else found (λ entry. retire.Tagged entry.tag) retire.No tagged slot
+    else value_found (λ entry. retire.Tagged entry.tag) retire.No tagged slot
 
 -- the sets of a table with so many slots
 abbrev pub sets_of : ℕ → ℕ → List ℕ → List ℕ → List TaggedSlot → Sets
 sets_of slots room fresh untagged tagged = record {
   fresh = map (λ slot. is_in slot fresh) (range_with_len 0 slots);
   retired = map (retired_as untagged tagged) (range_with_len 0 slots);
-  kept = map (found is_kept false tagged) (range_with_len 0 slots);
+  kept = map (value_found is_kept false tagged) (range_with_len 0 slots);
   room = room;
 }
 
@@ -70,4 +71,4 @@ IsNewest newest tagged = (epoch : ℕ) → list_all (λ entry. nat_lt entry.tag 
 
 -- without the sign that some may be kept, none is
 abbrev pub IsSignOf : Bool → List TaggedSlot → Type 0
-IsSignOf some_kept tagged = some_kept ≡ false → map unkept tagged ≡ tagged
+IsSignOf some_kept tagged = some_kept ≡ false → map unkept_entry tagged ≡ tagged

@@ -5,13 +5,13 @@ ghost use Rattle.std.specs.Prelude.{count_by, false, true, nat_lt, slice_set, sl
 ghost use Rattle.std.specs.Prelude.{vec_capacity};
 ghost use Rattle.pebr_core.specs.declared.kinds.Retired.TheVariants as retire;
 ghost use Rattle.pebr_core.specs.State.{has, is_retired, first_seat, slot_count, slots_per_seat};
-ghost use Rattle.pebr_core.specs.Steps.{tag_with, is_above_tags, united, released};
+ghost use Rattle.pebr_core.specs.Steps.{tag_with, is_above_tags, union_of, slots_without};
 ghost use Rattle.pebr_core.specs.Kept.{IsWithinLimits};
-ghost use Rattle.seat_slots.specs.Sets.{given, is_above, least};
+ghost use Rattle.seat_slots.specs.Sets.{given_slots, is_above, least};
 
 use crate::fresh::{falling_from, let_fall, push_all, take_out};
 use crate::tagged::{
-    TaggedSlot, free_all, has_slot, keep_slot, leave_kept, newest_of, noted, tag_all, unkeep,
+    TaggedSlot, free_all, has_slot, keep_slot, leave_kept, newest_of, newest_with, tag_all, unkeep,
 };
 use no_memory::NoMemory;
 use pebr_core::Shape;
@@ -135,7 +135,7 @@ impl SeatSlots {
         ensures kept { self.new.kept ≡ replicate (length self.old.retired) false }
         ensures room { self.new.room ≡ self.old.room }
     {
-        self.newest = noted(self.newest, &self.untagged, epoch);
+        self.newest = newest_with(self.newest, &self.untagged, epoch);
         tag_all(&mut self.tagged, &self.untagged, epoch);
         self.untagged.clear();
         unkeep(&mut self.tagged, self.some_kept);
@@ -176,9 +176,9 @@ impl SeatSlots {
     /// A Give: the retired slots that aren't kept are fresh. It answers how many these are, and how many
     /// stay retired.
     pub fn give(&mut self) -> (usize, usize)
-        ensures fresh { self.new.fresh ≡ united self.old.fresh (given self.old) }
-        ensures retired { self.new.retired ≡ released self.old.retired (given self.old) }
-        ensures given { result.0 ≡ count_by (λ mark. mark) (given self.old) }
+        ensures fresh { self.new.fresh ≡ union_of self.old.fresh (given_slots self.old) }
+        ensures retired { self.new.retired ≡ slots_without self.old.retired (given_slots self.old) }
+        ensures given { result.0 ≡ count_by (λ mark. mark) (given_slots self.old) }
         ensures left { result.1 ≡ count_by is_retired self.new.retired }
         ensures room { self.new.room ≡ self.old.room }
     {

@@ -3,7 +3,8 @@
 ghost use Rattle.std.specs.Prelude.{◌≡◌, ◌<◌, ◌≤◌, ◌+◌, ◌++◌, ◌&&◌, ℕ, length, map, nat_lt, vec_capacity};
 ghost use Rattle.std.specs.List.{filter, list_all};
 ghost use Rattle.seat_slots.specs.Sets.{is_above};
-ghost use Rattle.seat_slots.specs.Shown.{slots_of, tagged_with, is_kept, is_given, unkept, kept_at, is_in, IsSignOf};
+ghost use Rattle.seat_slots.specs.Shown.{slots_of, tagged_with, is_kept, is_given, unkept_entry, kept_at, is_in};
+ghost use Rattle.seat_slots.specs.Shown.{IsSignOf};
 
 /// A retired slot with a tag.
 #[derive(Clone, Copy, Debug)]
@@ -65,7 +66,7 @@ pub fn keep_slot(tagged: &mut [TaggedSlot], slot: usize)
 /// The scan keeps none of them any more. Without the sign that it may keep some, none is kept.
 pub fn unkeep(tagged: &mut Vec<TaggedSlot>, some_kept: bool)
     requires { IsSignOf some_kept tagged.old.items }
-    ensures slots { tagged.new.items ≡ map unkept tagged.old.items }
+    ensures slots { tagged.new.items ≡ map unkept_entry tagged.old.items }
     ensures room { vec_capacity tagged.new ≡ vec_capacity tagged.old }
 {
     if some_kept {
@@ -75,7 +76,7 @@ pub fn unkeep(tagged: &mut Vec<TaggedSlot>, some_kept: bool)
 
 /// Takes the mark of the scan from each.
 fn unkeep_all(tagged: &mut [TaggedSlot])
-    ensures { tagged.new ≡ map unkept tagged.old }
+    ensures { tagged.new ≡ map unkept_entry tagged.old }
 {
     for entry in tagged.iter_mut() {
         entry.kept = false;
@@ -115,7 +116,7 @@ pub fn newest_of(tagged: &[TaggedSlot]) -> Option<u64>
 }
 
 /// The newest tag, once these slots have this one.
-pub fn noted(newest: Option<u64>, slots: &[usize], tag: u64) -> Option<u64>
+pub fn newest_with(newest: Option<u64>, slots: &[usize], tag: u64) -> Option<u64>
     ensures { (epoch : ℕ) → is_above result epoch
         ≡ (is_above newest epoch && list_all (λ entry. nat_lt entry.tag epoch) (map (tagged_with tag) slots.now)) }
 {

@@ -79,7 +79,7 @@ fn entry_of_key(content: &[u64; 10], key: FlowKey) -> Option<Fragment>
 
 /// The fragment that stands at the place as one with the given one, where they can be one. The content has the words of
 /// its key.
-fn joined(timeouts: &Timeouts, content: &[u64; 10], own: &Fragment) -> Option<Fragment>
+fn join_content(timeouts: &Timeouts, content: &[u64; 10], own: &Fragment) -> Option<Fragment>
     requires whole { IsWhole content.now }
     requires words { take 5 content.now ≡ words_of own.now.key }
     requires small { IsSmall own.now }
@@ -130,7 +130,7 @@ fn lowest_empty(contents: &[[u64; 10]; 4]) -> Option<usize>
 }
 
 /// The content with the least last time, the lowest among equals, where each shows a fragment.
-fn oldest(contents: &[[u64; 10]; 4]) -> usize
+fn oldest_content(contents: &[[u64; 10]; 4]) -> usize
     requires whole { All IsWhole contents.now }
     requires none_empty { HasNone IsNone (map entry_of contents.now) }
     ensures { IsOldest (map entry_of contents.now) result }
@@ -196,7 +196,7 @@ fn choose_else(contents: &[[u64; 10]; 4], own: &Fragment) -> WordChoice
         },
         None => WordChoice {
             how: How::Replaced,
-            place: oldest(contents),
+            place: oldest_content(contents),
             words,
         },
     }
@@ -213,7 +213,7 @@ pub fn choose_by_words(timeouts: Timeouts, contents: &[[u64; 10]; 4], own: &Frag
 {
     let words = own.key.to_words();
     match lowest_with_words(contents, &own.key, &words) {
-        Some(place) => match joined(&timeouts, &contents[place], own) {
+        Some(place) => match join_content(&timeouts, &contents[place], own) {
             Some(kept) => WordChoice {
                 how: How::Joined,
                 place,
@@ -227,7 +227,7 @@ pub fn choose_by_words(timeouts: Timeouts, contents: &[[u64; 10]; 4], own: &Frag
 
 /// The fragment that ten words show, whatever they are. Few packets come here.
 #[inline(never)]
-fn shown(content: &[u64; 10]) -> Option<Fragment>
+fn fragment_shown(content: &[u64; 10]) -> Option<Fragment>
     ensures { result ≡ entry_of content.now }
 {
     fragments_have_fields();
@@ -240,7 +240,7 @@ pub fn put_out(how: How, content: &[u64; 10]) -> Option<Fragment>
     ensures { result ≡ out_of how (entry_of content.now) }
 {
     match how {
-        How::Replaced => shown(content),
+        How::Replaced => fragment_shown(content),
         How::Joined | How::Opened | How::PassedBy => None,
     }
 }

@@ -32,7 +32,7 @@ fn words(part: Fragment) -> [u64; 10]
 }
 
 /// The words of a fragment, without its packets: an empty content that has the words of a key.
-fn emptied(part: Fragment) -> [u64; 10]
+fn empty_words(part: Fragment) -> [u64; 10]
     ensures { IsWhole result }
 {
     let mut content = part.to_words();
@@ -92,7 +92,7 @@ fn choices_by_words(rt: HostRuntime) {
     assert!(rt; is(opened, How::Opened, 2, own, None));
     let lowest = put([0; 10], one, [0; 10], last, own);
     assert!(rt; is(lowest, How::Opened, 0, own, None));
-    let again = put(five, emptied(own), three, [0; 10], own);
+    let again = put(five, empty_words(own), three, [0; 10], own);
     assert!(rt; is(again, How::Opened, 1, own, None));
     let oldest = put(five, one, three, last, own);
     assert!(rt; is(oldest, How::Replaced, 1, own, one_out));

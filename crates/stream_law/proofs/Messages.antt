@@ -6,7 +6,7 @@ use Rattle.std.proofs.Math.Seq.{drop-append_seam}
 use Rattle.octets.specs.Numbers.{octets_of, number_at}
 use Rattle.ipfix_writer.specs.Encoding.{message_header, message}
 use Rattle.ipfix_writer.proofs.Sizes.{length-message}
-use Rattle.ipfix_reader.specs.Part.{Part, behind, first}
+use Rattle.ipfix_reader.specs.Part.{Part, behind, first_part}
 use Rattle.ipfix_reader.specs.Known.{Sequences, expected_in, with_expected}
 use Rattle.ipfix_reader.specs.Sets.{Contents, message_sets}
 use Rattle.ipfix_reader.specs.Messages.{Progress, message_version, message_length, message_sequence, message_domain}
@@ -97,7 +97,8 @@ message-decoded time sequence at sets rest before after size_fits sequence_fits 
     ∙ message-inside time sequence sets in
     let behind_it : drop (message_length part) bytes ≡ rest =
     ap (λ n. drop n bytes) (size_is ∙ sym long) ∙ drop-append_seam (message time sequence sets) rest in
-    let contents : message_sets (message_domain part) before.contents (behind 16 (first (message_length part) part))
+    let contents : message_sets (message_domain part) before.contents
+    (behind 16 (first_part (message_length part) part))
     ≡ Ok after =
     (λ i. message_sets (domain_is i) before.contents (record { at = at + 16; bytes = content i })) ∙ is in
     stream_messages-next before after part (message_length part) (omega arith) fine contents

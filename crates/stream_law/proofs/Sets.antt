@@ -10,7 +10,7 @@ use Rattle.ipfix_model.specs.declared.values.DataRecord.{DataRecord}
 use Rattle.ipfix_writer.specs.Encoding.{set}
 use Rattle.ipfix_writer.specs.Layout.{RecordSet, records_in, bytes_of_sets, body_in}
 use Rattle.ipfix_writer.proofs.Sizes.{length-set}
-use Rattle.ipfix_reader.specs.Part.{Part, behind, first}
+use Rattle.ipfix_reader.specs.Part.{Part, behind, first_part}
 use Rattle.ipfix_reader.specs.Known.{Templates}
 use Rattle.ipfix_reader.specs.Sets.{Contents, set_contents, set_length, is_bad_length, message_sets}
 use Rattle.ipfix_reader.proofs.SetSteps.{message_sets-next, message_sets-end, set_contents-data}
@@ -59,7 +59,7 @@ set-decoded domain number at records rest before after number_fits size_fits is 
     ∙ set-inside number records in
     let behind_it : drop (set_length part) bytes ≡ rest =
     ap (λ n. drop n bytes) (size_is ∙ sym long) ∙ drop-append_seam (set number records) rest in
-    let contents : set_contents domain (number_at 0 2 bytes) at before (behind 4 (first (set_length part) part))
+    let contents : set_contents domain (number_at 0 2 bytes) at before (behind 4 (first_part (set_length part) part))
     ≡ Ok after =
     (λ i. set_contents domain (set-number number records rest number_fits i) at before
     (record { at = at + 4; bytes = content i })) ∙ is in

@@ -12,7 +12,7 @@ use Rattle.cache_face.specs.declared.metered.How.TheVariants as how
 use Rattle.cache_face.specs.Meaning.{CacheMeans, PassMeans, HasLost, IsAnswer, IsPassedBy}
 use Rattle.cache_face.specs.Tries.{LostTry, turn_taken}
 use Rattle.turn_cache.specs.Hands.{Hand, entries_of}
-use Rattle.turn_cache.specs.Moves.{filled, after_tries, passed_by}
+use Rattle.turn_cache.specs.Moves.{filled_hand, after_tries, passed_by}
 use Rattle.turn_cache.specs.Shown.{IsTryOf}
 use Rattle.turn_cache.proofs.Writing.{shown_there}
 
@@ -82,9 +82,10 @@ pub answered : (cache : CacheMeans) (hand : Hand) (own : Fragment) (out : Option
     → set ≡ set_number own.key cache.sets → tries < 3 → length words ≡ 40
     → IsChoice cache.limits (entries_of words) own by place out kept
     → IsAnswer cache IsTryOf (hand_means hand)
-    (hand_means (filled words packets out (after_tries set tries hand))) own by out
+    (hand_means (filled_hand words packets out (after_tries set tries hand))) own by out
 answered cache hand own out place kept by set tries words packets is_set few long chosen =
-    answer_is cache (hand_means hand) (hand_means (filled words packets out (after_tries set tries hand))) own out place
+    answer_is cache (hand_means hand) (hand_means (filled_hand words packets out (after_tries set tries hand)))
+    own out place
     kept by (tries_at tries set) is_set (ap length (shown_there words long)) chosen
     (listed hand.lost tries set, subst (λ n. All (IsTryOf n) (tries_at tries set)) is_set (all_at_set tries set))
     (let many = so_many tries set in omega (arith, many, few))

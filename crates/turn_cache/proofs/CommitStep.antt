@@ -15,8 +15,8 @@ use Rattle.cache_face.specs.Choice.{Takes}
 use Rattle.cache_face.specs.Keeping.{Keeps, entry_of}
 use Rattle.cache_face.proofs.Keeping.{keeps_taken}
 use Rattle.turn_cache.specs.declared.rule.Told.{Told}
-use Rattle.turn_cache.specs.Hands.{Hand, Turn, reading, number_of, is_at, holding, claim, at_work}
-use Rattle.turn_cache.specs.Moves.{Sat, Commits, committed, writes_to, IsOwn}
+use Rattle.turn_cache.specs.Hands.{Hand, Turn, reading, number_of, is_at, turns_held, claim, at_work}
+use Rattle.turn_cache.specs.Moves.{Sat, Commits, committed_hand, writes_to, IsOwn}
 use Rattle.turn_cache.specs.Places.{turn_word, set_word, content_place}
 use Rattle.turn_cache.specs.Ruled.{Ruled, Fits, FitsTurn, LiveAt}
 use Rattle.turn_cache.proofs.Totals.{total-set}
@@ -44,7 +44,7 @@ commits told slots id at_set place value packets own kept out before old after n
     let i : ℕ = 64 * at_set + 16 + (10 * place + 5) in
     let c : ℕ = content_place at_set place in
     let v : Hand = me.0 in
-    let w : Hand = committed (writes_to at_set place packets out old new) v in
+    let w : Hand = committed_hand (writes_to at_set place packets out old new) v in
     let f = h.each id v at in
     let known : FitsTurn told.sets s.words h.contents v.read (reading at_set) =
     subst (FitsTurn told.sets s.words h.contents v.read) is f.turn in
@@ -65,7 +65,7 @@ commits told slots id at_set place value packets own kept out before old after n
     let contents' : List (List ℕ) = set h.contents c new in
     let claims : (q : ℕ) → claim q w ≡ claim q v =
     λ q. sym (ap (λ (t : Turn). let n : ℕ = cond (is_at q t) (suc (number_of v.numbers)) 0 in n) is) in
-    let holds : (q : ℕ) → holding q w ≡ holding q v =
+    let holds : (q : ℕ) → turns_held q w ≡ turns_held q v =
     λ q. sym (ap (λ (t : Turn). let n : ℕ = cond (is_at q t) 1 0 in n) is) in
     let has : is_at at_set v.turn ≡ true = ap (is_at at_set) is ∙ eq-eqb at_set at_set refl in
     let idle_before : (q p : ℕ) → at_work q p v.turn ≡ 0 = λ q p. ap (at_work q p) is in
@@ -110,7 +110,7 @@ commits told slots id at_set place value packets own kept out before old after n
           let keep : get_or (set s.words i value) (turn_word q) 0 ≡ get_or s.words (turn_word q) 0 =
           get_or-set_other s.words i (turn_word q) value 0
           (λ e. apart_turn q at_set (10 * place + 5) (omega (arith, low')) (sym e)) in omega (arith, e, keep)))
-          (λ q. (let t = total-set (holding q) s.views id v w at in let o = h.once q in let e = holds q in
+          (λ q. (let t = total-set (turns_held q) s.views id v w at in let o = h.once q in let e = holds q in
           omega (arith, t, o, e)))
           (λ q p m lower lower' lower'' none.
           let t = total-set (λ hand. at_work q p hand.turn) s.views id v w at in

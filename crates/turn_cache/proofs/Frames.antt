@@ -9,7 +9,7 @@ use Rattle.atomic_table.proofs.Lists.{at_set, at_map, set_again}
 use Rattle.cache_face.specs.Keeping.{Keeps}
 use Rattle.cache_face.specs.Notes.{Note}
 use Rattle.turn_cache.specs.declared.rule.Told.{Told}
-use Rattle.turn_cache.specs.Hands.{Hand, Turn, idle, reading, writing, is_at, holding, claim, at_work, times, total}
+use Rattle.turn_cache.specs.Hands.{Hand, Turn, idle, reading, writing, is_at, turns_held, claim, at_work, times, total}
 use Rattle.turn_cache.specs.Places.{turn_word, set_word, content_place}
 use Rattle.turn_cache.specs.Ruled.{Ruled, Fits, FitsTurn}
 use Rattle.turn_cache.proofs.Totals.{ne_of, total-set, total-two}
@@ -109,9 +109,10 @@ not_other told s at_set id j v u h at has ne at' = pick (is_at at_set u.turn) re
   where
     pick : (b : Bool) → is_at at_set u.turn ≡ b → is_at at_set u.turn ≡ false
     pick false e = e
-    pick true e = absurd (let two = total-two (holding at_set) s.views id j v u ne at at' in let few = h.once at_set in
-        let one : holding at_set v ≡ 1 = ap (λ (b : Bool). let n : ℕ = cond b 1 0 in n) has in
-        let other : holding at_set u ≡ 1 = ap (λ (b : Bool). let n : ℕ = cond b 1 0 in n) e in
+    pick true e = absurd (let two = total-two (turns_held at_set) s.views id j v u ne at at' in
+        let few = h.once at_set in
+        let one : turns_held at_set v ≡ 1 = ap (λ (b : Bool). let n : ℕ = cond b 1 0 in n) has in
+        let other : turns_held at_set u ≡ 1 = ap (λ (b : Bool). let n : ℕ = cond b 1 0 in n) e in
         omega (arith, two, few, one, other))
 
 -- Notes where one seat's changes, or stays.
@@ -137,7 +138,7 @@ module _ (told : Told) (s : State (Unit {0}) Hand) (h : Ruled told s) (id : ℕ)
       → ((k : ℕ) → k < 4 * told.sets → length (get_or contents' k []) ≡ 10)
       → ((at_set : ℕ) → at_set < told.sets → claim at_set w + get_or s.words (turn_word at_set) 0
       ≡ claim at_set v + get_or (set s.words i n) (turn_word at_set) 0)
-      → ((at_set : ℕ) → total (holding at_set) (set s.views id w) ≤ 1)
+      → ((at_set : ℕ) → total (turns_held at_set) (set s.views id w) ≤ 1)
       → ((at_set place k : ℕ) → at_set < told.sets → place < 4 → k < 10
       → total (λ hand. at_work at_set place hand.turn) (set s.views id w) ≡ 0
       → get_or (get_or contents' (content_place at_set place) []) k 0

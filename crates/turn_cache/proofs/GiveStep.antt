@@ -7,7 +7,7 @@ use native.Mathlib.Decide.{ℕ_discrete}
 use Rattle.atomic_table.specs.Table.{keeps, Allows}
 use Rattle.cache_face.specs.Keeping.{Keeps}
 use Rattle.turn_cache.specs.declared.rule.Told.{Told}
-use Rattle.turn_cache.specs.Hands.{Hand, Turn, idle, writing, number_of, is_at, holding, claim, at_work}
+use Rattle.turn_cache.specs.Hands.{Hand, Turn, idle, writing, number_of, is_at, turns_held, claim, at_work}
 use Rattle.turn_cache.specs.Moves.{Sat, Gives, at_turn}
 use Rattle.turn_cache.specs.Places.{turn_word, set_word, content_place}
 use Rattle.turn_cache.specs.Ruled.{Ruled, FitsTurn}
@@ -36,14 +36,14 @@ gives told slots id at_set place new me is low s h wide at fits =
     let inside : i < length s.words = (let x = h.wide in omega (arith, x, low)) in
     let claims : (q : ℕ) → claim q v ≡ cond (eqb at_set q) (suc (number_of v.numbers)) 0 =
     λ q. ap (λ (t : Turn). let n : ℕ = cond (is_at q t) (suc (number_of v.numbers)) 0 in n) is in
-    let holds : (q : ℕ) → holding q v ≡ cond (eqb at_set q) 1 0 =
+    let holds : (q : ℕ) → turns_held q v ≡ cond (eqb at_set q) 1 0 =
     λ q. ap (λ (t : Turn). let n : ℕ = cond (is_at q t) 1 0 in n) is in (
       w,
       keeps,
       tt,
       build told s h id v w at refl refl i 0 me.1 h.contents h.many h.ten
           (λ q lower. dite (ℕ_discrete at_set q)
-          (λ same. (let one : holding q v ≡ 1 = holds q
+          (λ same. (let one : turns_held q v ≡ 1 = holds q
           ∙ ap (λ (b : Bool). let n : ℕ = cond b 1 0 in n) (eq-eqb at_set q same) in
           let all = one_claim q s.views id v (h.once q) at one in
           let sum = h.turns q lower in
@@ -54,7 +54,7 @@ gives told slots id at_set place new me is low s h wide at fits =
           ∙ ap (λ (b : Bool). let n : ℕ = cond b (suc (number_of v.numbers)) 0 in n) (ne_eqb at_set q other) in
           let keep : get_or (set s.words i 0) (turn_word q) 0 ≡ get_or s.words (turn_word q) 0 =
           get_or-set_other s.words i (turn_word q) 0 0 (λ e. other (omega (arith, e))) in omega (arith, c, keep))))
-          (λ q. (let t = total-set (holding q) s.views id v w at in let o = h.once q in omega (arith, t, o)))
+          (λ q. (let t = total-set (turns_held q) s.views id v w at in let o = h.once q in omega (arith, t, o)))
           (λ q p m lower lower' lower'' none.
           let t = total-set (λ hand. at_work q p hand.turn) s.views id v w at in
           let keep : get_or (set s.words i 0) (set_word q (10 * p + m)) 0 ≡ get_or s.words (set_word q (10 * p + m)) 0 =

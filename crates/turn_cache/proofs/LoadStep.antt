@@ -11,7 +11,7 @@ use Rattle.atomic_table.specs.Table.{State, keeps, Allows}
 use Rattle.cache_face.specs.Keeping.{Keeps, IsWhole}
 use Rattle.cache_face.proofs.Apart.{all_at}
 use Rattle.turn_cache.specs.declared.rule.Told.{Told}
-use Rattle.turn_cache.specs.Hands.{Hand, Turn, idle, reading, writing, is_at, holding, claim, at_work, total}
+use Rattle.turn_cache.specs.Hands.{Hand, Turn, idle, reading, writing, is_at, turns_held, claim, at_work, total}
 use Rattle.turn_cache.specs.Moves.{Sat, Loads, more_read}
 use Rattle.turn_cache.specs.Places.{turn_word, set_word, content_place}
 use Rattle.turn_cache.specs.Ruled.{Ruled, Fits, FitsTurn}
@@ -96,7 +96,7 @@ loads told slots id at_set k me is long low below s h wide at fits =
       tt,
       build told s h id v w at refl refl i n me.1 h.contents h.many h.ten
           (λ q lower. ap (λ ws. claim q v + get_or ws (turn_word q) 0) (sym same))
-          (λ q. (let t = total-set (holding q) s.views id v w at in let o = h.once q in omega (arith, t, o)))
+          (λ q. (let t = total-set (turns_held q) s.views id v w at in let o = h.once q in omega (arith, t, o)))
           (λ q place m lower lower' lower'' none. h.settled q place m lower lower' lower''
           (let t = total-set (λ hand. at_work q place hand.turn) s.views id v w at in omega (arith, t, none))
           ∙ ap (λ ws. get_or ws (set_word q (10 * place + m)) 0) (sym same))

@@ -13,7 +13,7 @@ use lib.ListN.{get_elem?}
 use Rattle.atomic_table.specs.Table.{opening}
 use Rattle.cache_face.specs.Keeping.{IsEmptyContent}
 use Rattle.cache_face.specs.Laws.{IsUnused}
-use Rattle.cache_face.specs.Notes.{Note, unused}
+use Rattle.cache_face.specs.Notes.{Note, unused_note}
 use Rattle.cache_face.proofs.Keeping.{keeps_opening}
 use Rattle.turn_cache.specs.declared.rule.Told.{Told}
 use Rattle.turn_cache.specs.Hands.{Hand, new_hand, times, once_below}
@@ -57,11 +57,11 @@ length_range a (suc n) = ap suc (length_range (a + 1) n)
 
 pub opens : (told : Told) → 1 ≤ told.sets → told.sets ≤ 65536 → told.seats ≤ 64
     → Ruled told
-    (opening (replicate (64 * told.sets) 0) [] (new_hand (range_with_len 0 told.seats) (unused told.seats)))
+    (opening (replicate (64 * told.sets) 0) [] (new_hand (range_with_len 0 told.seats) (unused_note told.seats)))
 opens told some_sets few_sets few_seats =
     let row : List ℕ = replicate 10 0 in
     let contents : List (List ℕ) = replicate (4 * told.sets) row in
-    let hand : Hand = new_hand (range_with_len 0 told.seats) (unused told.seats) in
+    let hand : Hand = new_hand (range_with_len 0 told.seats) (unused_note told.seats) in
     let long = length_range 0 told.seats in
     record {
       contents = contents;
@@ -81,17 +81,18 @@ opens told some_sets few_sets few_seats =
           ap (once_below n) (let z : 0 + told.seats ≡ told.seats = omega arith in z) in omega (arith, r, e));
       seats = omega arith;
       each = λ j u e. first_fits hand long j u e;
-      kept = keeps_opening told.timeouts contents (unused told.seats ∷ [])
+      kept = keeps_opening told.timeouts contents (unused_note told.seats ∷ [])
           (all_rows IsEmptyContent (4 * told.sets) row refl)
-          (All-cons IsUnused (unused told.seats) [] (refl, refl) (All-nil IsUnused))
-          (let s = sum_by-cons (λ (note : Note). note.seats) (unused told.seats) [] in omega (arith, s, few_seats));
+          (All-cons IsUnused (unused_note told.seats) [] (refl, refl) (All-nil IsUnused))
+          (let s = sum_by-cons (λ (note : Note). note.seats) (unused_note told.seats) [] in
+          omega (arith, s, few_seats));
     }
   where
     first_fits : (hand : Hand) → length (range_with_len 0 told.seats) ≡ told.seats → (j : ℕ) (u : Hand)
-        → get_elem? (new_hand (range_with_len 0 told.seats) (unused told.seats) ∷ []) j ≡ some u
+        → get_elem? (new_hand (range_with_len 0 told.seats) (unused_note told.seats) ∷ []) j ≡ some u
         → Fits told.sets (replicate (64 * told.sets) 0) (replicate (4 * told.sets) (replicate 10 0)) u
     first_fits hand long zero u e =
         subst (Fits told.sets (replicate (64 * told.sets) 0) (replicate (4 * told.sets) (replicate 10 0)))
-        (some-injective (new_hand (range_with_len 0 told.seats) (unused told.seats)) u e)
+        (some-injective (new_hand (range_with_len 0 told.seats) (unused_note told.seats)) u e)
         record { seats = sym long; gone = λ none. (refl, refl); live = tt; turn = tt }
     first_fits hand long (suc j) u e = absurd (some-ne-none u (sym e))

@@ -7,10 +7,10 @@ use lib.ListN.{get_elem?}
 use Rattle.atomic_table.specs.Table.{Splits}
 use Rattle.atomic_table.proofs.Lists.{at_set, at_snoc, at_map}
 use Rattle.cache_face.specs.Keeping.{Keeps}
-use Rattle.cache_face.specs.Notes.{Note, unused, first_note}
+use Rattle.cache_face.specs.Notes.{Note, unused_note, first_note}
 use Rattle.cache_face.proofs.Keeping.{keeps_split}
 use Rattle.turn_cache.specs.declared.rule.Told.{Told}
-use Rattle.turn_cache.specs.Hands.{Hand, new_hand, holding, claim, at_work, times, total, remaining, split_off}
+use Rattle.turn_cache.specs.Hands.{Hand, new_hand, turns_held, claim, at_work, times, total, remaining_hand, split_off}
 use Rattle.turn_cache.specs.Ruled.{Ruled, Fits}
 use Rattle.turn_cache.proofs.Totals.{total-set, total-snoc}
 
@@ -18,10 +18,11 @@ abbrev note_of : Hand → Note
 note_of hand = hand.note
 
 pub splits : (told : Told) (id number : ℕ) (numbers : List ℕ) → let v : Hand =
-    new_hand (number ∷ numbers) (unused (suc (length numbers))) in Splits (Ruled told) id v (remaining v) (split_off v)
+    new_hand (number ∷ numbers) (unused_note (suc (length numbers))) in
+    Splits (Ruled told) id v (remaining_hand v) (split_off v)
 splits told id number numbers s h at =
-    let v : Hand = new_hand (number ∷ numbers) (unused (suc (length numbers))) in
-    let left : Hand = remaining v in
+    let v : Hand = new_hand (number ∷ numbers) (unused_note (suc (length numbers))) in
+    let left : Hand = remaining_hand v in
     let right : Hand = split_off v in
     let views' : List Hand = set s.views id left ++ right ∷ [] in
     let fewer : left.note.seats ≡ length numbers = omega arith in
@@ -32,10 +33,10 @@ splits told id number numbers s h at =
     record { seats = fewer; gone = λ none. (refl, refl); live = tt; turn = tt } in
     let fits_right : Fits told.sets s.words h.contents right =
     record { seats = refl; gone = λ none. (refl, refl); live = tt; turn = tt } in
-    let notes : map note_of views' ≡ set (map note_of s.views) id (unused (length numbers)) ++ first_note ∷ []
+    let notes : map note_of views' ≡ set (map note_of s.views) id (unused_note (length numbers)) ++ first_note ∷ []
     = map-append note_of (set s.views id left) (right ∷ [])
     ∙ (ap (λ ns. ns ++ first_note ∷ []) (map-set note_of s.views id left)
-    ∙ ap (λ n. set (map note_of s.views) id (unused n) ++ first_note ∷ []) fewer) in
+    ∙ ap (λ n. set (map note_of s.views) id (unused_note n) ++ first_note ∷ []) fewer) in
     record {
       contents = h.contents;
       small = h.small;
@@ -43,7 +44,7 @@ splits told id number numbers s h at =
       many = h.many;
       ten = h.ten;
       turns = λ q low. sum (claim q) refl ∙ h.turns q low;
-      once = λ q. (let e = sum (holding q) refl in let o = h.once q in omega (arith, e, o));
+      once = λ q. (let e = sum (turns_held q) refl in let o = h.once q in omega (arith, e, o));
       settled = λ q p k low low' low'' none. h.settled q p k low low' low''
           (sym (sum (λ hand. at_work q p hand.turn) refl) ∙ none);
       numbers = λ n. sum (λ hand. times n hand.numbers) (omega arith) ∙ h.numbers n;

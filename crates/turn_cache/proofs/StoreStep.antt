@@ -8,8 +8,8 @@ use mathlib.Core.Option.{none}
 use Rattle.atomic_table.specs.Table.{step, keeps, Allows}
 use Rattle.cache_face.specs.Keeping.{Keeps}
 use Rattle.turn_cache.specs.declared.rule.Told.{Told}
-use Rattle.turn_cache.specs.Hands.{Hand, Turn, writing, number_of, is_at, holding, claim, at_work, total}
-use Rattle.turn_cache.specs.Moves.{Sat, Stores, written, at_turn}
+use Rattle.turn_cache.specs.Hands.{Hand, Turn, writing, number_of, is_at, turns_held, claim, at_work, total}
+use Rattle.turn_cache.specs.Moves.{Sat, Stores, written_turn, at_turn}
 use Rattle.turn_cache.specs.Places.{turn_word, set_word}
 use Rattle.turn_cache.specs.Ruled.{Ruled, Fits, FitsTurn, LiveAt}
 use Rattle.turn_cache.proofs.Totals.{total-set, total-at}
@@ -17,8 +17,8 @@ use Rattle.turn_cache.proofs.Frames.{build, notes_same, not_other, frame_content
 
 -- what the seat is at afterwards
 pub written_is : (at_set place k value : ℕ) (new now : List ℕ) (t : Turn) → t ≡ writing at_set place new now
-    → written (64 * at_set + 16 + (10 * place + k)) value t ≡ writing at_set place new (set now k value)
-written_is at_set place k value new now t e = ap (written (64 * at_set + 16 + (10 * place + k)) value) e
+    → written_turn (64 * at_set + 16 + (10 * place + k)) value t ≡ writing at_set place new (set now k value)
+written_is at_set place k value new now t e = ap (written_turn (64 * at_set + 16 + (10 * place + k)) value) e
     ∙ ap (λ m. writing at_set place new (set now m value))
     (let d : 64 * at_set + 16 + (10 * place + k) - (64 * at_set + 16 + 10 * place) ≡ k = omega arith in d)
 
@@ -47,7 +47,7 @@ stores told slots id at_set place k value new now me is value_is low low' low'' 
     let work : (q p : ℕ) → at_work q p w.turn ≡ at_work q p v.turn = λ q p. sym (ap (at_work q p) is) in
     let claims : (q : ℕ) → claim q w ≡ claim q v =
     λ q. sym (ap (λ (t : Turn). let n : ℕ = cond (is_at q t) (suc (number_of v.numbers)) 0 in n) is) in
-    let holds : (q : ℕ) → holding q w ≡ holding q v =
+    let holds : (q : ℕ) → turns_held q w ≡ turns_held q v =
     λ q. sym (ap (λ (t : Turn). let n : ℕ = cond (is_at q t) 1 0 in n) is) in
     let has : is_at at_set v.turn ≡ true = ap (is_at at_set) is ∙ eq-eqb at_set at_set refl in
     let mine : Fits told.sets (set s.words i value) h.contents w = record {
@@ -88,7 +88,7 @@ stores told slots id at_set place k value new now me is value_is low low' low'' 
           let keep : get_or (set s.words i value) (turn_word q) 0 ≡ get_or s.words (turn_word q) 0 =
           get_or-set_other s.words i (turn_word q) value 0
           (λ e. apart_turn q at_set (10 * place + k) (omega (arith, low', low'')) (sym e)) in omega (arith, c, keep)))
-          (λ q. (let t = total-set (holding q) s.views id v w at in let o = h.once q in let e = holds q in
+          (λ q. (let t = total-set (turns_held q) s.views id v w at in let o = h.once q in let e = holds q in
           omega (arith, t, o, e)))
           (λ q p m lower lower' lower'' none.
           let t = total-set (λ hand. at_work q p hand.turn) s.views id v w at in

@@ -13,12 +13,13 @@ use Rattle.atomic_table.proofs.Lists.{at_map}
 use Rattle.packet_accept.specs.declared.packet.Packet.{Packet}
 use Rattle.flow_parts.specs.declared.fragment.Fragment.{Fragment}
 use Rattle.cache_face.specs.Keeping.{Keeps}
-use Rattle.cache_face.specs.Notes.{Note, metering}
+use Rattle.cache_face.specs.Notes.{Note, note_with}
 use Rattle.cache_face.proofs.Keeping.{keeps_passed}
 use Rattle.turn_cache.specs.declared.rule.Told.{Told}
-use Rattle.turn_cache.specs.Hands.{Hand, Turn, idle, reading, writing, number_of, is_at, holding, claim, at_work, times}
+use Rattle.turn_cache.specs.Hands.{Hand, Turn, idle, reading, writing, number_of, is_at, turns_held, claim, at_work}
+use Rattle.turn_cache.specs.Hands.{times}
 use Rattle.turn_cache.specs.Hands.{total}
-use Rattle.turn_cache.specs.Moves.{Sat, Move, Takes, taken, lost, trying, IsOwn}
+use Rattle.turn_cache.specs.Moves.{Sat, Move, Takes, hand_taking, hand_losing, move_of_try, IsOwn}
 use Rattle.turn_cache.specs.Places.{turn_word, set_word}
 use Rattle.turn_cache.specs.Ruled.{Ruled, Fits, FitsTurn, LiveAt}
 use Rattle.turn_cache.proofs.Totals.{total-set, total-at, total-two, some_one, once_few, once_in, times_here}
@@ -38,25 +39,25 @@ holds false m h = absurd (omega (arith, h))
 
 module _ (at_set : ℕ) where
   -- who has the turn says so
-  holding_few : (vs : List Hand) → total (holding at_set) vs ≤ total (claim at_set) vs
+  holding_few : (vs : List Hand) → total (turns_held at_set) vs ≤ total (claim at_set) vs
   holding_few [] = omega arith
   holding_few (x ∷ xs) = let a = few (is_at at_set x.turn) (number_of x.numbers) in let b = holding_few xs in
       omega (arith, a, b)
 
-  no_claims : (vs : List Hand) → total (holding at_set) vs ≡ 0 → total (claim at_set) vs ≡ 0
+  no_claims : (vs : List Hand) → total (turns_held at_set) vs ≡ 0 → total (claim at_set) vs ≡ 0
   no_claims [] e = refl
   no_claims (x ∷ xs) e = let a = none_few (is_at at_set x.turn) (number_of x.numbers) (omega (arith, e)) in
       let b = no_claims xs (omega (arith, e)) in omega (arith, a, b)
 
-  pub one_claim : (vs : List Hand) (j : ℕ) (u : Hand) → total (holding at_set) vs ≤ 1 → get_elem? vs j ≡ some u
-      → holding at_set u ≡ 1 → total (claim at_set) vs ≡ claim at_set u
+  pub one_claim : (vs : List Hand) (j : ℕ) (u : Hand) → total (turns_held at_set) vs ≤ 1 → get_elem? vs j ≡ some u
+      → turns_held at_set u ≡ 1 → total (claim at_set) vs ≡ claim at_set u
   one_claim [] j u few e one = absurd (some-ne-none u (sym e))
   one_claim (x ∷ xs) zero u few e one =
-      let is : holding at_set x ≡ holding at_set u = ap (holding at_set) (some-injective x u e) in
+      let is : turns_held at_set x ≡ turns_held at_set u = ap (turns_held at_set) (some-injective x u e) in
       let is_claim : claim at_set x ≡ claim at_set u = ap (claim at_set) (some-injective x u e) in
       let rest = no_claims xs (omega (arith, few, is, one)) in omega (arith, rest, is_claim)
   one_claim (x ∷ xs) (suc j) u few e one =
-      let least = total-at (holding at_set) xs j u e in
+      let least = total-at (turns_held at_set) xs j u e in
       let rest = one_claim xs j u (omega (arith, few)) e one in
       let none = none_few (is_at at_set x.turn) (number_of x.numbers) (omega (arith, few, least, one)) in
       omega (arith, rest, none)
@@ -92,7 +93,7 @@ number_low told s id v h at live =
     let sum = h.numbers number in once_in number told.seats (omega (arith, least, one, sum))
 
 noted_seats : (last : Bool) (note : Note) (packets : List Packet) (own : Fragment)
-    → (if last then metering note packets (Some own) else note).seats ≡ note.seats
+    → (if last then note_with note packets (Some own) else note).seats ≡ note.seats
 noted_seats true note packets own = refl
 noted_seats false note packets own = refl
 
@@ -106,35 +107,35 @@ module _ (told : Told) (id number at_set : ℕ) (packets : List Packet) (own : F
   no_claim : (q : ℕ) → claim q me.0 ≡ 0
   no_claim q = ap (λ (t : Turn). let n : ℕ = cond (is_at q t) (suc (number_of me.0.numbers)) 0 in n) no_turn
 
-  no_hold : (q : ℕ) → holding q me.0 ≡ 0
+  no_hold : (q : ℕ) → turns_held q me.0 ≡ 0
   no_hold q = ap (λ (t : Turn). let n : ℕ = cond (is_at q t) 1 0 in n) no_turn
 
   no_work : (q place : ℕ) → at_work q place me.0.turn ≡ 0
   no_work q place = ap (at_work q place) no_turn
 
-  claim_here : (q : ℕ) → at_set ≡ q → claim q (taken at_set me.0) ≡ suc (number_of me.0.numbers)
+  claim_here : (q : ℕ) → at_set ≡ q → claim q (hand_taking at_set me.0) ≡ suc (number_of me.0.numbers)
   claim_here q e = ap (λ (b : Bool). let n : ℕ = cond b (suc (number_of me.0.numbers)) 0 in n) (eq-eqb at_set q e)
 
-  claim_else : (q : ℕ) → at_set ≢ q → claim q (taken at_set me.0) ≡ 0
+  claim_else : (q : ℕ) → at_set ≢ q → claim q (hand_taking at_set me.0) ≡ 0
   claim_else q ne = ap (λ (b : Bool). let n : ℕ = cond b (suc (number_of me.0.numbers)) 0 in n) (ne_eqb at_set q ne)
 
-  hold_here : (q : ℕ) → holding q (taken at_set me.0) ≤ 1
+  hold_here : (q : ℕ) → turns_held q (hand_taking at_set me.0) ≤ 1
   hold_here q = at_most (eqb at_set q)
     where
       at_most : (b : Bool) → cond b 1 0 ≤ 1
       at_most true = omega arith
       at_most false = omega arith
 
-  hold_else : (q : ℕ) → at_set ≢ q → holding q (taken at_set me.0) ≡ 0
+  hold_else : (q : ℕ) → at_set ≢ q → turns_held q (hand_taking at_set me.0) ≡ 0
   hold_else q ne = ap (λ (b : Bool). let n : ℕ = cond b 1 0 in n) (ne_eqb at_set q ne)
 
   inside : turn_word at_set < length s.words
   inside = let x = h.wide in omega (arith, x, low)
 
   took : get_or s.words (turn_word at_set) 0 ≡ 0
-      → Ruled told (stepped s (turn_word at_set) (number + 1) id me.1 (taken at_set me.0) keeps)
+      → Ruled told (stepped s (turn_word at_set) (number + 1) id me.1 (hand_taking at_set me.0) keeps)
   took free =
-      let w : Hand = taken at_set me.0 in
+      let w : Hand = hand_taking at_set me.0 in
       let f = h.each id me.0 at in
       build told s h id me.0 w at refl refl (turn_word at_set) (number + 1) me.1 h.contents h.many h.ten
       (λ q lower. dite (ℕ_discrete at_set q)
@@ -149,11 +150,12 @@ module _ (told : Told) (id number at_set : ℕ) (packets : List Packet) (own : F
       get_or-set_other s.words (turn_word at_set) (turn_word q) (number + 1) 0 (λ e. other (omega (arith, e))) in
       omega (arith, a, b, keep))))
       (λ q. dite (ℕ_discrete at_set q)
-      (λ same. (let t = total-set (holding q) s.views id me.0 w at in let a = no_hold q in let b = hold_here q in
+      (λ same. (let t = total-set (turns_held q) s.views id me.0 w at in let a = no_hold q in let b = hold_here q in
       let fewer = holding_few q s.views in
       let none : total (claim q) s.views ≡ 0 =
       subst (λ x. total (claim x) s.views ≡ 0) same (h.turns at_set low ∙ free) in omega (arith, t, a, b, fewer, none)))
-      (λ other. (let t = total-set (holding q) s.views id me.0 w at in let a = no_hold q in let b = hold_else q other in
+      (λ other. (let t = total-set (turns_held q) s.views id me.0 w at in let a = no_hold q in
+      let b = hold_else q other in
       let o = h.once q in omega (arith, t, a, b, o))))
       (λ q place k lower lower' lower'' none. h.settled q place k lower lower' lower''
       (let t = total-set (λ hand. at_work q place hand.turn) s.views id me.0 w at in let a = no_work q place in
@@ -172,7 +174,7 @@ module _ (told : Told) (id number at_set : ℕ) (packets : List Packet) (own : F
 
   kept_lost : (b : Bool) → Keeps told.timeouts h.contents
       (set (map (λ (hand : Hand). hand.note) s.views) id
-      (if b then metering me.0.note packets (Some own) else me.0.note))
+      (if b then note_with me.0.note packets (Some own) else me.0.note))
   kept_lost true = keeps_passed told.timeouts h.contents
       (map (λ (hand : Hand). hand.note) s.views) id me.0.note packets own h.kept
       (at_map (λ (hand : Hand). hand.note) s.views id me.0 at) owned.can owned.shares
@@ -182,16 +184,16 @@ module _ (told : Told) (id number at_set : ℕ) (packets : List Packet) (own : F
   missed : (seats : ℕ)
       → Ruled told
       (stepped s (turn_word at_set) (get_or s.words (turn_word at_set) 0) id me.1
-      (lost (trying seats at_set packets own last) me.0) keeps)
+      (hand_losing (move_of_try seats at_set packets own last) me.0) keeps)
   missed seats =
       let n : ℕ = get_or s.words (turn_word at_set) 0 in
-      let w : Hand = lost (trying seats at_set packets own last) me.0 in
+      let w : Hand = hand_losing (move_of_try seats at_set packets own last) me.0 in
       let f = h.each id me.0 at in
       let same : set s.words (turn_word at_set) n ≡ s.words = set-get_or s.words (turn_word at_set) 0 in
       let count : w.note.seats ≡ me.0.note.seats = noted_seats last me.0.note packets own in
       build told s h id me.0 w at refl count (turn_word at_set) n me.1 h.contents h.many h.ten
       (λ q lower. ap (λ ws. claim q me.0 + get_or ws (turn_word q) 0) (sym same))
-      (λ q. (let t = total-set (holding q) s.views id me.0 w at in let o = h.once q in omega (arith, t, o)))
+      (λ q. (let t = total-set (turns_held q) s.views id me.0 w at in let o = h.once q in omega (arith, t, o)))
       (λ q place k lower lower' lower'' none. h.settled q place k lower lower' lower''
       (let t = total-set (λ hand. at_work q place hand.turn) s.views id me.0 w at in omega (arith, t, none))
       ∙ ap (λ ws. get_or ws (set_word q (10 * place + k)) 0) (sym same))
@@ -216,7 +218,7 @@ module _ (told : Told) (id number at_set : ℕ) (packets : List Packet) (own : F
       let other : j ≢ id =
       λ same. (let is_u : u ≡ me.0 = some-injective u me.0 (sym one.2 ∙ (ap (get_elem? s.views) same ∙ at)) in
       let z : claim at_set u ≡ 0 = ap (claim at_set) is_u ∙ no_claim at_set in let p = one.3 in omega (arith, z, p)) in
-      let holding_u : holding at_set u ≡ 1 = ap (λ (b : Bool). let n : ℕ = cond b 1 0 in n) holds_it in
+      let holding_u : turns_held at_set u ≡ 1 = ap (λ (b : Bool). let n : ℕ = cond b 1 0 in n) holds_it in
       let claim_u : claim at_set u ≡ suc (number_of u.numbers) =
       ap (λ (b : Bool). let n : ℕ = cond b (suc (number_of u.numbers)) 0 in n) holds_it in
       let all_claims = one_claim at_set s.views j u (h.once at_set) one.2 holding_u in
@@ -235,25 +237,25 @@ pub takes : (told : Told) (slots id number at_set seats : ℕ) (packets : List P
     → me.0.turn ≡ idle → 0 < length me.0.numbers → number_of me.0.numbers ≡ number → at_set < told.sets
     → IsOwn told.timeouts me.0.note packets own
     → Allows (Ruled told) slots id me (64 * at_set) (λ n. either (eqb n 0) (number + 1) n)
-    (Takes (trying seats at_set packets own last) (step slots (64 * at_set) 0 (number + 1) none) me)
+    (Takes (move_of_try seats at_set packets own last) (step slots (64 * at_set) 0 (number + 1) none) me)
 takes told slots id number at_set seats packets own last me all no_turn live numbered low owned s h wide at fits =
     let n : ℕ = get_or s.words (64 * at_set) 0 in
-    let move : Move = trying seats at_set packets own last in
+    let move : Move = move_of_try seats at_set packets own last in
     let Goal : Bool → Type 0 = λ b. (w : Hand) × (a : Act (Unit {0})) × Valid s.homes me.1 a
     × Ruled told (stepped s (64 * at_set) (either b (number + 1) n) id me.1 w a)
     × ((64 * at_set ≡ turn_word at_set)
-    × ((◌≡◌ {A = Sat} (w, carried_after me.1 a) (if b then taken at_set me.0 else lost move me.0, me.1))
+    × ((◌≡◌ {A = Sat} (w, carried_after me.1 a) (if b then hand_taking at_set me.0 else hand_losing move me.0, me.1))
     × (n ≢ 0 → (other : ℕ) × (n ≡ suc other) × (other < seats) × (other ≢ number_of me.0.numbers) × (seats ≢ 1)))) in
     dite (ℕ_discrete n 0)
     (λ free. subst Goal (sym (eq-eqb n 0 free)) (
-      taken at_set me.0,
+      hand_taking at_set me.0,
       keeps,
       tt,
       took told id number at_set packets own last me no_turn live numbered low owned s h at free,
       (refl, (refl, λ nz. absurd (nz free))),
     ))
     (λ nz. subst Goal (sym (ne_eqb n 0 nz)) (
-      lost move me.0,
+      hand_losing move me.0,
       keeps,
       tt,
       missed told id number at_set packets own last me no_turn live numbered low owned s h at seats,

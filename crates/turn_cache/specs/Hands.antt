@@ -3,7 +3,7 @@ use Rattle.std.specs.Prelude.{ℕ, suc, ◌+◌, ◌-◌, Bool, false, ◌==◌,
 use Rattle.std.specs.Prelude.{length, Option, take, drop, nat_lt, slice_index_or}
 use Rattle.flow_parts.specs.declared.fragment.Fragment.{Fragment}
 use Rattle.cache_face.specs.Keeping.{entry_of}
-use Rattle.cache_face.specs.Notes.{Note, unused, first_note, empty_note, merged}
+use Rattle.cache_face.specs.Notes.{Note, unused_note, first_note, empty_note, merged_note}
 
 -- What a seat is at: at no set; or it holds the turn of a set and reads its words; or, with the turn, it writes one
 -- entry of the set, whose new ten words it keeps, and these words as they stand.
@@ -27,8 +27,8 @@ abbrev pub new_hand : List ℕ → Note → Hand
 new_hand numbers note = record { numbers = numbers; note = note; lost = []; turn = idle; set = 0; read = [] }
 
 -- A seat that was united with another.
-abbrev pub spent : Hand
-spent = new_hand [] empty_note
+abbrev pub spent_hand : Hand
+spent_hand = new_hand [] empty_note
 
 -- The number that a seat acts as.
 abbrev pub number_of : List ℕ → ℕ
@@ -41,8 +41,8 @@ is_at set (reading at) = at == set
 is_at set (writing at place new now) = at == set
 
 -- 1 where the seat has the turn of the set.
-abbrev pub holding : ℕ → Hand → ℕ
-holding set hand = cond (is_at set hand.turn) 1 0
+abbrev pub turns_held : ℕ → Hand → ℕ
+turns_held set hand = cond (is_at set hand.turn) 1 0
 
 -- What the turn word says of the seat: its number, counted from 1, where it has the turn.
 abbrev pub claim : ℕ → Hand → ℕ
@@ -80,18 +80,18 @@ abbrev pub rest_of : List ℕ → List ℕ
 rest_of [] = []
 rest_of (number ∷ numbers) = numbers
 
-abbrev pub remaining : Hand → Hand
-remaining hand = new_hand (rest_of hand.numbers) (unused (hand.note.seats - 1))
+abbrev pub remaining_hand : Hand → Hand
+remaining_hand hand = new_hand (rest_of hand.numbers) (unused_note (hand.note.seats - 1))
 
 abbrev pub split_off : Hand → Hand
 split_off hand = new_hand (number_of hand.numbers ∷ []) first_note
 
 -- Two seats as one, which acts as the first.
-abbrev pub united : Hand → Hand → Hand
-united one other =
+abbrev pub united_hand : Hand → Hand → Hand
+united_hand one other =
     record one {
       numbers = one.numbers ++ other.numbers;
-      note = merged one.note other.note;
+      note = merged_note one.note other.note;
       lost =
           one.lost ++ other.lost;
     }

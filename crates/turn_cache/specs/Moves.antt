@@ -8,7 +8,7 @@ use Rattle.flow_parts.specs.declared.timeouts.Timeouts.{Timeouts}
 use Rattle.flow_parts.specs.Sharing.{SharesOut}
 use Rattle.cache_face.specs.Keeping.{IsWhole, IsSmall}
 use Rattle.cache_face.specs.Laws.{CanMeter}
-use Rattle.cache_face.specs.Notes.{Note, metering}
+use Rattle.cache_face.specs.Notes.{Note, note_with}
 use Rattle.turn_cache.specs.Hands.{Hand, Turn, idle, reading, writing, number_of}
 use Rattle.turn_cache.specs.Places.{turn_word, set_word}
 
@@ -28,22 +28,22 @@ pub record Move : Type 0 where
   pub new : List ℕ
 
 -- The turn is taken: the seat reads the set.
-abbrev pub taken : ℕ → Hand → Hand
-taken set hand = record hand { turn = reading set; set = set; read = [] }
+abbrev pub hand_taking : ℕ → Hand → Hand
+hand_taking set hand = record hand { turn = reading set; set = set; read = [] }
 
 -- Another has the turn: a try is lost at the set, and where it is the last, the packets are metered and handed out.
-abbrev pub lost : Move → Hand → Hand
-lost move hand =
+abbrev pub hand_losing : Move → Hand → Hand
+hand_losing move hand =
     record hand {
       lost = move.set ∷ hand.lost;
       note =
-          if move.last then metering hand.note move.packets move.out else hand.note;
+          if move.last then note_with hand.note move.packets move.out else hand.note;
     }
 
 -- To try to take a turn tells whose it was: nobody's, or that of another seat.
 abbrev pub Tells : Move → Sat → ℕ → Sat → Type 0
 Tells move m found m' =
-    (m' ≡ (if found == 0 then taken move.set m.0 else lost move m.0, m.1))
+    (m' ≡ (if found == 0 then hand_taking move.set m.0 else hand_losing move m.0, m.1))
     × (found ≢ 0 → (other : ℕ) × (found ≡ suc other) × (other < move.seats) × (other ≢ number_of m.0.numbers)
     × (move.seats ≢ 1))
 
@@ -63,36 +63,36 @@ abbrev pub Loads : Sat → ℕ → Sat → Type 0
 Loads m found m' = (m' ≡ (more_read (found ∷ []) m.0, m.1)) × AreWhole (m.0.read ++ found ∷ [])
 
 -- The first store: the entry is new from here on, and the note grows.
-abbrev pub committed : Move → Hand → Hand
-committed move hand = record hand {
+abbrev pub committed_hand : Move → Hand → Hand
+committed_hand move hand = record hand {
   turn = writing move.set move.place move.new (slice_set move.old 5 (slice_index move.new 5));
-  note = metering hand.note move.packets move.out;
+  note = note_with hand.note move.packets move.out;
 }
 
 abbrev pub Commits : Move → Sat → Sat → Type 0
-Commits move m m' = m' ≡ (committed move m.0, m.1)
+Commits move m m' = m' ≡ (committed_hand move m.0, m.1)
 
 -- What the seat is at changes alone.
 abbrev pub at_turn : Turn → Hand → Hand
 at_turn turn hand = record hand { turn = turn }
 
 -- Each further store.
-abbrev pub written : ℕ → ℕ → Turn → Turn
-written word value idle = idle
-written word value (reading set) = reading set
-written word value (writing set place new now) =
+abbrev pub written_turn : ℕ → ℕ → Turn → Turn
+written_turn word value idle = idle
+written_turn word value (reading set) = reading set
+written_turn word value (writing set place new now) =
     writing set place new (slice_set now (word - set_word set (10 * place)) value)
 
 abbrev pub Stores : Step (Unit {0}) → Sat → Sat → Type 0
-Stores st m m' = m' ≡ (at_turn (written st.word st.first m.0.turn) m.0, m.1)
+Stores st m m' = m' ≡ (at_turn (written_turn st.word st.first m.0.turn) m.0, m.1)
 
 -- The turn is given back.
 abbrev pub Gives : Sat → Sat → Type 0
 Gives m m' = m' ≡ (at_turn idle m.0, m.1)
 
 -- A try to take the turn of a set. Where it is lost, and is the last, the own fragment is handed out.
-abbrev pub trying : ℕ → ℕ → List Packet → Fragment → Bool → Move
-trying seats set packets own last = record {
+abbrev pub move_of_try : ℕ → ℕ → List Packet → Fragment → Bool → Move
+move_of_try seats set packets own last = record {
   seats = seats;
   set = set;
   last = last;
@@ -116,13 +116,13 @@ pub record IsOwn (limits : Timeouts) (note : Note) (packets : List Packet) (own 
 
 -- The turn was taken, after so many lost tries.
 abbrev pub after_tries : ℕ → ℕ → Hand → Hand
-after_tries set tries hand = taken set (record hand { lost = replicate tries set ++ hand.lost })
+after_tries set tries hand = hand_taking set (record hand { lost = replicate tries set ++ hand.lost })
 
 -- Three tries were lost: the fragment is handed out.
 abbrev pub passed_by : ℕ → List Packet → Fragment → Hand → Hand
 passed_by set packets own hand =
-    record hand { lost = replicate 3 set ++ hand.lost; note = metering hand.note packets (Some own) }
+    record hand { lost = replicate 3 set ++ hand.lost; note = note_with hand.note packets (Some own) }
 
 -- A fragment was put into the set whose turn the seat had, by the choice over the entries read.
-abbrev pub filled : List ℕ → List Packet → Option Fragment → Hand → Hand
-filled words packets out hand = record hand { read = words; turn = idle; note = metering hand.note packets out }
+abbrev pub filled_hand : List ℕ → List Packet → Option Fragment → Hand → Hand
+filled_hand words packets out hand = record hand { read = words; turn = idle; note = note_with hand.note packets out }

@@ -6,7 +6,7 @@ use Rattle.atomic_table.specs.Table.{State}
 use Rattle.cache_face.specs.Keeping.{Keeps}
 use Rattle.cache_face.specs.Laws.{IsUnused}
 use Rattle.turn_cache.specs.declared.rule.Told.{Told}
-use Rattle.turn_cache.specs.Hands.{Hand, Turn, idle, reading, writing, holding, claim, at_work, times, once_below}
+use Rattle.turn_cache.specs.Hands.{Hand, Turn, idle, reading, writing, turns_held, claim, at_work, times, once_below}
 use Rattle.turn_cache.specs.Hands.{total}
 use Rattle.turn_cache.specs.Places.{turn_word, set_word, content_place}
 
@@ -49,7 +49,7 @@ pub record Ruled (told : Told) (s : State (Unit {0}) Hand) : Type 0 where
   pub ten : (c : ℕ) → c < 4 * told.sets → length (slice_index_or contents c []) ≡ 10
   -- a turn word is 0, or the number, counted from 1, of the one seat that has the turn
   pub turns : (set : ℕ) → set < told.sets → total (claim set) s.views ≡ slice_index s.words (turn_word set)
-  pub once : (set : ℕ) → total (holding set) s.views ≤ 1
+  pub once : (set : ℕ) → total (turns_held set) s.views ≤ 1
   -- an entry that nobody writes has the words of its content
   pub settled : (set place k : ℕ) → set < told.sets → place < 4 → k < 10
       → total (λ hand. at_work set place hand.turn) s.views ≡ 0

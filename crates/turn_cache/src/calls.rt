@@ -2,7 +2,7 @@
 
 ghost use Rattle.std.specs.Prelude.{◌≡◌, ◌<◌, ◌^◌, ◌∷◌, [], None, All};
 ghost use Rattle.cache_face.specs.Meaning.{IsMetered};
-ghost use Rattle.cache_face.specs.Notes.{metering};
+ghost use Rattle.cache_face.specs.Notes.{note_with};
 ghost use Rattle.cache_face.specs.declared.metered.How.TheVariants.{PassedBy};
 ghost use Rattle.turn_cache.specs.Shown.{means_of, shown_of, IsOf, IsTryOf};
 
@@ -25,7 +25,7 @@ impl TurnCache {
         requires octets { packet.now.octets < 2 ^ 24 }
         requires passed_by { (metered.old.how ≡ PassedBy) × (metered.old.out ≡ None) }
         ensures own { IsOf self.now pass.new }
-        ensures note { (shown_of pass.new).note ≡ metering (shown_of pass.old).note (packet.now ∷ []) metered.new.out }
+        ensures note { (shown_of pass.new).note ≡ note_with (shown_of pass.old).note (packet.now ∷ []) metered.new.out }
         ensures answer { IsMetered (means_of self.now) IsTryOf (shown_of pass.old)
             (shown_of pass.new) packet.now metered.new.how metered.new.out }
     {
@@ -41,7 +41,7 @@ impl TurnCache {
         requires rises { All (λ p. p.number < packet.now.number) (shown_of pass.old).note.packets }
         requires octets { packet.now.octets < 2 ^ 24 }
         ensures own { IsOf self.now pass.new }
-        ensures note { (shown_of pass.new).note ≡ metering (shown_of pass.old).note (packet.now ∷ []) result.out }
+        ensures note { (shown_of pass.new).note ≡ note_with (shown_of pass.old).note (packet.now ∷ []) result.out }
         ensures answer { IsMetered (means_of self.now) IsTryOf (shown_of pass.old)
             (shown_of pass.new) packet.now result.how result.out }
     {

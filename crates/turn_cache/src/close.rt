@@ -17,7 +17,7 @@ use flow_parts::laws::fragments_have_fields;
 use std::alloc::Global;
 
 /// The entry that ten words show.
-fn shown(words: [u64; 10]) -> Option<Fragment>
+fn entry_shown(words: [u64; 10]) -> Option<Fragment>
     ensures { result ≡ entry_of words }
 {
     fragments_have_fields();
@@ -75,7 +75,7 @@ fn add_entry(
     ensures { OnOk result (parts.new.items ≡ parts.old.items
         ++ option_to_list (entry_of (content_at (slots_items closed.now.words) set place))) }
 {
-    add(parts, shown(content(closed, set, place)))
+    add(parts, entry_shown(content(closed, set, place)))
 }
 
 /// The entries of a set, behind the others.

@@ -8,7 +8,7 @@ ghost use Rattle.flow_parts.specs.Parts.{part_words};
 ghost use Rattle.cache_face.specs.Choice as choice;
 ghost use Rattle.cache_face.specs.Keeping.{entry_of, IsWhole};
 ghost use Rattle.cache_face.specs.Meaning.{IsAnswer};
-ghost use Rattle.cache_face.specs.Notes.{metering};
+ghost use Rattle.cache_face.specs.Notes.{note_with};
 ghost use Rattle.cache_face.specs.declared.metered.How.TheVariants.{PassedBy};
 ghost use Rattle.set_choice.specs.Chosen.{out_of};
 ghost use Rattle.turn_cache.specs.Hands.{number_of, idle, reading, writing, entries_of};
@@ -123,7 +123,10 @@ impl TurnCache {
             × choice.Takes self.now.timeouts own.now (entry_of old.now) (out_of how (entry_of old.now)) kept }
         ensures at { seat.new.table_id ≡ seat.old.table_id }
         ensures filled { seat.new.me
-            ≡ (moves.filled seat.old.me.0.read K.packets (out_of how (entry_of old.now)) seat.old.me.0, seat.old.me.1) }
+            ≡ (
+              moves.filled_hand seat.old.me.0.read K.packets (out_of how (entry_of old.now)) seat.old.me.0,
+              seat.old.me.1,
+            ) }
     {
         self.commit::<K>(seat, set, place, old, new, own, how);
         self.write_rest(seat, set, place, old, new);
@@ -146,7 +149,7 @@ impl TurnCache {
         requires none_out { metered.old.out ≡ None }
         ensures at { seat.new.table_id ≡ seat.old.table_id }
         ensures filled { (words : List ℕ) × (length words ≡ 40)
-            × (seat.new.me ≡ (moves.filled words K.packets metered.new.out seat.old.me.0, seat.old.me.1))
+            × (seat.new.me ≡ (moves.filled_hand words K.packets metered.new.out seat.old.me.0, seat.old.me.1))
             × ((place : ℕ) × (kept : Fragment) × choice.IsChoice self.now.timeouts
             (entries_of words) own.now metered.new.how place metered.new.out kept) }
     {
@@ -203,7 +206,7 @@ impl TurnCache {
         requires fragment { moves.IsOwn self.now.timeouts (shown_of pass.old).note K.packets own.now }
         requires passed_by { (metered.old.how ≡ PassedBy) × (metered.old.out ≡ None) }
         ensures own { IsOf self.now pass.new }
-        ensures note { (shown_of pass.new).note ≡ metering (shown_of pass.old).note K.packets metered.new.out }
+        ensures note { (shown_of pass.new).note ≡ note_with (shown_of pass.old).note K.packets metered.new.out }
         ensures answer { IsAnswer (means_of self.now) IsTryOf (shown_of pass.old)
             (shown_of pass.new) own.now metered.new.how metered.new.out }
     {

@@ -4,7 +4,7 @@ ghost use Rattle.std.specs.Prelude.{◌≡◌, ◌+◌, ◌-◌, ◌*◌, ◌<�
 ghost use Rattle.std.specs.Prelude.{◌++◌};
 ghost use Rattle.std.specs.List.{range_with_len};
 ghost use Rattle.cache_face.specs.Meaning.{IsFresh, IsUnited};
-ghost use Rattle.cache_face.specs.Notes.{unused, first_note};
+ghost use Rattle.cache_face.specs.Notes.{unused_note, first_note};
 ghost use Rattle.turn_cache.specs.Hands.{new_hand};
 ghost use Rattle.turn_cache.specs.Shown.{means_of, shown_of, IsOf};
 
@@ -34,9 +34,9 @@ impl TurnCache {
     fn split(&self, seat: &mut Seat<(), Known>, number: u64, left: u64) -> TurnPass
         requires at { seat.old.table_id ≡ self.now.table.shared.table_id }
         requires number { number < 64 }
-        requires me { seat.old.me ≡ (new_hand (range_with_len number (left + 1)) (unused (left + 1)), []) }
+        requires me { seat.old.me ≡ (new_hand (range_with_len number (left + 1)) (unused_note (left + 1)), []) }
         ensures at { seat.new.table_id ≡ seat.old.table_id }
-        ensures me { seat.new.me ≡ (new_hand (range_with_len (number + 1) left) (unused left), []) }
+        ensures me { seat.new.me ≡ (new_hand (range_with_len (number + 1) left) (unused_note left), []) }
         ensures pass { IsOf self.now result × IsFresh (shown_of result) }
     {
         let seat = self.table.shared.split_seat::<Parts>(seat);
@@ -46,7 +46,7 @@ impl TurnCache {
     /// A pass for each seat.
     fn deal(&self, alloc: Global, mut seat: Seat<(), Known>) -> Result<Vec<TurnPass>, NoMemory>
         requires at { seat.table_id ≡ self.now.table.shared.table_id }
-        requires me { seat.me ≡ (new_hand (range_with_len 0 self.now.seats) (unused self.now.seats), []) }
+        requires me { seat.me ≡ (new_hand (range_with_len 0 self.now.seats) (unused_note self.now.seats), []) }
         ensures { IfOk result (λ passes. (length passes.items ≡ self.now.seats)
             × All (λ pass. IsOf self.now pass × IsFresh (shown_of pass)) passes.items) }
     {

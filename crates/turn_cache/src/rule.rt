@@ -14,11 +14,11 @@ pub struct Known {
 }
 
 impl Model for Known {
-    ghost use Rattle.turn_cache.specs.Hands.{Hand, spent};
+    ghost use Rattle.turn_cache.specs.Hands.{Hand, spent_hand};
 
     ghost Value = { Hand };
 
-    ghost view = { λ _. spent };
+    ghost view = { λ _. spent_hand };
 }
 
 /// What the table is told once.
@@ -35,12 +35,12 @@ pub struct Turns;
 impl TableRule<(), Known, Told> for Turns {
     ghost use Rattle.turn_cache.specs.Ruled.{Ruled};
     ghost use Rattle.turn_cache.specs.Hands.{new_hand};
-    ghost use Rattle.cache_face.specs.Notes.{unused};
+    ghost use Rattle.cache_face.specs.Notes.{unused_note};
     ghost use Rattle.std.specs.List.{range_with_len};
 
     ghost holds = { Ruled };
 
-    ghost first = { λ told. new_hand (range_with_len 0 told.seats) (unused told.seats) };
+    ghost first = { λ told. new_hand (range_with_len 0 told.seats) (unused_note told.seats) };
 }
 
 /// What a step is about. A proof picks it at the call.
@@ -128,9 +128,9 @@ impl Play<(), Known> for Gives {
 pub struct Parts;
 
 impl Split<Known> for Parts {
-    ghost use Rattle.turn_cache.specs.Hands.{remaining, split_off};
+    ghost use Rattle.turn_cache.specs.Hands.{remaining_hand, split_off};
 
-    ghost left = { remaining };
+    ghost left = { remaining_hand };
 
     ghost right = { split_off };
 }
@@ -138,7 +138,7 @@ impl Split<Known> for Parts {
 impl Join<Known> for Parts {
     ghost use Rattle.turn_cache.specs.Hands as hands;
 
-    ghost both = { hands.united };
+    ghost both = { hands.united_hand };
 
-    ghost spent = { hands.spent };
+    ghost spent = { hands.spent_hand };
 }

@@ -27,7 +27,7 @@ impl TurnCache {
         _own: &Fragment,
         _last: bool,
     ) -> u64
-        requires about { M.about ≡ moves.trying self.now.seats set K.packets _own.now _last }
+        requires about { M.about ≡ moves.move_of_try self.now.seats set K.packets _own.now _last }
         requires at { seat.old.table_id ≡ self.now.table.shared.table_id }
         requires idle { (seat.old.me.0.turn ≡ idle) × (0 < length seat.old.me.0.numbers)
             × (number_of seat.old.me.0.numbers ≡ number) }
@@ -35,7 +35,7 @@ impl TurnCache {
         requires number { number < 64 }
         requires own { moves.IsOwn self.now.timeouts seat.old.me.0.note K.packets _own.now }
         ensures at { seat.new.table_id ≡ seat.old.table_id }
-        ensures tells { moves.Tells (moves.trying self.now.seats set K.packets _own.now _last) seat.old.me result
+        ensures tells { moves.Tells (moves.move_of_try self.now.seats set K.packets _own.now _last) seat.old.me result
             seat.new.me }
     {
         let word = 64 * set as usize;
@@ -61,10 +61,13 @@ impl TurnCache {
         requires number { number < 64 }
         requires own { moves.IsOwn self.now.timeouts seat.old.me.0.note K.packets own.now }
         ensures at { seat.new.table_id ≡ seat.old.table_id }
-        ensures taken { IsTrue result → seat.new.me ≡ (moves.taken set seat.old.me.0, seat.old.me.1) }
+        ensures taken { IsTrue result → seat.new.me ≡ (moves.hand_taking set seat.old.me.0, seat.old.me.1) }
         ensures lost { result ≡ false
             → (seat.new.me
-            ≡ (moves.lost (moves.trying self.now.seats set K.packets own.now last) seat.old.me.0, seat.old.me.1))
+            ≡ (
+              moves.hand_losing (moves.move_of_try self.now.seats set K.packets own.now last) seat.old.me.0,
+              seat.old.me.1,
+            ))
             × (self.now.seats ≢ 1) }
     {
         self.take_as::<Brand, K>(seat, number, set, own, last) == 0

@@ -59,7 +59,11 @@ fn is_whole<R: Threads + Sync>(rt: &R, alloc: Global, bytes: &[u8]) -> Option<bo
 }
 
 /// What becomes of the bytes of a source.
-fn checked<R: Threads + Sync, S: Source>(rt: &R, alloc: Global, input: &mut S) -> Option<bool> {
+fn check_source<R: Threads + Sync, S: Source>(
+    rt: &R,
+    alloc: Global,
+    input: &mut S,
+) -> Option<bool> {
     let bytes = read_all(alloc, input, CAPTURE_LIMIT).ok()?;
     is_whole(rt, alloc, bytes.as_slice())
 }
@@ -68,7 +72,7 @@ fn main(rt: HostRuntime) -> ExitCode {
     let alloc = rt.alloc();
     let mut input = StdSource::new(rt.stdin());
     let mut output = StdSink::new(rt.stdout());
-    let (line, code): (&[u8], u8) = match checked(&rt, alloc, &mut input) {
+    let (line, code): (&[u8], u8) = match check_source(&rt, alloc, &mut input) {
         Some(true) => (b"whole\n", 0),
         Some(false) => (b"differs\n", 1),
         None => (b"not metered\n", 2),

@@ -63,7 +63,10 @@ fn looked_of(
 }
 
 /// A cache of one set and so many seats, the passes of who meters, and the one of who asks.
-fn opened(alloc: Global, seats: usize) -> Result<(LookedCache, Vec<LookedPass>, PebrPass), NoMemory>
+fn open_cache(
+    alloc: Global,
+    seats: usize,
+) -> Result<(LookedCache, Vec<LookedPass>, PebrPass), NoMemory>
     requires { (2 ≤ seats) × (seats ≤ 64) }
     ensures cache { IfOk result (λ r. (means_of r.0).seats ≡ seats) }
     ensures many { IfOk result (λ r. length r.1.items + 1 ≡ seats) }
@@ -137,7 +140,7 @@ fn at_once<R: Threads + Sync>(
 }
 
 /// The packets and the octets of some fragments, added to those of others.
-fn counted(parts: &[Fragment], packets: u64, octets: u64) -> (u64, u64) {
+fn add_counts(parts: &[Fragment], packets: u64, octets: u64) -> (u64, u64) {
     let mut packets = packets;
     let mut octets = octets;
     for part in parts {
@@ -148,7 +151,7 @@ fn counted(parts: &[Fragment], packets: u64, octets: u64) -> (u64, u64) {
 }
 
 /// Closes the cache with the passes of who metered and of who asked, and adds up what it handed out and kept.
-fn closed(
+fn close_cache(
     alloc: Global,
     cache: LookedCache,
     gathered: Gathered<LookedCache>,
@@ -173,8 +176,8 @@ fn closed(
     let pass = cache.unite(pass, LookedPass { inner: own, most });
     let most = pass.most;
     let entries = cache.close(alloc, pass).ok()?;
-    let (packets, octets) = counted(parts.as_slice(), 0, 0);
-    let (packets, octets) = counted(entries.as_slice(), packets, octets);
+    let (packets, octets) = add_counts(parts.as_slice(), 0, 0);
+    let (packets, octets) = add_counts(entries.as_slice(), packets, octets);
     Some(Came {
         packets,
         octets,
@@ -197,7 +200,7 @@ fn came_of_bytes<R: Threads + Sync>(
     let index = capture.index(alloc).ok()?;
     let keys = keys_of(alloc, &capture, &index, setting.asks)?;
     let seats = setting.workers + 1;
-    let Ok((cache, passes, own)) = opened(alloc, seats) else {
+    let Ok((cache, passes, own)) = open_cache(alloc, seats) else {
         return None;
     };
     let (asked, metered) = at_once(
@@ -210,7 +213,7 @@ fn came_of_bytes<R: Threads + Sync>(
         own,
         keys.as_slice(),
     );
-    closed(alloc, cache, metered?, asked, seats)
+    close_cache(alloc, cache, metered?, asked, seats)
 }
 
 /// What comes of the capture of a source.

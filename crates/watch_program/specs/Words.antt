@@ -10,8 +10,8 @@ pub record Asked : Type 0 where
   pub sets : ℕ
   pub asks : ℕ
 
-abbrev pub asked : WatchSettings → Asked
-asked settings = record { workers = settings.workers; sets = settings.sets; asks = settings.asks }
+abbrev pub asked_of : WatchSettings → Asked
+asked_of settings = record { workers = settings.workers; sets = settings.sets; asks = settings.asks }
 
 -- The options of the command: their names, least and greatest values, and defaults.
 abbrev pub options : List Rule

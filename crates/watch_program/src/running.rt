@@ -5,7 +5,7 @@ ghost use Rattle.std.specs.String.{string_bytes};
 ghost use Rattle.meter_io.specs.Causes.{Rose};
 ghost use Rattle.meter_io.specs.Sides.{side};
 ghost use Rattle.watch_program.specs.Outcome.{IsWatched, BytesRefuse, Ends, RunMeans, IsComplete};
-ghost use Rattle.watch_program.specs.Words.{asked, asked_by};
+ghost use Rattle.watch_program.specs.Words.{asked_of, asked_by};
 
 use crate::lines::text_of;
 use crate::settings::WatchSettings;
@@ -69,7 +69,7 @@ fn watch_input<R: Threads + Sync, S: Source, K: Sink, G: Gate>(
     output: &mut K,
     gate: &G,
 ) -> WatchStatus
-    ensures { Ends (asked settings.now) (side S.left S.faults input.old input.new)
+    ensures { Ends (asked_of settings.now) (side S.left S.faults input.old input.new)
         (side K.held K.faults output.old output.new) result }
 {
     let bytes = match read_all(alloc, input, CAPTURE_LIMIT) {

@@ -11,8 +11,8 @@ use Rattle.atomic_table.specs.Table.{opening}
 use Rattle.atomic_table.proofs.Lists.{at_set, at_snoc}
 use Rattle.work_pieces.specs.declared.views.Hand.{Hand}
 use Rattle.work_pieces.specs.declared.views.Plan.{Plan}
-use Rattle.work_pieces.specs.Dealing.{draw_word, word_count, times, once_below, total, hand, Fits, Dealt, Sat, drew}
-use Rattle.work_pieces.specs.Dealing.{told, left_of, right_of, both_of}
+use Rattle.work_pieces.specs.Dealing.{draw_word, word_count, times, once_below, total, hand, Fits, Dealt, Sat, HasDrawn}
+use Rattle.work_pieces.specs.Dealing.{HasTold, left_of, right_of, both_of}
 use Rattle.work_pieces.proofs.Totals.{times-append, total-set, total-snoc, total-at, total-le, total-only, once-more}
 use Rattle.work_pieces.proofs.Totals.{once-over, once-all, once-some, once-none}
 
@@ -78,14 +78,14 @@ after plan s id m v w c h at le mine same within drawn =
     }
 
 pub draws : (plan : Plan) (slots id : ℕ) (me : Sat) → me.0.seats ≡ 1 → me.0.done ≡ 0
-    → Allows (Dealt plan) slots id me draw_word (λ n. (n + 1) % 2 ^ 64) (drew (step slots draw_word 1 0 none) me)
+    → Allows (Dealt plan) slots id me draw_word (λ n. (n + 1) % 2 ^ 64) (HasDrawn (step slots draw_word 1 0 none) me)
 draws plan slots id me single fresh s h wide at fits =
     let n : ℕ = word_of s in let v : Hand = me.0 in let f = h.each id v at in
     let pieces_is : v.pieces ≡ plan.pieces = f.pieces_is (omega (arith, single)) in
     let next : (n + 1) % 2 ^ 64 ≡ n + 1 = mod-eq_of_lt (near plan s h) in
     subst (λ (m : ℕ). (w : Hand) × (a : Act (Unit {0})) × Valid s.homes me.1 a
     × Dealt plan (stepped s draw_word m id me.1 w a)
-    × drew (step slots draw_word 1 0 none) me n (w, carried_after me.1 a)) (sym next)
+    × HasDrawn (step slots draw_word 1 0 none) me n (w, carried_after me.1 a)) (sym next)
     (dite (dec_le plan.pieces n)
     (λ (over : plan.pieces ≤ n). let w : Hand = hand v.all v.pieces v.seats (v.done + 1) v.drawn in (
       w,
@@ -125,7 +125,7 @@ draws plan slots id me single fresh s h wide at fits =
     )))
 
 pub tells : (plan : Plan) (slots id : ℕ) (me : Sat)
-    → Allows (Dealt plan) slots id me draw_word (λ n. n) (told (step slots draw_word 0 0 none) me)
+    → Allows (Dealt plan) slots id me draw_word (λ n. n) (HasTold (step slots draw_word 0 0 none) me)
 tells plan slots id me s h wide at fits = let n : ℕ = word_of s in let v : Hand = me.0 in let f = h.each id v at in (
   v,
   keeps,

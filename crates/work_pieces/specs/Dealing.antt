@@ -65,8 +65,8 @@ abbrev pub draws_none : Hand → Hand
 draws_none v = hand v.all v.pieces v.seats (v.done + 1) v.drawn
 
 -- the pass's pieces grow by the number found where that is a piece; else it had its None
-abbrev pub drew : Step (Unit {0}) → Sat → ℕ → Sat → Type 0
-drew st m n m' =
+abbrev pub HasDrawn : Step (Unit {0}) → Sat → ℕ → Sat → Type 0
+HasDrawn st m n m' =
     ((x : ℕ) → 0 < times x m.0.drawn → x < n)
     × (n < m.0.pieces → m' ≡ (draws_one m.0 n, m.1))
     × (m.0.pieces ≤ n → m' ≡ (draws_none m.0, m.1))
@@ -75,8 +75,8 @@ drew st m n m' =
 abbrev pub HasAll : Hand → Type 0
 HasAll v = v.seats ≡ v.all → 0 < v.done → EachOnce v.pieces v.drawn
 
-abbrev pub told : Step (Unit {0}) → Sat → ℕ → Sat → Type 0
-told st m n m' = (m' ≡ m) × HasAll m.0
+abbrev pub HasTold : Step (Unit {0}) → Sat → ℕ → Sat → Type 0
+HasTold st m n m' = (m' ≡ m) × HasAll m.0
 
 abbrev pub left_of : Hand → Hand
 left_of v = hand v.all v.pieces (v.seats - 1) v.done v.drawn

@@ -20,18 +20,18 @@ impl TableRule<(), Hand, Plan> for Deals {
 pub struct Draws;
 
 impl Play<(), Hand> for Draws {
-    ghost use Rattle.work_pieces.specs.Dealing.{drew};
+    ghost use Rattle.work_pieces.specs.Dealing.{HasDrawn};
 
-    ghost then = { drew };
+    ghost then = { HasDrawn };
 }
 
 /// A look at the word, which tells a pass of all seats that it has all pieces.
 pub struct Tells;
 
 impl Play<(), Hand> for Tells {
-    ghost use Rattle.work_pieces.specs.Dealing.{told};
+    ghost use Rattle.work_pieces.specs.Dealing.{HasTold};
 
-    ghost then = { told };
+    ghost then = { HasTold };
 }
 
 /// Passes that are split and united.

@@ -34,7 +34,7 @@ fn take_pass(_pieces: &Pieces, passes: &mut Vec<DrawPass>) -> Option<DrawPass>
 }
 
 /// One pass for both.
-fn united(pieces: &Pieces, first: DrawPass, second: DrawPass) -> DrawPass
+fn unite_draws(pieces: &Pieces, first: DrawPass, second: DrawPass) -> DrawPass
     requires own { IsPassOf pieces.now first × IsPassOf pieces.now second }
     requires one { seats_of first ≡ 1 }
 {
@@ -79,7 +79,7 @@ fn two_seats_draw_in_turn(rt: HostRuntime) -> Result<(), Fail> {
     assert!(rt; pieces.draw(&mut first) == piece(2, 4, 5));
     assert!(rt; pieces.draw(&mut second).is_none());
     assert!(rt; pieces.draw(&mut first).is_none());
-    let all = united(&pieces, first, second);
+    let all = unite_draws(&pieces, first, second);
     drop(all);
     Ok(())
 }

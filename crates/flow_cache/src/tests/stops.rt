@@ -99,7 +99,7 @@ struct Came {
 }
 
 /// Meters a packet at 1 s through the first pass, stopped at the point, and closes the cache.
-fn stopped<K: IsInto>(
+fn meter_stopped<K: IsInto>(
     alloc: Global,
     cache: PebrCache,
     mut first: PebrPass,
@@ -150,7 +150,7 @@ fn stopped_at(alloc: Global, point: Point) -> Result<Came, NoMemory> {
     let Some(first) = take_pass(&cache, &mut passes) else {
         return Err(NoMemory);
     };
-    stopped::<Brand>(alloc, cache, first, second, point)
+    meter_stopped::<Brand>(alloc, cache, first, second, point)
 }
 
 /// Where the other pass meters while this one is in and hasn't replaced yet, the first try is lost: it was ejected, or

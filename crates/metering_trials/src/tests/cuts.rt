@@ -2,7 +2,7 @@
 
 ghost use Rattle.std.specs.Prelude.{◌≤◌, ◌^◌};
 
-use super::{LIMIT, ONE, Setting, metered};
+use super::{LIMIT, ONE, Setting, meter_source};
 use meter_io::MemSource;
 use meter_workers::{MeterFault, OpenGate};
 use std::alloc::Global;
@@ -62,7 +62,7 @@ fn read<R: Threads + Sync>(
     let fails = [fails];
     let mut source = MemSource::new(&bytes, 100_000, fails.as_slice());
     let setting = Setting { limit, ..ONE };
-    let done = metered(rt, alloc, &mut source, setting, &OpenGate)?;
+    let done = meter_source(rt, alloc, &mut source, setting, &OpenGate)?;
     Ok(done.map(|outcome| (outcome.tally.captured, outcome.tail)))
 }
 

@@ -5,7 +5,7 @@ ghost use Rattle.std.specs.Io.{ReadsAtMost};
 ghost use Rattle.std.specs.Io.KnownBytes.{ReadConsumes};
 ghost use Rattle.meter_io.specs.Causes.{HasCause};
 
-use super::{ONE, SMALL, Setting, metered};
+use super::{ONE, SMALL, Setting, meter_source};
 use crate::Meeting;
 use capture_maker::capture;
 use meter_io::{Failed, MemSource, Source};
@@ -67,7 +67,7 @@ fn a_window_is_metered_before_the_next_is_read(rt: HostRuntime) -> Result<(), Fa
         reached: &reached,
         early: &early,
     };
-    let done = metered(&rt, alloc, &mut source, Setting { seats: 2, ..ONE }, &gate)?;
+    let done = meter_source(&rt, alloc, &mut source, Setting { seats: 2, ..ONE }, &gate)?;
     assert_eq!(rt; done.ok().ok_or("records")?.tally.captured, 20_000);
     assert_eq!(rt; reached.load(Ordering::SeqCst), 1);
     assert_eq!(rt; early.load(Ordering::SeqCst), 0);
@@ -85,7 +85,7 @@ fn two_workers_are_at_a_piece_at_once(rt: HostRuntime) -> Result<(), Fail> {
         piece: 100,
         ..ONE
     };
-    let done = metered(&rt, alloc, &mut source, pieces, &gate)?;
+    let done = meter_source(&rt, alloc, &mut source, pieces, &gate)?;
     assert_eq!(rt; done.ok().ok_or("records")?.tally.accepted, 2000);
     assert!(rt; gate.has_met());
     Ok(())

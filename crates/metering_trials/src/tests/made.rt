@@ -2,7 +2,7 @@
 
 ghost use Rattle.std.specs.Prelude.{◌<◌, ◌≤◌};
 
-use super::{LIMIT, ONE, SMALL, Setting, metered};
+use super::{LIMIT, ONE, SMALL, Setting, meter_source};
 use capture_maker::capture;
 use meter_io::MemSource;
 use meter_workers::OpenGate;
@@ -53,7 +53,7 @@ fn four_windows_and_one_give_the_same_records(rt: HostRuntime) -> Result<(), Fai
     for seats in [1, 2, 4] {
         assert!(rt; 1 <= seats && seats <= 64);
         let mut source = MemSource::new(&bytes, bytes.len().max(1), &[]);
-        let four = metered(&rt, alloc, &mut source, Setting { seats, ..ONE }, &OpenGate)?;
+        let four = meter_source(&rt, alloc, &mut source, Setting { seats, ..ONE }, &OpenGate)?;
         let four = four.ok().ok_or("four windows")?;
         let mut source = MemSource::new(&bytes, bytes.len().max(1), &[]);
         let whole = Setting {
@@ -61,7 +61,7 @@ fn four_windows_and_one_give_the_same_records(rt: HostRuntime) -> Result<(), Fai
             window: 1 << 20,
             ..ONE
         };
-        let one = metered(&rt, alloc, &mut source, whole, &OpenGate)?;
+        let one = meter_source(&rt, alloc, &mut source, whole, &OpenGate)?;
         let one = one.ok().ok_or("one window")?;
         assert_eq!(rt; four.records.len(), 64);
         assert!(rt; four.records == one.records, "{seats} workers");

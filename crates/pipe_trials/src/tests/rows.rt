@@ -2,7 +2,7 @@
 
 ghost use Rattle.std.specs.Prelude.{◌≤◌, ◌^◌};
 
-use super::{LIMIT, Outcome, SMALL, Setting, metered};
+use super::{LIMIT, Outcome, SMALL, Setting, meter_capture};
 use capture_maker::capture;
 use meter_workers::{MeterFault, OpenGate};
 use metering_trials::Meeting;
@@ -65,7 +65,7 @@ fn outcome<R: Threads + Wait + Sync + Abort>(
         limit,
         fails,
     };
-    let want = metered(rt, alloc, bytes, plain, &OpenGate)?;
+    let want = meter_capture(rt, alloc, bytes, plain, &OpenGate)?;
     for (passes, room) in [(3, 1), (5, 2)] {
         assert!(rt; 3 <= passes && passes <= 64 && room <= 64);
         let setting = Setting {
@@ -73,7 +73,7 @@ fn outcome<R: Threads + Wait + Sync + Abort>(
             room,
             ..plain
         };
-        let done = metered(rt, alloc, bytes, setting, &OpenGate)?;
+        let done = meter_capture(rt, alloc, bytes, setting, &OpenGate)?;
         assert_eq!(rt; done, want, "{passes} passes, room for {room}");
     }
     Ok(want)
@@ -165,7 +165,7 @@ fn the_reader_and_a_worker_meter_at_once(rt: HostRuntime) -> Result<(), Fail> {
         fails: 0,
     };
     let gate = Meeting::new();
-    let done = metered(&rt, rt.alloc(), &bytes, setting, &gate)?;
+    let done = meter_capture(&rt, rt.alloc(), &bytes, setting, &gate)?;
     let done = done.ok().ok_or("all batches")?;
     assert_eq!(rt; done.packets, 20_000);
     assert!(rt; gate.has_met());

@@ -1,6 +1,6 @@
 //! Runs that refuse, and those whose reads or writes fail.
 
-use super::{TWO_PACKETS, capture_of, piped, words_of};
+use super::{TWO_PACKETS, capture_of, run_piped, words_of};
 use flow_cache::PebrCaches;
 use meter_io::{MemSink, MemSource};
 use meter_program::Status;
@@ -16,7 +16,7 @@ static USAGE: [&str; 4] = ["", "meter", "pipe --piece 1", "pipe --workers 63"];
 fn other_words_are_refused(rt: HostRuntime) -> Result<(), Fail> {
     let alloc = rt.alloc();
     for line in USAGE {
-        let ran = piped(&rt, alloc, line, b"not read", &OpenGate)?;
+        let ran = run_piped(&rt, alloc, line, b"not read", &OpenGate)?;
         assert_eq!(rt; ran.status, Status::Usage, "{line}");
         assert_eq!(rt; ran.output.len(), 0, "{line}");
         assert_eq!(rt; ran.notes.as_slice(), b"usage: pipe\n".as_slice(), "{line}");
@@ -49,7 +49,7 @@ fn other_inputs_are_refused(rt: HostRuntime) -> Result<(), Fail> {
     let alloc = rt.alloc();
     for (input, status, line) in REFUSED {
         let input_octets = octets_of(alloc, &[input])?;
-        let ran = piped(&rt, alloc, "pipe", input_octets.as_slice(), &OpenGate)?;
+        let ran = run_piped(&rt, alloc, "pipe", input_octets.as_slice(), &OpenGate)?;
         assert_eq!(rt; ran.status, status, "{input}");
         assert_eq!(rt; ran.output.len(), 0, "{input}");
         assert_eq!(rt; ran.notes.as_slice(), line.as_bytes(), "{input}");

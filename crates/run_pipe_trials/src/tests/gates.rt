@@ -1,6 +1,6 @@
 //! A reader and workers that wait for each other, so both meter.
 
-use super::{metered, piped};
+use super::{run_meter, run_piped};
 use capture_maker::capture;
 use meter_program::Status;
 use meter_workers::Gate;
@@ -57,10 +57,10 @@ fn reader_and_workers_wait_for_each_other(rt: HostRuntime) -> Result<(), Fail> {
     for (packets, line, awaited) in RUNS {
         assert!(rt; packets <= 40_000);
         let input = capture(alloc, 1, packets, 64)?;
-        let wanted = metered(&rt, alloc, input.as_slice())?;
+        let wanted = run_meter(&rt, alloc, input.as_slice())?;
         assert_eq!(rt; wanted.status, Status::Done);
         let gate = Holding::new(awaited);
-        let ran = piped(&rt, alloc, line, input.as_slice(), &gate)?;
+        let ran = run_piped(&rt, alloc, line, input.as_slice(), &gate)?;
         assert_eq!(rt; gate.failed.load(Ordering::SeqCst), 0, "{line}, {awaited}");
         assert_eq!(rt; gate.came.load(Ordering::SeqCst), 1, "{line}, {awaited}");
         assert!(rt; ran == wanted, "{line}, {awaited}");

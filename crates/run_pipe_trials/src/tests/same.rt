@@ -1,6 +1,6 @@
 //! What is written and noted is what `meter` writes and notes.
 
-use super::{capture_of, metered, piped};
+use super::{capture_of, run_meter, run_piped};
 use capture_maker::capture;
 use meter_program::Status;
 use meter_workers::OpenGate;
@@ -47,12 +47,12 @@ static LINES: [(&str, u8); 4] = [
 fn an_exchange_is_as_by_meter(rt: HostRuntime) -> Result<(), Fail> {
     let alloc = rt.alloc();
     let input = capture_of(alloc, EXCHANGE.as_slice())?;
-    let wanted = metered(&rt, alloc, input.as_slice())?;
+    let wanted = run_meter(&rt, alloc, input.as_slice())?;
     assert_eq!(rt; wanted.status, Status::Done);
     assert_eq!(rt; wanted.notes.as_slice(), SUMMARY.as_bytes());
     for (line, turns) in LINES {
         for turn in 0..turns {
-            let ran = piped(&rt, alloc, line, input.as_slice(), &OpenGate)?;
+            let ran = run_piped(&rt, alloc, line, input.as_slice(), &OpenGate)?;
             assert!(rt; ran == wanted, "{line}, turn {turn}");
         }
     }
@@ -63,13 +63,13 @@ fn an_exchange_is_as_by_meter(rt: HostRuntime) -> Result<(), Fail> {
 fn a_made_capture_of_four_batches_is_as_by_meter(rt: HostRuntime) -> Result<(), Fail> {
     let alloc = rt.alloc();
     let input = capture(alloc, 1, 20_000, 64)?;
-    let wanted = metered(&rt, alloc, input.as_slice())?;
+    let wanted = run_meter(&rt, alloc, input.as_slice())?;
     assert_eq!(rt; wanted.status, Status::Done);
     for line in [
         "pipe --workers 1 --queue 64 --batch 262184",
         "pipe --workers 4 --queue 2 --batch 262184",
     ] {
-        let ran = piped(&rt, alloc, line, input.as_slice(), &OpenGate)?;
+        let ran = run_piped(&rt, alloc, line, input.as_slice(), &OpenGate)?;
         assert!(rt; ran == wanted, "{line}");
     }
     Ok(())

@@ -27,7 +27,7 @@ fn capture_of(alloc: Global, packets: &[(u32, u32, u16)]) -> Result<Vec<u8>, Fai
 }
 
 /// What `show` says of what `meter` writes of a capture; empty where either isn't done.
-fn shown<R: Threads + Sync>(rt: &R, alloc: Global, capture: &[u8]) -> Result<Vec<u8>, Fail> {
+fn show_output<R: Threads + Sync>(rt: &R, alloc: Global, capture: &[u8]) -> Result<Vec<u8>, Fail> {
     let metered = run_over(rt, alloc, "meter", capture)?;
     let showed = run_over(rt, alloc, "show", metered.output.as_slice())?;
     if metered.status == Status::Done && showed.status == Status::Done {
@@ -134,7 +134,7 @@ fn ends_of_flows_cut_records(rt: HostRuntime) -> Result<(), Fail> {
     let alloc = rt.alloc();
     for (name, second, packets, wanted) in ENDS {
         let capture = exchange_of(alloc, second, packets)?;
-        let text = shown(&rt, alloc, capture.as_slice())?;
+        let text = show_output(&rt, alloc, capture.as_slice())?;
         assert_eq!(rt; text.as_slice(), wanted.as_bytes(), "{name}");
     }
     Ok(())
@@ -236,7 +236,7 @@ fn gaps_and_spans_cut_records(rt: HostRuntime) -> Result<(), Fail> {
     let alloc = rt.alloc();
     for (name, packets, records) in GAPS {
         let capture = capture_of(alloc, packets)?;
-        let text = shown(&rt, alloc, capture.as_slice())?;
+        let text = show_output(&rt, alloc, capture.as_slice())?;
         let wanted = lines_of(alloc, records)?;
         assert_eq!(rt; text.as_slice(), wanted.as_str().as_bytes(), "{name}");
     }

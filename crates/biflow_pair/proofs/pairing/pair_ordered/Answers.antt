@@ -5,7 +5,7 @@ use Rattle.biflow_pair.specs.declared.biflow.Biflow.{Biflow}
 use Rattle.biflow_pair.specs.Pairs.{ArePaired}
 use Rattle.biflow_pair.specs.Chains.{AreLinks, place_of}
 use Rattle.biflow_pair.proofs.Order.{rises}
-use Rattle.biflow_pair.proofs.Mating.{untaken-start, paired-more, paired-end}
+use Rattle.biflow_pair.proofs.Mating.{untaken_records-start, paired-more, paired-end}
 use Rattle.biflow_pair.proofs.pairing.pair_ordered.Goals as goal
 
 pub loop-place-init : goal.loop-place-init
@@ -18,7 +18,7 @@ loop-place-init c =
       goes_on = λ rest paired.
           subst (λ (ps : List Biflow). ArePaired c.args.idle records (ps ++ rest)) (sym c.new-pairs.ensures.items)
           (subst (λ (left : List FlowRecord). ArePaired c.args.idle left rest)
-          (untaken-start records heads c.in_ok-links.ensures.heads) paired);
+          (untaken_records-start records heads c.in_ok-links.ensures.heads) paired);
     }
 
 pub take_pair-requires-clause-links : goal.take_pair-requires-clause-links

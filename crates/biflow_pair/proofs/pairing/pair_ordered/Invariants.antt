@@ -2,14 +2,15 @@
 use Rattle.std.proofs.Common.{◌≤◌, ◌-◌, ◌++◌, List, length, drop}
 use Rattle.biflow_pair.specs.declared.biflow.Biflow.{Biflow}
 use Rattle.biflow_pair.specs.Pairs.{ArePaired}
-use Rattle.biflow_pair.specs.Chains.{ArePlaces, untaken, place_of}
+use Rattle.biflow_pair.specs.Chains.{ArePlaces, untaken_records, place_of}
 use Rattle.biflow_pair.proofs.pairing.pair_ordered.Given as goal
 
 abbrev pub invariant-loop-place : goal.invariant-loop-place
 invariant-loop-place l = record {
   within : l.place ≤ length l.records;
   places : ArePlaces l.records l.place (place_of l.heads);
-  goes_on : (rest : List Biflow) → ArePaired l.idle (untaken (place_of l.heads) l.place (drop l.place l.records)) rest
+  goes_on : (rest : List Biflow)
+      → ArePaired l.idle (untaken_records (place_of l.heads) l.place (drop l.place l.records)) rest
       → ArePaired l.idle l.records (l.pairs.items ++ rest);
 }
 

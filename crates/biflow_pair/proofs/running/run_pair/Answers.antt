@@ -1,11 +1,12 @@
 use Rattle.meter_io.specs.Sides.{side}
-use Rattle.biflow_pair.specs.Words.{asked}
+use Rattle.biflow_pair.specs.Words.{asked_of}
 use Rattle.biflow_pair.proofs.Complete.{completes}
 use Rattle.biflow_pair.proofs.running.run_pair.Goals as goal
 
 pub returns-in-Ok-clause-complete : goal.returns-in-Ok-clause-complete
 returns-in-Ok-clause-complete g c =
     λ words bytes is before valid quiet quiet'.
-    completes (asked c.in-Ok.settings) (side g.S.Source.left g.S.Source.faults c.args.input.now c.pair_input.new.input)
+    completes (asked_of c.in-Ok.settings)
+    (side g.S.Source.left g.S.Source.faults c.args.input.now c.pair_input.new.input)
     (side g.K.Sink.held g.K.Sink.faults c.args.output.now c.pair_input.new.output)
     bytes c.pair_input.result c.pair_input.ensures before valid quiet quiet'

@@ -12,14 +12,15 @@ pub returns-in-Err-read_sets-clause-fault : goal.returns-in-Err-read_sets-clause
 returns-in-Err-read_sets-clause-fault c =
     message-refused (progress_of c.args.table.now c.args.records.now c.args.sequences.now)
     (part_of c.args.part) _ _ _ _ c.requires (sym c.in-Ok.ensures.value)
-    c.u32_at-domain.ensures (c.behind-sets.ensures ∙ ap (behind 16) c.first.ensures) c.in-Err-read_sets.ensures.fault
+    c.u32_at-domain.ensures (c.behind-sets.ensures ∙ ap (behind 16) c.first_part.ensures)
+    c.in-Err-read_sets.ensures.fault
 
 pub returns-in-Ok-insert-clause-ok : goal.returns-in-Ok-insert-clause-ok
 returns-in-Ok-insert-clause-ok c =
     message-read (progress_of c.args.table.now c.args.records.now c.args.sequences.now)
     (contents_of c.read_sets.new.table c.read_sets.new.records)
     (part_of c.args.part) _ _ _ _ _ _ c.requires (sym c.in-Ok.ensures.value)
-    c.u32_at-domain.ensures (c.behind-sets.ensures ∙ ap (behind 16) c.first.ensures) c.in-Ok-read_sets.ensures.ok
+    c.u32_at-domain.ensures (c.behind-sets.ensures ∙ ap (behind 16) c.first_part.ensures) c.in-Ok-read_sets.ensures.ok
     (number-same _ _ _ _ _ _ _ c.next_number-number.ensures c.u32_at.ensures
     (c.len.ensures ∙ c.read_sets.new.records.ok.0) (c.len-before.ensures ∙ c.args.records.now.ok.0))
     c.in-Ok-insert.ensures c.behind.ensures

@@ -13,10 +13,10 @@ pub returns-in-Ok-clause-ok : goal.returns-in-Ok-clause-ok
 returns-in-Ok-clause-ok c =
     set-read _ _ _ _ _ (part_of c.args.part) _ _ c.requires (sym c.if-is_bad_length.ensures) c.u16_at-2.ensures
     (c.from-size.ensures ∙ c.u16_at.ensures)
-    (c.behind-content.ensures ∙ ap (behind 4) c.first.ensures) c.behind.ensures c.in-Ok.ensures.ok
+    (c.behind-content.ensures ∙ ap (behind 4) c.first_part.ensures) c.behind.ensures c.in-Ok.ensures.ok
 
 pub returns-in-Err-clause-fault : goal.returns-in-Err-clause-fault
 returns-in-Err-clause-fault c =
     set-refused _ _ _ _ (part_of c.args.part) _ _ c.requires (sym c.if-is_bad_length.ensures) c.u16_at-2.ensures
     (c.from-size.ensures ∙ c.u16_at.ensures)
-    (c.behind-content.ensures ∙ ap (behind 4) c.first.ensures) c.in-Err.ensures.fault
+    (c.behind-content.ensures ∙ ap (behind 4) c.first_part.ensures) c.in-Err.ensures.fault

@@ -1,6 +1,6 @@
 use Rattle.std.proofs.Common.{◌≡◌, ◌∙◌, sym, inr, Some, None}
 use Rattle.meter_io.specs.Sides.{side}
-use Rattle.meter_program.specs.Words.{Asked, asked}
+use Rattle.meter_program.specs.Words.{Asked, asked_of}
 use Rattle.meter_program.proofs.Causes.{complete-at}
 use Rattle.meter_program.proofs.running.run.Goals.{in-Err-NotOptions, in-Err-NoMemory, in-Ok}
 use Rattle.meter_program.proofs.running.run.Goals as goal
@@ -20,9 +20,9 @@ returns-then-is_refusal-clause-complete g c = λ other is valid quiet. elim c.ma
       complete-at (side g.S.Source.left g.S.Source.faults c.args.input.now)
       (side g.K.Sink.held g.K.Sink.faults c.args.output.now)
       (side g.N.Sink.held g.N.Sink.faults c.args.notes.now)
-      (asked w.in-Ok.asked) other c.match-command_of.input _ c.match-command_of.output _ c.match-command_of.notes _
+      (asked_of w.in-Ok.asked) other c.match-command_of.input _ c.match-command_of.output _ c.match-command_of.notes _
       (side g.N.Sink.held g.N.Sink.faults c.args.notes.now c.fault_line-noted.new.notes) _ _ c.match-command_of.status _
       w.input-is w.output-is w.notes-is w.status-is
       w.command-status.ensures (sym c.is_refusal.ensures ∙ c.if-is_refusal.true)
-      (some-same (asked w.in-Ok.asked) other (sym w.in-Ok.ensures.command ∙ is)) valid quiet
+      (some-same (asked_of w.in-Ok.asked) other (sym w.in-Ok.ensures.command ∙ is)) valid quiet
 ]

@@ -9,8 +9,8 @@ use Rattle.meter_workers.specs.declared.worker.Held.{Held}
 use Rattle.meter_workers.specs.Sharing.{IsHeld}
 use Rattle.meter_workers.proofs.all.meter_all.Goals as goal
 
-pub united-requires-clause-held : goal.united-requires-clause-held
-united-requires-clause-held g c κs within =
+pub unite_passes-requires-clause-held : goal.unite_passes-requires-clause-held
+unite_passes-requires-clause-held g c κs within =
     let is : 0 + length c.args.index.now.offsets ≡ c.count.result = omega (arith, c.count.ensures) in
     subst (λ (n : ℕ). All (λ (h : Held g.row.C.Denot g.row.C-Pass.Denot). g.C.FlowCache.is_of c.args.cache.now h.pass
     × IsHeld n (g.C.FlowCache.shown h.pass) h.out.items) c.in_ok-helds-2.helds.items)

@@ -25,8 +25,8 @@ Packets g w = (g.C.FlowCache.shown w.pass).note.packets
 abbrev Drawn : (g : given.Over) → Worker g.row.C.Denot g.row.C-Pass.Denot → List ℕ
 Drawn g w = drawn_of w.draw
 
-pub unseated-requires-clause-enough : goal.unseated-requires-clause-enough
-unseated-requires-clause-enough g c κs within =
+pub unseat_workers-requires-clause-enough : goal.unseat_workers-requires-clause-enough
+unseat_workers-requires-clause-enough g c κs within =
     let file = file_of c.args.capture.now in
     let o = c.in_ok-pieces.ensures.pieces in
     let all : length (answers_from c.args.base file) ≡ c.count.result =
@@ -39,23 +39,23 @@ unseated-requires-clause-enough g c κs within =
 pub returns-clause-held : goal.returns-clause-held
 returns-clause-held g c =
     let file = file_of c.args.capture.now in
-    subst (λ (n : ℕ). IfOk c.unseated.result (λ r. All (λ h. g.C.FlowCache.is_of c.args.cache.now h.pass
+    subst (λ (n : ℕ). IfOk c.unseat_workers.result (λ r. All (λ h. g.C.FlowCache.is_of c.args.cache.now h.pass
     × IsHeld (c.args.base + n) (g.C.FlowCache.shown h.pass) h.out.items) r.0.items))
-    (answers-count c.args.base file ∙ sym c.requires.index.count) c.unseated.ensures.held
+    (answers-count c.args.base file ∙ sym c.requires.index.count) c.unseat_workers.ensures.held
 
 pub returns-clause-packets : goal.returns-clause-packets
 returns-clause-packets g c =
     let answers : List Answer = answers_from c.args.base (file_of c.args.capture.now) in
     let size = size_of c.in_ok-pieces.pieces in
     let ws = c.in_ok-workers.workers.items in
-    let ws' = c.worked-workers.result.items in
+    let ws' = c.run_workers-workers.result.items in
     let finished : All (λ w. w.state ≡ Finished) ws' = c.if-not-all_finished.ensures refl in
     let grew = zip-all (λ w. w.state ≡ Finished)
     (λ o w. w.state ≡ Finished → HasMetered c.in_ok-pieces.pieces answers (g.C.FlowCache.shown o.pass)
     (g.C.FlowCache.shown w.pass) w.draw)
     (λ o w. Packets g w ≡ Packets g o ++ packets_in (pieces_of size answers (Drawn g w))) ws ws'
-    (λ o w done step. step done) finished c.worked-workers.ensures.metered in
-    if-ok-both c.unseated.result
+    (λ o w done step. step done) finished c.run_workers-workers.ensures.metered in
+    if-ok-both c.unseat_workers.result
     (λ r. IsPermutation (flat_map (Packets g) ws') (flat_map (HeldPackets g) r.0.items))
     (λ r. IsPermutation answers (pieces_of size answers (flat_map (Drawn g) ws')))
     (λ r. IsPermutation (flat_map (HeldPackets g) c.args.helds.items ++ packets_in answers)
@@ -63,4 +63,4 @@ returns-clause-packets g c =
     (λ r unseated spread. part-packets (HeldPackets g) (Packets g)
     (Drawn g) size answers c.args.helds.items r.0.items ws ws'
     c.packets_law.ensures.together c.packets_law.ensures.permuted c.in_ok-workers.ensures.packets grew spread unseated)
-    c.unseated.ensures.packets c.unseated.ensures.spread
+    c.unseat_workers.ensures.packets c.unseat_workers.ensures.spread

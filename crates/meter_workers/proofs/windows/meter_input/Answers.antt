@@ -12,7 +12,7 @@ use Rattle.capture_input.specs.Refusals.{IsRefused}
 use Rattle.capture_input.specs.Places.{IsAt}
 use Rattle.capture_input.proofs.Reading.{at-first, at-filled, kept-rest, known-link, cut-refused, part-refused}
 use Rattle.capture_input.proofs.Reading.{damage-place, smaller, seen}
-use Rattle.pcap_reader.specs.Windows.{grown, front_of}
+use Rattle.pcap_reader.specs.Windows.{grown_file, front_of}
 use Rattle.pcap_reader.proofs.Cutting.{few_parts}
 use Rattle.pcap_reader.specs.Records.{parts_of, records_of, packet_record, rest_of, tail_of}
 use Rattle.pcap_reader.specs.Filling.{WindowState}
@@ -67,7 +67,7 @@ returns-then-input-clause-metered g c = λ first had.
     at.1 (file_of c.part-part.result)
     c.packets_law.ensures.together c.parts_law.ensures.next c.parts_law.ensures.header c.packets_law.ensures.count at.2
     at.3 c.part-part.ensures.part shows told.undamaged told.packets told.counts in
-    metered-whole c.args.head (grown at.0 at.1) _ _ _ _ _ first
+    metered-whole c.args.head (grown_file at.0 at.1) _ _ _ _ _ first
     (g.S.Source.left c.loop-metering.source) _ _ to.sound to.did to.rest_is
     (known-link c.args.head at.0 (file_of c.part-part.result) bytes at.2.sound.like c.part-part.ensures.part
     c.part-part.ensures.known) told.index.tail
@@ -130,11 +130,11 @@ loop-metering-preserved g c =
     at.3 c.part-part.ensures.part shows told.undamaged told.packets told.counts in
     record {
       at = (
-        grown at.0 at.1,
+        grown_file at.0 at.1,
         filled.got,
-        subst (λ l. IsAt c.args.head l 0 c.fill.new.self.taken (grown at.0 at.1) filled.got) (sym filled.bytes)
+        subst (λ l. IsAt c.args.head l 0 c.fill.new.self.taken (grown_file at.0 at.1) filled.got) (sym filled.bytes)
             (at-filled c.args.head c.keep.new.self.bytes filled.got c.loop-metering.input.taken c.fill.new.self.taken
-            (grown at.0 at.1) to.sound (kept g c ∙ sym to.rest_is) at.2.count filled.more.taken_is),
+            (grown_file at.0 at.1) to.sound (kept g c ∙ sym to.rest_is) at.2.count filled.more.taken_is),
         to.did,
         λ first had. Consumes-trans _ _ _ _ _ (at.4 first had) filled.given,
       );
@@ -158,17 +158,17 @@ returns-in-Err-clause-refused g c = λ first had.
     let within : c.loop-metering.input.taken ≤ c.args.input.limit =
     omega (arith, c.loop-metering.invariant.within, c.loop-metering.invariant.limit) in
     (part-refused c.args.head window bytes c.loop-metering.from (length bytes) at.0 at.1
-    (file_of c.part-part.result) first (g.S.Source.left c.loop-metering.source) (g.S.Source.left c.refused.new.source)
+    (file_of c.part-part.result) first (g.S.Source.left c.loop-metering.source) (g.S.Source.left c.refusal.new.source)
     (g.S.Source.faults c.args.source.now)
     (g.S.Source.faults c.loop-metering.source)
-    (g.S.Source.faults c.refused.new.source) c.loop-metering.input c.args.input.limit c.in-Err.error c.refused.result
+    (g.S.Source.faults c.refusal.new.source) c.loop-metering.input c.args.input.limit c.in-Err.error c.refusal.result
     c.parts_law.ensures.next c.parts_law.ensures.header c.parts_law.ensures.stays c.parts_law.ensures.whole at.2
     c.part-part.ensures.part shows c.part-part.ensures.known
     (λ n is. c.in-Err.ensures.damaged n (ap (λ e. Err e) is)) refl c.loop-metering.invariant.limit within
-    c.loop-metering.invariant.quiet (at.4 first had) c.refused.ensures).0
+    c.loop-metering.invariant.quiet (at.4 first had) c.refusal.ensures).0
 
-pub refused-requires-clause-bounded : goal.refused-requires-clause-bounded
-refused-requires-clause-bounded g c = λ n is.
+pub refusal-requires-clause-bounded : goal.refusal-requires-clause-bounded
+refusal-requires-clause-bounded g c = λ n is.
     let part = file_of c.part-part.result in
     let start : part.start ≡ 0 = ap (λ (f : CaptureFile). f.start) c.part-part.ensures.part in
     let own : length part.bytes ≡ length c.split_at.result.1.now =

@@ -1,7 +1,7 @@
 use Rattle.std.proofs.Common.{◌≡◌, ◌+◌, ◌∷◌, ◌++◌, [], refl, sym, ap, ◌∙◌, subst, arith, append_assoc}
 use Rattle.std.specs.Prelude.{slice_range}
 use Rattle.pcap_reader.specs.Views.{file_of, record_read}
-use Rattle.packet_accept.specs.Acceptance.{accepted}
+use Rattle.packet_accept.specs.Acceptance.{accepted_packet}
 use Rattle.packet_accept.specs.Packets.{packets_in}
 use Rattle.meter_workers.specs.Answers.{answers_from}
 use Rattle.meter_workers.specs.Work.{Did, AreBelow}
@@ -43,7 +43,7 @@ loop-n-preserved g c =
     let start = g.C.FlowCache.shown c.args.pass.now in
     let before = g.C.FlowCache.shown c.loop-n.pass in
     let after = g.C.FlowCache.shown c.meter_record.new.pass in
-    let answer = accepted file.link file.nanos (record_read c.record-record.result) (c.args.base + n) in
+    let answer = accepted_packet file.link file.nanos (record_read c.record-record.result) (c.args.base + n) in
     let place = answer-found c.args.base n file (record_read c.record-record.result) c.record-record.ensures.value in
     let same : c.args.base + n + 1 ≡ c.args.base + (n + 1) = omega arith in
     record {
@@ -68,7 +68,7 @@ returns-in_err-meter_record-clause-failed g c =
     let file = file_of c.args.capture.now in
     let n = c.loop-n.n in
     let answers = answers_from c.args.base file in
-    let answer = accepted file.link file.nanos (record_read c.record-record.result) (c.args.base + n) in
+    let answer = accepted_packet file.link file.nanos (record_read c.record-record.result) (c.args.base + n) in
     let place = answer-found c.args.base n file (record_read c.record-record.result) c.record-record.ensures.value in
     let old = (g.C.FlowCache.shown c.args.pass.now).note.packets in
     let next : packets_in (slice_range answers c.args.piece.start (n + 1))

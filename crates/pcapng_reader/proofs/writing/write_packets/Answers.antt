@@ -5,7 +5,8 @@ use Rattle.std.proofs.KnownBytes.{Appends-trans}
 use Rattle.std.proofs.lemmas.List.{length-map}
 use Rattle.pcapng_reader.specs.Index.{record_at, records_at}
 use Rattle.pcapng_reader.specs.Filtered.{capture_of}
-use Rattle.pcapng_reader.proofs.Gathered.{capture-more, gathered-more, next-whole, capture-whole, begun-capture, on-ok}
+use Rattle.pcapng_reader.proofs.Gathered.{capture-more, contents_of_roots-more, next-whole, capture-whole}
+use Rattle.pcapng_reader.proofs.Gathered.{begun-capture, on-ok}
 use Rattle.pcapng_reader.proofs.Gathered.{on-err}
 use Rattle.pcapng_reader.proofs.writing.write_packets.Goals as goal
 
@@ -33,7 +34,8 @@ loop-n-preserved g c =
       way = (
         way.0 ++ one.0,
         Appends-trans _ _ _ _ _ way.1 one.1,
-        gathered-more way.0 one.0 c.loop-n.buffer.items c.write_if_many.new.buffer.items c.gather.new.buffer.items _ _
+        contents_of_roots-more way.0 one.0 c.loop-n.buffer.items c.write_if_many.new.buffer.items
+            c.gather.new.buffer.items _ _
             way.2
             c.gather.ensures.items one.2 ∙ sym (capture-more records n _ there),
       );

@@ -3,7 +3,7 @@ use Rattle.std.specs.Prelude.{option_map}
 use Rattle.meter_io.specs.Sides.{side}
 use Rattle.meter_program.specs.Words.{Asked}
 use Rattle.meter_program.proofs.Causes.{complete-at}
-use Rattle.pipe_program.specs.Words.{as_meter, piping}
+use Rattle.pipe_program.specs.Words.{as_meter, piping_of}
 use Rattle.pipe_program.proofs.running.run_pipe.Goals.{in-Err-NotOptions, in-Err-NoMemory, in-Ok}
 use Rattle.pipe_program.proofs.running.run_pipe.Goals as goal
 
@@ -23,10 +23,10 @@ returns-then-is_refusal-clause-complete g c = λ other is valid quiet. elim c.ma
       complete-at (side g.S.Source.left g.S.Source.faults c.args.input.now)
       (side g.K.Sink.held g.K.Sink.faults c.args.output.now)
       (side g.N.Sink.held g.N.Sink.faults c.args.notes.now)
-      (as_meter (piping w.in-Ok.settings)) other c.match-settings_of.input _ c.match-settings_of.output _
+      (as_meter (piping_of w.in-Ok.settings)) other c.match-settings_of.input _ c.match-settings_of.output _
       c.match-settings_of.notes _ (side g.N.Sink.held g.N.Sink.faults c.args.notes.now c.pipe_line-noted.new.notes) _ _
       c.match-settings_of.status _ w.input-is w.output-is
       w.notes-is w.status-is w.pipe_input-status.ensures (sym c.is_refusal.ensures ∙ c.if-is_refusal.true)
-      (some-same (as_meter (piping w.in-Ok.settings)) other
+      (some-same (as_meter (piping_of w.in-Ok.settings)) other
       (sym (ap (option_map as_meter) w.in-Ok.ensures.settings) ∙ is)) valid quiet
 ]

@@ -10,7 +10,7 @@ use Rattle.packet_accept.specs.Packets.{answers_of, answer_to}
 use Rattle.cache_face.specs.Notes.{Note}
 use Rattle.pcap_reader.specs.File.{CaptureFile}
 use Rattle.pcap_reader.specs.Views.{file_of, headed_by, part_of}
-use Rattle.pcap_reader.specs.Windows.{grown, front_of}
+use Rattle.pcap_reader.specs.Windows.{grown_file, front_of}
 use Rattle.pcap_reader.specs.Records.{PacketRecord, records_of, tail_of, damage_of}
 use Rattle.pcap_reader.specs.Filling.{WindowState}
 use Rattle.capture_input.specs.Refusals.{IsRefused}
@@ -67,8 +67,8 @@ loop-index-init g c =
       quiet = refl;
     }
 
-pub refused-requires-clause-bounded : goal.refused-requires-clause-bounded
-refused-requires-clause-bounded g c = λ n is.
+pub refusal-requires-clause-bounded : goal.refusal-requires-clause-bounded
+refusal-requires-clause-bounded g c = λ n is.
     let part = file_of c.part-part.result in
     let start : part.start ≡ 0 = ap (λ (f : CaptureFile). f.start) c.part-part.ensures.part in
     let own : length part.bytes ≡ length c.bytes-bytes.result.now =
@@ -83,14 +83,14 @@ returns-in-Err-clause-refused g c = λ before had.
     let window = c.loop-index.going.input.window.bytes in
     let within : c.loop-index.going.input.taken ≤ c.args.going.input.limit = omega (arith, known.within, known.limit) in
     (part-refused c.args.head window c.bytes-bytes.result.now 0 (length c.bytes-bytes.result.now) at.0 at.1
-    (file_of c.part-part.result) before (g.S.Source.left c.loop-index.source) (g.S.Source.left c.refused.new.source)
+    (file_of c.part-part.result) before (g.S.Source.left c.loop-index.source) (g.S.Source.left c.refusal.new.source)
     (g.S.Source.faults c.args.source.now)
-    (g.S.Source.faults c.loop-index.source) (g.S.Source.faults c.refused.new.source) c.loop-index.going.input
-    c.args.going.input.limit c.in-Err.error c.refused.result
+    (g.S.Source.faults c.loop-index.source) (g.S.Source.faults c.refusal.new.source) c.loop-index.going.input
+    c.args.going.input.limit c.in-Err.error c.refusal.result
     c.parts_law.ensures.next c.parts_law.ensures.header c.parts_law.ensures.stays c.parts_law.ensures.whole at.2
     c.part-part.ensures.part c.bytes-bytes.ensures c.part-part.ensures.known
     (λ n is. c.in-Err.ensures.damaged n (ap (λ e. Err e) is)) refl known.limit within known.quiet
-    (at.3 before had) c.refused.ensures).0
+    (at.3 before had) c.refusal.ensures).0
 
 pub hand_window-requires-clause-few : goal.hand_window-requires-clause-few
 hand_window-requires-clause-few g c = λ picked lives.
@@ -146,9 +146,9 @@ returns-then-going-clause-read g c = λ before had.
           ended = known.ended (sym told.same.2 ∙ c.if-going.true);
           within = omega (arith, at.2.count, known.within, known.limit);
         };
-        file = grown at.0 at.1;
+        file = grown_file at.0 at.1;
         is_file = sound.sound.is_file;
-        known = known-link c.args.head (grown at.0 at.1)
+        known = known-link c.args.head (grown_file at.0 at.1)
             (file_of c.part-part.result) c.bytes-bytes.result.now sound.sound.like c.part-part.ensures.part
             c.part-part.ensures.known;
         undamaged = sound.sound.undamaged;
@@ -203,12 +203,12 @@ loop-index-preserved g c =
     let all = told.handed (answers_of at.0) at.5 at.6 in
     record {
       at = (
-        grown at.0 at.1,
+        grown_file at.0 at.1,
         filled.got,
-        subst (λ l. IsAt c.args.head l 0 c.fill.new.self.taken (grown at.0 at.1) filled.got) (sym filled.bytes)
+        subst (λ l. IsAt c.args.head l 0 c.fill.new.self.taken (grown_file at.0 at.1) filled.got) (sym filled.bytes)
             (at-filled c.args.head c.in-Ok-hand_window.going.input.window.bytes filled.got
             c.loop-index.going.input.taken c.fill.new.self.taken
-            (grown at.0 at.1) sound.sound (told.rest.0 ∙ sound.rest) at.2.count
+            (grown_file at.0 at.1) sound.sound (told.rest.0 ∙ sound.rest) at.2.count
             (filled.more.taken_is ∙ ap (λ (k : ℕ). k + length filled.got) told.same.0)),
         λ before had. Consumes-trans _ _ _ _ _ (at.3 before had) filled.given,
         told.place.1 ∙ next.count,

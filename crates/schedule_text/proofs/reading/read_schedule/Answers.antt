@@ -5,7 +5,7 @@ use Rattle.schedule_text.specs.declared.reading.Schedule.{Schedule}
 use Rattle.schedule_text.specs.declared.reading.ScheduleError.{ScheduleError}
 use Rattle.schedule_text.specs.declared.reading.ScheduleError.TheVariants as error
 use Rattle.schedule_text.specs.Grammar.{schedule_of}
-use Rattle.schedule_text.specs.Spelled.{IsPrintable, AreWritable, spelled}
+use Rattle.schedule_text.specs.Spelled.{IsPrintable, AreWritable, spelled_text}
 use Rattle.schedule_text.proofs.Whole.{whole-read, whole-written, same_pair, err_ok}
 use Rattle.schedule_text.proofs.reading.read_schedule.Goals as goal
 
@@ -14,7 +14,7 @@ abbrev IsReadAs : List ℕ → Result Schedule ScheduleError → Type 0
 IsReadAs text r = IfOk r (λ z. schedule_of text ≡ Ok (z.shape, z.steps.items))
 
 read_spelled : (text : List ℕ) (r : Result Schedule ScheduleError) → IsReadAs text r
-    → IfOk r (λ z. text ≡ spelled z.shape z.steps.items)
+    → IfOk r (λ z. text ≡ spelled_text z.shape z.steps.items)
 read_spelled text (Ok z) h = (whole-read text z.shape z.steps.items h).0
 read_spelled text (Err e) h = tt
 

@@ -4,8 +4,8 @@ use Rattle.schedule_text.specs.Numbers.{value_of}
 use Rattle.schedule_text.proofs.Values.{value_more, value_front, numeral_digit, digit_low, number_large, number_small}
 use Rattle.schedule_text.proofs.words.number.Goals as goal
 
-pub shifted-requires : goal.shifted-requires
-shifted-requires c =
+pub number_with_digit-requires : goal.number_with_digit-requires
+number_with_digit-requires c =
     digit_low (get_or c.args.word.now c.loop-byte.byte-index 0)
     (numeral_digit c.args.word.now c.loop-byte.byte-index
     (sym c.is_numeral.ensures ∙ c.if-not-is_numeral.false) c.loop-byte-test.true)

@@ -2,7 +2,7 @@ use Rattle.std.proofs.Common.{arith, get_or}
 use Rattle.std.proofs.lemmas.List.{get_or_default}
 use Rattle.std.proofs.lemmas.List.Edits.{map_over_more}
 use Rattle.seat_slots.specs.declared.tagged.TaggedSlot.{TaggedSlot}
-use Rattle.seat_slots.specs.Shown.{unkept}
+use Rattle.seat_slots.specs.Shown.{unkept_entry}
 use Rattle.seat_slots.proofs.Finding.{nobody}
 use Rattle.seat_slots.proofs.tagged.unkeep_all.Goals as goal
 
@@ -11,5 +11,5 @@ loop-entry-preserved c =
     let tagged = c.loop-entry.tagged in
     let index = c.loop-entry.entry-index in
     let entry : TaggedSlot = get_or tagged index nobody in
-    map_over_more unkept c.args.tagged.now tagged index entry c.loop-entry-test.true c.loop-entry.invariant
+    map_over_more unkept_entry c.args.tagged.now tagged index entry c.loop-entry-test.true c.loop-entry.invariant
     (get_or_default tagged index nobody entry (omega (arith, c.loop-entry-test.true, c.loop-entry.auto.tagged)))

@@ -20,7 +20,7 @@ returns-in-None-clause-chosen c = λ limits. (
   inr (record {
     none_of_key = c.requires.none_of_key;
     none_empty = c.in-None.ensures.none refl;
-    oldest = c.oldest.ensures;
+    oldest = c.oldest_content.ensures;
     out_is = refl;
     anew = refl;
   }),

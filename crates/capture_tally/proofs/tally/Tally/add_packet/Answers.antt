@@ -1,7 +1,7 @@
 use Rattle.std.proofs.Common.{◌≡◌, ◌++◌, ◌∷◌, [], Ok, Some, sym, ap, ◌∙◌, subst, arith, length}
 use Rattle.std.proofs.lemmas.List.{length-append}
 use Rattle.packet_accept.specs.Packets.{packets_in}
-use Rattle.packet_accept.specs.Clock.{IsClock, later}
+use Rattle.packet_accept.specs.Clock.{IsClock, later_clock}
 use Rattle.capture_tally.proofs.Counting.{counts-packet, octets-together, clock-alone}
 use Rattle.capture_tally.specs.Tallies.{octets_of}
 use Rattle.capture_tally.proofs.tally.Tally.add_packet.Goals as goal
@@ -18,7 +18,7 @@ returns c = λ answers is.
       octets = omega (arith, is.octets, ap octets_of one, octets-together (packets_in answers) (packet ∷ []));
       clock = subst (λ clock. IsClock (packets_in (answers ++ Ok packet ∷ [])) clock)
           (sym c.later_of-self.ensures.later)
-          (subst (λ ps. IsClock ps (later c.args.self.now.clock (Some packet.time))) (sym one)
+          (subst (λ ps. IsClock ps (later_clock c.args.self.now.clock (Some packet.time))) (sym one)
           (c.clock_law.ensures.together (packets_in answers) (packet ∷ []) c.args.self.now.clock
           (Some packet.time) is.clock (clock-alone packet)));
     }

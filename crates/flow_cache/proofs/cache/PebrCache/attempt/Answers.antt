@@ -1,7 +1,7 @@
 use Rattle.std.proofs.Common.{◌≡◌, ◌∷◌, [], ◌∙◌, Bool, Some, ap, subst}
 use Rattle.std.specs.Prelude.{if◌then◌else◌}
 use Rattle.cache_face.specs.declared.metered.Metered.{Metered}
-use Rattle.cache_face.specs.Notes.{Note, first_note, metering}
+use Rattle.cache_face.specs.Notes.{Note, first_note, note_with}
 use Rattle.pebr_words.specs.Pasts.{History}
 use Rattle.pebr_roots.specs.Passes.{note_by, past_by}
 use Rattle.flow_cache.proofs.Histories.{chosen_still}
@@ -14,7 +14,7 @@ returns-clause-done g c done =
     let end = c.end.new.pass in
     let metered : Metered = c.reach_and_put-done.new.metered in
     let note : Note = note_by first_note mid in
-    let passed : Note = metering note (c.args.packet.now ∷ []) (Some c.args.own.now) in
+    let passed : Note = note_with note (c.args.packet.now ∷ []) (Some c.args.own.now) in
     let put = c.reach_and_put-done.ensures.done done in (
       subst (λ (b : Bool). note_by first_note end ≡ (if b then passed else note))
           (c.is_passed_by-passes_by.ensures.done done) c.end.ensures.note ∙ put.0,

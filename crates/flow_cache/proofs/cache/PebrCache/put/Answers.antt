@@ -9,7 +9,7 @@ use Rattle.cache_face.specs.declared.metered.How.{How}
 use Rattle.cache_face.specs.declared.metered.Metered.{Metered}
 use Rattle.cache_face.specs.Choice.{IsChoice, Takes, entry_at}
 use Rattle.cache_face.specs.Keeping.{Keeps, IsWhole, entry_of}
-use Rattle.cache_face.specs.Notes.{Note, first_note, metering}
+use Rattle.cache_face.specs.Notes.{Note, first_note, note_with}
 use Rattle.cache_face.proofs.Contents.{choice_takes}
 use Rattle.pebr_core.specs.declared.kinds.Shape.{Shape}
 use Rattle.pebr_core.specs.declared.kinds.Step.TheVariants as step
@@ -72,7 +72,7 @@ replace-requires-clause-keeps g c =
     ∙ ap (λ ws. Some (slice_index ws word)) (sym chosen.1) in
     let can : Timeouts → Seat → Note → Type 0 =
     λ limits known note. CanReplace (Keeps limits) IsWhole shape (past_by end) (number_by end) root
-    (slot_at known place) (least known.fresh) note (metering note (c.args.packet.now ∷ []) out) in
+    (slot_at known place) (least known.fresh) note (note_with note (c.args.packet.now ∷ []) out) in
     subst (λ limits. can limits (known_by end) (note_by first_note end)) (sym cache.fixed)
     (subst (λ known. can cache.timeouts known (note_by first_note end)) (sym known_is)
     (subst (λ n. can cache.timeouts (known_by start) n) (sym note_is)
@@ -100,7 +100,7 @@ returns-in-Replaced-clause-done g c done =
     (search rules) c.put_out-out.ensures chosen in
     let note_is : note_by first_note end ≡ note_by first_note start =
     c.fill.ensures.note ∙ c.read_contents.ensures.note in
-    let packets : Note → Note = λ n. metering n (c.args.packet.now ∷ []) out in
+    let packets : Note → Note = λ n. note_with n (c.args.packet.now ∷ []) out in
     let past : past_by new ≡ past_after (step.Replace (number_by end) (root_of c.args.set place) slot fresh)
     answer.Replaced (known_by end) (past_by end)
     = subst (λ r. past_by new ≡ past_after (step.Replace (number_by end) (root_of c.args.set place) slot fresh)
@@ -120,7 +120,7 @@ returns-in-Replaced-clause-done g c done =
     (c.read_contents.ensures.entries c.args.set c.requires.protected) choice loads reads in (
       subst (λ r. note_by first_note new ≡ replaced_note r (packets (note_by first_note end)) (note_by first_note end))
           c.in-Replaced.is c.replace.ensures.note ∙ ap packets note_is
-          ∙ ap (λ o. metering (note_by first_note start) (c.args.packet.now ∷ []) o) (sym out_is),
+          ∙ ap (λ o. note_with (note_by first_note start) (c.args.packet.now ∷ []) o) (sym out_is),
       ap (λ (p : History). p.lost) past ∙ ap (λ (p : History). p.lost) c.fill.ensures.past
           ∙ ap (λ (p : History). p.lost) c.read_contents.ensures.past,
       subst (λ h. HasChosen limits c.args.set (past_by new) c.args.own.now h said.out) (sym how_is)
@@ -138,7 +138,7 @@ returns-in-Other-clause-undone g c undone =
     let root : ℕ = root_of c.args.set place in
     let slot : ℕ = slot_at (known_by end) place in
     let fresh : ℕ = least (known_by end).fresh in
-    let packets : Note → Note = λ n. metering n (c.args.packet.now ∷ []) c.put_out-out.result in
+    let packets : Note → Note = λ n. note_with n (c.args.packet.now ∷ []) c.put_out-out.result in
     let note_is : note_by first_note end ≡ note_by first_note start =
     c.fill.ensures.note ∙ c.read_contents.ensures.note in
     let known_is : known_by end ≡ known_by start = c.fill.ensures.known ∙ c.read_contents.ensures.known in

@@ -3,7 +3,7 @@ use Rattle.std.specs.Prelude.{slice_set}
 use Rattle.std.specs.Slots.{slots_items}
 use Rattle.pebr_words.specs.Making.{note_in}
 use Rattle.pebr_words.specs.Opening.{rows_of}
-use Rattle.pebr_words.specs.Closing.{gathered}
+use Rattle.pebr_words.specs.Closing.{contents_of_roots}
 use Rattle.pebr_words.proofs.Closing.{closes_at, roots_below, gathered_length, if_ok}
 use Rattle.pebr_words.proofs.words.Words.close.Goals as goal
 
@@ -34,6 +34,7 @@ returns-clause-keeps g c =
     (λ contents is. subst
     (λ items. keeps (rows_of words.shape items)
     (slice_set (replicate words.shape.seats empty) seat.number (note_in first seat.inner.me.0))) (sym is)
-    (subst (λ n. keeps (rows_of words.shape (gathered words.shape (slots_items c.close_with-closed.result.words)))
+    (subst (λ n. keeps (rows_of words.shape
+    (contents_of_roots words.shape (slots_items c.close_with-closed.result.words)))
     (slice_set (replicate words.shape.seats empty) n (note_in first seat.inner.me.0))) seat.acts kept))
     c.gather-contents.ensures

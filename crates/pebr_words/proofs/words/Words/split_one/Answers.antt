@@ -18,8 +18,8 @@ split_seat-inner-requires g c =
           (subst (λ (v : List (Held _)). 0 < length v) (sym (view ∙ next)) (omega arith)),
     )
 
-pub opened-requires-clause-view : goal.opened-requires-clause-view
-opened-requires-clause-view g c =
+pub open_seat-requires-clause-view : goal.open_seat-requires-clause-view
+open_seat-requires-clause-view g c =
     let words = c.args.self.now in
     let view = ap (λ (m : Me (Unit {0}) (List (Held _))). m.0) c.requires.view in
     let next = next_view words.shape g.P.RootProtocol.first c.args.number words.shape.seats c.requires.at.1 in

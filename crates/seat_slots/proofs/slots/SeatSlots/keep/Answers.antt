@@ -6,7 +6,7 @@ use Rattle.pebr_core.specs.declared.kinds.Retired.TheVariants as retire
 use Rattle.pebr_core.specs.State.{is_retired}
 use Rattle.pebr_core.proofs.Marks.{written_back}
 use Rattle.seat_slots.specs.Sets.{Sets}
-use Rattle.seat_slots.specs.Shown.{found, is_kept, kept_at, retired_as, AreApart, IsNewest}
+use Rattle.seat_slots.specs.Shown.{value_found, is_kept, kept_at, retired_as, AreApart, IsNewest}
 use Rattle.seat_slots.proofs.Keeping.{kept_apart, kept_newest, kept_retired, kept_set, retired_at_all}
 use Rattle.seat_slots.proofs.slots.SeatSlots.keep.Goals as goal
 
@@ -48,11 +48,11 @@ returns-clause-kept c =
     let at = retired_at_all inside.slots inside.room inside.fresh.items inside.untagged.items inside.tagged.items
     c.self.invariant.0 slot in
     let view = ap (λ (s : Sets). get_or s.retired slot retire.No) c.self.view_is in
-    ap (λ l. map (found is_kept false l) (range_with_len 0 inside.slots)) is
+    ap (λ l. map (value_found is_kept false l) (range_with_len 0 inside.slots)) is
     ∙ (kept_set inside.slots inside.room inside.fresh.items inside.untagged.items inside.tagged.items slot
     c.self.invariant.0 (λ e. c.requires.tagged (sym view ∙ (at ∙ e)))
     ∙ (ap (λ r. cond (is_retired r)
-    (set (map (found is_kept false inside.tagged.items) (range_with_len 0 inside.slots)) slot true)
-    (map (found is_kept false inside.tagged.items) (range_with_len 0 inside.slots))) (sym at)
+    (set (map (value_found is_kept false inside.tagged.items) (range_with_len 0 inside.slots)) slot true)
+    (map (value_found is_kept false inside.tagged.items) (range_with_len 0 inside.slots))) (sym at)
     ∙ ap (λ (s : Sets). cond (is_retired (get_or s.retired slot retire.No)) (set s.kept slot true) s.kept)
     c.self.view_is))

@@ -6,7 +6,7 @@ use Rattle.std.proofs.lemmas.List.FromFn.{length-range_with_len}
 use Rattle.pebr_core.specs.declared.kinds.Retired.TheVariants as retire
 use Rattle.pebr_core.specs.State.{is_share_of, slots_per_seat}
 use Rattle.seat_slots.specs.declared.tagged.TaggedSlot.{TaggedSlot}
-use Rattle.seat_slots.specs.Shown.{is_in, retired_as, unkept, AreApart}
+use Rattle.seat_slots.specs.Shown.{is_in, retired_as, unkept_entry, AreApart}
 use Rattle.seat_slots.proofs.Tables.{map_as, map_to}
 use Rattle.seat_slots.proofs.Keeping.{first_apart, first_fresh}
 use Rattle.seat_slots.proofs.slots.SeatSlots.new.Goals as goal
@@ -26,7 +26,7 @@ invariant_of-result c =
           (sym c.slots_per_seat-room.ensures))))),
       c.in_ok-fresh.ensures.falling,
       λ epoch. ap (list_all (λ (entry : TaggedSlot). nat_lt entry.tag epoch)) tagged,
-      λ _. subst (λ l. map unkept l ≡ l) (sym tagged) refl,
+      λ _. subst (λ l. map unkept_entry l ≡ l) (sym tagged) refl,
       c.in_ok-fresh.ensures.room,
       c.in_ok-untagged.ensures.capacity,
       c.in_ok-tagged.ensures.capacity,

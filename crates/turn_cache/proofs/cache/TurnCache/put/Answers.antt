@@ -10,7 +10,7 @@ use Rattle.cache_face.proofs.Contents.{choice_takes}
 use Rattle.cache_face.proofs.Four.{all_four}
 use Rattle.set_choice.specs.Chosen.{out_of}
 use Rattle.turn_cache.specs.Hands.{Hand, entries_of}
-use Rattle.turn_cache.specs.Moves.{Sat, more_read, filled}
+use Rattle.turn_cache.specs.Moves.{Sat, more_read, filled_hand}
 use Rattle.turn_cache.proofs.Writing.{read_four, piece, forty, four_entries, four_set, entry_there}
 use Rattle.turn_cache.proofs.cache.TurnCache.put.Goals as goal
 
@@ -111,10 +111,10 @@ returns-clause-filled g c =
           c.read_entry-4.ensures.long,
       c.write.ensures.filled
           ∙ (ap (λ (out : Option Fragment). (
-            filled c.read_entry-4.new.seat.me.0.read g.K.IsTaken.packets out c.read_entry-4.new.seat.me.0,
+            filled_hand c.read_entry-4.new.seat.me.0.read g.K.IsTaken.packets out c.read_entry-4.new.seat.me.0,
             c.read_entry-4.new.seat.me.1,
           )) (sym c.answer.ensures.out)
-          ∙ ap (λ (m : Sat). (filled m.0.read g.K.IsTaken.packets metered.out m.0, m.1)) all),
+          ∙ ap (λ (m : Sat). (filled_hand m.0.read g.K.IsTaken.packets metered.out m.0, m.1)) all),
       (
         choice.result.place,
         chosen.0,

@@ -3,7 +3,7 @@ use Rattle.flow_parts.specs.declared.fragment.Fragment.{Fragment}
 use Rattle.cache_face.specs.declared.metered.How.{How}
 use Rattle.cache_face.specs.Meaning.{IsAnswer, IsPassedBy}
 use Rattle.turn_cache.specs.Hands.{Hand}
-use Rattle.turn_cache.specs.Moves.{Sat, filled, after_tries}
+use Rattle.turn_cache.specs.Moves.{Sat, filled_hand, after_tries}
 use Rattle.turn_cache.specs.Shown.{means_of, shown_of, IsTryOf}
 use Rattle.turn_cache.proofs.Answering.{answered, passed, hand_means}
 use Rattle.turn_cache.proofs.cache.TurnCache.put_in.Goals as goal
@@ -12,9 +12,9 @@ pub returns-then-take_turn-clause-answer : goal.returns-then-take_turn-clause-an
 returns-then-take_turn-clause-answer g c =
     let turn = c.take_turn.ensures.taken c.if-take_turn.true in
     let put = c.put.ensures.filled in
-    let is : c.put.new.seat.me.0 ≡ filled put.0 g.K.IsTaken.packets c.put.new.metered.out
+    let is : c.put.new.seat.me.0 ≡ filled_hand put.0 g.K.IsTaken.packets c.put.new.metered.out
     (after_tries c.set_of-set.result turn.0 c.args.pass.now.seat.me.0)
-    = ap (λ (m : Sat). m.0) put.2 ∙ ap (λ (m : Sat). filled put.0 g.K.IsTaken.packets c.put.new.metered.out m.0)
+    = ap (λ (m : Sat). m.0) put.2 ∙ ap (λ (m : Sat). filled_hand put.0 g.K.IsTaken.packets c.put.new.metered.out m.0)
     turn.2 in
     subst (λ (h : Hand). IsAnswer (means_of c.args.self.now) IsTryOf (shown_of c.args.pass.now)
     (hand_means h) c.args.own.now c.put.new.metered.how c.put.new.metered.out) (sym is)

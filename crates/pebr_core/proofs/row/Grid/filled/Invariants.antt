@@ -1,5 +1,0 @@
-use Rattle.std.proofs.Common.{◌≡◌, replicate}
-use Rattle.pebr_core.proofs.row.Grid.filled.Given as goal
-
-abbrev pub invariant-loop : goal.invariant-loop
-invariant-loop g l = l.rows.items ≡ replicate l.counter (replicate l.width l.value)
