@@ -35,19 +35,19 @@ pub(crate) fn held_of<C: FlowCache>(
     passes: Vec<C::Pass>,
 ) -> Result<Vec<Held<C>>, NoMemory>
     requires passes { All (λ p. C.is_of cache.now p × IsFresh (C.shown p)) passes.items }
-    ensures many { IfOk result (λ helds. length helds.items ≡ length passes.items) }
+    ensures many { IfOk result (λ holdings. length holdings.items ≡ length passes.items) }
     ensures held { IfOk result
-        (λ helds. All (λ h. C.is_of cache.now h.pass × IsHeld 0 (C.shown h.pass) h.out.items) helds.items) }
-    ensures none { IfOk result (λ helds. flat_map (λ h. (C.shown h.pass).note.packets) helds.items ≡ []) }
+        (λ holdings. All (λ h. C.is_of cache.now h.pass × IsHeld 0 (C.shown h.pass) h.out.items) holdings.items) }
+    ensures none { IfOk result (λ holdings. flat_map (λ h. (C.shown h.pass).note.packets) holdings.items ≡ []) }
 {
     let _ = cache;
-    let mut helds = Vec::new(alloc);
+    let mut holdings = Vec::new(alloc);
     let mut passes = passes;
     while let Some(pass) = passes.pop() {
         let out = Vec::new(alloc);
-        helds.push(Held { pass, out })?;
+        holdings.push(Held { pass, out })?;
     }
-    Ok(helds)
+    Ok(holdings)
 }
 
 /// Appends what a worker was handed.
@@ -62,25 +62,25 @@ fn append(parts: &mut Vec<Fragment>, out: &Vec<Fragment>) -> Result<(), NoMemory
 pub(crate) fn unite_passes<C: FlowCache>(
     cache: &C,
     base: u64,
-    helds: Vec<Held<C>>,
+    holdings: Vec<Held<C>>,
 ) -> Result<(C::Pass, Vec<Fragment>), NoMemory>
-    requires held { All (λ h. C.is_of cache.now h.pass × IsHeld base (C.shown h.pass) h.out.items) helds.items }
-    requires some { 0 < length helds.items }
-    ensures own { IfOk result (λ r. C.is_of cache.now r.0 × ((C.shown r.0).note.seats ≡ length helds.items)) }
+    requires held { All (λ h. C.is_of cache.now h.pass × IsHeld base (C.shown h.pass) h.out.items) holdings.items }
+    requires some { 0 < length holdings.items }
+    ensures own { IfOk result (λ r. C.is_of cache.now r.0 × ((C.shown r.0).note.seats ≡ length holdings.items)) }
     ensures packets { IfOk result
-        (λ r. IsPermutation (flat_map (λ h. (C.shown h.pass).note.packets) helds.items) (C.shown r.0).note.packets) }
+        (λ r. IsPermutation (flat_map (λ h. (C.shown h.pass).note.packets) holdings.items) (C.shown r.0).note.packets) }
     ensures parts { IfOk result (λ r. r.1.items ≡ (C.shown r.0).note.handed) }
 {
     let _ = base;
-    let mut helds = helds;
-    let Some(first) = helds.pop() else {
+    let mut holdings = holdings;
+    let Some(first) = holdings.pop() else {
         unreachable!()
     };
     let Held {
         mut pass,
         out: mut parts,
     } = first;
-    while let Some(next) = helds.pop() {
+    while let Some(next) = holdings.pop() {
         let Held { pass: other, out } = next;
         pass = cache.unite(pass, other);
         append(&mut parts, &out)?;
@@ -117,8 +117,8 @@ pub fn meter_all<C: FlowCache, G: Gate, R: Threads + Sync>(
     ensures parts { IfOk result (λ r. r.parts.items ≡ (C.shown r.pass).note.handed) }
     ensures tally { IfOk result (λ r. IsTallyOf r.tally (answers_of (file_of capture.now))) }
 {
-    let helds = held_of(alloc, cache, passes)?;
-    let (helds, tally) = meter_part(rt, alloc, capture, index, 0, cache, helds, piece, gate)?;
-    let (pass, parts) = unite_passes(cache, index.count(), helds)?;
+    let holdings = held_of(alloc, cache, passes)?;
+    let (holdings, tally) = meter_part(rt, alloc, capture, index, 0, cache, holdings, piece, gate)?;
+    let (pass, parts) = unite_passes(cache, index.count(), holdings)?;
     Ok(Gathered { pass, parts, tally })
 }

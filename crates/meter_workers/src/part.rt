@@ -31,27 +31,28 @@ fn seat_workers<C: FlowCache>(
     cache: &C,
     pieces: &Pieces,
     base: u64,
-    helds: Vec<Held<C>>,
+    holdings: Vec<Held<C>>,
     draws: Vec<DrawPass>,
 ) -> Result<Vec<Worker<C>>, NoMemory>
-    requires same { length helds.items ≡ length draws.items }
-    requires held { All (λ h. C.is_of cache.now h.pass × IsHeld base (C.shown h.pass) h.out.items) helds.items }
+    requires same { length holdings.items ≡ length draws.items }
+    requires held { All (λ h. C.is_of cache.now h.pass × IsHeld base (C.shown h.pass) h.out.items) holdings.items }
     requires draws { All (λ d. IsPassOf pieces.now d × IsFresh d) draws.items }
-    ensures many { IfOk result (λ workers. length workers.items ≡ length helds.items) }
+    ensures many { IfOk result (λ workers. length workers.items ≡ length holdings.items) }
     ensures ready { IfOk result
         (λ workers. All
         (λ w. IsReady (C.is_of cache.now) C.shown pieces.now base w.pass w.draw w.out.items w.tally w.state)
         workers.items) }
-    ensures packets { IfOk result (λ workers. IsPermutation (flat_map (λ h. (C.shown h.pass).note.packets) helds.items)
+    ensures packets { IfOk result
+        (λ workers. IsPermutation (flat_map (λ h. (C.shown h.pass).note.packets) holdings.items)
         (flat_map (λ w. (C.shown w.pass).note.packets) workers.items)) }
 {
     let _ = cache;
     let _ = pieces;
     let _ = base;
     let mut workers = Vec::new(alloc);
-    let mut helds = helds;
+    let mut holdings = holdings;
     let mut draws = draws;
-    while let Some(held) = helds.pop() {
+    while let Some(held) = holdings.pop() {
         let Held { pass, out } = held;
         let Some(draw) = draws.pop() else {
             unreachable!()
@@ -201,7 +202,7 @@ fn unseat_workers<C: FlowCache>(
     let _ = base;
     let _ = cache;
     let mut workers = workers;
-    let mut helds = Vec::new(alloc);
+    let mut holdings = Vec::new(alloc);
     let Some(first) = workers.pop() else {
         unreachable!()
     };
@@ -213,7 +214,7 @@ fn unseat_workers<C: FlowCache>(
         mut tally,
         state: _,
     } = first;
-    helds.push(Held { pass, out })?;
+    holdings.push(Held { pass, out })?;
     while let Some(next) = workers.pop() {
         let Worker {
             number: _,
@@ -225,11 +226,11 @@ fn unseat_workers<C: FlowCache>(
         } = next;
         draw = pieces.unite(draw, other);
         tally = tally.sum_with(&more);
-        helds.push(Held { pass, out })?;
+        holdings.push(Held { pass, out })?;
     }
     let draw = pieces.complete(draw);
     drop(draw);
-    Ok((helds, tally))
+    Ok((holdings, tally))
 }
 
 /// Meters a part of a capture by a worker for each pass, all at once. The first record of the part has the number
@@ -241,29 +242,29 @@ pub(crate) fn meter_part<C: FlowCache, G: Gate, R: Threads + Sync>(
     index: &RecordIndex,
     base: u64,
     cache: &C,
-    helds: Vec<Held<C>>,
+    holdings: Vec<Held<C>>,
     piece: u64,
     gate: &G,
 ) -> Result<(Vec<Held<C>>, Tally), NoMemory>
     requires index { IsIndexOf index.now (file_of capture.now) }
     requires few { base + length index.now.offsets < 2 ^ 32 }
     requires piece { (0 < piece) × (piece ≤ 65536) }
-    requires some { (0 < length helds.items) × (length helds.items ≤ 64) }
-    requires held { All (λ h. C.is_of cache.now h.pass × IsHeld base (C.shown h.pass) h.out.items) helds.items }
-    ensures many { IfOk result (λ r. length r.0.items ≡ length helds.items) }
+    requires some { (0 < length holdings.items) × (length holdings.items ≤ 64) }
+    requires held { All (λ h. C.is_of cache.now h.pass × IsHeld base (C.shown h.pass) h.out.items) holdings.items }
+    ensures many { IfOk result (λ r. length r.0.items ≡ length holdings.items) }
     ensures held { IfOk result
         (λ r. All (λ h. C.is_of cache.now h.pass
         × IsHeld (base + length index.now.offsets) (C.shown h.pass) h.out.items) r.0.items) }
     ensures packets { IfOk result
-        (λ r. IsPermutation (flat_map (λ h. (C.shown h.pass).note.packets) helds.items
+        (λ r. IsPermutation (flat_map (λ h. (C.shown h.pass).note.packets) holdings.items
         ++ packets_in (answers_from base (file_of capture.now)))
         (flat_map (λ h. (C.shown h.pass).note.packets) r.0.items)) }
     ensures tally { IfOk result (λ r. IsTallyOf r.1 (answers_from base (file_of capture.now)) × IsTallied r.1) }
 {
     packets_law();
-    let seats = helds.len();
+    let seats = holdings.len();
     let (pieces, draws) = Pieces::open(alloc, index.count(), piece, seats)?;
-    let workers = seat_workers(alloc, cache, &pieces, base, helds, draws)?;
+    let workers = seat_workers(alloc, cache, &pieces, base, holdings, draws)?;
     let workers = run_workers(
         rt, alloc, capture, index, base, cache, &pieces, workers, gate,
     );

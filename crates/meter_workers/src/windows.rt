@@ -51,7 +51,7 @@ pub struct WindowGathered<C: FlowCache> {
 /// so far.
 #[derive(Drop)]
 pub(crate) struct Metering<C: FlowCache> {
-    pub(crate) helds: Vec<Held<C>>,
+    pub(crate) holdings: Vec<Held<C>>,
     pub(crate) index: RecordIndex,
     pub(crate) tally: Tally,
 }
@@ -68,19 +68,19 @@ fn meter_window<C: FlowCache, G: Gate, R: Threads + Sync>(
 ) -> Result<Metering<C>, IndexError>
     requires long { (length (file_of part.now).bytes ≤ 2 ^ 30) × (metering.tally.captured ≤ 2 ^ 30) }
     requires piece { (0 < piece) × (piece ≤ 65536) }
-    requires some { (0 < length metering.helds.items) × (length metering.helds.items ≤ 64) }
+    requires some { (0 < length metering.holdings.items) × (length metering.holdings.items ≤ 64) }
     requires held { All (λ h. C.is_of cache.now h.pass × IsHeld metering.tally.captured (C.shown h.pass) h.out.items)
-        metering.helds.items }
+        metering.holdings.items }
     requires tallied { IsTallied metering.tally }
     ensures index { IfOk result (λ m. IsIndexOf m.index (file_of part.now)) }
-    ensures many { IfOk result (λ m. length m.helds.items ≡ length metering.helds.items) }
+    ensures many { IfOk result (λ m. length m.holdings.items ≡ length metering.holdings.items) }
     ensures held { IfOk result
         (λ m. All (λ h. C.is_of cache.now h.pass × IsHeld m.tally.captured (C.shown h.pass) h.out.items)
-        m.helds.items) }
+        m.holdings.items) }
     ensures packets { IfOk result
-        (λ m. IsPermutation (flat_map (λ h. (C.shown h.pass).note.packets) metering.helds.items
+        (λ m. IsPermutation (flat_map (λ h. (C.shown h.pass).note.packets) metering.holdings.items
         ++ packets_in (answers_from metering.tally.captured (file_of part.now)))
-        (flat_map (λ h. (C.shown h.pass).note.packets) m.helds.items)) }
+        (flat_map (λ h. (C.shown h.pass).note.packets) m.holdings.items)) }
     ensures counts { IfOk result (λ m. (earlier : List Answer) → IsTallyOf metering.tally earlier
         → IsTallyOf m.tally (earlier ++ answers_from metering.tally.captured (file_of part.now))) }
     ensures tallied { IfOk result (λ m. IsTallied m.tally) }
@@ -90,15 +90,15 @@ fn meter_window<C: FlowCache, G: Gate, R: Threads + Sync>(
     packets_law();
     room_law();
     let Metering {
-        helds,
+        holdings,
         index,
         tally,
     } = metering;
     let index = part.index_into(alloc, index)?;
     let base = tally.captured;
-    match meter_part(rt, alloc, part, &index, base, cache, helds, piece, gate) {
-        Ok((helds, more)) => Ok(Metering {
-            helds,
+    match meter_part(rt, alloc, part, &index, base, cache, holdings, piece, gate) {
+        Ok((holdings, more)) => Ok(Metering {
+            holdings,
             index,
             tally: tally.sum_with(&more),
         }),
@@ -124,18 +124,19 @@ fn meter_input<S: Source, C: FlowCache, G: Gate, R: Threads + Sync>(
     requires within { (input.taken ≤ input.limit) × (input.limit ≤ 2 ^ 30) }
     requires ended { IsTrue input.ended → IsAtEnd (S.left source.old) }
     requires piece { (0 < piece) × (piece ≤ 65536) }
-    requires some { (0 < length metering.helds.items) × (length metering.helds.items ≤ 64) }
-    requires held { All (λ h. C.is_of cache.now h.pass × IsHeld 0 (C.shown h.pass) h.out.items) metering.helds.items }
-    requires none { (flat_map (λ h. (C.shown h.pass).note.packets) metering.helds.items ≡ [])
+    requires some { (0 < length metering.holdings.items) × (length metering.holdings.items ≤ 64) }
+    requires held { All (λ h. C.is_of cache.now h.pass × IsHeld 0 (C.shown h.pass) h.out.items)
+        metering.holdings.items }
+    requires none { (flat_map (λ h. (C.shown h.pass).note.packets) metering.holdings.items ≡ [])
         × IsTallyOf metering.tally [] }
-    ensures many { IfOk result (λ m. length m.helds.items ≡ length metering.helds.items) }
+    ensures many { IfOk result (λ m. length m.holdings.items ≡ length metering.holdings.items) }
     ensures held { IfOk result
         (λ m. All (λ h. C.is_of cache.now h.pass × IsHeld m.tally.captured (C.shown h.pass) h.out.items)
-        m.helds.items) }
+        m.holdings.items) }
     ensures metered { IfOk result (λ m. (first : Option (List ℕ))
         → Consumes first (S.left source.old) input.window.bytes
         → IsMeteredWhole (side_from first (side S.left S.faults source.old source.new)) input.limit
-        (flat_map (λ h. (C.shown h.pass).note.packets) m.helds.items) m.tally m.index.tail) }
+        (flat_map (λ h. (C.shown h.pass).note.packets) m.holdings.items) m.tally m.index.tail) }
     ensures refused { IfErr result (λ fault. (first : Option (List ℕ))
         → Consumes first (S.left source.old) input.window.bytes
         → IsRefused (side_from first (side S.left S.faults source.old source.new)) input.limit fault) }
@@ -180,17 +181,17 @@ fn begin_metering<C: FlowCache>(
     requires passes { All (λ p. C.is_of cache.now p × IsFresh (C.shown p)) passes.items }
     ensures input { IfOk result (λ r. (r.0.window.bytes ≡ []) × (r.0.window.size ≡ window) × (r.0.taken ≡ 0)
         × (r.0.limit ≡ limit)) }
-    ensures many { IfOk result (λ r. length r.1.helds.items ≡ length passes.items) }
+    ensures many { IfOk result (λ r. length r.1.holdings.items ≡ length passes.items) }
     ensures held { IfOk result
-        (λ r. All (λ h. C.is_of cache.now h.pass × IsHeld 0 (C.shown h.pass) h.out.items) r.1.helds.items) }
-    ensures none { IfOk result (λ r. (flat_map (λ h. (C.shown h.pass).note.packets) r.1.helds.items ≡ [])
+        (λ r. All (λ h. C.is_of cache.now h.pass × IsHeld 0 (C.shown h.pass) h.out.items) r.1.holdings.items) }
+    ensures none { IfOk result (λ r. (flat_map (λ h. (C.shown h.pass).note.packets) r.1.holdings.items ≡ [])
         × IsTallyOf r.1.tally []) }
 {
-    let helds = held_of(alloc, cache, passes)?;
+    let holdings = held_of(alloc, cache, passes)?;
     let index = RecordIndex::with_room(alloc, window)?;
     let input = CaptureInput::open(alloc, window, limit)?;
     let metering = Metering {
-        helds,
+        holdings,
         index,
         tally: Tally::new(),
     };
@@ -203,22 +204,22 @@ fn gather_windows<C: FlowCache>(
     metering: Metering<C>,
 ) -> Result<WindowGathered<C>, NoMemory>
     requires held { All (λ h. C.is_of cache.now h.pass × IsHeld metering.tally.captured (C.shown h.pass) h.out.items)
-        metering.helds.items }
-    requires some { 0 < length metering.helds.items }
+        metering.holdings.items }
+    requires some { 0 < length metering.holdings.items }
     ensures own { IfOk result (λ r. C.is_of cache.now r.pass
-        × ((C.shown r.pass).note.seats ≡ length metering.helds.items)) }
+        × ((C.shown r.pass).note.seats ≡ length metering.holdings.items)) }
     ensures packets { IfOk result
-        (λ r. IsPermutation (flat_map (λ h. (C.shown h.pass).note.packets) metering.helds.items)
+        (λ r. IsPermutation (flat_map (λ h. (C.shown h.pass).note.packets) metering.holdings.items)
         (C.shown r.pass).note.packets) }
     ensures parts { IfOk result (λ r. r.parts.items ≡ (C.shown r.pass).note.handed) }
     ensures counts { IfOk result (λ r. (r.tally ≡ metering.tally) × (r.tail ≡ metering.index.tail)) }
 {
     let Metering {
-        helds,
+        holdings,
         index,
         tally,
     } = metering;
-    let (pass, parts) = unite_passes(cache, tally.captured, helds)?;
+    let (pass, parts) = unite_passes(cache, tally.captured, holdings)?;
     Ok(WindowGathered {
         pass,
         parts,

@@ -31,6 +31,7 @@ fn safe_steps()
 }
 
 impl<P: RootProtocol> Words<P> {
+    /// Makes a step that loads a word, under the name of the step that `K` picks. It answers the word.
     fn load_as<K: IsStep<P::Act>>(
         &self,
         seat: &mut TableSeat<P::Note>,
@@ -78,6 +79,7 @@ impl<P: RootProtocol> Words<P> {
         self.load_as::<Brand>(seat, word, step, act)
     }
 
+    /// Makes a step that stores to a word, under the name of the step that `K` picks.
     fn store_as<K: IsStep<P::Act>>(
         &self,
         seat: &mut TableSeat<P::Note>,
@@ -128,6 +130,8 @@ impl<P: RootProtocol> Words<P> {
         self.store_as::<Brand>(seat, word, new, step, act);
     }
 
+    /// Makes a step that exchanges a word where it has `old`, under the name of the step that `K` picks. It answers
+    /// what the word had.
     fn exchange_as<K: IsStep<P::Act>>(
         &self,
         seat: &mut TableSeat<P::Note>,

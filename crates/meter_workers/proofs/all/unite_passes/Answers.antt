@@ -15,14 +15,14 @@ pub loop-next-init : goal.loop-next-init
 loop-next-init g c =
     let Own : Held g.row.C.Denot g.row.C-Pass.Denot → Type 0 =
     λ h. g.C.FlowCache.is_of c.args.cache.now h.pass × IsHeld c.args.base (g.C.FlowCache.shown h.pass) h.out.items in
-    let p = all_popped Own c.args.helds.items c.pop.new.self.items c.in-Some.first c.requires.held
+    let p = all_popped Own c.args.holdings.items c.pop.new.self.items c.in-Some.first c.requires.held
     c.in-Some.ensures.items in
-    let e = popped_length c.args.helds.items c.pop.new.self.items c.in-Some.first c.in-Some.ensures.items in
+    let e = popped_length c.args.holdings.items c.pop.new.self.items c.in-Some.first c.in-Some.ensures.items in
     record {
       own = p.1.0;
       left = p.0;
       many = (let s = p.1.1.single in omega (arith, e, s));
-      packets = united-first (HeldPackets g) c.args.helds.items c.pop.new.self.items c.in-Some.first
+      packets = united-first (HeldPackets g) c.args.holdings.items c.pop.new.self.items c.in-Some.first
           c.in-Some.ensures.items;
       parts = p.1.1.handed;
     }
@@ -31,7 +31,7 @@ pub unite-pass-requires-clause-second : goal.unite-pass-requires-clause-second
 unite-pass-requires-clause-second g c =
     let Own : Held g.row.C.Denot g.row.C-Pass.Denot → Type 0 =
     λ h. g.C.FlowCache.is_of c.args.cache.now h.pass × IsHeld c.args.base (g.C.FlowCache.shown h.pass) h.out.items in
-    (all_popped Own c.loop-next.helds.items c.pop-in-loop-next.new.self.items c.in-Some-pop.next
+    (all_popped Own c.loop-next.holdings.items c.pop-in-loop-next.new.self.items c.in-Some-pop.next
     c.loop-next.invariant.left c.in-Some-pop.ensures.items).1.0
 
 pub loop-next-preserved : goal.loop-next-preserved
@@ -39,9 +39,10 @@ loop-next-preserved g c =
     let Own : Held g.row.C.Denot g.row.C-Pass.Denot → Type 0 =
     λ h. g.C.FlowCache.is_of c.args.cache.now h.pass × IsHeld c.args.base (g.C.FlowCache.shown h.pass) h.out.items in
     let next = c.in-Some-pop.next in
-    let p = all_popped Own c.loop-next.helds.items c.pop-in-loop-next.new.self.items next c.loop-next.invariant.left
+    let p = all_popped Own c.loop-next.holdings.items c.pop-in-loop-next.new.self.items next c.loop-next.invariant.left
     c.in-Some-pop.ensures.items in
-    let e = popped_length c.loop-next.helds.items c.pop-in-loop-next.new.self.items next c.in-Some-pop.ensures.items in
+    let e = popped_length c.loop-next.holdings.items c.pop-in-loop-next.new.self.items next
+    c.in-Some-pop.ensures.items in
     let united = c.unite-pass.ensures.united in
     let seats = ap (λ (n : Note). n.seats) united.0 in
     record {
@@ -50,7 +51,7 @@ loop-next-preserved g c =
       many = (let s = p.1.1.single in omega (arith, e, s, seats, c.loop-next.invariant.many));
       packets = united-moved (HeldPackets g) _ (g.C.FlowCache.shown c.loop-next.pass) (g.C.FlowCache.shown next.pass)
           (g.C.FlowCache.shown c.unite-pass.result)
-          c.loop-next.helds.items c.pop-in-loop-next.new.self.items next c.in-Some-pop.ensures.items united refl
+          c.loop-next.holdings.items c.pop-in-loop-next.new.self.items next c.in-Some-pop.ensures.items united refl
           c.loop-next.invariant.packets;
       parts = c.in_ok-append.ensures ∙ ap (λ l. l ++ next.out.items) c.loop-next.invariant.parts
           ∙ ap (λ l. (g.C.FlowCache.shown c.loop-next.pass).note.handed ++ l) p.1.1.handed

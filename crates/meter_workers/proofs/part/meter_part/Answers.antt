@@ -58,9 +58,9 @@ returns-clause-packets g c =
     if-ok-both c.unseat_workers.result
     (λ r. IsPermutation (flat_map (Packets g) ws') (flat_map (HeldPackets g) r.0.items))
     (λ r. IsPermutation answers (pieces_of size answers (flat_map (Drawn g) ws')))
-    (λ r. IsPermutation (flat_map (HeldPackets g) c.args.helds.items ++ packets_in answers)
+    (λ r. IsPermutation (flat_map (HeldPackets g) c.args.holdings.items ++ packets_in answers)
     (flat_map (HeldPackets g) r.0.items))
     (λ r unseated spread. part-packets (HeldPackets g) (Packets g)
-    (Drawn g) size answers c.args.helds.items r.0.items ws ws'
+    (Drawn g) size answers c.args.holdings.items r.0.items ws ws'
     c.packets_law.ensures.together c.packets_law.ensures.permuted c.in_ok-workers.ensures.packets grew spread unseated)
     c.unseat_workers.ensures.packets c.unseat_workers.ensures.spread

@@ -23,7 +23,7 @@ loop-held-init g c = record {
   held = c.requires.held;
   draws = c.requires.draws;
   ready = search rules;
-  packets = none-moved (HeldPackets g) (Packets g) c.new-workers.result.items c.args.helds.items
+  packets = none-moved (HeldPackets g) (Packets g) c.new-workers.result.items c.args.holdings.items
       c.new-workers.ensures.items;
 }
 
@@ -54,6 +54,6 @@ loop-held-preserved g c =
           })
           c.in_ok-push.ensures.items;
       packets = moved-item (HeldPackets g) (Packets g) _ c.loop-held.workers.items c.push.new.self.items
-          c.loop-held.helds.items c.pop.new.self.items
+          c.loop-held.holdings.items c.pop.new.self.items
           c.in-Some.held _ c.in-Some.ensures.items c.in_ok-push.ensures.items refl c.loop-held.invariant.packets;
     }

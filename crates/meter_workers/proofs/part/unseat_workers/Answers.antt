@@ -37,16 +37,17 @@ loop-next-init g c =
     let p = all_popped Done c.args.workers.items c.pop.new.self.items c.in-Some.first c.requires.done
     c.in-Some.ensures.items in
     let e = popped_length c.args.workers.items c.pop.new.self.items c.in-Some.first c.in-Some.ensures.items in
-    let f = popped_length c.push.new.self.items c.new-helds.result.items _ c.in_ok-push.ensures.items in
+    let f = popped_length c.push.new.self.items c.new-holdings.result.items _ c.in_ok-push.ensures.items in
     record {
       left = p.0;
-      held = all_pushed Own c.new-helds.result.items _ _ (search rules) (p.1.own, p.1.held) c.in_ok-push.ensures.items;
-      many = omega (arith, e, f, c.new-helds.ensures.len);
-      packets = first-moved (Packets g) (HeldPackets g) c.new-helds.result.items c.push.new.self.items
+      held = all_pushed Own c.new-holdings.result.items _ _ (search rules) (p.1.own, p.1.held)
+          c.in_ok-push.ensures.items;
+      many = omega (arith, e, f, c.new-holdings.ensures.len);
+      packets = first-moved (Packets g) (HeldPackets g) c.new-holdings.result.items c.push.new.self.items
           c.args.workers.items c.pop.new.self.items c.in-Some.first _
-          c.new-helds.ensures.items c.in-Some.ensures.items c.in_ok-push.ensures.items refl;
+          c.new-holdings.ensures.items c.in-Some.ensures.items c.in_ok-push.ensures.items refl;
       share = subst (λ n. IsShare c.args.pieces.now answers n c.in-Some.first.draw c.in-Some.first.tally)
-          (let one : 1 ≡ length c.push.new.self.items = omega (arith, f, c.new-helds.ensures.len) in one) p.1.share;
+          (let one : 1 ≡ length c.push.new.self.items = omega (arith, f, c.new-holdings.ensures.len) in one) p.1.share;
       drawn = drawn-first (Drawn g) (size_of c.args.pieces.now) answers c.args.workers.items c.pop.new.self.items
           c.in-Some.first c.in-Some.ensures.items;
     }
@@ -65,21 +66,21 @@ loop-next-preserved g c =
     c.in-Some-pop.ensures.items in
     let e = popped_length c.loop-next.workers.items c.pop-in-loop-next.new.self.items next
     c.in-Some-pop.ensures.items in
-    let f = popped_length c.push-in-Some-pop.new.self.items c.loop-next.helds.items _ c.in_ok-push-2.ensures.items in
+    let f = popped_length c.push-in-Some-pop.new.self.items c.loop-next.holdings.items _ c.in_ok-push-2.ensures.items in
     let both = share-both c.args.pieces.now answers
-    (length c.loop-next.helds.items) 1 c.loop-next.draw next.draw c.unite-draw.result c.loop-next.tally next.tally _
+    (length c.loop-next.holdings.items) 1 c.loop-next.draw next.draw c.unite-draw.result c.loop-next.tally next.tally _
     c.packets_law.ensures.together c.loop-next.invariant.share p.1.share c.unite-draw.ensures.own
     c.unite-draw.ensures.both c.sum_with-tally.ensures in
     record {
       left = p.0;
-      held = all_pushed Own c.loop-next.helds.items _ _ c.loop-next.invariant.held
+      held = all_pushed Own c.loop-next.holdings.items _ _ c.loop-next.invariant.held
           (p.1.own, p.1.held) c.in_ok-push-2.ensures.items;
       many = omega (arith, e, f, c.loop-next.invariant.many);
-      packets = moved-item (Packets g) (HeldPackets g) _ c.loop-next.helds.items c.push-in-Some-pop.new.self.items
+      packets = moved-item (Packets g) (HeldPackets g) _ c.loop-next.holdings.items c.push-in-Some-pop.new.self.items
           c.loop-next.workers.items c.pop-in-loop-next.new.self.items
           next _ c.in-Some-pop.ensures.items c.in_ok-push-2.ensures.items refl c.loop-next.invariant.packets;
       share = subst (λ n. IsShare c.args.pieces.now answers n c.unite-draw.result c.sum_with-tally.result)
-          (let more : length c.loop-next.helds.items + 1 ≡ length c.push-in-Some-pop.new.self.items =
+          (let more : length c.loop-next.holdings.items + 1 ≡ length c.push-in-Some-pop.new.self.items =
           omega (arith, f) in more) both;
       drawn = drawn-moved (Drawn g) (size_of c.args.pieces.now) answers _ (drawn_of c.loop-next.draw)
           (drawn_of c.unite-draw.result) c.loop-next.workers.items
@@ -91,7 +92,7 @@ pub sum_with-tally-requires-clause-one : goal.sum_with-tally-requires-clause-one
 sum_with-tally-requires-clause-one g c =
     let e = popped_length c.loop-next.workers.items c.pop-in-loop-next.new.self.items c.in-Some-pop.next
     c.in-Some-pop.ensures.items in
-    room-of-sound c.loop-next.tally (length c.loop-next.helds.items) c.room_law.ensures
+    room-of-sound c.loop-next.tally (length c.loop-next.holdings.items) c.room_law.ensures
     (omega (arith, e, c.loop-next.invariant.many, c.requires.some.1))
     c.loop-next.invariant.share.few c.loop-next.invariant.share.sound
 

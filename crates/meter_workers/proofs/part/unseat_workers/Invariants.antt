@@ -14,12 +14,12 @@ invariant-loop-next g l = record {
       w.pass w.draw w.out.items w.tally) l.workers.items;
   held : All (λ h. g.C.FlowCache.is_of l.cache h.pass
       × IsHeld (l.base + length (answers_from l.base (file_of l.capture)))
-      (g.C.FlowCache.shown h.pass) h.out.items) l.helds.items;
-  many : length l.workers.items + length l.helds.items ≡ length l.fn.workers.items;
+      (g.C.FlowCache.shown h.pass) h.out.items) l.holdings.items;
+  many : length l.workers.items + length l.holdings.items ≡ length l.fn.workers.items;
   packets : IsPermutation (flat_map (λ w. (g.C.FlowCache.shown w.pass).note.packets) l.fn.workers.items)
-      (flat_map (λ h. (g.C.FlowCache.shown h.pass).note.packets) l.helds.items
+      (flat_map (λ h. (g.C.FlowCache.shown h.pass).note.packets) l.holdings.items
       ++ flat_map (λ w. (g.C.FlowCache.shown w.pass).note.packets) l.workers.items);
-  share : IsShare l.pieces (answers_from l.base (file_of l.capture)) (length l.helds.items) l.draw l.tally;
+  share : IsShare l.pieces (answers_from l.base (file_of l.capture)) (length l.holdings.items) l.draw l.tally;
   drawn : IsPermutation
       (pieces_of (size_of l.pieces) (answers_from l.base (file_of l.capture))
       (flat_map (λ w. drawn_of w.draw) l.fn.workers.items))

@@ -35,14 +35,14 @@ loop-metering-init g c =
         front_of (headed_by c.args.head window),
         drop 24 window,
         at-first c.args.head window c.args.input.taken front c.requires.first.1,
-        metered-first c.args.head window (flat_map (HeldPackets g) c.args.metering.helds.items) c.args.metering.tally
+        metered-first c.args.head window (flat_map (HeldPackets g) c.args.metering.holdings.items) c.args.metering.tally
             front c.requires.none.0 c.requires.none.1,
         λ first had. subst (λ l. Consumes first (g.S.Source.left c.args.source.now) l)
             (sym (take-append-drop 24 window)) had,
       );
       held = subst
           (λ (n : ℕ). All (λ (h : Held g.row.C.Denot g.row.C-Pass.Denot). g.C.FlowCache.is_of c.args.cache.now h.pass
-          × IsHeld n (g.C.FlowCache.shown h.pass) h.out.items) c.args.metering.helds.items)
+          × IsHeld n (g.C.FlowCache.shown h.pass) h.out.items) c.args.metering.holdings.items)
           (sym none) c.requires.held;
       many = refl;
       tallied = tallied-none c.args.metering.tally c.requires.none.1;
@@ -62,8 +62,9 @@ returns-then-input-clause-metered g c = λ first had.
     let shows : bytes ≡ drop c.loop-metering.from window =
     c.split_at.ensures.back ∙ ap (drop c.loop-metering.from) c.bytes.ensures in
     let to = stepped c.args.head window bytes c.loop-metering.from c.loop-metering.input.taken
-    (flat_map (HeldPackets g) c.loop-metering.metering.helds.items)
-    (flat_map (HeldPackets g) c.in-Ok.metering.helds.items) c.loop-metering.metering.tally c.in-Ok.metering.tally at.0
+    (flat_map (HeldPackets g) c.loop-metering.metering.holdings.items)
+    (flat_map (HeldPackets g) c.in-Ok.metering.holdings.items) c.loop-metering.metering.tally
+    c.in-Ok.metering.tally at.0
     at.1 (file_of c.part-part.result)
     c.packets_law.ensures.together c.parts_law.ensures.next c.parts_law.ensures.header c.packets_law.ensures.count at.2
     at.3 c.part-part.ensures.part shows told.undamaged told.packets told.counts in
@@ -122,9 +123,9 @@ loop-metering-preserved g c =
     let part = file_of c.part-part.result in
     let shows : bytes ≡ drop c.loop-metering.from window =
     c.split_at.ensures.back ∙ ap (drop c.loop-metering.from) c.bytes.ensures in
-    let packets = flat_map (HeldPackets g) c.in-Ok.metering.helds.items in
+    let packets = flat_map (HeldPackets g) c.in-Ok.metering.holdings.items in
     let to = stepped c.args.head window bytes c.loop-metering.from c.loop-metering.input.taken
-    (flat_map (HeldPackets g) c.loop-metering.metering.helds.items)
+    (flat_map (HeldPackets g) c.loop-metering.metering.holdings.items)
     packets c.loop-metering.metering.tally c.in-Ok.metering.tally at.0 at.1 part
     c.packets_law.ensures.together c.parts_law.ensures.next c.parts_law.ensures.header c.packets_law.ensures.count at.2
     at.3 c.part-part.ensures.part shows told.undamaged told.packets told.counts in

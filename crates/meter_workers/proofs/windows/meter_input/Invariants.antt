@@ -14,13 +14,13 @@ abbrev pub invariant-loop-metering : goal.invariant-loop-metering
 invariant-loop-metering g l = record {
   at : (file : CaptureFile) × (more : List ℕ)
       × IsAt l.head l.input.window.bytes l.from l.input.taken file more
-      × IsMetered file (flat_map (λ h. (g.C.FlowCache.shown h.pass).note.packets) l.metering.helds.items)
+      × IsMetered file (flat_map (λ h. (g.C.FlowCache.shown h.pass).note.packets) l.metering.holdings.items)
       l.metering.tally
       × ((first : Option (List ℕ)) → Consumes first (g.S.Source.left l.initial.source) l.fn.input.window.bytes
       → Consumes first (g.S.Source.left l.source) (file.bytes ++ more));
   held : All (λ h. g.C.FlowCache.is_of l.cache h.pass
-      × IsHeld l.metering.tally.captured (g.C.FlowCache.shown h.pass) h.out.items) l.metering.helds.items;
-  many : length l.metering.helds.items ≡ length l.fn.metering.helds.items;
+      × IsHeld l.metering.tally.captured (g.C.FlowCache.shown h.pass) h.out.items) l.metering.holdings.items;
+  many : length l.metering.holdings.items ≡ length l.fn.metering.holdings.items;
   tallied : IsTallied l.metering.tally;
   size : l.input.window.size ≡ l.fn.input.window.size;
   limit : l.input.limit ≡ l.fn.input.limit;

@@ -37,7 +37,7 @@ returns-in-Ok-clause-held g c =
     let is : c.args.metering.tally.captured + length c.in_ok-index.index.offsets ≡ c.sum_with.result.captured =
     omega (arith, both.captured, count, all, c.requires.tallied.is.captured, c.in_ok-index.ensures.index.count) in
     subst (λ (n : ℕ). All (λ (h : Held g.row.C.Denot g.row.C-Pass.Denot). g.C.FlowCache.is_of c.args.cache.now h.pass
-    × IsHeld n (g.C.FlowCache.shown h.pass) h.out.items) c.in-Ok.helds.items)
+    × IsHeld n (g.C.FlowCache.shown h.pass) h.out.items) c.in-Ok.holdings.items)
     is c.in-Ok.ensures.held
 
 pub returns-in-Ok-clause-counts : goal.returns-in-Ok-clause-counts
