@@ -5,8 +5,8 @@
 //! it saw that no more batches come and then found none. What a pass for all seats took by then are the batches that
 //! were put, each once.
 //!
-//! All workers work at once ([`worked`]). What they did is put together, seat by seat ([`united`]), and what is left in
-//! the queue is metered last ([`drained`]): then all batches that were put were metered, each once.
+//! All workers work at once ([`run_workers`]). What they did is put together, seat by seat ([`unite_workers`]), and
+//! what is left in the queue is metered last ([`drain_queue`]): then all batches that were put were metered, each once.
 //!
 //! Everything is generic over the cache, so only its `meter` adds packets to a pass. A [`Gate`](meter_workers::Gate) is
 //! told before each batch: tests hold workers there.

@@ -17,7 +17,7 @@ use Rattle.pebr_core.specs.Kept.{IsSound, IsWithinLimits}
 use Rattle.pebr_words.specs.declared.views.Held.{Held}
 use Rattle.pebr_words.specs.Places.{root_word, slot_word, roots_from, slots_from}
 use Rattle.pebr_words.specs.Shown.{Show}
-use Rattle.pebr_words.specs.Ruled.{times_held, contents, remaining, Ruled}
+use Rattle.pebr_words.specs.Ruled.{times_held, contents, view_left, Ruled}
 use Rattle.pebr_words.specs.Making.{number_in, note_in}
 use Rattle.pebr_words.specs.Opening.{slot_of, rows_of}
 use Rattle.pebr_words.specs.Closing.{row_at, contents_of_roots}
@@ -160,7 +160,7 @@ module _ {N : Type 0} (keeps : List (List ℕ) → List N → Type 0) (whole : L
 pub closes_at : {N : Type 0} (keeps : List (List ℕ) → List N → Type 0) (whole : List ℕ → Type 0) (shape key : Shape)
     (empty blank : N) → key ≡ shape → (id : ℕ) (view : List (Held N)) (words : List ℕ)
     → 0 < length view → length view ≡ shape.seats
-    → ((place : ℕ) (held : Held N) → get_elem? (remaining view) place ≡ some held → held.note ≡ empty)
+    → ((place : ℕ) (held : Held N) → get_elem? (view_left view) place ≡ some held → held.note ≡ empty)
     → (s : table.State (Unit {0}) (List (Held N))) → table.Seen (Ruled keeps whole key) id view s → s.words ≡ words
     → keeps (rows_of shape (contents_of_roots shape words))
     (set (replicate shape.seats empty) (number_in view) (note_in blank view))

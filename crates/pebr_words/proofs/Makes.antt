@@ -21,7 +21,7 @@ use Rattle.pebr_words.specs.Shown.{sign_at, Tells, Show}
 use Rattle.pebr_words.specs.Making.{place_of, known_after, note_after, answer_found, held_after, on_first, IsAsKnown}
 use Rattle.pebr_words.specs.Making.{number_in, known_in, note_in, past_in}
 use Rattle.pebr_words.specs.Ruled.{IsIn, IsEjectionOf, IsFreshNowhere, contents, Ruled, Made, IsPicked, IsTold}
-use Rattle.pebr_words.specs.Ruled.{remaining}
+use Rattle.pebr_words.specs.Ruled.{view_left}
 use Rattle.pebr_words.specs.Facts.{IsMadeBy, IsKeptBy, IsRecalledBy, IsBefore, StepsAreSafe}
 use Rattle.pebr_words.specs.Pasts.{Ejection, History, was_ejected, found_other, past_after, is_ejected, is_replaced}
 use Rattle.pebr_words.specs.Pasts.{is_shown, shown_at, without_slot, newest_tag}
@@ -320,7 +320,7 @@ numbers_first after_act shape s act found (held ∷ others) = refl
 
 rest_first : {N A : Type 0} (after_act : N → A → N) (shape : Shape) (s : Step) (act : Option A) (found : ℕ)
     (view : List (Held N))
-    → remaining (on_first (held_after after_act shape s act found) view) ≡ remaining view
+    → view_left (on_first (held_after after_act shape s act found) view) ≡ view_left view
 rest_first after_act shape s act found [] = refl
 rest_first after_act shape s act found (held ∷ others) = refl
 
@@ -337,7 +337,7 @@ told_of after_act whole blank shape s act found me me' live made =
       number = ap number_in is ∙ number_first after_act shape s act found me.0;
       numbers = ap (map (λ held. held.number)) is ∙ numbers_first after_act shape s act found me.0;
       count = ap length is ∙ length_first after_act shape s act found me.0;
-      rest = ap remaining is ∙ rest_first after_act shape s act found me.0;
+      rest = ap view_left is ∙ rest_first after_act shape s act found me.0;
       known = ap known_in is ∙ known_first after_act shape s act found me.0 live;
       note = ap (note_in blank) is ∙ note_first after_act shape s act found blank me.0 live;
       past = ap past_in is ∙ past_first after_act shape s act found me.0 live;

@@ -6,13 +6,13 @@ use Rattle.atomic_table.specs.Table as table
 use Rattle.atomic_table.proofs.Lists.{at_set, at_snoc}
 use Rattle.pebr_core.specs.declared.kinds.Shape.{Shape}
 use Rattle.pebr_words.specs.declared.views.Held.{Held}
-use Rattle.pebr_words.specs.Ruled.{IsIn, times_held, taken, remaining, Fits, Ruled}
+use Rattle.pebr_words.specs.Ruled.{IsIn, times_held, view_taken, view_left, Fits, Ruled}
 use Rattle.pebr_words.proofs.Ejections.{listed_cut}
 use Rattle.pebr_words.proofs.Numbers.{total_set, total_last}
 
 module _ {N : Type 0} (keeps : List (List ℕ) → List N → Type 0) (whole : List ℕ → Type 0) (shape : Shape) where
   pub splits : (id : ℕ) (view : List (Held N)) → 0 < length view
-      → table.Splits (Ruled keeps whole shape) id view (remaining view) (taken view)
+      → table.Splits (Ruled keeps whole shape) id view (view_left view) (view_taken view)
   splits id [] live s rule at = absurd (omega (arith, live))
   splits id (own ∷ others) live s rule at = record {
     core = rule.core;

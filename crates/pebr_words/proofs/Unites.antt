@@ -11,7 +11,7 @@ use Rattle.atomic_table.specs.Table as table
 use Rattle.atomic_table.proofs.Lists.{at_set, set_else, set_here}
 use Rattle.pebr_core.specs.declared.kinds.Shape.{Shape}
 use Rattle.pebr_words.specs.declared.views.Held.{Held}
-use Rattle.pebr_words.specs.Ruled.{IsIn, times_held, total, united, remaining, contents, Fits, Ruled}
+use Rattle.pebr_words.specs.Ruled.{IsIn, times_held, total, united_view, view_left, contents, Fits, Ruled}
 use Rattle.pebr_words.proofs.Ejections.{Carries, carries_first, listed_both, into, onto}
 use Rattle.pebr_words.proofs.Numbers.{total_set, times_append, in_append}
 use Rattle.pebr_words.proofs.Frame.{Table, is_seat, own_fits, others_differ, elsewhere_differ}
@@ -151,19 +151,19 @@ module _ {N : Type 0} (keeps : List (List ℕ) → List N → Type 0) (whole : L
         }
 
   pub unites : (id : ℕ) (view : List (Held N)) (other : ℕ) (view' : List (Held N)) → 0 < length view → 0 < length view'
-      → table.Joins (Ruled keeps whole shape) id view other view' (united merged empty view view') []
+      → table.Joins (Ruled keeps whole shape) id view other view' (united_view merged empty view view') []
   unites id [] other view' live live' s rule at apart at' = absurd (omega (arith, live))
   unites id (own ∷ others) other [] live live' s rule at apart at' = absurd (omega (arith, live'))
   unites id (own ∷ others) other (own' ∷ others') live live' s rule at apart at' =
       both_made id own others other own' others' s rule at apart
-      (sym (set_else s.views id other (united merged empty (own ∷ others) (own' ∷ others')) apart) ∙ at') at'
+      (sym (set_else s.views id other (united_view merged empty (own ∷ others) (own' ∷ others')) apart) ∙ at') at'
 
 -- the numbers that were absorbed have the empty note, where they had it before
 pub united_rest : {N : Type 0} (merged : N → N → N) (empty : N) (view view' : List (Held N)) → 0 < length view
     → 0 < length view'
-    → ((place : ℕ) (held : Held N) → get_elem? (remaining view) place ≡ some held → held.note ≡ empty)
-    → ((place : ℕ) (held : Held N) → get_elem? (remaining view') place ≡ some held → held.note ≡ empty)
-    → (place : ℕ) (held : Held N) → get_elem? (remaining (united merged empty view view')) place ≡ some held
+    → ((place : ℕ) (held : Held N) → get_elem? (view_left view) place ≡ some held → held.note ≡ empty)
+    → ((place : ℕ) (held : Held N) → get_elem? (view_left view') place ≡ some held → held.note ≡ empty)
+    → (place : ℕ) (held : Held N) → get_elem? (view_left (united_view merged empty view view')) place ≡ some held
     → held.note ≡ empty
 united_rest merged empty [] view' live live' rest rest' = absurd (omega (arith, live))
 united_rest merged empty (own ∷ others) [] live live' rest rest' = absurd (omega (arith, live'))
@@ -180,10 +180,10 @@ united_rest {N} merged empty (own ∷ others) (own' ∷ others') live live' rest
 -- what stands in the histories of both is put together
 pub united_lists : {N A : Type 0} (f : History → List A) (merged : N → N → N) (empty : N) (view view' : List (Held N))
     → 0 < length view → 0 < length view'
-    → f (past_in (united merged empty view view'))
-    ++ flat_map (λ held. f held.past) (remaining (united merged empty view view'))
-    ≡ (f (past_in view) ++ flat_map (λ held. f held.past) (remaining view))
-    ++ (f (past_in view') ++ flat_map (λ held. f held.past) (remaining view'))
+    → f (past_in (united_view merged empty view view'))
+    ++ flat_map (λ held. f held.past) (view_left (united_view merged empty view view'))
+    ≡ (f (past_in view) ++ flat_map (λ held. f held.past) (view_left view))
+    ++ (f (past_in view') ++ flat_map (λ held. f held.past) (view_left view'))
 united_lists f merged empty [] view' live live' = absurd (omega (arith, live))
 united_lists f merged empty (own ∷ others) [] live live' = absurd (omega (arith, live'))
 united_lists {N} f merged empty (own ∷ others) (own' ∷ others') live live' =
@@ -199,7 +199,7 @@ united_lists {N} f merged empty (own ∷ others) (own' ∷ others') live live' =
 
 -- how many numbers the view has, and which
 pub united_count : {N : Type 0} (merged : N → N → N) (empty : N) (view view' : List (Held N))
-    → length (united merged empty view view') ≡ length view + length view'
+    → length (united_view merged empty view view') ≡ length view + length view'
 united_count merged empty [] view' = omega arith
 united_count merged empty (own ∷ others) [] = omega arith
 united_count {N} merged empty (own ∷ others) (own' ∷ others') = let e =
@@ -207,7 +207,7 @@ united_count {N} merged empty (own ∷ others) (own' ∷ others') = let e =
 
 pub united_numbers : {N : Type 0} (merged : N → N → N) (empty : N) (view view' : List (Held N)) → 0 < length view
     → 0 < length view'
-    → map (λ held. held.number) (united merged empty view view') ≡ map (λ held. held.number) view
+    → map (λ held. held.number) (united_view merged empty view view') ≡ map (λ held. held.number) view
     ++ map (λ held. held.number) view'
 united_numbers merged empty [] view' live live' = absurd (omega (arith, live))
 united_numbers merged empty (own ∷ others) [] live live' = absurd (omega (arith, live'))

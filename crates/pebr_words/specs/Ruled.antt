@@ -144,22 +144,22 @@ module _ {N : Type 0} where
   first_view shape note = view_from shape note 0 shape.seats
 
   -- at a split the new seat gets the first number, and the other keeps the rest
-  abbrev pub taken : List (Held N) → List (Held N)
-  taken [] = []
-  taken (held ∷ others) = held ∷ []
+  abbrev pub view_taken : List (Held N) → List (Held N)
+  view_taken [] = []
+  view_taken (held ∷ others) = held ∷ []
 
-  abbrev pub remaining : List (Held N) → List (Held N)
-  remaining [] = []
-  remaining (held ∷ others) = others
+  abbrev pub view_left : List (Held N) → List (Held N)
+  view_left [] = []
+  view_left (held ∷ others) = others
 
   abbrev pub with_note : N → List (Held N) → List (Held N)
   with_note note view = on_first (λ held. record held { note = note }) view
 
   -- all numbers of both, with the merged note at the first and the empty one at the second
-  abbrev pub united : (N → N → N) → N → List (Held N) → List (Held N) → List (Held N)
-  united merged empty [] view = view
-  united merged empty (held ∷ others) [] = held ∷ others
-  united merged empty (held ∷ others) (held' ∷ others') =
+  abbrev pub united_view : (N → N → N) → N → List (Held N) → List (Held N) → List (Held N)
+  united_view merged empty [] view = view
+  united_view merged empty (held ∷ others) [] = held ∷ others
+  united_view merged empty (held ∷ others) (held' ∷ others') =
       (record held { note = merged held.note held'.note }) ∷ others ++ (record held' { note = empty }) ∷ others'
 
   -- what a step tells: the seat's part is changed by the number found, this was the step of a core, and what the rule
@@ -201,7 +201,7 @@ pub record IsTold {N A : Type 0} (after_act : N → A → N) (whole : List ℕ �
   pub number : number_in me'.0 ≡ number_in me.0
   pub numbers : map (λ held. held.number) me'.0 ≡ map (λ held. held.number) me.0
   pub count : length me'.0 ≡ length me.0
-  pub rest : remaining me'.0 ≡ remaining me.0
+  pub rest : view_left me'.0 ≡ view_left me.0
   pub known : known_in me'.0 ≡ known_after shape step found (known_in me.0)
   pub note : note_in blank me'.0 ≡ note_after after_act step act found (note_in blank me.0)
   pub past : past_in me'.0 ≡ past_after step (answer_found step (known_in me.0) found) (known_in me.0) (past_in me.0)

@@ -10,7 +10,7 @@ use Rattle.pebr_words.specs.declared.words.Seat.{Seat}
 use mathlib.Core.Option.{some}
 use lib.ListN.{get_elem?}
 use Rattle.pebr_words.specs.declared.views.Held.{Held}
-use Rattle.pebr_words.specs.Ruled.{remaining, IsSure}
+use Rattle.pebr_words.specs.Ruled.{view_left, IsSure}
 use Rattle.pebr_core.specs.declared.kinds.Step.{Step}
 use Rattle.pebr_core.specs.declared.kinds.Answer.{Answer}
 use Rattle.pebr_words.specs.Making.{IsStepOf, known_in, note_in, past_in}
@@ -44,10 +44,10 @@ module _ {P N A F : Type 0} where
 
   -- the tries that the seats lost whose numbers it stands for, and the ejections that they made
   abbrev pub lost_of : {g : _} → Seat P N A F g → List Lost
-  lost_of seat = (past_of seat).lost ++ flat_map (λ held. held.past.lost) (remaining seat.inner.me.0)
+  lost_of seat = (past_of seat).lost ++ flat_map (λ held. held.past.lost) (view_left seat.inner.me.0)
 
   abbrev pub ejections_of : {g : _} → Seat P N A F g → List Ejection
-  ejections_of seat = (past_of seat).ejections ++ flat_map (λ held. held.past.ejections) (remaining seat.inner.me.0)
+  ejections_of seat = (past_of seat).ejections ++ flat_map (λ held. held.past.ejections) (view_left seat.inner.me.0)
 
   -- how many numbers it stands for
   abbrev pub count_of : {g : _} → Seat P N A F g → ℕ
@@ -55,7 +55,7 @@ module _ {P N A F : Type 0} where
 
   -- the notes of the numbers that it absorbed are empty
   abbrev pub IsUnited : {g : _} → N → Seat P N A F g → Type 0
-  IsUnited empty seat = (place : ℕ) (held : Held N) → get_elem? (remaining seat.inner.me.0) place ≡ some held
+  IsUnited empty seat = (place : ℕ) (held : Held N) → get_elem? (view_left seat.inner.me.0) place ≡ some held
       → held.note ≡ empty
 
   -- a seat of these words
@@ -68,7 +68,7 @@ module _ {P N A F : Type 0} where
   abbrev pub IsStill : {g h : _} → Words P N A F → Seat P N A F g → Seat P N A F h → Type 0
   IsStill words old new =
       IsAt words new × (new.number ≡ old.number) × (numbers_of new ≡ numbers_of old) × (count_of new ≡ count_of old)
-      × (remaining new.inner.me.0 ≡ remaining old.inner.me.0)
+      × (view_left new.inner.me.0 ≡ view_left old.inner.me.0)
 
   -- a seat that was opened with this number
   abbrev pub IsOpenedSeat : {g : _} → Words P N A F → N → ℕ → Seat P N A F g → Type 0

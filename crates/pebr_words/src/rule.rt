@@ -67,11 +67,11 @@ impl<P: RootProtocol, K: IsStep<P::Act>> Play<(), View<P::Note>> for Stores<P, K
 pub struct Parts;
 
 impl<N> Split<View<N>> for Parts {
-    ghost use Rattle.pebr_words.specs.Ruled.{taken, remaining};
+    ghost use Rattle.pebr_words.specs.Ruled.{view_taken, view_left};
 
-    ghost left = { remaining };
+    ghost left = { view_left };
 
-    ghost right = { taken };
+    ghost right = { view_taken };
 }
 
 /// The first seat gets all numbers of both.
@@ -81,9 +81,9 @@ pub struct Unites<P> {
 
 impl<P: RootProtocol> Join<View<P::Note>> for Unites<P> {
     ghost use Rattle.std.specs.Prelude.{[]};
-    ghost use Rattle.pebr_words.specs.Ruled.{united};
+    ghost use Rattle.pebr_words.specs.Ruled.{united_view};
 
-    ghost both = { united P.merged P.empty };
+    ghost both = { united_view P.merged P.empty };
 
     ghost spent = { [] };
 }

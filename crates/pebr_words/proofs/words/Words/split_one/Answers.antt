@@ -1,7 +1,7 @@
 use Rattle.std.proofs.Common.{List, [], sym, ap, ◌∙◌, subst, arith, length, ◌<◌}
 use Rattle.atomic_table.specs.Table.{Me}
 use Rattle.pebr_words.specs.declared.views.Held.{Held}
-use Rattle.pebr_words.specs.Ruled.{taken, remaining}
+use Rattle.pebr_words.specs.Ruled.{view_taken, view_left}
 use Rattle.pebr_words.proofs.Splits.{splits}
 use Rattle.pebr_words.proofs.OpeningViews.{next_view}
 use Rattle.pebr_words.proofs.words.Words.split_one.Goals as goal
@@ -23,12 +23,12 @@ open_seat-requires-clause-view g c =
     let words = c.args.self.now in
     let view = ap (λ (m : Me (Unit {0}) (List (Held _))). m.0) c.requires.view in
     let next = next_view words.shape g.P.RootProtocol.first c.args.number words.shape.seats c.requires.at.1 in
-    c.split_seat-inner.ensures.4 ∙ ap (λ (v : List (Held _)). (taken v, [])) (view ∙ next)
+    c.split_seat-inner.ensures.4 ∙ ap (λ (v : List (Held _)). (view_taken v, [])) (view ∙ next)
 
 pub returns-clause-view : goal.returns-clause-view
 returns-clause-view g c =
     let words = c.args.self.now in
     let next = next_view words.shape g.P.RootProtocol.first c.args.number words.shape.seats c.requires.at.1 in
     c.split_seat-inner.ensures.2
-    ∙ (ap (λ (m : Me (Unit {0}) (List (Held _))). (remaining m.0, m.1)) c.requires.view
-    ∙ ap (λ (v : List (Held _)). (remaining v, [])) next)
+    ∙ (ap (λ (m : Me (Unit {0}) (List (Held _))). (view_left m.0, m.1)) c.requires.view
+    ∙ ap (λ (v : List (Held _)). (view_left v, [])) next)

@@ -3,7 +3,7 @@ use mathlib.Core.Option.{some}
 use lib.ListN.{get_elem?}
 use Rattle.atomic_table.specs.Table.{Me}
 use Rattle.pebr_words.specs.declared.views.Held.{Held}
-use Rattle.pebr_words.specs.Ruled.{remaining}
+use Rattle.pebr_words.specs.Ruled.{view_left}
 use Rattle.pebr_words.proofs.Unites.{unites, united_rest, united_lists, united_count, united_numbers}
 use Rattle.std.specs.List.{flat_map}
 use Rattle.pebr_words.specs.Making.{past_in}
@@ -29,7 +29,7 @@ returns-clause-united g c rest rest' =
     let merged = g.P.RootProtocol.merged in
     let empty = g.P.RootProtocol.empty in
     let is = ap (λ (m : Me (Unit {0}) (List (Held _))). m.0) c.join_seat.ensures.2 in
-    subst (λ (view : List (Held _)). (place : ℕ) (held : Held _) → get_elem? (remaining view) place ≡ some held
+    subst (λ (view : List (Held _)). (place : ℕ) (held : Held _) → get_elem? (view_left view) place ≡ some held
     → held.note ≡ empty) (sym is)
     (united_rest merged empty c.args.first.inner.me.0 c.args.second.inner.me.0 c.requires.at.0.2 c.requires.at.1.2 rest
     rest')
@@ -37,7 +37,7 @@ returns-clause-united g c rest rest' =
 pub returns-clause-lost : goal.returns-clause-lost
 returns-clause-lost g c =
     let is = ap (λ (m : Me (Unit {0}) (List (Held _))). m.0) c.join_seat.ensures.2 in
-    ap (λ (view : List (Held _)). (past_in view).lost ++ flat_map (λ held. held.past.lost) (remaining view)) is
+    ap (λ (view : List (Held _)). (past_in view).lost ++ flat_map (λ held. held.past.lost) (view_left view)) is
     ∙ united_lists (λ past. past.lost) g.P.RootProtocol.merged g.P.RootProtocol.empty c.args.first.inner.me.0
     c.args.second.inner.me.0 c.requires.at.0.2 c.requires.at.1.2
 
@@ -45,7 +45,7 @@ pub returns-clause-ejections : goal.returns-clause-ejections
 returns-clause-ejections g c =
     let is = ap (λ (m : Me (Unit {0}) (List (Held _))). m.0) c.join_seat.ensures.2 in
     ap (λ (view : List (Held _)). (past_in view).ejections
-    ++ flat_map (λ held. held.past.ejections) (remaining view)) is
+    ++ flat_map (λ held. held.past.ejections) (view_left view)) is
     ∙ united_lists (λ past. past.ejections) g.P.RootProtocol.merged g.P.RootProtocol.empty c.args.first.inner.me.0
     c.args.second.inner.me.0 c.requires.at.0.2 c.requires.at.1.2
 
