@@ -20,8 +20,6 @@ mod messages;
 mod records;
 mod sets;
 mod specifiers;
-#[cfg(test)]
-mod tests;
 mod values;
 
 pub use fault::{StreamError, StreamFault};

@@ -15,8 +15,6 @@ pub mod laws;
 mod message;
 mod messages;
 mod stream;
-#[cfg(test)]
-mod tests;
 
 pub use body::append_message_header;
 pub use emitter::{Emitter, Phase};

@@ -14,8 +14,6 @@ mod fault;
 mod reading;
 mod sink;
 mod source;
-#[cfg(test)]
-mod tests;
 mod writing;
 
 pub use edge::{StdSink, StdSource};

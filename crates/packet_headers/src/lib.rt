@@ -29,6 +29,3 @@ pub use ipv6::Ipv6View;
 pub use link::LinkView;
 pub use tcp::TcpView;
 pub use udp::UdpView;
-
-#[cfg(test)]
-mod tests;

@@ -31,6 +31,3 @@ pub use meter_io::NoMemory;
 pub use octets::Endianness;
 pub use record::Record;
 pub use window::Window;
-
-#[cfg(test)]
-mod tests;

@@ -18,8 +18,6 @@ pub mod laws;
 mod orders;
 mod reasons;
 mod record;
-#[cfg(test)]
-mod tests;
 
 pub use gathering::gather;
 pub use no_memory::NoMemory;

@@ -1,12 +1,12 @@
 //! Streams made by hand from the standard, and what is read of them.
 
-use crate::{StreamError, StreamFault, flow_of, read_stream};
 use StreamFault::{
     BadLength, BadPadding, BadSequence, BadTemplate, BadVersion, Cut, NoTemplate, Withdrawal,
 };
 use Want::{Fault, Records};
 use flow_parts::Fragment;
 use ipfix_model::DataRecord;
+use ipfix_reader::{StreamError, StreamFault, flow_of, read_stream};
 use record_ledger::FlowRecord;
 use samples::{octets_of, tcp_over_ipv6, udp_key};
 use std::alloc::{AllocError, Global};

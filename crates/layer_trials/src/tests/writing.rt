@@ -2,8 +2,8 @@
 
 ghost use Rattle.std.specs.Prelude.{◌≤◌, ◌<◌, ◌^◌};
 
-use crate::{Emitter, emit_all, layout};
 use flow_parts::Fragment;
+use ipfix_writer::{Emitter, emit_all, layout};
 use meter_io::{Failed, MemSink};
 use record_ledger::FlowRecord;
 use samples::{octets_of, tcp_over_ipv6, udp_key};

@@ -4,10 +4,10 @@ ghost use Rattle.std.specs.Prelude.{◌+◌, ◌<◌, ◌≤◌, ◌^◌, IsTrue
 ghost use Rattle.flow_parts.specs.declared.fragment.Fragment.{Fragment};
 ghost use Rattle.flow_parts.specs.Joining.{TakesIn};
 
-use crate::gather;
 use flow_key::FlowKey;
 use flow_parts::{Fragment, Timeouts};
 use packet_accept::Packet;
+use record_ledger::gather;
 use samples::udp_key;
 use std::alloc::Global;
 use std::process::Abort;

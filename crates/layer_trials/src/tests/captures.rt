@@ -2,8 +2,8 @@
 
 ghost use Rattle.std.specs.Prelude.{◌<◌};
 
-use super::*;
 use meter_io::{Failed, MemSource};
+use pcap_reader::{Capture, CaptureError, FillEnd, Head, IndexError, RecordIndex, Window};
 use std::alloc::Global;
 use std::process::Abort;
 use std::test::Fail;

@@ -3,9 +3,9 @@
 ghost use Rattle.link_types.specs.Links.{IsKnownLink};
 ghost use Rattle.packet_headers.specs.Link.{IsIpVersion};
 
-use crate::{HeaderFault, IpView, LinkView, TcpView, UdpView};
 use HeaderFault::{BadHeader, NotIp, Short};
 use Want::{Ip, Link, Packet, Transport};
+use packet_headers::{HeaderFault, IpView, LinkView, TcpView, UdpView};
 use samples::frames::{
     ARP, COOKED, ETHERNET, IPV4, IPV6, TCP_PORTS, UDP, V4_ADDRESSES, V4_UDP, V6, V6_ADDRESSES,
     ZEROS,
