@@ -29,7 +29,7 @@ fn header_with(at: usize, bytes: &[u8]) -> [u8; 24] {
 }
 
 /// The bytes of the parts, one behind the other.
-fn joined(alloc: Global, parts: &[&[u8]]) -> Result<Vec<u8>, Fail> {
+fn bytes_of(alloc: Global, parts: &[&[u8]]) -> Result<Vec<u8>, Fail> {
     let mut all = Vec::new(alloc);
     for part in parts {
         all.extend_from_slice(part)?;
@@ -62,7 +62,7 @@ fn headers_that_are_refused(rt: HostRuntime) {
 }
 
 /// How many records a capture has and how long its tail is, or why they could not be found.
-fn counted(rt: &impl Abort, alloc: Global, bytes: &[u8]) -> Result<(u64, u64), IndexError> {
+fn count_records(rt: &impl Abort, alloc: Global, bytes: &[u8]) -> Result<(u64, u64), IndexError> {
     let capture = Capture::open(bytes).expect(rt, "a capture");
     assert!(rt; bytes.len() < 1 << 32);
     let index = capture.index(alloc)?;
@@ -101,8 +101,8 @@ fn records_tails_and_damage(rt: HostRuntime) -> Result<(), Fail> {
         ([&RECORD, &TOO_MUCH, &TOO_MUCH, &[]], Ok((0, 48))),
     ];
     for ([a, b, c, d], want) in table {
-        let file = joined(alloc, &[&LITTLE, a, b, c, d])?;
-        assert_eq!(rt; counted(&rt, alloc, &file), want);
+        let file = bytes_of(alloc, &[&LITTLE, a, b, c, d])?;
+        assert_eq!(rt; count_records(&rt, alloc, &file), want);
     }
     Ok(())
 }
@@ -117,8 +117,12 @@ fn the_longest_record(rt: HostRuntime) -> Result<(), Fail> {
         (262_145, (1, 1)),
     ] {
         let packet = vec![in alloc; 0u8; captured]?;
-        let file = joined(alloc, &[&LITTLE, &MOST, &packet])?;
-        assert_eq!(rt; counted(&rt, alloc, &file), Ok(want), "{captured} bytes");
+        let file = bytes_of(alloc, &[&LITTLE, &MOST, &packet])?;
+        assert_eq!(rt;
+            count_records(&rt, alloc, &file),
+            Ok(want),
+            "{captured} bytes"
+        );
     }
     Ok(())
 }
@@ -145,7 +149,7 @@ fn fields_in_either_order(rt: HostRuntime) -> Result<(), Fail> {
         (big_header([0xa1, 0xb2, 0x3c, 0x4d], 113), big, true, 113),
     ];
     for (header, record, nanos, link) in table {
-        let file = joined(alloc, &[&header, &record, b"one", &record, b"two", b"tail"])?;
+        let file = bytes_of(alloc, &[&header, &record, b"one", &record, b"two", b"tail"])?;
         let capture = Capture::open(&file).ok().ok_or("a capture")?;
         assert_eq!(rt; capture.nanos(), nanos);
         assert_eq!(rt; capture.link(), link);
@@ -166,7 +170,7 @@ fn fields_in_either_order(rt: HostRuntime) -> Result<(), Fail> {
 }
 
 /// How a window of 262,184 bytes is filled from so many bytes, and how many it then has.
-fn filled(
+fn fill_window(
     alloc: Global,
     count: usize,
     most: u64,
@@ -199,7 +203,7 @@ fn what_ends_the_filling_of_a_window(rt: HostRuntime) -> Result<(), Fail> {
     ];
     for (count, most, piece, fails, end, len) in table {
         assert!(rt; piece > 0);
-        let got = filled(rt.alloc(), count, most, piece, fails)?;
+        let got = fill_window(rt.alloc(), count, most, piece, fails)?;
         assert_eq!(rt; got, (end, len), "{count} bytes, at most {most}");
     }
     Ok(())
@@ -209,9 +213,9 @@ fn what_ends_the_filling_of_a_window(rt: HostRuntime) -> Result<(), Fail> {
 fn two_parts_of_a_capture(rt: HostRuntime) -> Result<(), Fail> {
     let alloc = rt.alloc();
     let (first, second) = RECORD.split_at(7);
-    let before = joined(alloc, &[&LITTLE, &RECORD, &PACKET, first])?;
-    let behind = joined(alloc, &[second, &PACKET, b"tail"])?;
-    let all = joined(alloc, &[&before, &behind])?;
+    let before = bytes_of(alloc, &[&LITTLE, &RECORD, &PACKET, first])?;
+    let behind = bytes_of(alloc, &[second, &PACKET, b"tail"])?;
+    let all = bytes_of(alloc, &[&before, &behind])?;
     let mut source = MemSource::new(&all, all.len().max(1), &[]);
     let mut window = Window::open(alloc, 262_184)?;
     assert_eq!(rt;

@@ -14,7 +14,7 @@ use std::process::Abort;
 use std::test::Fail;
 
 /// The fragment of one packet of 28 octets from this port at this time.
-fn alone(source_port: u16, time: u64) -> Fragment {
+fn one_packet(source_port: u16, time: u64) -> Fragment {
     Fragment::of(&Packet {
         number: 0,
         key: udp_key(source_port),
@@ -55,7 +55,7 @@ fn expect(
 ) -> Result<(), Fail> {
     let mut parts = Vec::new(alloc);
     for (port, time) in packets {
-        parts.push(alone(*port, *time))?;
+        parts.push(one_packet(*port, *time))?;
     }
     let clock = packets.iter().map(|packet| packet.1).max();
     assert!(rt; are_few(&parts));
@@ -165,9 +165,9 @@ fn joins_again_below(rt: HostRuntime) -> Result<(), Fail> {
     // The last fragment spans both others, which alone are too far apart.
     let timeouts = Timeouts::new(300, 1800);
     let parts = [
-        wide(4000, 0, 100),
-        wide(4000, 300_101, 400_000),
-        wide(4000, 50, 500_000),
+        wide_fragment(4000, 0, 100),
+        wide_fragment(4000, 300_101, 400_000),
+        wide_fragment(4000, 50, 500_000),
     ];
     assert!(rt; !timeouts.joinable(&parts[0], &parts[1]));
     assert!(rt; are_few(&parts));
@@ -192,15 +192,15 @@ fn joins_again_below(rt: HostRuntime) -> Result<(), Fail> {
 fn web_exchange(rt: HostRuntime) -> Result<(), Fail> {
     let start = 1_700_000_000_000;
     let parts = [
-        sent(query(), start + 10, 60, 0),
-        sent(reply(), start + 25, 76, 0),
-        sent(request(), start + 30, 60, 0x002),
-        sent(response(), start + 50, 60, 0x012),
-        sent(request(), start + 51, 52, 0x010),
-        sent(request(), start + 52, 152, 0x018),
-        sent(response(), start + 72, 52, 0x010),
-        sent(response(), start + 80, 1500, 0x018),
-        sent(request(), start + 90, 40, 0x004),
+        sent_fragment(query(), start + 10, 60, 0),
+        sent_fragment(reply(), start + 25, 76, 0),
+        sent_fragment(request(), start + 30, 60, 0x002),
+        sent_fragment(response(), start + 50, 60, 0x012),
+        sent_fragment(request(), start + 51, 52, 0x010),
+        sent_fragment(request(), start + 52, 152, 0x018),
+        sent_fragment(response(), start + 72, 52, 0x010),
+        sent_fragment(response(), start + 80, 1500, 0x018),
+        sent_fragment(request(), start + 90, 40, 0x004),
     ];
     assert!(rt; are_few(&parts));
     let records = gather(
@@ -228,7 +228,7 @@ fn web_exchange(rt: HostRuntime) -> Result<(), Fail> {
 
 /// Takes packets of these times and flags of one key in file order, each into the latest fragment where it fits,
 /// gathers them, and compares packets, first, last and reason of each record.
-fn ended(
+fn check_ends(
     rt: &impl Abort,
     alloc: Global,
     key: FlowKey,
@@ -247,7 +247,7 @@ fn ended(
         };
         match parts.pop() {
             Some(part) => {
-                if taken(&timeouts, &part, &packet) {
+                if takes_in(&timeouts, &part, &packet) {
                     parts.push(timeouts.absorb(part, &packet))?;
                 } else {
                     parts.push(part)?;
@@ -270,7 +270,7 @@ fn ended(
 }
 
 /// Whether the packet fits and the fragment has room for it.
-fn taken(timeouts: &Timeouts, part: &Fragment, packet: &Packet) -> bool
+fn takes_in(timeouts: &Timeouts, part: &Fragment, packet: &Packet) -> bool
     ensures fits { IsTrue result → TakesIn timeouts.now part.now packet.now }
     ensures packets { IsTrue result → part.now.packets + 1 < 2 ^ 64 }
     ensures octets { IsTrue result → part.now.octets + packet.now.octets < 2 ^ 64 }
@@ -286,16 +286,16 @@ fn end_of_flow(rt: HostRuntime) -> Result<(), Fail> {
     // FIN ends the flow: the packet after it begins a record of its own.
     let cut = [(2, 1000, 2000, 3), (1, 3000, 3000, 4)];
     let late = [(1000, 0x002), (2000, 0x011), (3000, 0x010)];
-    ended(&rt, rt.alloc(), request(), &late, &cut)?;
+    check_ends(&rt, rt.alloc(), request(), &late, &cut)?;
     // So does RST.
     let reset = [(1000, 0x002), (2000, 0x014), (3000, 0x010)];
-    ended(&rt, rt.alloc(), request(), &reset, &cut)?;
+    check_ends(&rt, rt.alloc(), request(), &reset, &cut)?;
     // An earlier packet that comes after it in the file is taken in.
     let early = [(2000, 0x011), (1000, 0x010)];
-    ended(&rt, rt.alloc(), request(), &early, &[(2, 1000, 2000, 3)])?;
+    check_ends(&rt, rt.alloc(), request(), &early, &[(2, 1000, 2000, 3)])?;
     // A packet that ends the flow before the last time that is known stands alone.
     let between = [(1000, 0x010), (3000, 0x010), (2000, 0x011)];
-    ended(
+    check_ends(
         &rt,
         rt.alloc(),
         request(),
@@ -303,11 +303,11 @@ fn end_of_flow(rt: HostRuntime) -> Result<(), Fail> {
         &[(1, 2000, 2000, 3), (2, 1000, 3000, 4)],
     )?;
     // The same flags of UDP end nothing.
-    ended(&rt, rt.alloc(), query(), &late, &[(3, 1000, 3000, 4)])
+    check_ends(&rt, rt.alloc(), query(), &late, &[(3, 1000, 3000, 4)])
 }
 
 /// A fragment of two packets of 50 octets each over this span.
-fn wide(source_port: u16, first: u64, last: u64) -> Fragment
+fn wide_fragment(source_port: u16, first: u64, last: u64) -> Fragment
     requires { first ≤ last }
 {
     Fragment {
@@ -321,7 +321,7 @@ fn wide(source_port: u16, first: u64, last: u64) -> Fragment
 }
 
 /// The fragment of one packet with these values.
-fn sent(key: FlowKey, time: u64, octets: u32, flags: u16) -> Fragment {
+fn sent_fragment(key: FlowKey, time: u64, octets: u32, flags: u16) -> Fragment {
     Fragment::of(&Packet {
         number: 0,
         key,
