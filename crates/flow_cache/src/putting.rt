@@ -7,7 +7,7 @@ ghost use Rattle.cache_face.specs.Notes.{first_note, note_with};
 ghost use Rattle.cache_face.specs.Keeping.{IsWhole};
 ghost use Rattle.pebr_core.specs.State.{is_out, is_down};
 ghost use Rattle.pebr_core.specs.Frames.{fresh_count};
-ghost use Rattle.seat_slots.specs.Sets.{least};
+ghost use Rattle.seat_slots.specs.Sets.{least_in};
 ghost use Rattle.pebr_words.specs.Pasts.{Lost, written_at};
 ghost use Rattle.pebr_words.specs.Ruled.{IsSure};
 ghost use Rattle.pebr_roots.specs.Passes.{shape_at, known_by, note_by, past_by, IsOf, IsSame};
@@ -36,7 +36,11 @@ fn is_passed_by(last: bool, done: bool) -> bool
 /// What is done to the note of a pass that leaves: where its packet is passed by, it is metered, and its own fragment
 /// handed out.
 #[inline]
-fn passing(packet: &Packet, own: &Fragment, passes_by: bool) -> Option<(Packet, Option<Fragment>)>
+fn leaving_note(
+    packet: &Packet,
+    own: &Fragment,
+    passes_by: bool,
+) -> Option<(Packet, Option<Fragment>)>
     ensures { result ≡ (if passes_by then Some (packet.now, Some own.now) else None) }
 {
     if passes_by {
@@ -75,7 +79,7 @@ impl PebrCache {
           written = (past_by pass.new).written;
         } }
         ensures written { (word : ℕ) → word < 10
-            → written_at (past_by pass.new).written (least (known_by pass.old).fresh) word
+            → written_at (past_by pass.new).written (least_in (known_by pass.old).fresh) word
             ≡ Some (slice_index words.now word) }
     {
         for word in 0..10 {
@@ -213,7 +217,7 @@ impl PebrCache {
     {
         self.take_down(pass, stop);
         stop.at(Point::Leave);
-        self.roots.leave(pass, passing(packet, own, passes_by));
+        self.roots.leave(pass, leaving_note(packet, own, passes_by));
     }
 
     /// One try. `false` where it is lost; where it is the last one the packet is passed by then.

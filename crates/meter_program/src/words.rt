@@ -115,7 +115,7 @@ fn settings(alloc: Global, options: &[String]) -> Result<Settings, OptionsError>
 }
 
 /// The settings that the options of `make` and of `selftest` give.
-fn making(alloc: Global, options: &[String]) -> Result<Making, OptionsError>
+fn making_settings(alloc: Global, options: &[String]) -> Result<Making, OptionsError>
     ensures settings { IfOk result (λ s. asked_with make_options make_with (map string_bytes options.now)
         ≡ Some (make s.seed s.packets s.keys)) }
     ensures tested { IfOk result (λ s. asked_with make_options selftest_with (map string_bytes options.now)
@@ -137,7 +137,7 @@ fn making(alloc: Global, options: &[String]) -> Result<Making, OptionsError>
 }
 
 /// Reads the words of a command without options.
-fn nothing(alloc: Global, options: &[String]) -> Result<(), OptionsError>
+fn no_options(alloc: Global, options: &[String]) -> Result<(), OptionsError>
     ensures none { IfOk result (λ _. values_of [] (map string_bytes options.now) ≡ Some []) }
     ensures refused { IfErr result (λ error. error ≡ OptionsError.NotOptions
         → values_of [] (map string_bytes options.now) ≡ None) }
@@ -154,9 +154,9 @@ fn making_command(alloc: Global, name: &str, options: &[String]) -> Result<Comma
         → asked_to_make name.now (map string_bytes options.now) ≡ None) }
 {
     if name == "make" {
-        Ok(Command::Make(making(alloc, options)?))
+        Ok(Command::Make(making_settings(alloc, options)?))
     } else if name == "selftest" {
-        Ok(Command::Selftest(making(alloc, options)?))
+        Ok(Command::Selftest(making_settings(alloc, options)?))
     } else {
         Err(OptionsError::NotOptions)
     }
@@ -183,10 +183,10 @@ pub fn command_of(alloc: Global, words: &[String]) -> Result<Command, OptionsErr
     if name.as_str() == "meter" {
         Ok(Command::Meter(settings(alloc, options)?))
     } else if name.as_str() == "show" {
-        nothing(alloc, options)?;
+        no_options(alloc, options)?;
         Ok(Command::Show)
     } else if name.as_str() == "schedule" {
-        nothing(alloc, options)?;
+        no_options(alloc, options)?;
         Ok(Command::Schedule)
     } else {
         making_command(alloc, name.as_str(), options)

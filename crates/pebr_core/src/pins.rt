@@ -107,7 +107,7 @@ impl Core {
     }
 
     /// The epoch with which the scan of a seat found another in, where it isn't passed yet.
-    fn found(&self, seat: usize, other: usize) -> Option<u64>
+    fn epoch_found(&self, seat: usize, other: usize) -> Option<u64>
         ensures { result ≡ (if is_enabled self.now (Step.Eject seat other)
             then found_at (scan_of (seat_at self.now seat)) other else None) }
     {
@@ -127,7 +127,7 @@ impl Core {
         ensures answer { result ≡ (next self.old (Step.Eject seat other)).0 }
         ensures state { self.new ≡ (next self.old (Step.Eject seat other)).1 }
     {
-        let found = self.found(seat, other)?;
+        let found = self.epoch_found(seat, other)?;
         let entry = &mut self.seats[other];
         let won = entry.eject(found);
         let entry = &mut self.seats[seat];

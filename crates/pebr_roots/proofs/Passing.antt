@@ -24,7 +24,7 @@ use Rattle.pebr_core.specs.declared.kinds.Answer.TheVariants as answer
 use Rattle.pebr_words.specs.Making.{IsStepOf, IsAsKnown}
 use Rattle.pebr_words.specs.Pasts.{Read, History, past_after}
 use Rattle.pebr_words.specs.Ruled.{IsIn, IsSure}
-use Rattle.seat_slots.specs.Sets.{least}
+use Rattle.seat_slots.specs.Sets.{least_in}
 use Rattle.pebr_shields.specs.declared.checked.Checked.{Checked}
 use Rattle.pebr_shields.specs.declared.checked.Checked.TheVariants as found
 use Rattle.pebr_shields.specs.Found.{checked_seat}
@@ -45,13 +45,13 @@ pub under_valid : (under : List ℕ) (known : Seat) (place : ℕ) → AreUnder u
 under_valid under known place h valid = h place (slot_at known place) (ap slot_under (valid_at known place valid))
 
 -- the least slot of a set that has one
-pub least_has : (marks : List Bool) → 0 < count_by (λ mark. mark) marks → has marks (least marks) ≡ true
+pub least_has : (marks : List Bool) → 0 < count_by (λ mark. mark) marks → has marks (least_in marks) ≡ true
 least_has [] h = absurd (omega (arith, h))
 least_has (true ∷ marks) h = refl
 least_has (false ∷ marks) h = least_has marks
     (let e = sum_by-cons (λ (b : Bool). cond b 1 0) false marks in omega (arith, e, h))
 
-pub least_inside : (marks : List Bool) → 0 < count_by (λ mark. mark) marks → least marks < length marks
+pub least_inside : (marks : List Bool) → 0 < count_by (λ mark. mark) marks → least_in marks < length marks
 least_inside [] h = absurd (omega (arith, h))
 least_inside (true ∷ marks) h = omega arith
 least_inside (false ∷ marks) h = let r =

@@ -5,7 +5,7 @@ ghost use Rattle.pebr_core.specs.declared.kinds.Step.TheVariants as step;
 ghost use Rattle.pebr_core.specs.declared.kinds.Answer.TheVariants as answer;
 ghost use Rattle.pebr_core.specs.State.{is_out};
 ghost use Rattle.pebr_core.specs.Frames.{fresh_count};
-ghost use Rattle.seat_slots.specs.Sets.{least};
+ghost use Rattle.seat_slots.specs.Sets.{least_in};
 ghost use Rattle.pebr_words.specs.Making.{act_on};
 ghost use Rattle.pebr_words.specs.Ruled.{CanReplace};
 ghost use Rattle.pebr_roots.specs.Under.{slot_at, is_valid_at};
@@ -28,7 +28,7 @@ impl<P: RootProtocol> Roots<P> {
         ensures note { note_by P.first pass.new ≡ note_by P.first pass.old }
         ensures known { known_by pass.new ≡ known_by pass.old }
         ensures step { IsOneStep P.whole self.now pass.old pass.new
-            (step.Write (number_by pass.old) (least (known_by pass.old).fresh) word value) answer.Written }
+            (step.Write (number_by pass.old) (least_in (known_by pass.old).fresh) word value) answer.Written }
     {
         let slot = pass.seat.least_fresh();
         self.words.write_word(&mut pass.seat, slot, word, value);
@@ -53,16 +53,16 @@ impl<P: RootProtocol> Roots<P> {
         requires valid { IsTrue (is_valid_at (known_by pass.old) place) }
         requires fresh { 0 < fresh_count (known_by pass.old) }
         requires keeps { CanReplace (P.keeps (fixed_at self.now)) P.whole (shape_at self.now) (past_by pass.old)
-            (number_by pass.old) root (slot_at (known_by pass.old) place) (least (known_by pass.old).fresh)
+            (number_by pass.old) root (slot_at (known_by pass.old) place) (least_in (known_by pass.old).fresh)
             (note_by P.first pass.old) (act_on P.after act (note_by P.first pass.old)) }
         ensures same { IsSame self.now pass.old pass.new }
         ensures note { note_by P.first pass.new ≡ replaced_note result (act_on P.after act (note_by P.first pass.old))
             (note_by P.first pass.old) }
         ensures known { known_by pass.new ≡ replaced_seat result (slot_at (known_by pass.old) place)
-            (least (known_by pass.old).fresh) (known_by pass.old) }
+            (least_in (known_by pass.old).fresh) (known_by pass.old) }
         ensures step { IsOneStep P.whole self.now pass.old pass.new
             (step.Replace (number_by pass.old) root (slot_at (known_by pass.old) place)
-            (least (known_by pass.old).fresh)) (answer_to result) }
+            (least_in (known_by pass.old).fresh)) (answer_to result) }
     {
         valid_shields_protect();
         steps_are_safe();

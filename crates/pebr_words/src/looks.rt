@@ -66,7 +66,7 @@ impl<P: RootProtocol> Words<P> {
         let word = status_place(other);
         let step = Step::Look(seat.number, other);
         let found = self.load(&mut seat.inner, word, step, None);
-        let looked = judge(seat.slots.newest(), found);
+        let looked = judge(seat.slots.newest_tag(), found);
         keep(&mut seat.found, other, looked);
         looked
     }

@@ -14,7 +14,7 @@ use Rattle.std.proofs.lemmas.List.Sums.{sum_by-cons}
 use mathlib.Core.Logic.{dite}
 use native.Mathlib.Decide.{ℕ_discrete}
 use Rattle.pebr_core.specs.State.{has}
-use Rattle.seat_slots.specs.Sets.{least}
+use Rattle.seat_slots.specs.Sets.{least_in}
 use Rattle.seat_slots.specs.Shown.{times, is_in, AreFalling}
 
 pub times_cons : (slot x : ℕ) (xs : List ℕ) → times slot (x ∷ xs) ≡ cond (eqb x slot) 1 0 + times slot xs
@@ -91,7 +91,7 @@ present slot (x ∷ xs) (suc k) lt is =
 -- the last of a falling list is the least slot of the set
 
 least_is : (fresh : List Bool) (slot : ℕ) → has fresh slot ≡ true
-    → ((other : ℕ) → has fresh other ≡ true → slot ≤ other) → slot ≡ least fresh
+    → ((other : ℕ) → has fresh other ≡ true → slot ≤ other) → slot ≡ least_in fresh
 least_is [] slot is low = absurd (false≢true is)
 least_is (true ∷ marks) slot is low = (let l = low 0 refl in omega (arith, l))
 least_is (false ∷ marks) zero is low = absurd (false≢true is)
@@ -99,7 +99,7 @@ least_is (false ∷ marks) (suc slot) is low =
     ap suc (least_is marks slot is (λ other h. let l = low (suc other) h in omega (arith, l)))
 
 pub last_is_least : (fresh : List Bool) (slots : List ℕ) → ((slot : ℕ) → has fresh slot ≡ is_in slot slots)
-    → AreFalling slots → (k : ℕ) → k + 1 ≡ length slots → get_or slots k 0 ≡ least fresh
+    → AreFalling slots → (k : ℕ) → k + 1 ≡ length slots → get_or slots k 0 ≡ least_in fresh
 last_is_least fresh slots h falling k last = least_is fresh (get_or slots k 0)
     (h (get_or slots k 0) ∙ in_some (times (get_or slots k 0) slots)
     (present (get_or slots k 0) slots k (omega arith) refl))

@@ -22,7 +22,7 @@ is_above None epoch = true
 is_above (Some tag) epoch = nat_lt tag epoch
 
 -- the least slot of a set, and the number past its end where it has none
-abbrev pub least : List Bool → ℕ
-least [] = 0
-least (true ∷ marks) = 0
-least (false ∷ marks) = suc (least marks)
+abbrev pub least_in : List Bool → ℕ
+least_in [] = 0
+least_in (true ∷ marks) = 0
+least_in (false ∷ marks) = suc (least_in marks)

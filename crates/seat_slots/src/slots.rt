@@ -7,7 +7,7 @@ ghost use Rattle.pebr_core.specs.declared.kinds.Retired.TheVariants as retire;
 ghost use Rattle.pebr_core.specs.State.{has, is_retired, first_seat, slot_count, slots_per_seat};
 ghost use Rattle.pebr_core.specs.Steps.{tag_with, is_above_tags, union_of, slots_without};
 ghost use Rattle.pebr_core.specs.Kept.{IsWithinLimits};
-ghost use Rattle.seat_slots.specs.Sets.{given_slots, is_above, least};
+ghost use Rattle.seat_slots.specs.Sets.{given_slots, is_above, least_in};
 
 use crate::fresh::{falling_from, let_fall, push_all, take_out};
 use crate::tagged::{
@@ -108,7 +108,7 @@ impl SeatSlots {
     #[inline]
     pub fn least_fresh(&self) -> usize
         requires { 0 < count_by (λ mark. mark) self.now.fresh }
-        ensures { result ≡ least self.now.fresh }
+        ensures { result ≡ least_in self.now.fresh }
     {
         self.fresh[self.fresh.len() - 1]
     }
@@ -121,7 +121,7 @@ impl SeatSlots {
     }
 
     /// The newest tag of a retired slot.
-    pub fn newest(&self) -> Option<u64>
+    pub fn newest_tag(&self) -> Option<u64>
         ensures { (epoch : ℕ) → is_above_tags (map is_retired self.now.retired) self.now.retired epoch
             ≡ is_above result epoch }
     {

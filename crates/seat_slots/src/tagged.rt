@@ -110,7 +110,7 @@ pub fn newest_of(tagged: &[TaggedSlot]) -> Option<u64>
 {
     let mut newest = None;
     for entry in tagged {
-        newest = newer(newest, entry.tag);
+        newest = newer_of(newest, entry.tag);
     }
     newest
 }
@@ -123,12 +123,12 @@ pub fn newest_with(newest: Option<u64>, slots: &[usize], tag: u64) -> Option<u64
     if slots.is_empty() {
         newest
     } else {
-        newer(newest, tag)
+        newer_of(newest, tag)
     }
 }
 
 /// The newer of a tag and another.
-fn newer(newest: Option<u64>, tag: u64) -> Option<u64>
+fn newer_of(newest: Option<u64>, tag: u64) -> Option<u64>
     ensures { (epoch : ℕ) → is_above result epoch ≡ (is_above newest epoch && nat_lt tag epoch) }
 {
     match newest {

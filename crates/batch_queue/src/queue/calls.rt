@@ -35,7 +35,7 @@ impl BatchQueue {
         let mut reader = QueuePass { pass: first };
         let mut passes = Vec::new(alloc);
         for _turn in 1..seats {
-            let other = queue.another(&mut reader);
+            let other = queue.another_pass(&mut reader);
             passes.push(other)?;
         }
         passes.insert(0, reader)?;
@@ -43,7 +43,7 @@ impl BatchQueue {
     }
 
     /// A pass of one more seat, which puts nothing.
-    fn another(&self, reader: &mut QueuePass) -> QueuePass
+    fn another_pass(&self, reader: &mut QueuePass) -> QueuePass
         requires own { IsPassOf self.now reader.old }
         requires reader { IsReaders reader.old }
         ensures own { IsPassOf self.now reader.new × IsPassOf self.now result }

@@ -99,7 +99,7 @@ const STOPPING: [Step; 10] = [
 ];
 
 // Seat 0 replaces the root's slot, `old`, and collects with force.
-fn collecting(
+fn collect_in(
     alloc: Global,
     stop: usize,
     old: usize,
@@ -148,7 +148,7 @@ fn seats_that_stop(rt: HostRuntime) -> Result<(), Fail> {
         (10, 4, false, Answer::Given(1, 0)),
     ];
     for (stop, old, ejects, given) in cases {
-        let steps = collecting(rt.alloc(), stop, old, ejects)?;
+        let steps = collect_in(rt.alloc(), stop, old, ejects)?;
         let replayed = replay(rt.alloc(), Core::start(rt.alloc(), SMALL)?, &steps)?;
         assert_eq!(rt;
             replayed.answers.last().copied(),

@@ -15,8 +15,9 @@ leave-requires-clause-keeps g c =
     let number = number_by c.take_down.new.pass in
     let can : Timeouts → Note → Option (Packet × Option Fragment) → Type 0 =
     λ limits note act. CanNote (Keeps limits) number note (act_on after_act act note) in
-    subst (λ limits. can limits (note_by first_note c.take_down.new.pass) c.passing.result) (sym c.args.self.now.fixed)
-    (subst (λ note. can c.args.self.now.timeouts note c.passing.result) (sym c.take_down.ensures.note)
-    (subst (λ act. can c.args.self.now.timeouts (note_by first_note c.args.pass.now) act) (sym c.passing.ensures)
+    subst (λ limits. can limits (note_by first_note c.take_down.new.pass) c.leaving_note.result)
+    (sym c.args.self.now.fixed)
+    (subst (λ note. can c.args.self.now.timeouts note c.leaving_note.result) (sym c.take_down.ensures.note)
+    (subst (λ act. can c.args.self.now.timeouts (note_by first_note c.args.pass.now) act) (sym c.leaving_note.ensures)
     (can_end c.args.self.now.timeouts number
     (note_by first_note c.args.pass.now) c.args.packet.now c.args.own.now c.args.passes_by c.requires.own)))

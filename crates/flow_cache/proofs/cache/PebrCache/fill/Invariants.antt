@@ -1,7 +1,7 @@
 use Rattle.std.proofs.Common.{◌≡◌, ◌<◌, ◌≤◌, ℕ, Some}
 use Rattle.std.specs.Prelude.{slice_index}
 use Rattle.cache_face.specs.Notes.{first_note}
-use Rattle.seat_slots.specs.Sets.{least}
+use Rattle.seat_slots.specs.Sets.{least_in}
 use Rattle.pebr_words.specs.Pasts.{written_at}
 use Rattle.pebr_roots.specs.Passes.{known_by, note_by, past_by, IsSame}
 use Rattle.flow_cache.proofs.cache.PebrCache.fill.Given as goal
@@ -18,6 +18,6 @@ invariant-loop-word l = record {
         (past_by l.pass).steps;
     written = (past_by l.pass).written;
   };
-  written : (k : ℕ) → k < l.word → written_at (past_by l.pass).written (least (known_by l.initial.pass).fresh) k
+  written : (k : ℕ) → k < l.word → written_at (past_by l.pass).written (least_in (known_by l.initial.pass).fresh) k
       ≡ Some (slice_index l.words k);
 }

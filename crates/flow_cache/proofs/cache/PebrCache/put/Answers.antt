@@ -15,7 +15,7 @@ use Rattle.pebr_core.specs.declared.kinds.Shape.{Shape}
 use Rattle.pebr_core.specs.declared.kinds.Step.TheVariants as step
 use Rattle.pebr_core.specs.declared.kinds.Answer.TheVariants as answer
 use Rattle.pebr_core.specs.State.{Seat}
-use Rattle.seat_slots.specs.Sets.{least}
+use Rattle.seat_slots.specs.Sets.{least_in}
 use Rattle.pebr_words.specs.Pasts.{Load, Read, History, found_other, past_after, shown_at, written_at}
 use Rattle.pebr_words.specs.Ruled.{CanReplace}
 use Rattle.pebr_roots.specs.Ends.{answer_to, replaced_note, replaced_seat}
@@ -65,19 +65,19 @@ replace-requires-clause-keeps g c =
     let takes : Takes cache.timeouts c.args.own.now (entry_of (words_read (past_by end).reads slot)) out kept
     = subst (λ e. Takes cache.timeouts c.args.own.now e out kept) entry
     (choice_takes cache.timeouts (map entry_of contents) c.args.own.now kept how place out choice) in
-    let filled : (word : ℕ) → word < 10 → written_at (past_by end).written (least (known_by start).fresh) word
+    let filled : (word : ℕ) → word < 10 → written_at (past_by end).written (least_in (known_by start).fresh) word
     ≡ Some (slice_index (part_words kept) word)
-    = λ word lt. ap (λ (s : Seat). written_at (past_by end).written (least s.fresh) word)
+    = λ word lt. ap (λ (s : Seat). written_at (past_by end).written (least_in s.fresh) word)
     (sym c.read_contents.ensures.known) ∙ c.fill.ensures.written word lt
     ∙ ap (λ ws. Some (slice_index ws word)) (sym chosen.1) in
     let can : Timeouts → Seat → Note → Type 0 =
     λ limits known note. CanReplace (Keeps limits) IsWhole shape (past_by end) (number_by end) root
-    (slot_at known place) (least known.fresh) note (note_with note (c.args.packet.now ∷ []) out) in
+    (slot_at known place) (least_in known.fresh) note (note_with note (c.args.packet.now ∷ []) out) in
     subst (λ limits. can limits (known_by end) (note_by first_note end)) (sym cache.fixed)
     (subst (λ known. can cache.timeouts known (note_by first_note end)) (sym known_is)
     (subst (λ n. can cache.timeouts (known_by start) n) (sym note_is)
     (can_replace cache.timeouts shape (past_by end) (number_by end) root slot
-    (least (known_by start).fresh) note c.args.packet.now c.args.own.now kept out
+    (least_in (known_by start).fresh) note c.args.packet.now c.args.own.now kept out
     (ap (λ (s : Shape). s.width) cache.shaped)
     (subst (λ rs. HasTen rs slot) (sym reads) (c.read_contents.ensures.ten place low)) filled c.requires.own takes)))
 
@@ -89,7 +89,7 @@ returns-in-Replaced-clause-done g c done =
     let new = c.replace.new.pass in
     let place : ℕ = c.choose_by_words-choice.result.place in
     let slot : ℕ = slot_at (known_by end) place in
-    let fresh : ℕ = least (known_by end).fresh in
+    let fresh : ℕ = least_in (known_by end).fresh in
     let how : How = c.choose_by_words-choice.result.how in
     let chosen = c.choose_by_words-choice.ensures.chosen in
     let out : Option Fragment = c.put_out-out.result in
@@ -137,7 +137,7 @@ returns-in-Other-clause-undone g c undone =
     let low : place < 4 = c.choose_by_words-choice.ensures.place in
     let root : ℕ = root_of c.args.set place in
     let slot : ℕ = slot_at (known_by end) place in
-    let fresh : ℕ = least (known_by end).fresh in
+    let fresh : ℕ = least_in (known_by end).fresh in
     let packets : Note → Note = λ n. note_with n (c.args.packet.now ∷ []) c.put_out-out.result in
     let note_is : note_by first_note end ≡ note_by first_note start =
     c.fill.ensures.note ∙ c.read_contents.ensures.note in

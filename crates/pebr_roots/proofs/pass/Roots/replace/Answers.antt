@@ -4,7 +4,7 @@ use Rattle.pebr_core.specs.State.{has, slot_count}
 use Rattle.pebr_core.specs.Steps.{is_shielded, after_replace}
 use Rattle.pebr_core.specs.declared.kinds.Step.TheVariants as step
 use Rattle.pebr_core.specs.declared.kinds.Answer.TheVariants as answer
-use Rattle.seat_slots.specs.Sets.{least}
+use Rattle.seat_slots.specs.Sets.{least_in}
 use Rattle.pebr_words.specs.Making.{act_on}
 use Rattle.pebr_words.specs.Ruled.{CanReplace}
 use Rattle.pebr_words.specs.Seats.{IsStep}
@@ -22,7 +22,7 @@ replace_root-requires-clause-slots g c =
           (c.requires.of.at.6.valid c.args.place (slot_at known c.args.place)
           (valid_at known c.args.place c.requires.valid)),
       subst (λ n. n < slot_count (shape_at c.args.self.now)) (sym c.least_fresh-new.ensures)
-          (subst (λ n. least known.fresh < n) c.requires.of.at.6.fresh (least_inside known.fresh c.requires.fresh)),
+          (subst (λ n. least_in known.fresh < n) c.requires.of.at.6.fresh (least_inside known.fresh c.requires.fresh)),
     )
 
 pub replace_root-requires-clause-shielded : goal.replace_root-requires-clause-shielded
@@ -78,7 +78,7 @@ returns-then-replace_root-clause-step g c =
     let known = known_by pass in
     let is = under_valid pass.under known c.args.place pass.slots c.requires.valid in
     subst (λ old. IsStep g.P.RootProtocol.whole c.args.self.now.words pass.seat c.replace_root.new.seat
-    (step.Replace (number_by pass) c.args.root old (least known.fresh)) answer.Replaced) is
+    (step.Replace (number_by pass) c.args.root old (least_in known.fresh)) answer.Replaced) is
     (subst (λ new. IsStep g.P.RootProtocol.whole c.args.self.now.words pass.seat c.replace_root.new.seat
     (step.Replace (number_by pass) c.args.root (slice_index pass.under c.args.place) new) answer.Replaced)
     c.least_fresh-new.ensures c.if-replace_root.ensures.step)
@@ -89,7 +89,7 @@ returns-else-replace_root-clause-step g c =
     let known = known_by pass in
     let is = under_valid pass.under known c.args.place pass.slots c.requires.valid in
     subst (λ old. IsStep g.P.RootProtocol.whole c.args.self.now.words pass.seat c.replace_root.new.seat
-    (step.Replace (number_by pass) c.args.root old (least known.fresh)) answer.Other) is
+    (step.Replace (number_by pass) c.args.root old (least_in known.fresh)) answer.Other) is
     (subst (λ new. IsStep g.P.RootProtocol.whole c.args.self.now.words pass.seat c.replace_root.new.seat
     (step.Replace (number_by pass) c.args.root (slice_index pass.under c.args.place) new) answer.Other)
     c.least_fresh-new.ensures c.if-replace_root.ensures.step)

@@ -1,6 +1,6 @@
 use Rattle.std.proofs.Common.{◌<◌, sym, ap, ◌∙◌, subst}
 use Rattle.pebr_core.specs.State.{has, slot_count}
-use Rattle.seat_slots.specs.Sets.{least}
+use Rattle.seat_slots.specs.Sets.{least_in}
 use Rattle.pebr_roots.specs.Passes.{known_by, shape_at}
 use Rattle.pebr_roots.proofs.Passing.{least_has, least_inside}
 use Rattle.pebr_roots.proofs.pass.Roots.write_fresh.Goals as goal
@@ -9,7 +9,7 @@ pub write_word-requires-clause-range : goal.write_word-requires-clause-range
 write_word-requires-clause-range g c =
     let known = known_by c.args.pass.now in (
       subst (λ n. n < slot_count (shape_at c.args.self.now)) (sym c.least_fresh-slot.ensures)
-          (subst (λ n. least known.fresh < n) c.requires.of.at.6.fresh (least_inside known.fresh c.requires.fresh)),
+          (subst (λ n. least_in known.fresh < n) c.requires.of.at.6.fresh (least_inside known.fresh c.requires.fresh)),
       c.requires.word,
     )
 

@@ -31,9 +31,9 @@ invariant_of-seat g c =
     let near : c.args.other < length seat.found.items =
     (let long = c.requires.at.4 in omega (arith, long, c.requires.other.0)) in
     let both = look_told g.P.RootProtocol.after g.P.RootProtocol.whole g.P.RootProtocol.first c.args.self.now.shape
-    seat.noted seat.slots c.newest.result seat.found.items seat.number c.args.other c.load-found.result
+    seat.noted seat.slots c.newest_tag.result seat.found.items seat.number c.args.other c.load-found.result
     c.judge-looked.result
-    seat.inner.me _ seat.mirrors c.newest.ensures c.requires.scanning c.requires.at.3 told
+    seat.inner.me _ seat.mirrors c.newest_tag.ensures c.requires.scanning c.requires.at.3 told
     c.judge-looked.ensures.answer in
     record {
       acts = told.number ∙ seat.acts;
@@ -48,9 +48,9 @@ pub returns-clause-known : goal.returns-clause-known
 returns-clause-known g c =
     let seat = c.args.seat.now in
     let both = look_told g.P.RootProtocol.after g.P.RootProtocol.whole g.P.RootProtocol.first c.args.self.now.shape
-    seat.noted seat.slots c.newest.result seat.found.items seat.number c.args.other c.load-found.result
+    seat.noted seat.slots c.newest_tag.result seat.found.items seat.number c.args.other c.load-found.result
     c.judge-looked.result
-    seat.inner.me _ seat.mirrors c.newest.ensures c.requires.scanning c.requires.at.3 c.load-found.ensures.told
+    seat.inner.me _ seat.mirrors c.newest_tag.ensures c.requires.scanning c.requires.at.3 c.load-found.ensures.told
     c.judge-looked.ensures.answer in
     both.0
 
@@ -58,9 +58,9 @@ pub returns-clause-step : goal.returns-clause-step
 returns-clause-step g c =
     let seat = c.args.seat.now in
     let both = look_told g.P.RootProtocol.after g.P.RootProtocol.whole g.P.RootProtocol.first c.args.self.now.shape
-    seat.noted seat.slots c.newest.result seat.found.items seat.number c.args.other c.load-found.result
+    seat.noted seat.slots c.newest_tag.result seat.found.items seat.number c.args.other c.load-found.result
     c.judge-looked.result
-    seat.inner.me _ seat.mirrors c.newest.ensures c.requires.scanning c.requires.at.3 c.load-found.ensures.told
+    seat.inner.me _ seat.mirrors c.newest_tag.ensures c.requires.scanning c.requires.at.3 c.load-found.ensures.told
     c.judge-looked.ensures.answer in
     record {
       core = both.1;
@@ -75,9 +75,9 @@ returns-clause-passed g c is =
     let seat = c.args.seat.now in
     let known = known_in seat.inner.me.0 in
     let both = look_told g.P.RootProtocol.after g.P.RootProtocol.whole g.P.RootProtocol.first c.args.self.now.shape
-    seat.noted seat.slots c.newest.result seat.found.items seat.number c.args.other c.load-found.result
+    seat.noted seat.slots c.newest_tag.result seat.found.items seat.number c.args.other c.load-found.result
     c.judge-looked.result
-    seat.inner.me _ seat.mirrors c.newest.ensures c.requires.scanning c.requires.at.3 c.load-found.ensures.told
+    seat.inner.me _ seat.mirrors c.newest_tag.ensures c.requires.scanning c.requires.at.3 c.load-found.ensures.told
     c.judge-looked.ensures.answer in
     ap (λ (s : Seat). has (scan_of s).passed c.args.other) both.0
     ∙ looked_passed c.args.self.now.shape known c.requires.at.6 c.requires.scanning c.args.other c.judge-looked.result
@@ -88,9 +88,9 @@ returns-clause-found g c epoch is =
     let seat = c.args.seat.now in
     let known = known_in seat.inner.me.0 in
     let both = look_told g.P.RootProtocol.after g.P.RootProtocol.whole g.P.RootProtocol.first c.args.self.now.shape
-    seat.noted seat.slots c.newest.result seat.found.items seat.number c.args.other c.load-found.result
+    seat.noted seat.slots c.newest_tag.result seat.found.items seat.number c.args.other c.load-found.result
     c.judge-looked.result
-    seat.inner.me _ seat.mirrors c.newest.ensures c.requires.scanning c.requires.at.3 c.load-found.ensures.told
+    seat.inner.me _ seat.mirrors c.newest_tag.ensures c.requires.scanning c.requires.at.3 c.load-found.ensures.told
     c.judge-looked.ensures.answer in
     ap (λ (s : Seat). found_at (scan_of s) c.args.other) both.0
     ∙ looked_found c.args.self.now.shape known c.requires.at.6 c.requires.scanning c.args.other epoch

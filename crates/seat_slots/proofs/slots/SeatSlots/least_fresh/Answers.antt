@@ -1,7 +1,7 @@
 use Rattle.std.proofs.Common.{◌≡◌, ◌+◌, ◌-◌, length, map, count_by, ap, ◌∙◌, arith}
 use Rattle.std.specs.List.{range_with_len}
 use Rattle.std.proofs.lemmas.List.{get_or_default}
-use Rattle.seat_slots.specs.Sets.{Sets, least}
+use Rattle.seat_slots.specs.Sets.{Sets, least_in}
 use Rattle.seat_slots.specs.Shown.{is_in}
 use Rattle.seat_slots.proofs.Listing.{last_is_least}
 use Rattle.seat_slots.proofs.Keeping.{fresh_count, fresh_at}
@@ -39,4 +39,4 @@ returns c =
     ∙ (last_is_least (map (λ s. is_in s inside.fresh.items) (range_with_len 0 inside.slots)) inside.fresh.items
     (fresh_at inside.slots inside.room inside.fresh.items inside.untagged.items inside.tagged.items c.self.invariant.0)
     c.self.invariant.1 (c.len.result - 1) last
-    ∙ ap (λ (s : Sets). least s.fresh) c.self.view_is))
+    ∙ ap (λ (s : Sets). least_in s.fresh) c.self.view_is))

@@ -1,7 +1,7 @@
 use Rattle.std.proofs.Common.{sym, ap, ◌∙◌, arith}
 use Rattle.seat_slots.specs.Sets.{Sets}
 use Rattle.seat_slots.proofs.Tags.{above, above_table}
-use Rattle.seat_slots.proofs.slots.SeatSlots.newest.Goals as goal
+use Rattle.seat_slots.proofs.slots.SeatSlots.newest_tag.Goals as goal
 
 pub returns : goal.returns
 returns c = λ epoch.
