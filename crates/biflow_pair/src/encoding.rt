@@ -6,8 +6,8 @@ ghost use Rattle.biflow_pair.specs.BiLayout.{bi_template_message, IsBiLayout};
 
 use crate::biflow::Biflow;
 use ipfix_model::{
-    V4_BI_FIELDS, V4_BI_TEMPLATE, V4_FIELDS, V4_TEMPLATE, V6_BI_FIELDS, V6_BI_TEMPLATE, V6_FIELDS,
-    V6_TEMPLATE,
+    TEMPLATE_SET, V4_BI_FIELDS, V4_BI_TEMPLATE, V4_FIELDS, V4_TEMPLATE, V6_BI_FIELDS,
+    V6_BI_TEMPLATE, V6_FIELDS, V6_TEMPLATE,
 };
 use ipfix_writer::{
     Encode, append_counts, append_message_header, append_messages, append_template,
@@ -16,10 +16,7 @@ use no_memory::NoMemory;
 use octets::append_u16;
 use std::alloc::Global;
 
-/// The number of the set that holds template records.
-const TEMPLATE_SET: u16 = 2;
-
-/// The length of that set in the first message, and of that message, in octets.
+/// The length of the set of templates in the first message, and of that message, in octets.
 const TEMPLATE_SET_LENGTH: u16 = 292;
 
 const TEMPLATE_MESSAGE_LENGTH: u16 = 308;

@@ -12,14 +12,12 @@ use crate::status::PairStatus;
 use crate::stream::{PairError, pair_stream};
 use crate::words::settings_of;
 use command_words::OptionsError;
+use ipfix_reader::STREAM_LIMIT;
 use meter_io::{Failed, ReadError, Sink, Source, read_all, write_all};
 use std::alloc::Global;
 
 #[cfg(test)]
 mod tests;
-
-/// The most bytes of a stream.
-const STREAM_LIMIT: u64 = 1 << 26;
 
 /// Reads a stream of flow records from the input to its end, and writes the stream of their biflows to the output.
 fn pair_input<S: Source, K: Sink>(

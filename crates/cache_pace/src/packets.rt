@@ -4,11 +4,8 @@ ghost use Rattle.std.specs.Prelude.{◌≤◌, ◌^◌, length};
 
 use meter_io::{Source, read_all};
 use packet_accept::{Packet, accept};
-use pcap_reader::Capture;
+use pcap_reader::{CAPTURE_LIMIT, Capture};
 use std::alloc::Global;
-
-/// The most bytes of a capture.
-const CAPTURE_LIMIT: u64 = 1 << 30;
 
 /// The packets of a capture's bytes.
 fn packets_in(alloc: Global, bytes: &[u8]) -> Option<Vec<Packet>>

@@ -4,16 +4,7 @@ ghost use Rattle.std.specs.Prelude.{◌≡◌, ◌≢◌, ℕ, ◌+◌, ◌<◌,
 ghost use Rattle.std.specs.Prelude.{IsTrue, ◌↔◌, slice_index};
 
 use flow_key::FlowKey;
-use packet_accept::Packet;
-
-/// The protocol number of TCP in the IANA registry.
-const TCP: u8 = 6;
-
-/// The control bit FIN: no more data from the sender (RFC 9293, section 3.1).
-const FIN: u16 = 0x001;
-
-/// The control bit RST: reset the connection.
-const RST: u16 = 0x004;
+use packet_accept::{FIN, Packet, RST, TCP};
 
 /// What is known of some packets of one flow, taken together.
 #[derive(Clone, Copy, PartialEq, Eq, Debug)]

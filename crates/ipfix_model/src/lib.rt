@@ -3,7 +3,7 @@
 //!
 //! [`V4_FIELDS`] and [`V6_FIELDS`] are the field lists of the two templates of flows, numbered [`V4_TEMPLATE`] and
 //! [`V6_TEMPLATE`]; [`V4_BI_FIELDS`] and [`V6_BI_FIELDS`] are those of the two of biflows (RFC 5103), numbered
-//! [`V4_BI_TEMPLATE`] and [`V6_BI_TEMPLATE`]. [`FieldList`], [`Octets`] and [`ValueList`] are lists over a `Vec`, which
+//! [`V4_BI_TEMPLATE`] and [`V6_BI_TEMPLATE`]. `framing.rt` has the fixed numbers of messages and sets. [`FieldList`], [`Octets`] and [`ValueList`] are lists over a `Vec`, which
 //! contracts see as lists; making one and reading it takes no memory. [`elements`] has the numbers of information
 //! elements and their abstract data types. The functions of [`laws`] do nothing: their contracts are laws, that the
 //! constants here are the numbers of the registry and the fields of the definitions.
@@ -14,6 +14,7 @@
 
 pub mod elements;
 mod fields;
+mod framing;
 pub mod laws;
 mod list;
 mod lookup;
@@ -23,6 +24,10 @@ mod tests;
 mod values;
 
 pub use fields::{FieldList, FieldSpec, VARIABLE_LENGTH};
+pub use framing::{
+    ENTERPRISE_BIT, FIRST_TEMPLATE, MESSAGE_HEADER, OPTIONS_TEMPLATE_SET, SET_HEADER, TEMPLATE_SET,
+    VERSION,
+};
 pub use list::ListOf;
 pub use lookup::{are_values_of, number_of};
 pub use templates::{

@@ -24,4 +24,4 @@ mod values;
 
 pub use fault::{StreamError, StreamFault};
 pub use flow::flow_of;
-pub use messages::read_stream;
+pub use messages::{STREAM_LIMIT, read_stream};

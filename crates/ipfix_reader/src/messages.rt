@@ -10,14 +10,11 @@ use crate::cursor::Cursor;
 use crate::fault::{StreamError, StreamFault};
 use crate::known::{SequenceTable, TemplateTable};
 use crate::sets::read_sets;
-use ipfix_model::DataRecord;
+use ipfix_model::{DataRecord, MESSAGE_HEADER, VERSION};
 use std::alloc::Global;
 
-/// The length of a message's header.
-const MESSAGE_HEADER: usize = 16;
-
-/// The version of IPFIX.
-const VERSION: u16 = 10;
+/// The most octets of a stream that a program reads: 64 MiB.
+pub const STREAM_LIMIT: u64 = 1 << 26;
 
 /// The data records of a stream of messages (RFC 7011, sections 3.1 to 3.4 and 7), in their order.
 ///

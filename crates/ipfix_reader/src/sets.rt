@@ -11,20 +11,8 @@ use crate::cursor::Cursor;
 use crate::fault::{StreamError, StreamFault};
 use crate::known::TemplateTable;
 use crate::records::{read_data, read_templates};
-use ipfix_model::DataRecord;
+use ipfix_model::{DataRecord, FIRST_TEMPLATE, OPTIONS_TEMPLATE_SET, SET_HEADER, TEMPLATE_SET};
 use std::alloc::Global;
-
-/// The length of a set's header.
-const SET_HEADER: usize = 4;
-
-/// The number of a set of template records.
-const TEMPLATES: u16 = 2;
-
-/// The number of a set of options template records.
-const OPTIONS_TEMPLATES: u16 = 3;
-
-/// The least number of a data set.
-const FIRST_DATA: u16 = 256;
 
 /// Reads the sets of a message, behind its header, into the known templates and the data records.
 pub fn read_sets(
@@ -113,9 +101,9 @@ fn read_content(
         (set_contents domain number at (contents_of table.old records.old) (part_of content.entry))) }
 {
     match number {
-        TEMPLATES => read_templates(alloc, false, domain, table, content),
-        OPTIONS_TEMPLATES => read_templates(alloc, true, domain, table, content),
-        0..FIRST_DATA => Ok(()),
+        TEMPLATE_SET => read_templates(alloc, false, domain, table, content),
+        OPTIONS_TEMPLATE_SET => read_templates(alloc, true, domain, table, content),
+        0..FIRST_TEMPLATE => Ok(()),
         _ => match table.get(domain, number) {
             Some(known) => read_data(alloc, domain, number, known, records, content),
             None => Err(StreamError::Fault(StreamFault::NoTemplate { at, id: number })),

@@ -11,14 +11,8 @@ ghost use Rattle.ipfix_reader.specs.Cursors.{part_of, fields_shown, template_sho
 
 use crate::cursor::Cursor;
 use crate::fault::{StreamError, StreamFault};
-use ipfix_model::{FieldList, FieldSpec, Template};
+use ipfix_model::{ENTERPRISE_BIT, FIRST_TEMPLATE, FieldList, FieldSpec, Template};
 use std::alloc::Global;
-
-/// The upper bit of a field specifier's element: an enterprise number follows.
-const ENTERPRISE_BIT: u16 = 0x8000;
-
-/// The least number of a template.
-const FIRST_TEMPLATE: u16 = 256;
 
 /// The template of the record at the front of four bytes or more, and what lies behind the record.
 #[tactic(auto, unfolding(crate::specs::Specifiers::template_fields))]

@@ -6,16 +6,8 @@ ghost use Rattle.ipfix_writer.specs.Encoding.{message_header};
 ghost use Rattle.ipfix_writer.specs.Layout.{body_in, records_in};
 
 use crate::encode::Encode;
+use ipfix_model::{SET_HEADER, VERSION};
 use octets::{append_u16, append_u32};
-
-/// The length of a message header, in octets: that of a message without records.
-pub const MESSAGE_HEADER: usize = 16;
-
-/// The length of a set header, in octets.
-pub const SET_HEADER: usize = 4;
-
-/// The version of IPFIX (RFC 7011, section 3.1).
-const VERSION: u16 = 10;
 
 /// The observation domain that the meter writes.
 const OBSERVATION_DOMAIN: u32 = 1;

@@ -7,9 +7,9 @@ ghost use Rattle.std.specs.Vec.{vec_capacity};
 ghost use Rattle.meter_io.specs.Causes.{HasCause};
 ghost use Rattle.ipfix_writer.specs.Emitting.{header_before};
 
-use crate::body::{MESSAGE_HEADER, SET_HEADER};
 use crate::encode::Encode;
 use crate::message::{encode_message, encode_template_message};
+use ipfix_model::{MESSAGE_HEADER, SET_HEADER};
 use meter_io::{Failed, Sink, write_all};
 use no_memory::NoMemory;
 use record_ledger::FlowRecord;

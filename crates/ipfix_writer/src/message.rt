@@ -8,19 +8,15 @@ ghost use Rattle.ipfix_writer.specs.Layout.{body_in, length_in};
 
 use crate::body::{append_body, append_message_header};
 use crate::encode::Encode;
-use ipfix_model::{FieldSpec, V4_FIELDS, V4_TEMPLATE, V6_FIELDS, V6_TEMPLATE};
+use ipfix_model::{
+    ENTERPRISE_BIT, FieldSpec, TEMPLATE_SET, V4_FIELDS, V4_TEMPLATE, V6_FIELDS, V6_TEMPLATE,
+};
 use octets::{append_u16, append_u32};
 
-/// The number of the set that holds template records.
-const TEMPLATE_SET: u16 = 2;
-
-/// The length of that set in the first message, and of that message.
+/// The length of the set of templates in the first message, and of that message.
 const TEMPLATE_SET_LENGTH: u16 = 100;
 
 const TEMPLATE_MESSAGE_LENGTH: u16 = 116;
-
-/// The upper bit of an element in a field specifier: an enterprise number follows.
-const ENTERPRISE_BIT: u16 = 0x8000;
 
 /// Puts the message of these records, of this length, into the buffer.
 #[tactic(auto, unfolding(crate::specs::Encoding::message, crate::specs::Layout::length_in))]

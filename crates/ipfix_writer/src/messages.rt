@@ -5,10 +5,10 @@ ghost use Rattle.std.specs.Vec.{vec_capacity};
 ghost use Rattle.ipfix_writer.specs.Encoding.{message};
 ghost use Rattle.ipfix_writer.specs.Layout.{IsStream, body_in, length_in};
 
-use crate::body::MESSAGE_HEADER;
 use crate::emitter::header_length;
 use crate::encode::Encode;
 use crate::message::encode_message;
+use ipfix_model::MESSAGE_HEADER;
 use no_memory::NoMemory;
 use std::alloc::Global;
 

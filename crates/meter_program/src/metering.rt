@@ -16,12 +16,10 @@ use flow_parts::laws::{sharing_out_counts, sharing_out_stands};
 use meter_io::Source;
 use meter_workers::{Gate, meter_windows};
 use no_memory::NoMemory;
+use pcap_reader::CAPTURE_LIMIT;
 use record_ledger::{FlowRecord, gather};
 use std::alloc::Global;
 use std::thread::Threads;
-
-/// The most bytes of a capture.
-const CAPTURE_LIMIT: u64 = 1 << 30;
 
 /// The bytes of a capture that are held at a time.
 const WINDOW: usize = 1 << 22;

@@ -10,12 +10,9 @@ ghost use Rattle.meter_program.specs.Words.{show};
 use crate::ending::write_and_count;
 use crate::lines::shows;
 use crate::status::Status;
-use ipfix_reader::{StreamError, read_stream};
+use ipfix_reader::{STREAM_LIMIT, StreamError, read_stream};
 use meter_io::{Failed, ReadError, Sink, Source, read_all};
 use std::alloc::Global;
-
-/// The most bytes of a stream.
-const STREAM_LIMIT: u64 = 1 << 26;
 
 /// Reads a stream from the input to its end, writes a line for each of its data records to the output, and notes how
 /// many there are.

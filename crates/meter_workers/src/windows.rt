@@ -30,12 +30,9 @@ use flow_parts::Fragment;
 use meter_io::Source;
 use no_memory::NoMemory;
 use packet_accept::packets_law;
-use pcap_reader::{Capture, Head, IndexError, RecordIndex, parts_law};
+use pcap_reader::{Capture, FILE_HEADER, Head, IndexError, RecordIndex, parts_law};
 use std::alloc::Global;
 use std::thread::Threads;
-
-/// The length of the file header, behind which the records of the first window begin.
-const FILE_HEADER: usize = 24;
 
 /// What all workers did together with a capture that was read in windows: one pass for all seats, the fragments that it
 /// was handed, the tally, and how many bytes are left behind the last record.

@@ -14,14 +14,12 @@ use capture_tally::Tally;
 use flow_parts::Timeouts;
 use meter_io::{Source, StdSource};
 use meter_workers::{OpenGate, meter_windows};
+use pcap_reader::CAPTURE_LIMIT;
 use std::alloc::Global;
 use std::env;
 use std::process::ExitCode;
 use std::thread::Threads;
 use turn_cache::TurnCaches;
-
-/// The most bytes of a capture.
-const CAPTURE_LIMIT: u64 = 1 << 30;
 
 /// How many records a worker draws at a time.
 const PIECE: u64 = 256;

@@ -14,12 +14,14 @@ mod headers;
 mod ignored;
 mod laws;
 mod packet;
+mod tcp;
 mod transport;
 
 pub use acceptance::{accept, accept_linked};
 pub use ignored::Ignored;
 pub use laws::{clock_law, packets_law};
 pub use packet::Packet;
+pub use tcp::{FIN, RST, TCP};
 
 #[cfg(test)]
 mod tests;

@@ -1,5 +1,6 @@
 //! A packet.
 
+use crate::tcp::{FIN, RST, TCP};
 use flow_key::FlowKey;
 
 /// One accepted packet.
@@ -16,15 +17,6 @@ pub struct Packet {
     /// The TCP control bits (RFC 7125), or 0.
     pub flags: u16,
 }
-
-/// The protocol number of TCP.
-const TCP: u8 = 6;
-
-/// The control bit of TCP by which a sender ends its stream.
-const FIN: u16 = 0x001;
-
-/// The control bit of TCP by which a sender resets the connection.
-const RST: u16 = 0x004;
 
 impl Packet {
     ghost use Rattle.std.specs.Prelude.{◌≡◌};

@@ -8,10 +8,8 @@ ghost use Rattle.packet_headers.specs.Shown.{ip_shown};
 ghost use Rattle.packet_accept.specs.Shown.{transport_shown};
 
 use crate::ignored::Ignored;
+use crate::tcp::TCP;
 use packet_headers::{IpView, TcpView, UdpView};
-
-/// The protocol number of TCP.
-const TCP: u8 = 6;
 
 /// The protocol number of UDP.
 const UDP: u8 = 17;

@@ -9,6 +9,9 @@ use crate::index::{IndexError, RecordIndex};
 use crate::record::{Record, record_at};
 use std::alloc::Global;
 
+/// The most octets of a capture that a program takes: 1 GiB.
+pub const CAPTURE_LIMIT: u64 = 1 << 30;
+
 /// A capture file in memory, whose header was read, or a part of one.
 #[derive(Clone, Copy, Debug)]
 pub struct Capture<'a> {

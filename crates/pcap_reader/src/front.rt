@@ -8,8 +8,8 @@ use octets::Endianness;
 /// The length of a record's header.
 pub(crate) const RECORD_HEADER: usize = 16;
 
-/// The most bytes that a record may have captured.
-const MOST_CAPTURED: u32 = 262_144;
+/// The most octets that a record may have captured.
+pub const MOST_CAPTURED: u32 = 262_144;
 
 /// What stands at some place of a file.
 #[derive(Clone, Copy)]

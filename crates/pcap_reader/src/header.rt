@@ -7,8 +7,8 @@ ghost use Rattle.pcap_reader.specs.Views.{file_with};
 
 use octets::Endianness;
 
-/// The length of the file header.
-pub(crate) const FILE_HEADER: usize = 24;
+/// The length of the file header, in octets.
+pub const FILE_HEADER: usize = 24;
 
 /// What a file header tells.
 #[derive(Clone, Copy)]

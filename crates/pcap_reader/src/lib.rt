@@ -22,9 +22,11 @@ mod laws;
 mod record;
 mod window;
 
-pub use capture::Capture;
+pub use capture::{CAPTURE_LIMIT, Capture};
 pub use fill_end::FillEnd;
+pub use front::MOST_CAPTURED;
 pub use head::{CaptureError, Head};
+pub use header::FILE_HEADER;
 pub use index::{IndexError, RecordIndex};
 pub use laws::parts_law;
 pub use meter_io::NoMemory;

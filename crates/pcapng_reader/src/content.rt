@@ -7,9 +7,7 @@ ghost use Rattle.pcapng_reader.specs.Index.{HasUnits, IsSound};
 use crate::interface::{Interface, interface_told};
 use crate::options::padded_length;
 use octets::Endianness;
-
-/// The most captured octets of a packet.
-const MOST_CAPTURED: u32 = 262_144;
+use pcap_reader::MOST_CAPTURED;
 
 /// What a block tells.
 #[derive(Clone, Copy, Debug)]

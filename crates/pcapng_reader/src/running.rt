@@ -11,10 +11,8 @@ use crate::capture::{PngCapture, PngFault};
 use crate::status::PngStatus;
 use crate::writing::{ROOM, write_packets};
 use meter_io::{Failed, ReadError, Sink, Source, read_all};
+use pcap_reader::CAPTURE_LIMIT;
 use std::alloc::Global;
-
-/// The most bytes of an input.
-const LIMIT: u64 = 1 << 30;
 
 /// The name of the command.
 const NAME: &str = "pcapng";
@@ -82,7 +80,7 @@ pub fn run_png<S: Source, K: Sink>(
     if !is_command(words) {
         return PngStatus::Usage;
     }
-    let bytes = match read_all(alloc, input, LIMIT) {
+    let bytes = match read_all(alloc, input, CAPTURE_LIMIT) {
         Ok(bytes) => bytes,
         Err(ReadError::Failed) => return PngStatus::ReadFault,
         Err(ReadError::TooLarge) => return PngStatus::TooLarge,

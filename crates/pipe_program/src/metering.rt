@@ -14,13 +14,11 @@ use flow_parts::laws::sharing_out_stands;
 use meter_io::{Sink, Source};
 use meter_program::{CaptureCount, Gathered, Status, gathered_of, write_stream};
 use meter_workers::Gate;
+use pcap_reader::CAPTURE_LIMIT;
 use pipe_workers::meter_batches;
 use std::alloc::Global;
 use std::sync::Wait;
 use std::thread::Threads;
-
-/// The most bytes of a capture.
-const CAPTURE_LIMIT: u64 = 1 << 30;
 
 /// The seats of the cache beside those of the workers: the reader's, and that of what is left in the queue in the end.
 const OTHER_SEATS: usize = 2;

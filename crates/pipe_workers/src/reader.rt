@@ -22,12 +22,9 @@ use meter_io::Source;
 use meter_workers::Gate;
 use no_memory::NoMemory;
 use packet_accept::packets_law;
-use pcap_reader::{Capture, Head, RecordIndex, parts_law};
+use pcap_reader::{Capture, FILE_HEADER, Head, RecordIndex, parts_law};
 use std::alloc::Global;
 use std::sync::Wait;
-
-/// The length of the file header, behind which the records of the first window begin.
-const FILE_HEADER: usize = 24;
 
 /// Reads an input on whose first window was read, and hands on the records of each window, of the first those behind
 /// the file header. How many bytes are left behind the last record.

@@ -10,14 +10,11 @@ use cache_face::Caches;
 use flow_parts::{Fragment, Timeouts};
 use meter_io::{Source, StdSink, StdSource, read_all, write_all};
 use meter_workers::{OpenGate, meter_all};
-use pcap_reader::Capture;
+use pcap_reader::{CAPTURE_LIMIT, Capture};
 use std::alloc::Global;
 use std::process::ExitCode;
 use std::thread::Threads;
 use turn_cache::TurnCaches;
-
-/// The most bytes of a capture.
-const CAPTURE_LIMIT: u64 = 1 << 30;
 
 /// How many packets and octets there are.
 #[derive(Clone, Copy, PartialEq, Eq, Debug)]

@@ -18,13 +18,10 @@ use flow_key::FlowKey;
 use flow_parts::{Fragment, Timeouts};
 use meter_io::{Source, read_all};
 use meter_workers::{Gathered, OpenGate, meter_all};
-use pcap_reader::{Capture, RecordIndex};
+use pcap_reader::{CAPTURE_LIMIT, Capture, RecordIndex};
 use std::alloc::Global;
 use std::thread;
 use std::thread::Threads;
-
-/// The most bytes of a capture.
-const CAPTURE_LIMIT: u64 = 1 << 30;
 
 /// How many records a worker draws at a time.
 const PIECE: u64 = 64;

@@ -16,12 +16,9 @@ use command_words::OptionsError;
 use meter_io::{Failed, ReadError, Sink, Source, read_all, write_all};
 use meter_workers::Gate;
 use no_memory::NoMemory;
-use pcap_reader::{Capture, CaptureError, IndexError};
+use pcap_reader::{CAPTURE_LIMIT, Capture, CaptureError, IndexError};
 use std::alloc::Global;
 use std::thread::Threads;
-
-/// The most bytes of a capture.
-const CAPTURE_LIMIT: u64 = 1 << 30;
 
 /// The text of watching while the capture that these bytes are is metered, or why there is none.
 fn text_for<R: Threads + Sync, G: Gate>(
