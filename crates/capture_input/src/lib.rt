@@ -2,7 +2,7 @@
 //!
 //! A [`CaptureInput`] is a [`Window`](pcap_reader::Window) on a source, how many bytes were taken of it, and how many
 //! may come at most. [`CaptureInput::begin`] reads the first window and its file header, [`CaptureInput::fill`] reads
-//! on behind what the window kept. Where a window is damaged, [`CaptureInput::refused`] reads the source to its end
+//! on behind what the window kept. Where a window is damaged, [`CaptureInput::refusal`] reads the source to its end
 //! first, so that each [`MeterFault`] is the first that applies.
 //!
 //! What is done with the records of a window, and what of its bytes is kept, is the caller's. `specs/Places.antt` says

@@ -1,8 +1,8 @@
 //! What a capture held, in numbers: its records, its packets, the ignored records by cause, the octets, the clock.
 //!
 //! A [`Tally`] takes in the answer to each record ([`Tally::add`]). Two tallies of parts of a capture are put together
-//! by [`Tally::joined`], so each worker keeps one of its own. `specs/Tallies.antt` says which tally some answers have,
-//! and [`room_law`] that no number of it runs over for any capture that is read.
+//! by [`Tally::sum_with`], so each worker keeps one of its own. `specs/Tallies.antt` says which tally some answers
+//! have, and [`room_law`] that no number of it runs over for any capture that is read.
 #![tactic(auto)]
 
 mod calls;
