@@ -1,14 +1,14 @@
 //! Streams made by hand from the standard, and what is read of them.
 
+use super::{tcp_flow, udp_flow};
 use StreamFault::{
     BadLength, BadPadding, BadSequence, BadTemplate, BadVersion, Cut, NoTemplate, Withdrawal,
 };
 use Want::{Fault, Records};
-use flow_parts::Fragment;
 use ipfix_model::DataRecord;
 use ipfix_reader::{StreamError, StreamFault, flow_of, read_stream};
 use record_ledger::FlowRecord;
-use samples::{octets_of, tcp_over_ipv6, udp_key};
+use samples::octets_of;
 use std::alloc::{AllocError, Global};
 use std::process::Abort;
 use std::test::Fail;
@@ -245,25 +245,12 @@ fn flow_in(alloc: Global, pieces: &[&str]) -> Result<Option<FlowRecord>, Fail> {
     }
 }
 
-/// The flow record of [`UDP`].
-fn udp_flow() -> FlowRecord {
-    let part = Fragment {
-        key: udp_key(4000),
-        packets: 2,
-        octets: 56,
-        first: 1_000_000,
-        last: 1_001_000,
-        flags: 0,
-    };
-    FlowRecord { part, reason: 4 }
-}
-
 #[test]
 fn a_written_stream_is_read(rt: HostRuntime) -> Result<(), Fail> {
     let head = "000a0044 000003e9 00000000 00000001 0100 0034";
     assert_eq!(rt;
         flow_in(rt.alloc(), &[TEMPLATES, head, UDP])?,
-        Some(udp_flow())
+        Some(udp_flow(4000, 2, 56, 1_001_000))
     );
     let bytes = bytes_of(rt.alloc(), &[TEMPLATES, head, UDP])?;
     let whole = bytes.as_slice();
@@ -278,19 +265,6 @@ fn a_written_stream_is_read(rt: HostRuntime) -> Result<(), Fail> {
         "1/256 8=c0000201 12=c0000202 7=0fa0 11=0035 4=11 6=0000 2=0000000000000002 1=0000000000000038 152=00000000000f4240 153=00000000000f4628 136=04;"
     );
     Ok(())
-}
-
-/// TCP from 2001:db8::1 to 2001:db8::2: one packet at 5 s, forced end.
-fn tcp_flow(source_port: u16, destination_port: u16, octets: u64, flags: u16) -> FlowRecord {
-    let part = Fragment {
-        key: tcp_over_ipv6(source_port, destination_port),
-        packets: 1,
-        octets,
-        first: 5000,
-        last: 5000,
-        flags,
-    };
-    FlowRecord { part, reason: 4 }
 }
 
 #[test]
@@ -383,7 +357,7 @@ fn a_message_may_hold_28_records(rt: HostRuntime) -> Result<(), Fail> {
     let records = read_stream(rt.alloc(), bytes.as_slice()).map_err(|_| Fail::from("no stream"))?;
     assert_eq!(rt; records.len(), 29);
     for rec in records.iter() {
-        assert_eq!(rt; flow_of(rec), Some(udp_flow()));
+        assert_eq!(rt; flow_of(rec), Some(udp_flow(4000, 2, 56, 1_001_000)));
     }
     Ok(())
 }

@@ -1,12 +1,10 @@
 //! Streams whose bytes were written out by hand from RFC 7011, sections 3.1 to 3.4.
 
-ghost use Rattle.std.specs.Prelude.{◌≤◌, ◌<◌, ◌^◌};
-
-use flow_parts::Fragment;
+use super::{tcp_flow, udp_flow};
 use ipfix_writer::{Emitter, emit_all, layout};
 use meter_io::{Failed, MemSink};
 use record_ledger::FlowRecord;
-use samples::{octets_of, tcp_over_ipv6, udp_key};
+use samples::octets_of;
 use std::alloc::Global;
 use std::test::Fail;
 
@@ -14,35 +12,6 @@ use std::test::Fail;
 const TEMPLATES: &str = "0000000000000001000200640100000b00080004000c0004000700020\
     00b00020004000100060002000200080001000800980008009900080088000\
     10101000b001b0010001c001000070002000b000200040001000600020002000800010008009800080099000800880001";
-
-/// A record of UDP over IPv4 from this port.
-fn over_ipv4(source_port: u16, packets: u64, octets: u64, last: u64) -> FlowRecord
-    requires some { 1 ≤ packets }
-    requires later { 1000000 ≤ last }
-{
-    let part = Fragment {
-        key: udp_key(source_port),
-        packets,
-        octets,
-        first: 1_000_000,
-        last,
-        flags: 0,
-    };
-    FlowRecord { part, reason: 4 }
-}
-
-/// A record of TCP over IPv6, 2001:db8::1 to 2001:db8::2, at 5 s.
-fn over_ipv6(source_port: u16, destination_port: u16, octets: u64, flags: u16) -> FlowRecord {
-    let part = Fragment {
-        key: tcp_over_ipv6(source_port, destination_port),
-        packets: 1,
-        octets,
-        first: 5000,
-        last: 5000,
-        flags,
-    };
-    FlowRecord { part, reason: 4 }
-}
 
 /// Whether the layout of these records, in messages of at most 1,400 octets, is the message with the templates and then
 /// these bytes.
@@ -66,7 +35,7 @@ fn streams_are_laid_out_as_written_by_hand(rt: HostRuntime) -> Result<(), Fail> 
     assert!(rt;
         is_laid_out(
             rt.alloc(),
-            &[over_ipv4(4000, 2, 56, 1_001_000)],
+            &[udp_flow(4000, 2, 56, 1_001_000)],
             1001,
             "000003e9",
             one
@@ -80,7 +49,7 @@ fn streams_are_laid_out_as_written_by_hand(rt: HostRuntime) -> Result<(), Fail> 
     assert!(rt;
         is_laid_out(
             rt.alloc(),
-            &[over_ipv6(0, 0, 156, 0), over_ipv6(1025, 443, 76, 16)],
+            &[tcp_flow(0, 0, 156, 0), tcp_flow(1025, 443, 76, 16)],
             5,
             "00000005",
             two
@@ -93,10 +62,10 @@ fn streams_are_laid_out_as_written_by_hand(rt: HostRuntime) -> Result<(), Fail> 
 fn messages_are_filled(rt: HostRuntime) -> Result<(), Fail> {
     let mut records = Vec::new(rt.alloc());
     for port in 4000..4029u16 {
-        records.push(over_ipv4(port, 1, 28, 1_000_000))?;
+        records.push(udp_flow(port, 1, 28, 1_000_000))?;
     }
-    records.push(over_ipv6(1025, 443, 76, 16))?;
-    records.push(over_ipv4(1, 1, 28, 1_000_000))?;
+    records.push(tcp_flow(1025, 443, 76, 16))?;
+    records.push(udp_flow(1, 1, 28, 1_000_000))?;
     for (count, size, messages, length) in [
         (0, 1400, 1, 116),
         (28, 1400, 2, 116 + 1364),
@@ -125,7 +94,7 @@ fn messages_are_filled(rt: HostRuntime) -> Result<(), Fail> {
 
 #[test]
 fn a_failed_write_leaves_a_beginning(rt: HostRuntime) -> Result<(), Fail> {
-    let records = [over_ipv4(4000, 1, 28, 1_000_000)];
+    let records = [udp_flow(4000, 1, 28, 1_000_000)];
     for (fails, held) in [([2], 100), ([3], 116), ([1], 0)] {
         let emitter = Emitter::open(rt.alloc(), 1400, 1000).map_err(|_| Fail::from("no memory"))?;
         let mut sink = MemSink::open(rt.alloc(), 4096, 100, fails.as_slice()).map_err(
