@@ -105,7 +105,7 @@ pub fn run<R: Threads + Sync, S: Source, K: Sink, N: Sink, M: Caches, G: Gate>(
     let status = match command_of(alloc, words) {
         Err(OptionsError::NotOptions) => Status::Usage,
         Err(OptionsError::NoMemory) => Status::NoMemory,
-        Ok(asked_of) => command(rt, alloc, &asked_of, input, output, notes, caches, gate),
+        Ok(asked) => command(rt, alloc, &asked, input, output, notes, caches, gate),
     };
     if status.is_refusal() {
         // A refusal stays what it is where its line can't be written.
