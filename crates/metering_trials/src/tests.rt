@@ -102,10 +102,10 @@ fn meter_source<R: Threads + Sync, S: Source, G: Gate>(
         Err(fault) => return Ok(Err(fault)),
     };
     caches.close(alloc, cache, gathered.pass, gathered.parts)?;
-    if !are_few(caches.meter_source()) {
+    if !are_few(caches.metered()) {
         return Err(Fail::from("more packets than there are"));
     }
-    let records = gather(alloc, caches.meter_source(), limits, gathered.tally.clock)?;
+    let records = gather(alloc, caches.metered(), limits, gathered.tally.clock)?;
     Ok(Ok(Outcome {
         records,
         tally: gathered.tally,

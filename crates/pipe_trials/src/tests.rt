@@ -99,7 +99,7 @@ fn meter_capture<G: Gate, R: Threads + Wait + Sync>(
     caches.close(alloc, cache, gathered.pass, gathered.parts)?;
     let mut packets = 0u64;
     let mut octets = 0u64;
-    for part in caches.meter_capture() {
+    for part in caches.metered() {
         packets = packets.saturating_add(part.packets);
         octets = octets.saturating_add(part.octets);
     }
