@@ -13,8 +13,6 @@
 
 mod fragment;
 pub mod laws;
-#[cfg(test)]
-mod tests;
 mod timeouts;
 
 pub use fragment::Fragment;

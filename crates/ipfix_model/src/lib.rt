@@ -19,8 +19,6 @@ pub mod laws;
 mod list;
 mod lookup;
 mod templates;
-#[cfg(test)]
-mod tests;
 mod values;
 
 pub use fields::{FieldList, FieldSpec, VARIABLE_LENGTH};

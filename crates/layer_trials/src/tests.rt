@@ -1,4 +1,4 @@
-//! The layers from bytes to messages, each by its public calls.
+//! The layers, each by its public calls.
 
 ghost use Rattle.std.specs.Prelude.{◌≤◌};
 
@@ -7,10 +7,19 @@ use record_ledger::FlowRecord;
 use samples::{tcp_over_ipv6, udp_key};
 
 mod captures;
+mod fragments;
 mod headers;
+mod keys;
+mod links;
+mod machine;
+mod memory;
+mod model;
+mod numbers;
+mod packets;
 mod reading;
 mod records;
 mod sides;
+mod text;
 mod writing;
 
 /// UDP over IPv4 from this port of 192.0.2.1 to port 53 of 192.0.2.2, from 1000 s on, forced end.

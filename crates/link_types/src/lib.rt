@@ -7,6 +7,3 @@
 mod link;
 
 pub use link::LinkType;
-
-#[cfg(test)]
-mod tests;

@@ -12,9 +12,6 @@ use octets::{numbers_law, uint_at};
 use plain_text::{append, append_decimal, append_hexadecimal};
 use std::alloc::Global;
 
-#[cfg(test)]
-mod tests;
-
 /// Appends four numbers in decimal, with points between them.
 fn append_address(text: &mut Vec<u8>, address: &[u8]) -> Result<(), NoMemory>
     requires { length address.now ≡ 4 }

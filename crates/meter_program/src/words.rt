@@ -10,9 +10,6 @@ use crate::settings::{Making, Settings};
 use command_words::{OptionRule, OptionsError, values_of};
 use std::alloc::Global;
 
-#[cfg(test)]
-mod tests;
-
 /// A command, with its settings.
 #[derive(Clone, Copy, Debug, PartialEq, Eq)]
 pub enum Command {

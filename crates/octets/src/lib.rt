@@ -13,6 +13,3 @@ pub use buffer::{append, append_u8, append_u16, append_u32, append_u64, append_u
 pub use endianness::Endianness;
 pub use laws::numbers_law;
 pub use network::{u16_at, u32_at, u128_at, uint_at};
-
-#[cfg(test)]
-mod tests;

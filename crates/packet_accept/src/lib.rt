@@ -22,6 +22,3 @@ pub use ignored::Ignored;
 pub use laws::{clock_law, packets_law};
 pub use packet::Packet;
 pub use tcp::{FIN, RST, TCP};
-
-#[cfg(test)]
-mod tests;

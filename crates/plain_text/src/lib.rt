@@ -11,9 +11,6 @@ use hex::encode_to_slice;
 use itoa::Buffer;
 use no_memory::NoMemory;
 
-#[cfg(test)]
-mod tests;
-
 /// Appends a piece.
 #[inline]
 pub fn append(text: &mut Vec<u8>, piece: &[u8]) -> Result<(), NoMemory>

@@ -6,6 +6,7 @@ use meter_program::{Status, run};
 use meter_workers::{Gate, OpenGate};
 use samples::octets_of;
 use std::alloc::Global;
+use std::process::Abort;
 use std::test::Fail;
 use std::thread::Threads;
 
@@ -14,6 +15,7 @@ mod faults;
 mod schedules;
 mod selftests;
 mod streams;
+mod words;
 mod workers;
 
 /// A capture's header: little-endian, microseconds, Ethernet.
@@ -43,10 +45,15 @@ fn two_packets(alloc: Global) -> Result<Vec<u8>, Fail> {
     octets_of(alloc, &[HEADER, AT_1000, FRAME, AT_1001, FRAME])
 }
 
-/// The words of a command line.
+/// The stream that `meter` writes of it.
+fn two_packets_stream(alloc: Global) -> Result<Vec<u8>, Fail> {
+    octets_of(alloc, &["000a0074 000003e9", TEMPLATES, TWO_PACKETS_RECORD])
+}
+
+/// The words of a command line with single spaces between them.
 fn words_of(alloc: Global, line: &str) -> Result<Vec<String>, Fail> {
     let mut words = Vec::new(alloc);
-    for word in line.split_whitespace() {
+    for word in line.split(' ') {
         words.push(String::from_str(alloc, word)?)?;
     }
     Ok(words)
@@ -60,30 +67,18 @@ struct Ran {
     notes: Vec<u8>,
 }
 
-/// A run over this input.
-fn run_over<R: Threads + Sync>(
-    rt: &R,
-    alloc: Global,
-    line: &str,
-    input: &[u8],
-) -> Result<Ran, Fail> {
-    run_by(rt, alloc, line, input, &OpenGate)
-}
-
 /// A run over this input, whose workers are told to this gate.
-fn run_by<R: Threads + Sync, G: Gate>(
+fn run_by<R: Threads + Sync + AllocGlobal, G: Gate>(
     rt: &R,
-    alloc: Global,
     line: &str,
     input: &[u8],
     gate: &G,
 ) -> Result<Ran, Fail> {
+    let alloc = rt.alloc();
     let words = words_of(alloc, line)?;
     let mut source = MemSource::new(input, 1000, &[]);
-    let mut output = MemSink::open(alloc, 65_536, 65_536, &[]).map_err(|_| Fail::from(
-        "no memory",
-    ))?;
-    let mut notes = MemSink::open(alloc, 1000, 1000, &[]).map_err(|_| Fail::from("no memory"))?;
+    let mut output = MemSink::open(alloc, 65_536, 65_536, &[])?;
+    let mut notes = MemSink::open(alloc, 1000, 1000, &[])?;
     let status = run(
         rt,
         alloc,
@@ -99,4 +94,21 @@ fn run_by<R: Threads + Sync, G: Gate>(
         output: output.held().to_vec(alloc)?,
         notes: notes.held().to_vec(alloc)?,
     })
+}
+
+/// Runs a command line over an input, and compares status, output and notes with what is wanted; `name` tells the run.
+fn check_run<R: Threads + Sync + Abort + AllocGlobal>(
+    rt: &R,
+    name: &str,
+    line: &str,
+    input: &[u8],
+    status: Status,
+    output: &[u8],
+    notes: &str,
+) -> Result<(), Fail> {
+    let ran = run_by(rt, line, input, &OpenGate)?;
+    assert_eq!(rt; ran.status, status, "{name}");
+    assert_eq!(rt; ran.output.as_slice(), output, "{name}");
+    assert_eq!(rt; ran.notes.as_slice(), notes.as_bytes(), "{name}");
+    Ok(())
 }

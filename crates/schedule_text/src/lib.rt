@@ -9,8 +9,6 @@
 mod grammar;
 mod printing;
 mod reading;
-#[cfg(test)]
-mod tests;
 mod words;
 
 pub use pebr_core::NoMemory;

@@ -4,61 +4,78 @@ ghost use Rattle.std.specs.Prelude.{◌<◌};
 
 use meter_io::{Failed, MemSource};
 use pcap_reader::{Capture, CaptureError, FillEnd, Head, IndexError, RecordIndex, Window};
+use samples::octets_of;
 use std::alloc::Global;
 use std::process::Abort;
 use std::test::Fail;
 
 /// A file header: least byte first, microseconds, version 2.4, Ethernet.
-static LITTLE: [u8; 24] = [
-    0xd4, 0xc3, 0xb2, 0xa1, 2, 0, 4, 0, 0, 0, 0, 0, 0, 0, 0, 0, 0, 0, 4, 0, 1, 0, 0, 0,
+const LITTLE: &str = "d4c3b2a1 02000400 00000000 00000000 00000400 01000000";
+
+/// Files that are no capture, and captures whose link type isn't read.
+static REFUSED: [(&str, CaptureError); 13] = [
+    ("", CaptureError::NotCapture),
+    (
+        "d4c3b2a1 02000400 00000000 00000000 00000400 010000",
+        CaptureError::NotCapture,
+    ),
+    (
+        "d4c3b2a2 02000400 00000000 00000000 00000400 01000000",
+        CaptureError::NotCapture,
+    ),
+    (
+        "0a0d0d0a 02000400 00000000 00000000 00000400 01000000",
+        CaptureError::NotCapture,
+    ),
+    (
+        "a1b2c3d4 02000400 00000000 00000000 00000400 01000000",
+        CaptureError::NotCapture,
+    ),
+    (
+        "d4c3b2a1 01000400 00000000 00000000 00000400 01000000",
+        CaptureError::NotCapture,
+    ),
+    (
+        "d4c3b2a1 02010400 00000000 00000000 00000400 01000000",
+        CaptureError::NotCapture,
+    ),
+    (
+        "d4c3b2a1 02000300 00000000 00000000 00000400 01000000",
+        CaptureError::NotCapture,
+    ),
+    (
+        "d4c3b2a1 02000401 00000000 00000000 00000400 01000000",
+        CaptureError::NotCapture,
+    ),
+    (
+        "d4c3b2a1 02000400 00000000 00000000 00000400 00000000",
+        CaptureError::LinkUnknown(0),
+    ),
+    (
+        "d4c3b2a1 02000400 00000000 00000000 00000400 69000000",
+        CaptureError::LinkUnknown(105),
+    ),
+    (
+        "d4c3b2a1 02000400 00000000 00000000 00000400 01000100",
+        CaptureError::LinkUnknown(65_537),
+    ),
+    (
+        "d4c3b2a1 02000400 00000000 00000000 00000400 01000014",
+        CaptureError::LinkUnknown(335_544_321),
+    ),
 ];
 
-/// A record header: 1000 s, fraction 7, captured length 42, original length 60; least byte first.
-static RECORD: [u8; 16] = [0xe8, 3, 0, 0, 7, 0, 0, 0, 42, 0, 0, 0, 60, 0, 0, 0];
-
-/// The captured bytes of `RECORD`.
-static PACKET: [u8; 42] = [0; 42];
-
-/// `LITTLE` with other bytes from a place on.
-fn header_with(at: usize, bytes: &[u8]) -> [u8; 24] {
-    let mut header = LITTLE;
-    for (place, byte) in header.iter_mut().skip(at).zip(bytes) {
-        *place = *byte;
-    }
-    header
-}
-
-/// The bytes of the parts, one behind the other.
-fn bytes_of(alloc: Global, parts: &[&[u8]]) -> Result<Vec<u8>, Fail> {
-    let mut all = Vec::new(alloc);
-    for part in parts {
-        all.extend_from_slice(part)?;
-    }
-    Ok(all)
-}
-
 #[test]
-fn headers_that_are_refused(rt: HostRuntime) {
-    let not = CaptureError::NotCapture;
-    let unknown = CaptureError::LinkUnknown;
-    let table: [(&[u8], CaptureError); 13] = [
-        (&[], not),
-        (&LITTLE[..23], not),
-        (&header_with(0, &[0xd4, 0xc3, 0xb2, 0xa2]), not),
-        (&header_with(0, &[0x0a, 0x0d, 0x0d, 0x0a]), not),
-        (&header_with(0, &[0xa1, 0xb2, 0xc3, 0xd4]), not),
-        (&header_with(4, &[1]), not),
-        (&header_with(4, &[2, 1]), not),
-        (&header_with(6, &[3]), not),
-        (&header_with(6, &[4, 1]), not),
-        (&header_with(20, &[0]), unknown(0)),
-        (&header_with(20, &[105]), unknown(105)),
-        (&header_with(20, &[1, 0, 1, 0]), unknown(65_537)),
-        (&header_with(20, &[1, 0, 0, 0x14]), unknown(335_544_321)),
-    ];
-    for (bytes, error) in table {
-        assert_eq!(rt; Capture::open(bytes).err(), Some(error));
+fn headers_that_are_refused(rt: HostRuntime) -> Result<(), Fail> {
+    for (header, error) in REFUSED {
+        let bytes = octets_of(rt.alloc(), &[header])?;
+        assert_eq!(rt;
+            Capture::open(bytes.as_slice()).err(),
+            Some(error),
+            "{header}"
+        );
     }
+    Ok(())
 }
 
 /// How many records a capture has and how long its tail is, or why they could not be found.
@@ -69,57 +86,69 @@ fn count_records(rt: &impl Abort, alloc: Global, bytes: &[u8]) -> Result<(u64, u
     Ok((index.count(), index.tail()))
 }
 
+/// A record header: 1000 s, fraction 7, captured length 42, original length 60; least byte first.
+const RECORD: &str = "e8030000 07000000 2a000000 3c000000";
+
+/// The 42 bytes captured of it, and the first 37 of them.
+const PACKET: &str =
+    "000000000000000000000000000000000000000000000000000000000000000000000000000000000000";
+
+const PACKET_CUT: &str =
+    "00000000000000000000000000000000000000000000000000000000000000000000000000";
+
 /// A record header with captured length 0.
-static EMPTY: [u8; 16] = [0; 16];
+const EMPTY: &str = "00000000 00000000 00000000 00000000";
 
 /// Record headers with captured lengths 262,144 and 262,145.
-static MOST: [u8; 16] = [0xe8, 3, 0, 0, 0, 0, 0, 0, 0, 0, 4, 0, 0, 0, 4, 0];
+const MOST: &str = "e8030000 00000000 00000400 00000400";
 
-static TOO_MUCH: [u8; 16] = [0xe8, 3, 0, 0, 0, 0, 0, 0, 1, 0, 4, 0, 1, 0, 4, 0];
+const TOO_MUCH: &str = "e8030000 00000000 01000400 01000400";
+
+/// What stands behind the file header, and how many records the capture has and how long its tail is, or why they could
+/// not be found.
+static RECORDS: [(&[&str], Result<(u64, u64), IndexError>); 12] = [
+    (&[], Ok((0, 0))),
+    (&[RECORD, PACKET], Ok((1, 0))),
+    (&[RECORD, PACKET, RECORD, PACKET], Ok((2, 0))),
+    (&[RECORD, PACKET, RECORD, PACKET_CUT], Ok((1, 53))),
+    (&["e8030000 07000000 2a000000 3c0000"], Ok((0, 15))),
+    (&[RECORD], Ok((0, 16))),
+    (&[EMPTY, EMPTY], Ok((2, 0))),
+    (&[TOO_MUCH], Err(IndexError::Damaged(24))),
+    (&["e8030000 00000000 01000400 010004"], Ok((0, 15))),
+    (
+        &[RECORD, PACKET, TOO_MUCH, EMPTY],
+        Err(IndexError::Damaged(82)),
+    ),
+    (
+        &[EMPTY, TOO_MUCH, TOO_MUCH, EMPTY],
+        Err(IndexError::Damaged(40)),
+    ),
+    (&[RECORD, TOO_MUCH, TOO_MUCH], Ok((0, 48))),
+];
 
 #[test]
 fn records_tails_and_damage(rt: HostRuntime) -> Result<(), Fail> {
-    let alloc = rt.alloc();
-    let table: [([&[u8]; 4], Result<(u64, u64), IndexError>); 12] = [
-        ([&[], &[], &[], &[]], Ok((0, 0))),
-        ([&RECORD, &PACKET, &[], &[]], Ok((1, 0))),
-        ([&RECORD, &PACKET, &RECORD, &PACKET], Ok((2, 0))),
-        ([&RECORD, &PACKET, &RECORD, &PACKET[..37]], Ok((1, 53))),
-        ([&RECORD[..15], &[], &[], &[]], Ok((0, 15))),
-        ([&RECORD, &[], &[], &[]], Ok((0, 16))),
-        ([&EMPTY, &EMPTY, &[], &[]], Ok((2, 0))),
-        ([&TOO_MUCH, &[], &[], &[]], Err(IndexError::Damaged(24))),
-        ([&TOO_MUCH[..15], &[], &[], &[]], Ok((0, 15))),
-        (
-            [&RECORD, &PACKET, &TOO_MUCH, &EMPTY],
-            Err(IndexError::Damaged(82)),
-        ),
-        (
-            [&EMPTY, &TOO_MUCH, &TOO_MUCH, &EMPTY],
-            Err(IndexError::Damaged(40)),
-        ),
-        ([&RECORD, &TOO_MUCH, &TOO_MUCH, &[]], Ok((0, 48))),
-    ];
-    for ([a, b, c, d], want) in table {
-        let file = bytes_of(alloc, &[&LITTLE, a, b, c, d])?;
-        assert_eq!(rt; count_records(&rt, alloc, &file), want);
+    for (records, want) in RECORDS {
+        let mut file = octets_of(rt.alloc(), &[LITTLE])?;
+        file.extend_from_slice(octets_of(rt.alloc(), records)?.as_slice())?;
+        assert_eq!(rt; count_records(&rt, rt.alloc(), &file), want, "{records:?}");
     }
     Ok(())
 }
 
 #[test]
 fn the_longest_record(rt: HostRuntime) -> Result<(), Fail> {
-    let alloc = rt.alloc();
     for (captured, want) in [
         (0, (0, 16)),
         (262_143, (0, 262_159)),
         (262_144, (1, 0)),
         (262_145, (1, 1)),
     ] {
-        let packet = vec![in alloc; 0u8; captured]?;
-        let file = bytes_of(alloc, &[&LITTLE, &MOST, &packet])?;
+        let mut file = octets_of(rt.alloc(), &[LITTLE, MOST])?;
+        file.resize(40 + captured, 0)?;
         assert_eq!(rt;
-            count_records(&rt, alloc, &file),
+            count_records(&rt, rt.alloc(), &file),
             Ok(want),
             "{captured} bytes"
         );
@@ -127,43 +156,58 @@ fn the_longest_record(rt: HostRuntime) -> Result<(), Fail> {
     Ok(())
 }
 
+/// A record with the fields 0x01020304, 0x05060708, 3 and 0x090a0b0c in either order.
+const LITTLE_RECORD: &str = "04030201 08070605 03000000 0c0b0a09";
+
+const BIG_RECORD: &str = "01020304 05060708 00000003 090a0b0c";
+
+/// File headers, a record header in their order, whether fractions are nanoseconds, and the link type.
+static ORDERS: [(&str, &str, bool, u32); 4] = [
+    (LITTLE, LITTLE_RECORD, false, 1),
+    (
+        "4d3cb2a1 02000400 00000000 00000000 00000400 01000000",
+        LITTLE_RECORD,
+        true,
+        1,
+    ),
+    (
+        "a1b2c3d4 00020004 00000000 00000000 00040000 00000065",
+        BIG_RECORD,
+        false,
+        101,
+    ),
+    (
+        "a1b23c4d 00020004 00000000 00000000 00040000 00000071",
+        BIG_RECORD,
+        true,
+        113,
+    ),
+];
+
 #[test]
 fn fields_in_either_order(rt: HostRuntime) -> Result<(), Fail> {
-    let alloc = rt.alloc();
-    let little = [
-        0x04, 3, 2, 1, 0x08, 7, 6, 5, 3, 0, 0, 0, 0x0c, 0x0b, 0x0a, 9,
-    ];
-    let big = [
-        1, 2, 3, 0x04, 5, 6, 7, 0x08, 0, 0, 0, 3, 9, 0x0a, 0x0b, 0x0c,
-    ];
-    let big_header = |magic: [u8; 4], link: u8| {
-        let [a, b, c, d] = magic;
-        [
-            a, b, c, d, 0, 2, 0, 4, 0, 0, 0, 0, 0, 0, 0, 0, 0, 4, 0, 0, 0, 0, 0, link,
-        ]
-    };
-    let table: [([u8; 24], [u8; 16], bool, u32); 4] = [
-        (LITTLE, little, false, 1),
-        (header_with(0, &[0x4d, 0x3c]), little, true, 1),
-        (big_header([0xa1, 0xb2, 0xc3, 0xd4], 101), big, false, 101),
-        (big_header([0xa1, 0xb2, 0x3c, 0x4d], 113), big, true, 113),
-    ];
-    for (header, record, nanos, link) in table {
-        let file = bytes_of(alloc, &[&header, &record, b"one", &record, b"two", b"tail"])?;
+    for (header, record, nanos, link) in ORDERS {
+        let file = octets_of(
+            rt.alloc(),
+            &[header, record, "6f6e65", record, "74776f", "7461696c"],
+        )?;
         let capture = Capture::open(&file).ok().ok_or("a capture")?;
-        assert_eq!(rt; capture.nanos(), nanos);
-        assert_eq!(rt; capture.link(), link);
+        assert!(rt;
+            capture.nanos() == nanos && capture.link() == link,
+            "{header}"
+        );
         assert!(rt; file.len() < 1 << 32);
-        let index = capture.index(alloc).ok().ok_or("an index")?;
-        assert_eq!(rt; index.count(), 2);
-        assert_eq!(rt; index.tail(), 4);
+        let index = capture.index(rt.alloc()).ok().ok_or("an index")?;
+        assert!(rt; index.count() == 2 && index.tail() == 4, "{header}");
         for (n, captured) in [(0, b"one"), (1, b"two")] {
             assert!(rt; n < index.count());
             let read = capture.record(&index, n);
-            assert_eq!(rt; read.seconds, 0x0102_0304);
-            assert_eq!(rt; read.fraction, 0x0506_0708);
-            assert_eq!(rt; read.original, 0x090a_0b0c);
-            assert_eq!(rt; read.captured, captured.as_slice());
+            assert!(rt;
+                read.seconds == 0x0102_0304 && read.fraction == 0x0506_0708,
+                "{header}"
+            );
+            assert!(rt; read.original == 0x090a_0b0c, "{header}");
+            assert!(rt; read.captured == captured.as_slice(), "{header}");
         }
     }
     Ok(())
@@ -212,31 +256,24 @@ fn what_ends_the_filling_of_a_window(rt: HostRuntime) -> Result<(), Fail> {
 #[test]
 fn two_parts_of_a_capture(rt: HostRuntime) -> Result<(), Fail> {
     let alloc = rt.alloc();
-    let (first, second) = RECORD.split_at(7);
-    let before = bytes_of(alloc, &[&LITTLE, &RECORD, &PACKET, first])?;
-    let behind = bytes_of(alloc, &[second, &PACKET, b"tail"])?;
-    let all = bytes_of(alloc, &[&before, &behind])?;
-    let mut source = MemSource::new(&all, all.len().max(1), &[]);
+    // The first part ends within the second record's header, at octet 89.
+    let file = octets_of(alloc, &[LITTLE, RECORD, PACKET, RECORD, PACKET, "7461696c"])?;
+    let mut source = MemSource::new(&file, 1000, &[]);
     let mut window = Window::open(alloc, 262_184)?;
-    assert_eq!(rt;
-        window.fill(&mut source, before.len() as u64),
-        Ok(FillEnd::Spent)
-    );
+    assert!(rt; window.fill(&mut source, 89) == Ok(FillEnd::Spent));
     let head = Head::of(window.bytes()).ok().ok_or("a file header")?;
     assert!(rt; window.bytes().len() >= 24);
     window.keep(24);
     let mut index = RecordIndex::with_room(alloc, 262_184)?;
-    for (count, tail) in [(1, 7), (1, 4)] {
+    for tail in [7, 4] {
         let part = Capture::part(head, window.bytes());
         assert!(rt; window.bytes().len() < 1 << 32);
         index = part.index_into(alloc, index).ok().ok_or("an index")?;
-        assert_eq!(rt; (index.count(), index.tail()), (count, tail));
-        assert!(rt; index.count() > 0);
-        assert_eq!(rt; part.record(&index, 0).captured, PACKET.as_slice());
-        let from = window.bytes().len() - tail as usize;
-        assert!(rt; from <= window.bytes().len());
-        window.keep(from);
-        assert!(rt; window.fill(&mut source, behind.len() as u64).is_ok());
+        assert!(rt; index.count() == 1 && index.tail() == tail);
+        assert!(rt; part.record(&index, 0).captured == [0; 42].as_slice());
+        assert!(rt; window.bytes().len() == 58 + tail as usize);
+        window.keep(58);
+        assert!(rt; window.fill(&mut source, 55).is_ok());
     }
     Ok(())
 }

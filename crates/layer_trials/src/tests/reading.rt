@@ -233,15 +233,18 @@ fn front(bytes: &[u8], count: usize) -> &[u8] {
     front
 }
 
+/// The data records of a stream.
+fn read_records(alloc: Global, bytes: &[u8]) -> Result<Vec<DataRecord>, Fail> {
+    read_stream(alloc, bytes).map_err(|_| Fail::from("no stream"))
+}
+
 /// The flow record that the only data record of a stream is.
 fn flow_in(alloc: Global, pieces: &[&str]) -> Result<Option<FlowRecord>, Fail> {
     let bytes = bytes_of(alloc, pieces)?;
-    match read_stream(alloc, bytes.as_slice()) {
-        Ok(records) => match records.as_slice() {
-            [only] => Ok(flow_of(only)),
-            _ => Err(Fail::from("not one record")),
-        },
-        Err(_) => Err(Fail::from("no stream")),
+    let records = read_records(alloc, bytes.as_slice())?;
+    match records.as_slice() {
+        [only] => Ok(flow_of(only)),
+        _ => Err(Fail::from("not one record")),
     }
 }
 
@@ -259,7 +262,7 @@ fn a_written_stream_is_read(rt: HostRuntime) -> Result<(), Fail> {
         read_stream(rt.alloc(), front(whole, 183)).err(),
         Some(StreamError::Fault(Cut { at: 116 }))
     );
-    let records = read_stream(rt.alloc(), whole).map_err(|_| Fail::from("no stream"))?;
+    let records = read_records(rt.alloc(), whole)?;
     assert_eq!(rt;
         text_of(rt.alloc(), records.as_slice())?.as_str(),
         "1/256 8=c0000201 12=c0000202 7=0fa0 11=0035 4=11 6=0000 2=0000000000000002 1=0000000000000038 152=00000000000f4240 153=00000000000f4628 136=04;"
@@ -279,7 +282,7 @@ fn records_over_ipv6_are_flows(rt: HostRuntime) -> Result<(), Fail> {
         rt.alloc(),
         &[TEMPLATES, head, addresses, fragment, addresses, segment],
     )?;
-    let records = read_stream(rt.alloc(), bytes.as_slice()).map_err(|_| Fail::from("no stream"))?;
+    let records = read_records(rt.alloc(), bytes.as_slice())?;
     assert_eq!(rt; records.len(), 2);
     assert_eq!(rt; flow_of(&records[0]), Some(tcp_flow(0, 0, 156, 0)));
     assert_eq!(rt; flow_of(&records[1]), Some(tcp_flow(1025, 443, 76, 16)));
@@ -354,7 +357,7 @@ fn a_message_may_hold_28_records(rt: HostRuntime) -> Result<(), Fail> {
     )?;
     bytes.extend_from_slice(last.as_slice())?;
     assert_eq!(rt; bytes.len(), 116 + 1364 + 68);
-    let records = read_stream(rt.alloc(), bytes.as_slice()).map_err(|_| Fail::from("no stream"))?;
+    let records = read_records(rt.alloc(), bytes.as_slice())?;
     assert_eq!(rt; records.len(), 29);
     for rec in records.iter() {
         assert_eq!(rt; flow_of(rec), Some(udp_flow(4000, 2, 56, 1_001_000)));
@@ -373,9 +376,7 @@ fn long_values_are_read(rt: HostRuntime) -> Result<(), Fail> {
         for _ in 0..length {
             bytes.push(b'a')?;
         }
-        let records = read_stream(rt.alloc(), bytes.as_slice()).map_err(|_| Fail::from(
-            "no stream",
-        ))?;
+        let records = read_records(rt.alloc(), bytes.as_slice())?;
         assert_eq!(rt; records.len(), 1);
         for field in records[0].fields.items() {
             assert_eq!(rt; field.value.items().len(), length);

@@ -23,7 +23,7 @@ fn is_laid_out(
     data: &str,
 ) -> Result<bool, Fail> {
     let wanted = octets_of(alloc, &["000a0074", time_bytes, TEMPLATES, data])?;
-    let bytes = layout(alloc, records, 1400, time).map_err(|_| Fail::from("no memory"))?;
+    let bytes = layout(alloc, records, 1400, time)?;
     Ok(bytes.as_slice() == wanted.as_slice())
 }
 
@@ -77,17 +77,14 @@ fn messages_are_filled(rt: HostRuntime) -> Result<(), Fail> {
         (31, 65_535, 2, 116 + 16 + 3 * 4 + 30 * 48 + 72),
     ] {
         assert!(rt; count <= records.len() && size >= 116 && size < 65_536);
-        let emitter = Emitter::open(rt.alloc(), size, 1000).map_err(|_| Fail::from("no memory"))?;
-        let mut sink = MemSink::open(rt.alloc(), 4096, 4096, &[]).map_err(|_| Fail::from(
-            "no memory",
-        ))?;
+        let emitter = Emitter::open(rt.alloc(), size, 1000)?;
+        let mut sink = MemSink::open(rt.alloc(), 4096, 4096, &[])?;
         let (first, _) = records.as_slice().split_at(count);
-        assert_eq!(rt;
-            emit_all(emitter, first, &mut sink),
-            Ok(messages),
+        let end = emit_all(emitter, first, &mut sink);
+        assert!(rt;
+            end == Ok(messages) && sink.held().len() == length,
             "{count} records, size {size}"
         );
-        assert_eq!(rt; sink.held().len(), length, "{count} records, size {size}");
     }
     Ok(())
 }
@@ -96,15 +93,10 @@ fn messages_are_filled(rt: HostRuntime) -> Result<(), Fail> {
 fn a_failed_write_leaves_a_beginning(rt: HostRuntime) -> Result<(), Fail> {
     let records = [udp_flow(4000, 1, 28, 1_000_000)];
     for (fails, held) in [([2], 100), ([3], 116), ([1], 0)] {
-        let emitter = Emitter::open(rt.alloc(), 1400, 1000).map_err(|_| Fail::from("no memory"))?;
-        let mut sink = MemSink::open(rt.alloc(), 4096, 100, fails.as_slice()).map_err(
-            |_| Fail::from("no memory"),
-        )?;
-        assert_eq!(rt;
-            emit_all(emitter, records.as_slice(), &mut sink),
-            Err(Failed)
-        );
-        assert_eq!(rt; sink.held().len(), held);
+        let emitter = Emitter::open(rt.alloc(), 1400, 1000)?;
+        let mut sink = MemSink::open(rt.alloc(), 4096, 100, fails.as_slice())?;
+        let end = emit_all(emitter, records.as_slice(), &mut sink);
+        assert!(rt; end == Err(Failed) && sink.held().len() == held);
     }
     Ok(())
 }

@@ -1,9 +1,11 @@
 //! The command `meter` on captures.
 
-use super::{AT_1000, AT_1001, FRAME, HEADER, TEMPLATES, TWO_PACKETS_RECORD, run_over};
+use super::{AT_1000, AT_1001, FRAME, HEADER, TEMPLATES, TWO_PACKETS_RECORD, check_run, run_by};
 use meter_program::Status;
+use meter_workers::OpenGate;
 use samples::octets_of;
 use std::alloc::Global;
+use std::process::Abort;
 use std::test::Fail;
 use std::thread::Threads;
 
@@ -26,15 +28,19 @@ fn capture_of(alloc: Global, packets: &[(u32, u32, u16)]) -> Result<Vec<u8>, Fai
     octets_of(alloc, &[HEADER, text.as_str()])
 }
 
-/// What `show` says of what `meter` writes of a capture; empty where either isn't done.
-fn show_output<R: Threads + Sync>(rt: &R, alloc: Global, capture: &[u8]) -> Result<Vec<u8>, Fail> {
-    let metered = run_over(rt, alloc, "meter", capture)?;
-    let showed = run_over(rt, alloc, "show", metered.output.as_slice())?;
-    if metered.status == Status::Done && showed.status == Status::Done {
-        Ok(showed.output)
-    } else {
-        Ok(Vec::new(alloc))
-    }
+/// Meters a capture, and compares what `show` says of the stream with these lines; `name` tells the capture.
+fn check_records<R: Threads + Sync + Abort + AllocGlobal>(
+    rt: &R,
+    name: &str,
+    capture: &[u8],
+    lines: &str,
+) -> Result<(), Fail> {
+    let metered = run_by(rt, "meter", capture, &OpenGate)?;
+    assert_eq!(rt; metered.status, Status::Done, "{name}");
+    let showed = run_by(rt, "show", metered.output.as_slice(), &OpenGate)?;
+    assert_eq!(rt; showed.status, Status::Done, "{name}");
+    assert_eq!(rt; showed.output.as_slice(), lines.as_bytes(), "{name}");
+    Ok(())
 }
 
 /// A side of a flow: an address and a port in hexadecimal.
@@ -131,11 +137,9 @@ static ENDS: [(&str, u32, &[Sent], &str); 5] = [
 
 #[test]
 fn ends_of_flows_cut_records(rt: HostRuntime) -> Result<(), Fail> {
-    let alloc = rt.alloc();
     for (name, second, packets, wanted) in ENDS {
-        let capture = exchange_of(alloc, second, packets)?;
-        let text = show_output(&rt, alloc, capture.as_slice())?;
-        assert_eq!(rt; text.as_slice(), wanted.as_bytes(), "{name}");
+        let capture = exchange_of(rt.alloc(), second, packets)?;
+        check_records(&rt, name, capture.as_slice(), wanted)?;
     }
     Ok(())
 }
@@ -236,9 +240,8 @@ fn gaps_and_spans_cut_records(rt: HostRuntime) -> Result<(), Fail> {
     let alloc = rt.alloc();
     for (name, packets, records) in GAPS {
         let capture = capture_of(alloc, packets)?;
-        let text = show_output(&rt, alloc, capture.as_slice())?;
         let wanted = lines_of(alloc, records)?;
-        assert_eq!(rt; text.as_slice(), wanted.as_str().as_bytes(), "{name}");
+        check_records(&rt, name, capture.as_slice(), wanted.as_str())?;
     }
     Ok(())
 }
@@ -360,10 +363,15 @@ fn captures_end_with_these_bytes(rt: HostRuntime) -> Result<(), Fail> {
     for (name, capture, time, messages, summary) in ROWS {
         let input = octets_of(alloc, capture)?;
         let wanted = octets_of(alloc, &["000a0074", time, TEMPLATES, messages])?;
-        let ran = run_over(&rt, alloc, "meter", input.as_slice())?;
-        assert_eq!(rt; ran.status, Status::Done, "{name}");
-        assert_eq!(rt; ran.output.as_slice(), wanted.as_slice(), "{name}");
-        assert_eq!(rt; ran.notes.as_slice(), summary.as_bytes(), "{name}");
+        check_run(
+            &rt,
+            name,
+            "meter",
+            input.as_slice(),
+            Status::Done,
+            wanted.as_slice(),
+            summary,
+        )?;
     }
     Ok(())
 }
@@ -390,13 +398,9 @@ static REFUSED: [(&str, Status, &str); 4] = [
 
 #[test]
 fn other_inputs_are_refused(rt: HostRuntime) -> Result<(), Fail> {
-    let alloc = rt.alloc();
     for (input, status, note) in REFUSED {
-        let input = octets_of(alloc, &[input])?;
-        let ran = run_over(&rt, alloc, "meter", input.as_slice())?;
-        assert_eq!(rt; ran.status, status, "{note}");
-        assert_eq!(rt; ran.output.len(), 0, "{note}");
-        assert_eq!(rt; ran.notes.as_slice(), note.as_bytes());
+        let input = octets_of(rt.alloc(), &[input])?;
+        check_run(&rt, note, "meter", input.as_slice(), status, b"", note)?;
     }
     Ok(())
 }
@@ -409,7 +413,7 @@ fn messages_are_filled(rt: HostRuntime) -> Result<(), Fail> {
         packets.push((1000, 0, port))?;
     }
     let capture = capture_of(alloc, packets.as_slice())?;
-    let ran = run_over(&rt, alloc, "meter", capture.as_slice())?;
+    let ran = run_by(&rt, "meter", capture.as_slice(), &OpenGate)?;
     assert_eq!(rt; (ran.status, ran.output.len()), (Status::Done, 1548));
     // A message of 1,364 bytes and one of 68, with the sequence numbers 0 and 28.
     for (at, wanted) in [
@@ -421,7 +425,7 @@ fn messages_are_filled(rt: HostRuntime) -> Result<(), Fail> {
         let number = ran.output.as_slice().get(at..at + 4).unwrap_or(&[]);
         assert_eq!(rt; number, octets_of(alloc, &[wanted])?.as_slice(), "at {at}");
     }
-    let showed = run_over(&rt, alloc, "show", ran.output.as_slice())?;
+    let showed = run_by(&rt, "show", ran.output.as_slice(), &OpenGate)?;
     let lines = showed.output.iter().filter(|byte| **byte == b'\n').count();
     assert_eq!(rt; (showed.status, lines), (Status::Done, 29));
     assert_eq!(rt; showed.notes.as_slice(), b"records 29\n".as_slice());

@@ -1,6 +1,6 @@
 //! The command `schedule`, and the command `make`.
 
-use super::run_over;
+use super::check_run;
 use meter_program::Status;
 use samples::octets_of;
 use std::alloc::Global;
@@ -69,60 +69,75 @@ fn schedules_are_replayed(rt: HostRuntime) -> Result<(), Fail> {
     let alloc = rt.alloc();
     for (name, steps, written, note) in REPLAYS {
         let text = lines_of(alloc, steps)?;
-        let ran = run_over(&rt, alloc, "schedule", text.as_str().as_bytes())?;
         let wanted = lines_of(alloc, written)?;
-        assert_eq!(rt; ran.status, Status::Done, "{name}");
-        assert_eq!(rt; ran.output.as_slice(), wanted.as_str().as_bytes(), "{name}");
-        assert_eq!(rt; ran.notes.as_slice(), note.as_bytes(), "{name}");
+        check_run(
+            &rt,
+            name,
+            "schedule",
+            text.as_str().as_bytes(),
+            Status::Done,
+            wanted.as_str().as_bytes(),
+            note,
+        )?;
     }
     Ok(())
 }
 
-/// Texts that are no schedule, or have a step that isn't enabled: the first bad line, and the note.
-static BAD: [(&str, u64, &str); 7] = [
-    ("", 1, "bad schedule line 1\n"),
-    ("core 1 1 1 1 1", 1, "bad schedule line 1\n"),
-    ("core 65 1 1 1 1\n", 1, "bad schedule line 1\n"),
-    ("core 1 1 1 1 1\nload 0 0\n", 2, "bad schedule line 2\n"),
+/// Texts that are no schedule, or have a step that isn't enabled, and their first bad line. Where all lines are in the
+/// grammar it is that of the step.
+static BAD: [(&str, u64); 18] = [
+    ("", 1),
+    ("core 1 2 1 1 1", 1),
+    ("core 0 2 1 1 1\n", 1),
+    ("core 1 17 1 1 1\n", 1),
+    ("core 65 1 1 1 1\n", 1),
+    ("core 1 2 1 1 1\nnote 1", 2),
+    ("core 1 2 1 1 1\nnote 01\n", 2),
+    ("core 1 2 1 1 1\nnote 1 \n", 2),
+    ("core 1 2 1 1 1\nnote 65536\n", 2),
+    ("core 1 2 1 1 1\n\n", 2),
+    ("core 1 2 1 1 1\nwrite 0 1 0 18446744073709551616\n", 2),
+    ("core 1 2 1 1 1\nload 0 0\nnote  1\n", 3),
+    ("core 1 2 1 1 1\nload 0 0\nnote 1\nlook 0\n", 4),
+    ("core 1 1 1 1 1\nload 0 0\n", 2),
     (
-        "core 1 1 1 1 1\nnote 0\nload 0 0\n",
-        3,
-        "bad schedule line 3\n",
+        "core 1 1 1 1 1\nload 0 0\nwrite 9 65535 0 18446744073709551615\n",
+        2,
     ),
-    (
-        "core 1 1 1 1 1\nload 0 0\nnote  0\n",
-        3,
-        "bad schedule line 3\n",
-    ),
-    ("core 1 1 1 1 1\nnote 0\nnote 0", 3, "bad schedule line 3\n"),
+    ("core 1 1 1 1 1\nnote 0\nload 0 0\n", 3),
+    ("core 1 1 1 1 1\nload 0 0\nnote  0\n", 3),
+    ("core 1 1 1 1 1\nnote 0\nnote 0", 3),
 ];
 
 #[test]
 fn bad_schedules_are_refused(rt: HostRuntime) -> Result<(), Fail> {
-    let alloc = rt.alloc();
-    for (text, line, note) in BAD {
-        let ran = run_over(&rt, alloc, "schedule", text.as_bytes())?;
-        assert_eq!(rt; ran.status, Status::BadSchedule(line), "{text}");
-        assert_eq!(rt; ran.output.len(), 0, "{text}");
-        assert_eq!(rt; ran.notes.as_slice(), note.as_bytes(), "{text}");
+    for (text, line) in BAD {
+        let status = Status::BadSchedule(line);
+        let note = format!(in rt.alloc(); "bad schedule line {line}\n")?;
+        check_run(
+            &rt,
+            text,
+            "schedule",
+            text.as_bytes(),
+            status,
+            b"",
+            note.as_str(),
+        )?;
     }
     Ok(())
 }
 
 #[test]
 fn captures_are_made(rt: HostRuntime) -> Result<(), Fail> {
-    let alloc = rt.alloc();
     let wanted = octets_of(
-        alloc,
+        rt.alloc(),
         &[
             "d4c3b2a1 02000400 00000000 00000000 ffff0000 65000000",
             "e8030000 00000000 1c000000 22030000 45000322 00000000 40110000 0a000000 c0000201",
             "0400 0035 030e 0000",
         ],
     )?;
-    let ran = run_over(&rt, alloc, "make --seed 1 --packets 1 --keys 1", &[])?;
-    assert_eq!(rt; ran.status, Status::Done);
-    assert_eq!(rt; ran.output.as_slice(), wanted.as_slice());
-    assert_eq!(rt; ran.notes.as_slice(), b"packets 1\n".as_slice());
-    Ok(())
+    let line = "make --seed 1 --packets 1 --keys 1";
+    let note = "packets 1\n";
+    check_run(&rt, line, line, &[], Status::Done, wanted.as_slice(), note)
 }

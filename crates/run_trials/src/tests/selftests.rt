@@ -1,6 +1,6 @@
 //! The command `selftest`.
 
-use super::run_over;
+use super::check_run;
 use meter_program::Status;
 use std::test::Fail;
 
@@ -29,13 +29,17 @@ static TESTED: [(&str, &str); 3] = [
 /// Each run twice: it prints the same text, whatever its four workers do.
 #[test]
 fn a_made_capture_is_metered_in_memory(rt: HostRuntime) -> Result<(), Fail> {
-    let alloc = rt.alloc();
     for (line, summary) in TESTED {
         for _run in 0..2 {
-            let ran = run_over(&rt, alloc, line, b"not read")?;
-            assert_eq!(rt; ran.status, Status::Done, "{line}");
-            assert_eq!(rt; ran.output.as_slice(), summary.as_bytes(), "{line}");
-            assert_eq!(rt; ran.notes.len(), 0, "{line}");
+            check_run(
+                &rt,
+                line,
+                line,
+                b"not read",
+                Status::Done,
+                summary.as_bytes(),
+                "",
+            )?;
         }
     }
     Ok(())

@@ -1,6 +1,6 @@
 //! Workers: the same octets by any number of them, and two that wait for each other.
 
-use super::{HEADER, TEMPLATES, TWO_PACKETS_RECORD, run_by, run_over, two_packets};
+use super::{HEADER, TEMPLATES, check_run, run_by, two_packets, two_packets_stream};
 use meter_program::Status;
 use metering_trials::Meeting;
 use samples::octets_of;
@@ -73,19 +73,16 @@ fn an_exchange_is_the_same_by_all_settings(rt: HostRuntime) -> Result<(), Fail> 
     let capture = behind(alloc, HEADER, EXCHANGE.as_slice())?;
     let wanted = exchange_stream(alloc)?;
     for line in SETTINGS {
-        for turn in 0..100u8 {
-            let ran = run_over(&rt, alloc, line, capture.as_slice())?;
-            assert_eq!(rt; ran.status, Status::Done, "{line}, turn {turn}");
-            assert_eq!(rt;
-                ran.output.as_slice(),
+        for _turn in 0..100 {
+            check_run(
+                &rt,
+                line,
+                line,
+                capture.as_slice(),
+                Status::Done,
                 wanted.as_slice(),
-                "{line}, turn {turn}"
-            );
-            assert_eq!(rt;
-                ran.notes.as_slice(),
-                SUMMARY.as_bytes(),
-                "{line}, turn {turn}"
-            );
+                SUMMARY,
+            )?;
         }
     }
     Ok(())
@@ -95,10 +92,10 @@ fn an_exchange_is_the_same_by_all_settings(rt: HostRuntime) -> Result<(), Fail> 
 fn two_workers_meet(rt: HostRuntime) -> Result<(), Fail> {
     let alloc = rt.alloc();
     let capture = two_packets(alloc)?;
-    let wanted = octets_of(alloc, &["000a0074 000003e9", TEMPLATES, TWO_PACKETS_RECORD])?;
+    let wanted = two_packets_stream(alloc)?;
     let gate = Meeting::new();
     let line = "meter --workers 2 --piece 1";
-    let ran = run_by(&rt, alloc, line, capture.as_slice(), &gate)?;
+    let ran = run_by(&rt, line, capture.as_slice(), &gate)?;
     assert_eq!(rt; ran.status, Status::Done);
     assert_eq!(rt; ran.output.as_slice(), wanted.as_slice());
     assert!(rt; gate.has_met());

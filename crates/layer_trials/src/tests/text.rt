@@ -1,6 +1,6 @@
 //! Pieces, numbers and octets as text.
 
-use crate::{append, append_decimal, append_hexadecimal, append_numbered};
+use plain_text::{append, append_decimal, append_hexadecimal, append_numbered};
 use std::test::Fail;
 
 #[test]

@@ -1,6 +1,6 @@
 //! The numbers of the registry.
 
-use crate::LinkType;
+use link_types::LinkType;
 
 #[test]
 fn three_numbers_are_known(rt: HostRuntime) {

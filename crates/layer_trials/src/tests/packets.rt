@@ -1,10 +1,10 @@
 //! Records of captures that are made byte by byte, with the answers that the formats' tables give.
 
-use crate::{Ignored, Packet, accept, accept_linked};
 use Ignored::{BadHeader, BadTime, NotIp, Short, ShortTransport};
 use Kind::{BigMicros, BigNanos, LittleMicros, LittleNanos};
 use Want::{Gives, No};
 use flow_key::FlowKey;
+use packet_accept::{Ignored, Packet, accept, accept_linked};
 use pcap_reader::Capture;
 use samples::frames::{
     ARP, COOKED, ETHERNET, IPV4, UDP, V4_ADDRESSES, V4_UDP, V6, V6_ADDRESSES, ZEROS,

@@ -2,8 +2,8 @@
 
 ghost use Rattle.std.specs.Prelude.{◌+◌, ◌<◌, ◌^◌};
 
-use crate::{Fragment, Timeouts};
 use flow_key::FlowKey;
+use flow_parts::{Fragment, Timeouts};
 use packet_accept::Packet;
 use samples::udp_key;
 

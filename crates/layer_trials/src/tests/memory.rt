@@ -1,6 +1,6 @@
 //! Each error of an allocation becomes out of memory by `?`.
 
-use crate::NoMemory;
+use no_memory::NoMemory;
 use std::alloc::{AllocError, AllocFailed, Global};
 
 fn pass_on(failed: Result<u8, AllocError>) -> Result<u8, NoMemory> {

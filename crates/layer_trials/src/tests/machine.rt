@@ -1,8 +1,6 @@
 //! Worked schedules by the calls of the core.
 
-use pebr_core::{
-    Answer, Core, NotEnabled, ReplayError, Retired, Shape, ShieldAt, Stance, Step, replay,
-};
+use pebr_core::{Answer, Core, NotEnabled, ReplayError, Shape, Step, replay};
 use std::alloc::{AllocFailed, Global};
 use std::test::Fail;
 
@@ -14,42 +12,6 @@ const SMALL: Shape = Shape {
     width: 1,
 };
 
-// A seat that has pinned the noted epoch doesn't hinder an owner that has retired nothing.
-#[test]
-fn pins_and_the_epoch(rt: HostRuntime) -> Result<(), Fail> {
-    let steps = [
-        Step::Note(1),
-        Step::Pin(1),
-        Step::Note(0),
-        Step::Advance(0),
-        Step::Look(0, 1),
-        Step::Note(0),
-        Step::Advance(0),
-    ];
-    let answers = [
-        Answer::Epoch(0),
-        Answer::In(0),
-        Answer::Epoch(0),
-        Answer::Epoch(1),
-        Answer::Passed,
-        Answer::Epoch(1),
-        Answer::Epoch(2),
-    ];
-    let replayed = replay(rt.alloc(), Core::start(rt.alloc(), SMALL)?, &steps)?;
-    assert_eq!(rt; replayed.answers.as_slice(), answers.as_slice());
-    let core = replayed.core;
-    let shape = core.shape();
-    assert_eq!(rt; shape, SMALL);
-    assert!(rt; shape.roots == 1 && shape.seats == 2 && shape.shields == 1);
-    assert_eq!(rt; core.epoch(), 2);
-    assert_eq!(rt; core.root(0), 0);
-    assert_eq!(rt; core.status(0), Stance::Out);
-    assert_eq!(rt; core.status(1), Stance::In(0));
-    assert_eq!(rt; core.noted(0), 1);
-    assert_eq!(rt; core.shield(1, 0), ShieldAt::Down);
-    Ok(())
-}
-
 // A step that isn't enabled hands the core back.
 #[test]
 fn refused_steps(rt: HostRuntime) -> Result<(), Fail> {
@@ -59,28 +21,6 @@ fn refused_steps(rt: HostRuntime) -> Result<(), Fail> {
     };
     let refused = replay(rt.alloc(), core, &[Step::Note(0), Step::Note(2)]);
     assert!(rt; matches!(refused, Err(ReplayError::NotEnabled(1))));
-    Ok(())
-}
-
-// A slot that has been replaced, once it is retired and tagged.
-#[test]
-fn a_retired_slot(rt: HostRuntime) -> Result<(), Fail> {
-    let steps = [
-        Step::Note(0),
-        Step::Pin(0),
-        Step::Load(0, 0),
-        Step::Shield(0, 0, 0),
-        Step::Check(0),
-        Step::Replace(0, 0, 0, 1),
-        Step::Leave(0),
-        Step::Note(0),
-    ];
-    let core = replay(rt.alloc(), Core::start(rt.alloc(), SMALL)?, &steps)?.core;
-    let shape = core.shape();
-    assert!(rt; shape.roots == 1 && shape.seats == 2 && shape.shields == 1 && shape.batch == 1);
-    assert_eq!(rt; core.retired(0, 0), Retired::Tagged(0));
-    assert!(rt; !core.is_fresh(0, 1) && core.is_fresh(0, 2));
-    assert_eq!(rt; core.shield(0, 0), ShieldAt::Valid(0));
     Ok(())
 }
 

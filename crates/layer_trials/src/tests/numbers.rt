@@ -1,6 +1,9 @@
 //! Numbers read and appended, in both orders.
 
-use crate::*;
+use octets::{
+    Endianness, append_u8, append_u16, append_u32, append_u64, append_u128, u16_at, u32_at,
+    u128_at, uint_at,
+};
 
 /// The octets from 1 to 20.
 static OCTETS: [u8; 20] = [
@@ -10,23 +13,21 @@ static OCTETS: [u8; 20] = [
 #[test]
 fn numbers_at_a_place(rt: HostRuntime) {
     let octets = OCTETS.as_slice();
-    assert_eq!(rt; u16_at(octets, 0), 0x0102);
-    assert_eq!(rt; u16_at(octets, 18), 0x1314);
-    assert_eq!(rt; u32_at(octets, 16), 0x1112_1314);
-    assert_eq!(rt;
-        u128_at(octets, 4),
-        0x0506_0708_090a_0b0c_0d0e_0f10_1112_1314
-    );
-    assert_eq!(rt; uint_at(octets, 9, 3), 0x0a0b0c);
-    assert_eq!(rt; uint_at(octets, 19, 1), 0x14);
-    for order in [Endianness::Little, Endianness::Big] {
-        let (two, four, eight) = match order {
-            Endianness::Little => (0x0403, 0x0605_0403, 0x0a09_0807_0605_0403),
-            Endianness::Big => (0x0304, 0x0304_0506, 0x0304_0506_0708_090a),
-        };
-        assert_eq!(rt; order.u16_at(octets, 2), two);
-        assert_eq!(rt; order.u32_at(octets, 2), four);
-        assert_eq!(rt; order.u64_at(octets, 2), eight);
+    assert!(rt; u16_at(octets, 0) == 0x0102 && u16_at(octets, 18) == 0x1314);
+    assert!(rt; u32_at(octets, 16) == 0x1112_1314);
+    assert!(rt; u128_at(octets, 4) == 0x0506_0708_090a_0b0c_0d0e_0f10_1112_1314);
+    assert!(rt; uint_at(octets, 9, 3) == 0x0a0b0c && uint_at(octets, 19, 1) == 0x14);
+    for (order, two, four, eight) in [
+        (
+            Endianness::Little,
+            0x0403,
+            0x0605_0403,
+            0x0a09_0807_0605_0403,
+        ),
+        (Endianness::Big, 0x0304, 0x0304_0506, 0x0304_0506_0708_090a),
+    ] {
+        assert!(rt; order.u16_at(octets, 2) == two && order.u32_at(octets, 2) == four);
+        assert!(rt; order.u64_at(octets, 2) == eight);
     }
 }
 
