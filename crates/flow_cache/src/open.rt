@@ -49,7 +49,7 @@ impl PebrCache {
         let mut passes = Vec::new(alloc);
         for _turn in 0..inner.len() {
             let Some(last) = inner.pop() else {
-                return Err(NoMemory);
+                unreachable!()
             };
             let pass = self.pass(last, inner.len());
             add(&mut passes, pass)?;

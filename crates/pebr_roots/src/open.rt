@@ -42,7 +42,7 @@ impl<P: RootProtocol> Roots<P> {
         let mut passes = Vec::new(alloc);
         for _turn in 0..seats.len() {
             let Some(seat) = seats.pop() else {
-                return Err(NoMemory);
+                unreachable!()
             };
             let pass = self.pass(seat, seats.len());
             put(&mut passes, pass)?;
