@@ -160,16 +160,11 @@ fn work_through<C: FlowCache, G: Gate>(
     ensures below { OnOk result (AreBelow (base + length index.now.offsets) (C.shown pass.new).note.packets) }
 {
     packets_law();
-    for _turn in 0..u64::MAX {
-        match pieces.draw(draw) {
-            None => return Ok(()),
-            Some(piece) => {
-                gate.reach(number, piece.number);
-                meter_piece(capture, index, base, piece, cache, pass, out, tally)?;
-            }
-        }
+    while let Some(piece) = pieces.draw(draw) {
+        gate.reach(number, piece.number);
+        meter_piece(capture, index, base, piece, cache, pass, out, tally)?;
     }
-    Err(NoMemory)
+    Ok(())
 }
 
 /// Draws pieces, meters their records through the worker's pass, and tallies them, until none is left: the worker is

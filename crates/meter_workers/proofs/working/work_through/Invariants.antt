@@ -1,12 +1,12 @@
-use Rattle.std.proofs.Common.{◌≡◌, ◌≤◌, ◌+◌, ◌++◌, ℕ, List, length}
+use Rattle.std.proofs.Common.{◌≡◌, ◌≤◌, ◌+◌, ◌-◌, ◌++◌, ℕ, List, length}
 use Rattle.pcap_reader.specs.Views.{file_of}
 use Rattle.work_pieces.specs.Passes.{IsPassOf, size_of, drawn_of, seats_of}
 use Rattle.meter_workers.specs.Answers.{answers_from, pieces_of}
 use Rattle.meter_workers.specs.Work.{Did, AreBelow, IsBehind, IsTallied}
 use Rattle.meter_workers.proofs.working.work_through.Given as goal
 
-abbrev pub invariant-loop-turn : goal.invariant-loop-turn
-invariant-loop-turn g l = record {
+abbrev pub invariant-loop-draw : goal.invariant-loop-draw
+invariant-loop-draw g l = record {
   own : g.C.FlowCache.is_of l.cache l.pass;
   single : (g.C.FlowCache.shown l.pass).note.seats ≡ 1;
   draws : IsPassOf l.pieces l.draw;
@@ -21,3 +21,6 @@ invariant-loop-turn g l = record {
       (g.C.FlowCache.shown l.pass).note.packets l.tally.captured;
   below : AreBelow (l.base + length l.index.offsets) (g.C.FlowCache.shown l.pass).note.packets;
 }
+
+abbrev pub decreases-loop-draw : goal.decreases-loop-draw
+decreases-loop-draw g l = l.initial.tally.captured + length l.index.offsets - l.tally.captured
