@@ -77,7 +77,7 @@ fn each_read_and_write_can_fail(rt: HostRuntime) -> Result<(), Fail> {
     for (line, faulty, wanted) in FAULTS {
         let input = if line == "meter" { &capture } else { &stream };
         let ended = run_faulty(&rt, line, input.as_slice(), faulty)?;
-        assert_eq!(rt; ended, wanted, "{line}: {faulty:?}");
+        assert_eq!(rt; ended, wanted, "{faulty:?}");
     }
     Ok(())
 }
