@@ -104,8 +104,10 @@ fn batches_go_through_in_order(rt: HostRuntime) -> Result<(), Fail> {
     Ok(())
 }
 
+/// Compiles where what is lent may be lent to several threads.
 fn check_sync<T: Sync>(_value: &T) {}
 
+/// Compiles where the value may go to another thread, and gives it back.
 fn check_send<T: Send>(value: T) -> T
     ensures { result ≡ value }
 {

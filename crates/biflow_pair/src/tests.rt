@@ -40,6 +40,7 @@ fn record(out: bool, near: u16, far: u16, first: u64, length: u32) -> FlowRecord
     FlowRecord { part, reason: 4 }
 }
 
+/// A biflow without a reverse flow.
 fn one_way(forward: FlowRecord) -> Biflow {
     Biflow {
         forward,
@@ -47,6 +48,7 @@ fn one_way(forward: FlowRecord) -> Biflow {
     }
 }
 
+/// A biflow of a flow and its reverse.
 fn both(forward: FlowRecord, reverse: FlowRecord) -> Biflow {
     Biflow {
         forward,

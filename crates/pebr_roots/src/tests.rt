@@ -169,6 +169,7 @@ fn ejected_after_its_check(
         && is_collected(mild, 1, 0)
 }
 
+/// Whether a collection gave so many slots and left so many.
 fn is_collected(collected: Collected, given: usize, left: usize) -> bool {
     collected.given == given && collected.left == left
 }
@@ -402,8 +403,10 @@ fn a_pass_is_stopped_behind_each_call(rt: HostRuntime) {
     }
 }
 
+/// Compiles where what is lent may be lent to several threads.
 fn check_sync<T: Sync>(_value: &T) {}
 
+/// Compiles where the value may go to another thread, and gives it back.
 fn check_send<T: Send>(value: T) -> T {
     value
 }

@@ -7,6 +7,7 @@ use flow_parts::{Fragment, Timeouts};
 use packet_accept::Packet;
 use samples::udp_key;
 
+/// A packet of 28 octets from this port at this time.
 fn packet(source_port: u16, time: u64) -> Packet {
     Packet {
         number: 7,
@@ -17,6 +18,7 @@ fn packet(source_port: u16, time: u64) -> Packet {
     }
 }
 
+/// A fragment of three packets from this port, over so many milliseconds.
 fn fragment(source_port: u16, first: u64, length: u32) -> Fragment
     requires { first + length < 2 ^ 64 }
 {

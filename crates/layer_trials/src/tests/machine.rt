@@ -38,7 +38,7 @@ const STOPPING: [Step; 10] = [
     Step::Leave(1),
 ];
 
-// Seat 0 replaces the root's slot, `old`, and collects with force.
+/// Seat 0 replaces the root's slot, `old`, and collects with force.
 fn collect_in(
     alloc: Global,
     stop: usize,

@@ -3,14 +3,17 @@
 use no_memory::NoMemory;
 use std::alloc::{AllocError, AllocFailed, Global};
 
+/// Passes on by `?` that no memory was had.
 fn pass_on(failed: Result<u8, AllocError>) -> Result<u8, NoMemory> {
     Ok(failed?)
 }
 
+/// The same of a failure that gives its value back.
 fn pass_back(failed: Result<u8, AllocFailed<u8>>) -> Result<u8, NoMemory> {
     Ok(failed?)
 }
 
+/// A list of one byte.
 fn one_byte(alloc: Global) -> Result<Vec<u8>, NoMemory> {
     let mut bytes = Vec::with_capacity(alloc, 1)?;
     bytes.push(7)?;

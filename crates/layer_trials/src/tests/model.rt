@@ -10,6 +10,7 @@ use ipfix_model::{
 };
 use std::test::Fail;
 
+/// The least length of a record of these fields.
 fn least_of(rt: &HostRuntime, fields: &[FieldSpec]) -> Result<u64, Fail>
     requires { length fields.now ≤ 65535 }
 {

@@ -336,6 +336,7 @@ fn query() -> FlowKey {
     between(0x0A00_0005, 0x0A00_0001, 17, 50000, 53)
 }
 
+/// From the name server back.
 fn reply() -> FlowKey {
     between(0x0A00_0001, 0x0A00_0005, 17, 53, 50000)
 }
@@ -345,10 +346,12 @@ fn request() -> FlowKey {
     between(0x0A00_0005, 0xC633_6407, 6, 40000, 80)
 }
 
+/// From the web server back.
 fn response() -> FlowKey {
     between(0xC633_6407, 0x0A00_0005, 6, 80, 40000)
 }
 
+/// A key over IPv4.
 fn between(
     source: u32,
     destination: u32,
