@@ -5,5 +5,6 @@ pub mod Own
 pub mod PartFields
 pub mod PartWords
 pub mod Permuted
+pub mod Reaching
 pub mod Shares
 pub mod Walks

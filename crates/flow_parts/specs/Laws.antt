@@ -12,6 +12,7 @@ use Rattle.flow_parts.specs.Heap.{IsHeap}
 use Rattle.flow_parts.specs.Joining.{TakesIn, IsJoinable}
 use Rattle.flow_parts.specs.PartWith.{part_with}
 use Rattle.flow_parts.specs.Parts.{part_words, IsAlone, IsAbsorbed, IsJoined}
+use Rattle.flow_parts.specs.Reaching.{Reaches}
 use Rattle.flow_parts.specs.Sharing.{SharesOut}
 
 -- No fragments share out no packets. Where there are no fragments there are no packets, and the other way round.
@@ -72,6 +73,45 @@ StandsJoined = (limits : Timeouts) (packets : List Packet) (parts others rest : 
     (one other whole : Fragment)
     → IsJoinable limits one other → IsJoined one other whole → SharesOut limits packets parts
     → IsPermutation parts (one ∷ other ∷ rest) → IsPermutation others (whole ∷ rest) → SharesOut limits packets others
+
+-- Whatever packets are shared out by fragments, the fragments reached from these share them out.
+abbrev pub StandsReached : Type 0
+StandsReached = (limits : Timeouts) (packets : List Packet) (parts others : List Fragment)
+    → Reaches limits parts others → SharesOut limits packets parts → SharesOut limits packets others
+
+-- The fragments reached have as many packets and octets together as those that they are reached from.
+abbrev pub ReachesCounts : Type 0
+ReachesCounts = (limits : Timeouts) (parts others : List Fragment) → Reaches limits parts others
+    → (sum_by (λ (f : Fragment). f.packets) others ≡ sum_by (λ (f : Fragment). f.packets) parts)
+    × (sum_by (λ (f : Fragment). f.octets) others ≡ sum_by (λ (f : Fragment). f.octets) parts)
+
+-- Fragments are reached from themselves, and what is reached onward is reached.
+abbrev pub ReachesOnward : Type 0
+ReachesOnward = ((limits : Timeouts) (parts : List Fragment) → Reaches limits parts parts)
+    × ((limits : Timeouts) (parts others wholes : List Fragment) → Reaches limits parts others
+    → Reaches limits others wholes → Reaches limits parts wholes)
+
+-- Reaching stands when either list is permuted.
+abbrev pub ReachesPermuted : Type 0
+ReachesPermuted = (limits : Timeouts) (parts parts' others others' : List Fragment)
+    → IsPermutation parts parts' → IsPermutation others others' → Reaches limits parts others
+    → Reaches limits parts' others'
+
+-- Reaching stands when lists are put together.
+abbrev pub ReachesTogether : Type 0
+ReachesTogether = (limits : Timeouts) (parts others rest wholes : List Fragment) → Reaches limits parts others
+    → Reaches limits rest wholes → Reaches limits (parts ++ rest) (others ++ wholes)
+
+-- Two joinable fragments that were reached are joined, wherever they stand.
+abbrev pub ReachesJoined : Type 0
+ReachesJoined = (limits : Timeouts) (parts others wholes rest : List Fragment) (one other whole : Fragment)
+    → IsJoinable limits one other → IsJoined one other whole → Reaches limits parts others
+    → IsPermutation others (one ∷ other ∷ rest) → IsPermutation wholes (whole ∷ rest) → Reaches limits parts wholes
+
+-- From no fragments none are reached, and none from some.
+abbrev pub ReachesNone : Type 0
+ReachesNone = (limits : Timeouts) (parts others : List Fragment) → Reaches limits parts others
+    → (parts ≡ []) ↔ (others ≡ [])
 
 -- A packet has one fragment of its own.
 abbrev pub OwnIsOne : Type 0

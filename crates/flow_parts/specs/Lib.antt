@@ -5,5 +5,6 @@ pub mod Joining
 pub mod Laws
 pub mod Parts
 pub mod PartWith
+pub mod Reaching
 pub mod Sharing
 pub mod Union

@@ -4,6 +4,8 @@ ghost use Rattle.flow_parts.specs.Laws.{NothingIsShared, StandsTogether, StandsP
 ghost use Rattle.flow_parts.specs.Laws.{CoversTimes, StandsOpened, StandsAbsorbed, StandsJoined, OwnIsOne};
 ghost use Rattle.flow_parts.specs.Laws.{FitsAsJoinable, AbsorbsAsJoins, JoinsEitherWay, ClosedByPackets, WordsTell};
 ghost use Rattle.flow_parts.specs.Laws.{FieldsTell, PartsFit, AnswersOnce, PartOfItsFields, NoneWhereUnfit};
+ghost use Rattle.flow_parts.specs.Laws.{StandsReached, ReachesCounts, ReachesOnward, ReachesPermuted, ReachesTogether};
+ghost use Rattle.flow_parts.specs.Laws.{ReachesJoined, ReachesNone};
 
 /// Sharing out stands when two lists are put together, and when the packets or the fragments are permuted.
 /// No fragments share out no packets, and nothing else; one fragment shares out its heaps.
@@ -27,6 +29,23 @@ pub fn sharing_out_goes_on()
     ensures opened { StandsOpened }
     ensures absorbed { StandsAbsorbed }
     ensures joined { StandsJoined }
+{}
+
+/// Fragments that are reached from others by permuting and joining share out what these do, and have as many packets
+/// and octets.
+pub fn reaching_shares_out()
+    ensures shared { StandsReached }
+    ensures counts { ReachesCounts }
+    ensures none { ReachesNone }
+{}
+
+/// Reaching goes on: from itself, onward, when lists are permuted or put together, and when two fragments are joined,
+/// wherever they stand.
+pub fn reaching_goes_on()
+    ensures onward { ReachesOnward }
+    ensures permuted { ReachesPermuted }
+    ensures together { ReachesTogether }
+    ensures joined { ReachesJoined }
 {}
 
 /// A packet fits a fragment exactly where the packet's own fragment is joinable with it, and absorbing it is joining.

@@ -20,7 +20,7 @@ impl Template {
 
     /// The least length of a record of this template, in octets: a variable field takes at least its length byte
     /// (RFC 7011, section 7).
-    pub fn least_length(&self) -> u64
+    pub fn least(&self) -> u64
         ensures { result ≡ least_length self.now.fields }
     {
         let mut least: u64 = 0;

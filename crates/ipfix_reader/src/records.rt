@@ -73,7 +73,7 @@ pub fn read_data(
     ensures fault { IfErr result (IsFaultOf
         (data_records domain number known.now.template.fields records.old.items (part_of set.entry))) }
 {
-    let least = known.template.least_length();
+    let least = known.template.least();
     let mut rest = set;
     'records: while rest.len() as u64 >= least {
         match read_record(alloc, domain, number, known, records, rest) {

@@ -42,7 +42,7 @@ pub fn template_of<'a>(
         options,
         fields: FieldList::of(fields),
     };
-    if template.least_length() == 0 {
+    if template.least() == 0 {
         return Err(StreamError::Fault(bad));
     }
     Ok((template, rest))

@@ -12,11 +12,11 @@ use std::alloc::Global;
 #[derive(Clone, Copy, Debug, PartialEq, Eq)]
 pub enum ReadError {
     /// The source failed, and counted it.
-    Failed = 1,
+    Failed,
     /// More bytes came than the limit.
-    TooLarge = 2,
+    TooLarge,
     /// Out of memory.
-    NoMemory = 3,
+    NoMemory,
 }
 
 /// How many bytes one read asks for at most.

@@ -9,15 +9,15 @@ use packet_headers::HeaderFault;
 #[derive(Clone, Copy, Debug, PartialEq, Eq)]
 pub enum Ignored {
     /// The frame holds no IP packet.
-    NotIp = 1,
+    NotIp,
     /// The link part, the IP header or an extension header ends behind what was captured of the packet.
-    Short = 2,
+    Short,
     /// The IP header's fields contradict each other, or its packet is longer than 16,777,215 octets.
-    BadHeader = 3,
+    BadHeader,
     /// The TCP or UDP header's fields end behind what was captured of the packet.
-    ShortTransport = 4,
+    ShortTransport,
     /// The fraction of the record's time is a second or more.
-    BadTime = 5,
+    BadTime,
 }
 
 impl From<HeaderFault> for Ignored {

@@ -4,9 +4,9 @@
 #[derive(Clone, Copy, Debug, PartialEq, Eq)]
 pub enum HeaderFault {
     /// The header, or a part of it that is needed, ends behind what was captured of the packet.
-    Short = 1,
+    Short,
     /// The frame holds no IP packet.
-    NotIp = 2,
+    NotIp,
     /// The header's fields contradict each other, or its packet is longer than 16,777,215 octets.
-    BadHeader = 3,
+    BadHeader,
 }

@@ -19,7 +19,7 @@ fn least_of(rt: &HostRuntime, fields: &[FieldSpec]) -> Result<u64, Fail>
         options: false,
         fields: FieldList::of(fields.to_vec(rt.alloc())?),
     };
-    Ok(template.least_length())
+    Ok(template.least())
 }
 
 #[test]

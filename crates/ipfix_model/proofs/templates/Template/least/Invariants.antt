@@ -1,6 +1,6 @@
 use Rattle.std.proofs.Common.{◌≡◌, ◌≤◌, ◌*◌, sum_by, take}
 use Rattle.ipfix_model.specs.Fields.{field_least}
-use Rattle.ipfix_model.proofs.templates.Template.least_length.Given as goal
+use Rattle.ipfix_model.proofs.templates.Template.least.Given as goal
 
 abbrev pub invariant-loop-field : goal.invariant-loop-field
 invariant-loop-field l = record {
