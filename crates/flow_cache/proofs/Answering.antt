@@ -1,43 +1,19 @@
 -- What a pass is told of the packet that it metered.
-use Rattle.std.proofs.Common.{◌≡◌, ◌<◌, ◌^◌, List, [], ◌∷◌, ◌++◌, ℕ, length, map, Option, All, sym, ap, ◌∙◌, subst}
+use Rattle.std.proofs.Common.{◌≡◌, ◌<◌, List, ◌++◌, ℕ, length, map, Option, MatchOption, All, sym, ap, ◌∙◌, subst}
 use Rattle.std.proofs.Common.{arith, append_assoc}
 use Rattle.std.proofs.lemmas.List.{length-map, map-append}
-use Rattle.std.proofs.lemmas.List.Elements.{All-nil, All-cons, All-map, All-weaker}
-use Rattle.packet_accept.specs.declared.packet.Packet.{Packet}
+use Rattle.std.proofs.lemmas.List.Elements.{All-map}
 use Rattle.flow_key.specs.Key.{set_number}
 use Rattle.flow_parts.specs.declared.fragment.Fragment.{Fragment}
-use Rattle.flow_parts.specs.declared.timeouts.Timeouts.{Timeouts}
-use Rattle.flow_parts.specs.Heap.{IsHeap}
-use Rattle.flow_parts.specs.Parts.{IsAlone}
-use Rattle.flow_parts.proofs.Shares.{its_heap}
 use Rattle.cache_face.specs.declared.metered.How.{How}
 use Rattle.cache_face.specs.declared.metered.How.TheVariants as how
 use Rattle.cache_face.specs.Choice.{IsChoice}
-use Rattle.cache_face.specs.Keeping.{IsBounded}
-use Rattle.cache_face.specs.Meaning.{CacheMeans, PassMeans, HasLost, IsAnswer, IsPutIn}
-use Rattle.cache_face.specs.Notes.{Note}
+use Rattle.cache_face.specs.Meaning.{CacheMeans, Written, PassMeans, HasLost, IsAnswer, IsPutIn}
 use Rattle.pebr_words.specs.Pasts.{Lost, History}
 use Rattle.flow_cache.specs.Outcome.{IsOutcome}
-use Rattle.flow_cache.specs.Reading.{entries_read, set_read}
+use Rattle.flow_cache.specs.Reading.{entries_read, set_read, written_in}
 use Rattle.flow_cache.specs.Shown.{try_of, IsTryOf}
-use Rattle.flow_cache.specs.Trying.{IsOwn, HasChosen}
-
--- the fragment of one packet can be metered
-pub own_of : (limits : Timeouts) (note : Note) (packet : Packet) (own : Fragment) → note.seats ≡ 1
-    → packet.number < 2 ^ 32 → packet.octets < 2 ^ 24 → All (λ p. p.number < packet.number) note.packets
-    → IsAlone packet own → IsHeap limits (packet ∷ []) own → IsOwn limits note packet own
-own_of limits note packet own single number octets rises alone heap = record {
-  can = record {
-    single = single;
-    bounded = All-cons IsBounded packet [] (number, octets) (All-nil IsBounded);
-    rises = (All-nil (λ p. packet.number < p.number), tt);
-    above = All-weaker (λ p. p.number < packet.number) (λ p. All (λ q. p.number < q.number) (packet ∷ []))
-        (λ p low. All-cons (λ q. p.number < q.number) packet [] low (All-nil (λ q. p.number < q.number))) note.packets
-        rises;
-  };
-  shares = (its_heap limits (packet ∷ []) own).0 heap;
-  small = (let p = alone.packets in let o = alone.octets in (omega (arith, p), omega (arith, o, octets)));
-}
+use Rattle.flow_cache.specs.Trying.{HasChosen}
 
 -- the tries that a pass lost stand before those that it had lost
 pub lost_on : (tries lost lost' more more' : List Lost) → lost' ≡ tries ++ lost → more' ≡ more
@@ -50,7 +26,7 @@ module _ (cache : CacheMeans) (old new : PassMeans) (past : History) (own : Frag
     (at count : ℕ) (tries : List Lost)
     (set_is : at ≡ set_number own.key cache.sets) (set_shown : new.set ≡ set_read past.loads)
     (entries_shown : new.entries ≡ entries_read past (set_read past.loads))
-    (listed : new.lost ≡ map try_of tries ++ old.lost) (many : length tries ≡ count)
+    (written_shown : new.written ≡ written_in past.put) (listed : new.lost ≡ map try_of tries ++ old.lost) (many : length tries ≡ count)
     (each : All (λ try. IsTryOf at (try_of try)) tries) where
   lost : HasLost IsTryOf (set_number own.key cache.sets) old new (map try_of tries)
   lost = (listed, subst (λ n. All (IsTryOf n) (map try_of tries)) set_is (All-map (IsTryOf at) try_of tries each))
@@ -60,10 +36,12 @@ module _ (cache : CacheMeans) (old new : PassMeans) (past : History) (own : Frag
     chosen = record {
       set = set_shown ∙ h.last ∙ set_is;
       four = ap length (entries_shown ∙ ap (entries_read past) h.last) ∙ h.four;
-      place = h.place;
-      kept = h.kept;
-      chosen = subst (λ es. IsChoice cache.limits es own by h.place out h.kept)
-          (sym (entries_shown ∙ ap (entries_read past) h.last)) h.chosen;
+      chosen = subst
+          (λ (w : Option Written). MatchOption w ⊥
+          (λ wrote. IsChoice cache.limits new.entries own by wrote.place out wrote.kept)) (sym written_shown)
+          (subst (λ es. MatchOption (written_in past.put) ⊥
+          (λ wrote. IsChoice cache.limits es own by wrote.place out wrote.kept))
+          (sym (entries_shown ∙ ap (entries_read past) h.last)) h.chosen);
     };
     tries = map try_of tries;
     lost = lost;

@@ -1,8 +1,6 @@
 -- What the cache and its passes mean.
 use Rattle.std.specs.Prelude.{◌≡◌, ◌⊎◌, ℕ, ◌+◌, ◌*◌, ◌<◌, List, Option, map}
-use Rattle.packet_accept.specs.declared.packet.Packet.{Packet}
 use Rattle.flow_parts.specs.declared.fragment.Fragment.{Fragment}
-use Rattle.flow_parts.specs.declared.timeouts.Timeouts.{Timeouts}
 use Rattle.cache_face.specs.Meaning.{CacheMeans, PassMeans}
 use Rattle.cache_face.specs.Notes.{Note, first_note, empty_note}
 use Rattle.cache_face.specs.Tries.{LostTry}
@@ -15,19 +13,20 @@ use Rattle.pebr_roots.specs.Passes.{shape_at, known_by, note_by, past_by, lost_b
 use Rattle.pebr_roots.specs.declared.pass.RootPass.{RootPass}
 use Rattle.pebr_roots.specs.declared.pass.Roots.{Roots}
 use Rattle.flow_cache.specs.contracts.protocol.CacheRuleRootProtocol.TheImpl as rule
+use Rattle.flow_cache.specs.declared.protocol.CacheFixed.{CacheFixed}
 use Rattle.flow_cache.specs.declared.protocol.CacheRule.{CacheRule}
 use Rattle.flow_cache.specs.declared.cache.PebrCache.{PebrCache}
 use Rattle.flow_cache.specs.declared.cache.PebrPass.{PebrPass}
 use Rattle.flow_cache.specs.Places.{root_of}
-use Rattle.flow_cache.specs.Reading.{entries_read, set_read}
+use Rattle.flow_cache.specs.Reading.{entries_read, set_read, written_in}
 
 -- The roots of a cache of open flows, and a seat at them: their contents are entries, and their notes say what a pass
 -- has done.
 abbrev pub CacheRoots : Type 0
-CacheRoots = Roots CacheRule Note (Packet × Option Fragment) Timeouts
+CacheRoots = Roots CacheRule Note (Fragment × Option Fragment) CacheFixed
 
 abbrev pub CacheSeat : Type 0
-CacheSeat = RootPass CacheRule Note (Packet × Option Fragment) Timeouts rule.ghosts
+CacheSeat = RootPass CacheRule Note (Fragment × Option Fragment) CacheFixed rule.ghosts
 
 -- The roots of the cache's entries: the four of the set s have the numbers from 4 * s on.
 abbrev pub roots_of : PebrCache → CacheRoots
@@ -52,6 +51,7 @@ shown_of pass = record {
   lost = map try_of (lost_by (seat_of pass));
   set = set_read (past_by (seat_of pass)).loads;
   entries = entries_read (past_by (seat_of pass)) (set_read (past_by (seat_of pass)).loads);
+  written = written_in (past_by (seat_of pass)).put;
 }
 
 -- How many slots it has retired, and the ejections that its seat made.

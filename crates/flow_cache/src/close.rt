@@ -1,7 +1,7 @@
 //! Two passes made one, and the end of a cache.
 
 ghost use Rattle.std.specs.Prelude.{◌≡◌, ℕ, ◌+◌, ◌*◌, ◌<◌, ◌≤◌, ◌++◌, [], length, IfOk, OnOk, Option, option_to_list};
-ghost use Rattle.flow_parts.specs.Sharing.{SharesOut};
+ghost use Rattle.flow_parts.specs.Reaching.{Reaches};
 ghost use Rattle.cache_face.specs.Keeping.{entry_of, parts_in};
 ghost use Rattle.cache_face.specs.Meaning.{IsUnited};
 ghost use Rattle.pebr_words.specs.Opening.{slot_of};
@@ -82,7 +82,7 @@ impl PebrCache {
         requires own { IsOf self pass }
         requires all { (shown_of pass).note.seats ≡ (means_of self).seats }
         ensures { IfOk result
-            (λ entries. SharesOut (means_of self).limits (shown_of pass).note.packets
+            (λ entries. Reaches (means_of self).limits (shown_of pass).note.taken
             (entries.items ++ (shown_of pass).note.handed)) }
     {
         let PebrPass { inner, lost: _ } = pass;

@@ -1,7 +1,8 @@
 //! The cache as a shared cache, and who opens and closes such caches.
 
-ghost use Rattle.std.specs.Prelude.{◌≡◌, ◌≢◌, ◌+◌, ◌*◌, ◌<◌, ◌≤◌, ◌^◌, ◌∷◌, [], All};
-ghost use Rattle.cache_face.specs.Meaning.{IsMetered};
+ghost use Rattle.std.specs.Prelude.{◌≡◌, ◌≢◌, ◌+◌, ◌*◌, ◌<◌, ◌≤◌, ◌^◌, []};
+ghost use Rattle.cache_face.specs.Keeping.{packet_count};
+ghost use Rattle.cache_face.specs.Meaning.{IsAnswer};
 ghost use Rattle.cache_face.specs.Notes.{note_with};
 ghost use Rattle.flow_cache.specs.Closed.{metered_by};
 ghost use Rattle.flow_cache.specs.Shown.{means_of, shown_of, retired_of, ejections_of, slots_of, IsOf, IsTryOf};
@@ -11,7 +12,6 @@ use crate::stop::Never;
 use cache_face::{Caches, FlowCache, Metered, NoMemory};
 use flow_parts::{Fragment, Timeouts};
 use metered_list::MeteredList;
-use packet_accept::Packet;
 use std::alloc::Global;
 
 impl FlowCache for PebrCache {
@@ -25,20 +25,19 @@ impl FlowCache for PebrCache {
 
     ghost is_try_of = { IsTryOf };
 
-    fn meter(&self, pass: &mut PebrPass, packet: &Packet) -> Metered
+    fn meter_part(&self, pass: &mut PebrPass, part: &Fragment) -> Metered
         requires own { IsOf self.now pass.old }
         requires single { (shown_of pass.old).note.seats ≡ 1 }
-        requires number { packet.now.number < 2 ^ 32 }
-        requires rises { All (λ p. p.number < packet.now.number) (shown_of pass.old).note.packets }
-        requires octets { packet.now.octets < 2 ^ 24 }
+        requires octets { part.now.octets < part.now.packets * 2 ^ 24 }
+        requires room { packet_count (shown_of pass.old).note.taken + part.now.packets ≤ 2 ^ 32 }
         ensures own { IsOf self.now pass.new }
-        ensures note { (shown_of pass.new).note ≡ note_with (shown_of pass.old).note (packet.now ∷ []) result.out }
-        ensures answer { IsMetered (means_of self.now) IsTryOf (shown_of pass.old)
-            (shown_of pass.new) packet.now result.how result.out }
+        ensures note { (shown_of pass.new).note ≡ note_with (shown_of pass.old).note part.now result.out }
+        ensures answer { IsAnswer (means_of self.now) IsTryOf (shown_of pass.old)
+            (shown_of pass.new) part.now result.how result.out }
         ensures retired { retired_of pass.new ≤ slots_of self.now }
         ensures ejections { retired_of pass.old ≢ slots_of self.now → ejections_of pass.new ≡ ejections_of pass.old }
     {
-        self.meter_stopping(pass, packet, &mut Never)
+        self.meter_stopping(pass, part, &mut Never)
     }
 
     fn unite(&self, first: PebrPass, second: PebrPass) -> PebrPass {

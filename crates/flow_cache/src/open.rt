@@ -7,7 +7,7 @@ ghost use Rattle.pebr_roots.specs.Passes.{shape_at, IsOpenedPass, AreOpenedPasse
 ghost use Rattle.flow_cache.specs.Shown.{means_of, shown_of, IsOf};
 
 use crate::cache::{PebrCache, PebrPass};
-use crate::protocol::CacheRule;
+use crate::protocol::{CacheFixed, CacheRule};
 use cache_face::NoMemory;
 use flow_parts::Timeouts;
 use pebr_roots::{RootPass, Roots, Shape};
@@ -83,7 +83,7 @@ impl PebrCache {
             batch: 32,
             width: 10,
         };
-        let (roots, inner) = Roots::open(alloc, shape, timeouts, words.as_slice())?;
+        let (roots, inner) = Roots::open(alloc, shape, CacheFixed { sets, timeouts }, words.as_slice())?;
         let cache = PebrCache {
             roots,
             sets,

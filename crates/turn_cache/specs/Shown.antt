@@ -18,6 +18,7 @@ shown_of pass =
       set = pass.seat.me.0.set;
       entries =
           entries_of pass.seat.me.0.read;
+      written = pass.seat.me.0.written;
     }
 
 -- The only lost try at a set is that its turn was found taken.

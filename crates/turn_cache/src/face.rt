@@ -7,7 +7,6 @@ use crate::cache::{TurnCache, TurnPass};
 use cache_face::{Caches, FlowCache, Metered, NoMemory};
 use flow_parts::{Fragment, Timeouts};
 use metered_list::MeteredList;
-use packet_accept::Packet;
 use std::alloc::Global;
 
 impl FlowCache for TurnCache {
@@ -21,8 +20,8 @@ impl FlowCache for TurnCache {
 
     ghost is_try_of = { IsTryOf };
 
-    fn meter(&self, pass: &mut TurnPass, packet: &Packet) -> Metered {
-        self.meter_packet(pass, packet)
+    fn meter_part(&self, pass: &mut TurnPass, part: &Fragment) -> Metered {
+        self.meter_fragment(pass, part)
     }
 
     fn unite(&self, first: TurnPass, second: TurnPass) -> TurnPass {

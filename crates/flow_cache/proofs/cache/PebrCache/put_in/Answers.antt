@@ -1,4 +1,4 @@
-use Rattle.std.proofs.Common.{◌≡◌, ◌<◌, ◌+◌, ◌∷◌, [], ◌∙◌, ℕ, Bool, true, false, Some, List, ap, subst, arith}
+use Rattle.std.proofs.Common.{◌≡◌, ◌<◌, ◌+◌, ◌∷◌, ◌∙◌, ℕ, Bool, true, false, Some, List, ap, subst, arith}
 use Rattle.std.specs.Prelude.{◌==◌, if◌then◌else◌}
 use Rattle.std.proofs.lemmas.Grind.{common_steps}
 use Rattle.std.proofs.lemmas.List.Elements.{All-cons}
@@ -24,7 +24,7 @@ loop-lost-preserved g c =
     let n : ℕ = c.loop-lost.lost in
     let low = c.loop-lost-test.true in
     let h = c.attempt.ensures.undone c.if-attempt.false in
-    let passed : Note → Note = λ note. note_with note (c.args.packet.now ∷ []) (Some c.args.own.now) in
+    let passed : Note → Note = λ note. note_with note c.args.own.now (Some c.args.own.now) in
     let ended : Bool → Type 0 = λ b. note_by first_note new
     ≡ (if b then passed (note_by first_note old) else note_by first_note old) in
     record {

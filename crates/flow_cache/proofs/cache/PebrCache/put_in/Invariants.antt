@@ -1,4 +1,4 @@
-use Rattle.std.proofs.Common.{◌≡◌, ◌≢◌, ◌<◌, ◌≤◌, ◌∷◌, [], Some, None}
+use Rattle.std.proofs.Common.{◌≡◌, ◌≢◌, ◌<◌, ◌≤◌, Some, None}
 use Rattle.std.specs.Prelude.{IsTrue}
 use Rattle.std.specs.List.{list_all}
 use Rattle.cache_face.specs.Notes.{first_note, note_with}
@@ -18,7 +18,7 @@ invariant-loop-lost g l = record {
   none : l.metered.out ≡ None;
   note : l.lost < 3 → note_by first_note l.pass ≡ note_by first_note l.initial.pass;
   passed : l.lost ≡ 3
-      → (note_by first_note l.pass ≡ note_with (note_by first_note l.initial.pass) (l.packet ∷ []) (Some l.own))
+      → (note_by first_note l.pass ≡ note_with (note_by first_note l.initial.pass) l.own (Some l.own))
       × ((shape_at l.self.roots).seats ≢ 1);
   tries : HaveLost l.set l.lost (past_by l.initial.pass) (past_by l.pass);
 }
