@@ -6,6 +6,7 @@ use Rattle.batch_queue.specs.declared.batch.Batch.{Batch}
 use Rattle.batch_queue.specs.declared.seen.Seen.{Seen}
 use Rattle.batch_queue.specs.declared.queue.BatchQueue.{BatchQueue}
 use Rattle.batch_queue.specs.declared.queue.QueuePass.{QueuePass}
+use Rattle.batch_queue.specs.declared.queue.Feed.{Feed}
 use Rattle.batch_queue.specs.Queueing.{IsAll, more_of}
 
 -- how many batches the queue has room for
@@ -53,14 +54,12 @@ IsSame old new = seen_by new ≡ seen_by old
 abbrev pub IsMore : List Batch → List Batch → QueuePass → QueuePass → Type 0
 IsMore put took old new = seen_by new ≡ more_of put took (seen_by old)
 
--- The first pass is the reader's, of so many seats in all, and the others put nothing.
-pub record AreOpened (seats : ℕ) (passes : List QueuePass) : Type 0 where
-  pub first : QueuePass
-  pub others : List QueuePass
-  pub are : passes ≡ first ∷ others
-  pub reader : IsReaders first
-  pub count : others_of first + 1 ≡ seats
-  pub apart : All (λ pass. (¬ IsReaders pass) × (others_of pass ≡ 0)) others
+-- the reader's pass, and whether it may put batches
+abbrev pub reader_of : Feed → QueuePass
+reader_of feed = feed.pass
+
+abbrev pub IsOpen : Feed → Type 0
+IsOpen feed = feed.open ≡ true
 
 -- the queue was full: the batches that the reader put last filled it
 abbrev pub IsFull : BatchQueue → QueuePass → Type 0

@@ -1,12 +1,12 @@
 //! A batch of records.
 
-ghost use Rattle.std.specs.Prelude.{◌≡◌, ◌+◌, ◌^◌, ◌<◌, ◌≤◌, length};
+ghost use Rattle.std.specs.Prelude.{◌+◌, ◌<◌, ◌^◌, length};
+ghost use Rattle.pcap_reader.specs.Index.{IsIndexOf};
 ghost use Rattle.pcap_reader.specs.Views.{part_of};
-ghost use Rattle.pcap_reader.specs.Records.{records_of, tail_of};
 
-use pcap_reader::Head;
+use pcap_reader::{Head, RecordIndex};
 
-/// Whole records of a capture, one directly behind the other.
+/// Some records of a capture, one directly behind the other, and where they begin.
 #[derive(Drop)]
 pub struct Batch {
     /// The number of the batch, counted from 0.
@@ -15,9 +15,10 @@ pub struct Batch {
     pub base: u64,
     /// What the file header of the capture tells.
     pub head: Head,
-    /// All bytes of its records: at most 4,194,304.
+    /// Its bytes. What stands behind its last record is of no account.
     pub bytes: Vec<u8>,
-    pub ghost small: { length bytes.items ≤ 4194304 },
-    pub ghost whole: { tail_of (part_of head bytes.items) ≡ 0 },
-    pub ghost few: { base + length (records_of (part_of head bytes.items)) < 2 ^ 32 },
+    /// Where its records begin.
+    pub index: RecordIndex,
+    pub ghost indexed: { IsIndexOf index (part_of head bytes.items) },
+    pub ghost few: { base + length index.offsets < 2 ^ 32 },
 }

@@ -2,10 +2,10 @@
 
 ghost use Rattle.std.specs.Prelude.{◌≡◌, ◌<◌, [], All, IfOk};
 ghost use Rattle.batch_queue.specs.Batches.{count_of, IsBefore};
-ghost use Rattle.batch_queue.specs.Passes.{IsPassOf, IsReaders, put_of};
+ghost use Rattle.batch_queue.specs.Passes.{IsPassOf, IsReaders, put_of, reader_of, IsOpen};
 ghost use Rattle.batch_queue.specs.declared.batch.Batch.{Batch};
 
-use crate::{Batch, BatchQueue, NoMemory, QueuePass};
+use crate::{Batch, BatchQueue, Feed, NoMemory, QueuePass};
 use pcap_reader::{Capture, Head};
 use std::alloc::Global;
 use std::sync::Wait;
@@ -43,17 +43,18 @@ fn batch(alloc: Global, number: u64) -> Result<Batch, Fail>
         base: number,
         head,
         bytes,
+        index,
     })
 }
 
 /// Offers a batch. The number of the batch that comes back.
-fn offer<R: Wait>(rt: &R, queue: &BatchQueue, reader: &mut QueuePass, batch: Batch) -> Option<u64>
-    requires own { IsPassOf queue.now reader.old }
-    requires reader { IsReaders reader.old }
-    requires behind { All (λ b. IsBefore b batch) (put_of reader.old) }
-    ensures own { IsPassOf queue.now reader.new }
-    ensures reader { IsReaders reader.new }
-    ensures behind { (next : Batch) → IsBefore batch next → All (λ b. IsBefore b next) (put_of reader.new) }
+fn offer<R: Wait>(rt: &R, queue: &BatchQueue, reader: &mut Feed, batch: Batch) -> Option<u64>
+    requires own { IsPassOf queue.now (reader_of reader.old) }
+    requires reader { IsReaders (reader_of reader.old) × IsOpen reader.old }
+    requires behind { All (λ b. IsBefore b batch) (put_of (reader_of reader.old)) }
+    ensures own { IsPassOf queue.now (reader_of reader.new) }
+    ensures reader { IsReaders (reader_of reader.new) × IsOpen reader.new }
+    ensures behind { (next : Batch) → IsBefore batch next → All (λ b. IsBefore b next) (put_of (reader_of reader.new)) }
 {
     match queue.offer(rt, reader, batch) {
         Ok(()) => None,
@@ -71,12 +72,11 @@ fn take<R: Wait>(rt: &R, queue: &BatchQueue, pass: &mut QueuePass) -> Option<u64
 }
 
 /// A queue with room for two batches, the reader's pass, and two others.
-fn open_queue(alloc: Global) -> Result<(BatchQueue, QueuePass, QueuePass, QueuePass), NoMemory>
-    ensures own { IfOk result (λ r. IsPassOf r.0 r.1 × IsPassOf r.0 r.2 × IsPassOf r.0 r.3) }
-    ensures reader { IfOk result (λ r. IsReaders r.1 × (put_of r.1 ≡ [])) }
+fn open_queue(alloc: Global) -> Result<(BatchQueue, Feed, QueuePass, QueuePass), NoMemory>
+    ensures own { IfOk result (λ r. IsPassOf r.0 (reader_of r.1) × IsPassOf r.0 r.2 × IsPassOf r.0 r.3) }
+    ensures reader { IfOk result (λ r. IsReaders (reader_of r.1) × IsOpen r.1 × (put_of (reader_of r.1) ≡ [])) }
 {
-    let (queue, mut passes) = BatchQueue::open(alloc, 2, 3)?;
-    let reader = passes.remove(0);
+    let (queue, reader, mut passes) = BatchQueue::open(alloc, 2, 2)?;
     let Some(third) = passes.pop() else {
         return Err(NoMemory);
     };
@@ -99,7 +99,8 @@ fn batches_go_through_in_order(rt: HostRuntime) -> Result<(), Fail> {
     assert_eq!(rt; take(&rt, &queue, &mut third), Some(1));
     let mut all = queue.unite(second, third);
     assert_eq!(rt; take(&rt, &queue, &mut all), Some(3));
-    let mut all = queue.unite(reader, all);
+    queue.end(&mut reader);
+    let mut all = queue.unite(reader.into_pass(), all);
     assert_eq!(rt; take(&rt, &queue, &mut all), None);
     Ok(())
 }
@@ -118,7 +119,11 @@ fn check_send<T: Send>(value: T) -> T
 fn threads_share_a_queue(rt: HostRuntime) -> Result<(), Fail> {
     let (queue, reader, second, third) = open_queue(rt.alloc())?;
     check_sync(&queue);
-    let all = queue.unite(check_send(reader), second);
+    assert!(rt; !queue.is_ended());
+    let mut reader = check_send(reader);
+    queue.end(&mut reader);
+    assert!(rt; queue.is_ended());
+    let all = queue.unite(reader.into_pass(), second);
     let mut all = queue.unite(all, check_send(third));
     assert_eq!(rt; take(&rt, &queue, &mut all), None);
     Ok(())

@@ -1,1 +1,3 @@
-pub mod Reading
+pub mod Filling
+pub mod Walk
+pub mod Given

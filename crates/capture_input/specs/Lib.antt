@@ -2,3 +2,5 @@
 pub mod Refusals
 pub mod Inputs
 pub mod Places
+pub mod Parts
+pub mod Giving

@@ -11,8 +11,12 @@
 
 mod fault;
 mod input;
+mod part;
+mod reading;
 mod windows;
 
 pub use fault::MeterFault;
 pub use input::CaptureInput;
 pub use no_memory::NoMemory;
+pub use part::Part;
+pub use reading::Reading;

@@ -14,7 +14,7 @@ use capture_tally::Tally;
 use flow_parts::Timeouts;
 use flow_parts::laws::{sharing_out_counts, sharing_out_stands};
 use meter_io::Source;
-use meter_workers::{Gate, meter_windows};
+use meter_workers::{Gate, Windows, meter_windows};
 use no_memory::NoMemory;
 use pcap_reader::CAPTURE_LIMIT;
 use record_ledger::{FlowRecord, gather};
@@ -62,9 +62,12 @@ fn meter_input<R: Threads + Sync, S: Source, M: Caches, G: Gate>(
         input,
         &cache,
         passes,
-        WINDOW,
-        settings.piece,
-        CAPTURE_LIMIT,
+        Windows {
+            size: WINDOW,
+            limit: CAPTURE_LIMIT,
+            piece: settings.piece,
+            front: Some(limits),
+        },
         gate,
     )?;
     caches.close(alloc, cache, done.pass, done.parts)?;

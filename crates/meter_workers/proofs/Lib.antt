@@ -1,7 +1,3 @@
-pub mod Records
-pub mod Pieces
 pub mod Taken
-pub mod Whole
-pub mod Uniting
-pub mod Held
-pub mod Reading
+pub mod Records
+pub mod Sharing

@@ -1,98 +1,47 @@
--- Pieces that are drawn once each are all the answers.
-use Rattle.std.proofs.Common.{◌≡◌, ℕ, zero, suc, ◌+◌, ◌-◌, ◌*◌, ◌/◌, ◌%◌, ◌<◌, ◌≤◌, min, eqb, cond, Bool, List, [], ◌∷◌}
-use Rattle.std.proofs.Common.{◌++◌, length, take, drop, sym, refl, ap, ◌∙◌, subst, arith, append_assoc, append-nil}
-use Rattle.std.proofs.Common.{length-drop, eq-eqb, ne_eqb, mod-lt, div-add-mod'}
-use Rattle.std.proofs.lemmas.Grind.{common_steps}
-use Rattle.std.proofs.lemmas.List.{take_min, take_all}
-use Rattle.std.proofs.Math.Seq.{take-add}
-use Rattle.std.proofs.lemmas.List.Sorted.{IsPermutation-refl, IsPermutation-trans, IsPermutation-append_comm}
-use Rattle.std.proofs.lemmas.List.Sorted.{IsPermutation-append_left, IsPermutation-append_right}
-use Rattle.std.specs.Prelude.{IsPermutation}
-use mathlib.Core.Logic.{dite}
-use native.Mathlib.Decide.{ℕ_discrete}
-use Rattle.meter_workers.specs.Answers.{Answer, piece_of, pieces_of}
-use Rattle.work_pieces.specs.Dealing.{times, once_below, EachOnce}
-use Rattle.work_pieces.proofs.Totals.{times-append}
-use Rattle.meter_workers.proofs.Pieces.{pieces-together}
+-- A whole capture was metered.
+use Rattle.std.proofs.Common.{◌≡◌, ℕ, ◌∙◌, ◌++◌, List, [], None, sym, ap, subst, append-nil}
+use Rattle.std.specs.Prelude.{Option}
+use Rattle.meter_io.specs.Sides.{Side}
+use Rattle.packet_accept.specs.declared.packet.Packet.{Packet}
+use Rattle.packet_accept.specs.Packets.{packets_in, answers_of}
+use Rattle.flow_parts.specs.declared.fragment.Fragment.{Fragment}
+use Rattle.flow_parts.specs.declared.timeouts.Timeouts.{Timeouts}
+use Rattle.flow_parts.specs.Sharing.{SharesOut}
+use Rattle.capture_tally.specs.declared.tally.Tally.{Tally}
+use Rattle.capture_tally.specs.Tallies.{IsTallyOf}
+use Rattle.cache_face.specs.Meaning.{PassMeans}
+use Rattle.capture_input.specs.Parts.{Answer}
+use Rattle.capture_input.specs.Giving.{IsReadWhole}
+use Rattle.meter_workers.specs.declared.share.Share.{Share}
+use Rattle.meter_workers.specs.Shares.{HasMetered, open_of, put_by}
+use Rattle.meter_workers.specs.Whole.{IsMeteredWhole}
 
-abbrev upto : ℕ → List ℕ
-upto zero = []
-upto (suc n) = upto n ++ n ∷ []
+-- without a front all that was put in is in the cache
+pub shared-all : {X P : Type 0} (shown : P → PassMeans) (limits : Timeouts) (answers : List Answer) (all : Share X P)
+    → all.front ≡ None → HasMetered {X = X} {P = P} shown limits answers all
+    → SharesOut limits (packets_in answers) (shown all.pass).note.taken
+shared-all shown limits answers all none metered =
+    subst (λ (l : List Fragment). SharesOut limits (packets_in answers) l)
+    (ap (λ f. (shown all.pass).note.taken ++ open_of f) none ∙ append-nil (shown all.pass).note.taken) metered.shared
 
-found : (x : ℕ) (ks : List ℕ) → 0 < times x ks → (l : List ℕ) × (r : List ℕ) × (ks ≡ l ++ x ∷ r)
-found x [] h = absurd (omega arith)
-found x (k ∷ ks) h = dite (ℕ_discrete k x) (λ e. ([], ks, ap (λ y. y ∷ ks) e))
-    (λ ne. let z : cond (eqb k x) 1 0 ≡ 0 = ap (λ (b : Bool). let n : ℕ = cond b 1 0 in n) (ne_eqb k x ne) in
-    let r = found x ks (omega (arith, h, z)) in (k ∷ r.0, r.1, ap (λ l. k ∷ l) r.2))
-
-empty : (ks : List ℕ) → ((x : ℕ) → times x ks ≡ 0) → ks ≡ []
-empty [] h = refl
-empty (k ∷ ks) h =
-    absurd (let e = h k in
-    let z : cond (eqb k k) 1 0 ≡ 1 = ap (λ (b : Bool). let n : ℕ = cond b 1 0 in n) (eq-eqb k k refl) in
-    omega (arith, e, z))
-
-once_zero : (x : ℕ) → once_below x 0 ≡ 0
-once_zero x = grind (arith, common_steps)
-
-once_suc : (x n : ℕ) → once_below x (n + 1) ≡ once_below x n + cond (eqb n x) 1 0
-once_suc x n = grind (arith, common_steps)
-
-once_here : (n : ℕ) → once_below n (n + 1) ≡ 1
-once_here n = grind (arith, common_steps)
-
-module _ (size : ℕ) (answers : List Answer) where
-  abbrev P : List ℕ → List Answer
-  P ks = pieces_of size answers ks
-
-  moved : (a b c : List Answer) → IsPermutation (a ++ (b ++ c)) (b ++ (a ++ c))
-  moved a b c = subst (λ l. IsPermutation l (b ++ (a ++ c))) (append_assoc a b c)
-      (subst (λ l. IsPermutation ((a ++ b) ++ c) l) (append_assoc b a c)
-      (IsPermutation-append_left c (a ++ b) (b ++ a) (IsPermutation-append_comm a b)))
-
-  last : (n : ℕ) → P (upto n ++ n ∷ []) ≡ P (upto n) ++ piece_of size answers n
-  last n = pieces-together size answers (upto n) (n ∷ [])
-      ∙ ap (λ l. P (upto n) ++ l) (append-nil (piece_of size answers n))
-
-  permuted : (n : ℕ) (ks : List ℕ) → EachOnce n ks → IsPermutation (P (upto n)) (P ks)
-  permuted zero ks h = subst (λ (l : List ℕ). IsPermutation [] (P l)) (sym (empty ks (λ x. h x ∙ once_zero x)))
-      (IsPermutation-refl [])
-  permuted (suc n) ks h =
-      let one : suc n ≡ n + 1 = omega arith in
-      let h' : (x : ℕ) → times x ks ≡ once_below x (n + 1) = λ x. h x ∙ ap (once_below x) one in
-      let f = found n ks (let e = h' n in let o = once_here n in omega (arith, e, o)) in let a : List ℕ = f.0 in
-      let b : List ℕ = f.1 in
-      let rest : EachOnce n (a ++ b) =
-      λ x. (let e = h' x in let o = once_suc x n in let t = times-append x a b in let u = times-append x a (n ∷ b) in
-      let w = ap (times x) f.2 in omega (arith, e, o, t, u, w)) in
-      let p : List Answer = piece_of size answers n in
-      let here : IsPermutation (p ++ P (upto n)) (p ++ P (a ++ b)) =
-      IsPermutation-append_right p (P (upto n)) (P (a ++ b)) (permuted n (a ++ b) rest) in
-      let there : IsPermutation (p ++ P (a ++ b)) (P ks) =
-      subst (λ l. IsPermutation (p ++ l) (P ks)) (sym (pieces-together size answers a b))
-      (subst (λ l. IsPermutation (p ++ (P a ++ P b)) l) (sym (ap P f.2 ∙ pieces-together size answers a (n ∷ b)))
-      (moved p (P a) (P b))) in
-      subst (λ l. IsPermutation l (P ks)) (sym (last n))
-      (IsPermutation-trans _ _ _ (IsPermutation-append_comm (P (upto n)) p) (IsPermutation-trans _ _ _ here there))
-
-  piece_is : (n : ℕ) → piece_of size answers n ≡ take size (drop (n * size) answers)
-  piece_is n = let e : min ((n + 1) * size) (length answers) - n * size ≡ min size (length (drop (n * size) answers)) =
-      rw length-drop (omega arith) in
-      ap (λ k. take k (drop (n * size) answers)) e ∙ take_min size (drop (n * size) answers)
-
-  taken : (n : ℕ) → P (upto n) ≡ take (n * size) answers
-  taken zero = ap (λ k. take k answers) (let e : 0 ≡ 0 * size = omega arith in e)
-  taken (suc n) = last n ∙ ap (λ l. l ++ piece_of size answers n) (taken n)
-      ∙ ap (λ l. take (n * size) answers ++ l) (piece_is n) ∙ sym (take-add (n * size) size answers)
-      ∙ ap (λ k. take k answers) (let e : n * size + size ≡ suc n * size = omega arith in e)
-
-  pub covered : (n : ℕ) (ks : List ℕ) → length answers ≤ n * size → EachOnce n ks → IsPermutation answers (P ks)
-  covered n ks le h = subst (λ l. IsPermutation l (P ks)) (taken n ∙ take_all (n * size) answers le) (permuted n ks h)
-
-pub enough : (count size : ℕ) → 0 < size → count ≤ (count + size - 1) / size * size
-enough count size pos = let a : ℕ = count + size - 1 in let d = div-add-mod' a size in let m = mod-lt a pos in
-    let q : ℕ = a / size * size in let r : ℕ = a % size in let d' : q + r ≡ a = d in let m' : r < size = m in
-    omega (arith, d', m', pos)
-
-pub taken_back : {X : Type 0} (n m : ℕ) (xs ys : List X) → n ≡ length ys → m ≡ length ys → take n (ys ++ drop m xs) ≡ ys
-taken_back n m xs ys e f = ap (λ k. take k (ys ++ drop m xs)) e ∙ grind (arith, common_steps)
+pub metered-whole : {X P : Type 0} (shown : P → PassMeans) (limits : Timeouts) (answers : List Answer)
+    (all : Share X P) (source : Side) (limit tail tail' : ℕ) (taken : List Fragment) (tally : Tally)
+    → IsReadWhole source.before source.after limit answers tail → all.front ≡ None
+    → HasMetered {X = X} {P = P} shown limits answers all
+    → taken ≡ (shown all.pass).note.taken → tally ≡ all.tally → tail' ≡ tail
+    → IsMeteredWhole source limit limits taken tally tail'
+metered-whole shown limits answers all source limit tail tail' taken tally whole none metered taken_is tally_is same =
+    record {
+      bytes = whole.file.bytes;
+      read = record { given = whole.given; ended = whole.ended; within = whole.within };
+      file = whole.file;
+      is_file = whole.is_file;
+      known = whole.known;
+      undamaged = whole.undamaged;
+      shared = subst (λ (l : List Fragment). SharesOut limits (packets_in (answers_of whole.file)) l) (sym taken_is)
+          (subst (λ (a : List Answer). SharesOut limits (packets_in a) (shown all.pass).note.taken) whole.are
+          (shared-all shown limits answers all none metered));
+      tallied = subst (λ (t : Tally). IsTallyOf t (answers_of whole.file)) (sym tally_is)
+          (subst (λ (a : List Answer). IsTallyOf all.tally a) whole.are metered.tallied);
+      tail_is = same ∙ whole.tail_is;
+    }

@@ -1,5 +1,5 @@
 -- The definitions that contracts cite, a file for each subject.
-pub mod Answers
-pub mod Work
-pub mod Sharing
-pub mod Windows
+pub mod Pieces
+pub mod Shares
+pub mod Working
+pub mod Whole

@@ -1,238 +1,269 @@
 //! A capture that is read in windows, each metered before the next is read.
 
-ghost use Rattle.std.specs.Prelude.{◌≡◌, ◌+◌, ◌*◌, ◌-◌, ◌^◌, ◌<◌, ◌≤◌, ◌++◌, ◌⊎◌, List, ℕ, [], length, flat_map, All};
-ghost use Rattle.std.specs.Prelude.{Err, IfOk, IfErr, IsErrOf, OnOk, IsTrue, IsPermutation};
+ghost use Rattle.std.specs.Prelude.{◌≡◌, ◌+◌, ◌++◌, ◌^◌, ◌<◌, ◌≤◌, [], List, ℕ, length, flat_map, All, IfOk, IfErr, IfSome};
+ghost use Rattle.std.specs.Prelude.{OnOk, IsPermutation};
+ghost use Rattle.std.specs.List.{AllZip};
 ghost use Rattle.std.specs.declared.option.Option.{Option};
-ghost use Rattle.std.specs.Io.KnownBytes.{Consumes, IsAtEnd};
 ghost use Rattle.meter_io.specs.Sides.{side};
-ghost use Rattle.pcap_reader.specs.File.{capture_file};
-ghost use Rattle.pcap_reader.specs.Records.{damage_of};
 ghost use Rattle.pcap_reader.specs.Index.{IsIndexOf};
-ghost use Rattle.pcap_reader.specs.Views.{file_of, headed_by};
 ghost use Rattle.packet_accept.specs.Packets.{packets_in};
+ghost use Rattle.flow_parts.specs.Sharing.{SharesOut};
 ghost use Rattle.capture_tally.specs.Tallies.{IsTallyOf};
-ghost use Rattle.cache_face.specs.Meaning.{IsFresh};
-ghost use Rattle.meter_workers.specs.Answers.{Answer, answers_from};
-ghost use Rattle.meter_workers.specs.Work.{IsTallied};
-ghost use Rattle.meter_workers.specs.Sharing.{IsHeld};
+ghost use Rattle.cache_face.specs.Meaning.{IsFresh as IsFreshPass};
 ghost use Rattle.capture_input.specs.Refusals.{IsRefused, HasFaults};
 ghost use Rattle.capture_input.specs.Inputs.{side_from};
-ghost use Rattle.meter_workers.specs.Windows.{IsMeteredWhole};
+ghost use Rattle.capture_input.specs.Parts.{Answer, answers_from, answers_by};
+ghost use Rattle.capture_input.specs.Giving.{HasGiven, IsReadWhole, part_in, base_in};
+ghost use Rattle.work_pieces.specs.Dealing.{EachOnce};
+ghost use Rattle.work_pieces.specs.Passes.{IsPassOf, IsFresh, count_of, size_of, number_of, seats_in, drawn_of};
+ghost use Rattle.meter_workers.specs.Pieces.{pieces_of};
+ghost use Rattle.meter_workers.specs.Shares.{HasMetered, HaveMetered, IsShare};
+ghost use Rattle.meter_workers.specs.Working.{IsReady, HasDrawn, HasWorked};
+ghost use Rattle.meter_workers.specs.Whole.{IsMeteredWhole};
 
-use crate::all::{held_of, unite_passes};
 use crate::gate::Gate;
-use crate::part::meter_part;
-use crate::worker::Held;
+use crate::share::{Share, meter_run, open_shares, unite_all};
+use crate::worker::{WorkState, Worker, seat_workers, unseat_workers};
 use cache_face::FlowCache;
-use capture_input::{CaptureInput, MeterFault};
-use capture_tally::{Tally, room_law};
-use flow_parts::Fragment;
+use capture_input::{MeterFault, Part, Reading};
+use capture_tally::Tally;
+use flow_parts::{Fragment, Timeouts};
 use meter_io::Source;
 use no_memory::NoMemory;
-use packet_accept::packets_law;
-use pcap_reader::{Capture, FILE_HEADER, Head, IndexError, RecordIndex, parts_law};
+use pcap_reader::RecordIndex;
 use std::alloc::Global;
+use std::thread;
 use std::thread::Threads;
+use work_pieces::{DrawPass, Pieces};
 
-/// What all workers did together with a capture that was read in windows: one pass for all seats, the fragments that it
-/// was handed, the tally, and how many bytes are left behind the last record.
+/// How a capture is metered in windows.
+#[derive(Clone, Copy, Debug)]
+pub struct Windows {
+    /// How many bytes a window has, from 262,184 to 2^27.
+    pub size: usize,
+    /// How many bytes may come at most, and at most 2^30.
+    pub limit: u64,
+    /// How many records a piece has, from 1 to 65,536.
+    pub piece: u64,
+    /// The time-outs of the workers' fronts, where they have some: those of the cache.
+    pub front: Option<Timeouts>,
+    pub ghost size_bounds: { (262184 ≤ size) × (size ≤ 2 ^ 27) },
+    pub ghost limit_bound: { limit ≤ 2 ^ 30 },
+    pub ghost piece_bounds: { (0 < piece) × (piece ≤ 65536) },
+}
+
+/// What all workers did together with a capture: one pass for all seats, the fragments that it was handed, the tally,
+/// and how many bytes are left behind the last record.
 #[derive(Drop)]
-pub struct WindowGathered<C: FlowCache> {
+pub struct Gathered<C: FlowCache> {
     pub pass: C::Pass,
     pub parts: Vec<Fragment>,
     pub tally: Tally,
     pub tail: u64,
 }
 
-/// What stays from one window to the next: what the workers hold, the memory of the index, and the tally of all records
-/// so far.
-#[derive(Drop)]
-pub(crate) struct Metering<C: FlowCache> {
-    pub(crate) holdings: Vec<Held<C>>,
-    pub(crate) index: RecordIndex,
-    pub(crate) tally: Tally,
+/// Draws pieces of a part and meters their records, until none is left. The gate is told of each piece before.
+fn work_through<C: FlowCache, G: Gate>(
+    part: &Part<'_>,
+    pieces: &Pieces,
+    cache: &C,
+    gate: &G,
+    number: usize,
+    draw: &mut DrawPass,
+    share: &mut Share<C>,
+) -> Result<(), NoMemory>
+    requires ready { IsReady (C.is_of cache.now) C.shown (C.means cache.now).limits pieces.now part.now.base share.old
+        draw.old }
+    requires whole { count_of pieces.now ≡ length part.now.index.now.offsets }
+    ensures worked { OnOk result (HasWorked (C.is_of cache.now) C.shown (C.means cache.now).limits pieces.now
+        (answers_by part.now) share.old share.new draw.new) }
+{
+    while let Some(piece) = pieces.draw(draw) {
+        gate.reach(number, piece.number);
+        meter_run(cache, part, piece.start, piece.end, share)?;
+    }
+    Ok(())
 }
 
-/// Meters the records of a part, whose first has as its number how many were tallied before.
-fn meter_window<C: FlowCache, G: Gate, R: Threads + Sync>(
+/// The same by a worker.
+fn work<C: FlowCache, G: Gate>(
+    part: &Part<'_>,
+    pieces: &Pieces,
+    cache: &C,
+    gate: &G,
+    worker: &mut Worker<C, DrawPass>,
+)
+    requires ready { IsReady (C.is_of cache.now) C.shown (C.means cache.now).limits pieces.now part.now.base
+        worker.old.share worker.old.seat }
+    requires whole { count_of pieces.now ≡ length part.now.index.now.offsets }
+    ensures worked { worker.new.state ≡ WorkState.Finished → HasWorked (C.is_of cache.now) C.shown
+        (C.means cache.now).limits pieces.now (answers_by part.now) worker.old.share worker.new.share worker.new.seat }
+{
+    let end = work_through(
+        part,
+        pieces,
+        cache,
+        gate,
+        worker.number,
+        &mut worker.seat,
+        &mut worker.share,
+    );
+    worker.state = match end {
+        Ok(()) => WorkState::Finished,
+        Err(NoMemory) => WorkState::NoMemory,
+    };
+}
+
+/// All workers at once.
+fn work_all<C: FlowCache, G: Gate, R: Threads + Sync>(
+    rt: &R,
+    part: &Part<'_>,
+    pieces: &Pieces,
+    cache: &C,
+    gate: &G,
+    workers: &mut [Worker<C, DrawPass>],
+)
+    requires some { 0 < length workers.old }
+    requires ready { All (λ w. IsReady (C.is_of cache.now) C.shown (C.means cache.now).limits pieces.now part.now.base
+        w.share w.seat) workers.old }
+    requires whole { count_of pieces.now ≡ length part.now.index.now.offsets }
+    ensures worked { AllZip (λ o w. w.state ≡ WorkState.Finished → HasWorked (C.is_of cache.now) C.shown
+        (C.means cache.now).limits pieces.now (answers_by part.now) o.share w.share w.seat) workers.old workers.new }
+{
+    let count = workers.len();
+    thread::for_each_mut(
+        rt,
+        workers,
+        count,
+        &|_, w: &mut Worker<C, DrawPass>|
+            requires ready { IsReady (C.is_of cache.now) C.shown (C.means cache.now).limits pieces.now part.now.base
+                w.old.share w.old.seat }
+            requires whole { count_of pieces.now ≡ length part.now.index.now.offsets }
+            ensures worked { w.new.state ≡ WorkState.Finished → HasWorked (C.is_of cache.entry.now) C.shown
+                (C.means cache.entry.now).limits pieces.entry.now (answers_by part.entry.now) w.old.share w.new.share
+                w.new.seat }
+        { work(part, pieces, cache, gate, w) },
+    );
+}
+
+/// The workers, once they have worked, all at once.
+fn run_workers<C: FlowCache, G: Gate, R: Threads + Sync>(
+    rt: &R,
+    part: &Part<'_>,
+    pieces: &Pieces,
+    cache: &C,
+    gate: &G,
+    mut workers: Vec<Worker<C, DrawPass>>,
+) -> Vec<Worker<C, DrawPass>>
+    requires some { 0 < length workers.items }
+    requires ready { All (λ w. IsReady (C.is_of cache.now) C.shown (C.means cache.now).limits pieces.now part.now.base
+        w.share w.seat) workers.items }
+    requires whole { count_of pieces.now ≡ length part.now.index.now.offsets }
+    ensures worked { AllZip (λ o w. w.state ≡ WorkState.Finished → HasWorked (C.is_of cache.now) C.shown
+        (C.means cache.now).limits pieces.now (answers_by part.now) o.share w.share w.seat) workers.items result.items }
+{
+    work_all(rt, part, pieces, cache, gate, workers.as_mut_slice());
+    workers
+}
+
+/// The seats of the pieces, which are all, drew each piece once.
+fn unite_draws(pieces: &Pieces, draws: Vec<DrawPass>)
+    requires drawn { All (HasDrawn pieces.now) draws.items }
+    requires all { (0 < length draws.items) × (length draws.items ≡ seats_in pieces.now) }
+    ensures { EachOnce (number_of pieces.now) (flat_map drawn_of draws.items) }
+{
+    let mut draws = draws;
+    let Some(mut all) = draws.pop() else {
+        unreachable!()
+    };
+    while let Some(draw) = draws.pop() {
+        all = pieces.unite(all, draw);
+    }
+    let all = pieces.complete(all);
+    drop(all);
+}
+
+/// Meters a part by a worker for each share, all at once. The shares, once all pieces were metered.
+fn meter_part<C: FlowCache, G: Gate, R: Threads + Sync>(
     rt: &R,
     alloc: Global,
-    part: &Capture<'_>,
-    metering: Metering<C>,
+    part: &Part<'_>,
     cache: &C,
+    shares: Vec<Share<C>>,
     piece: u64,
     gate: &G,
-) -> Result<Metering<C>, IndexError>
-    requires long { (length (file_of part.now).bytes ≤ 2 ^ 30) × (metering.tally.captured ≤ 2 ^ 30) }
+) -> Result<Vec<Share<C>>, NoMemory>
     requires piece { (0 < piece) × (piece ≤ 65536) }
-    requires some { (0 < length metering.holdings.items) × (length metering.holdings.items ≤ 64) }
-    requires held { All (λ h. C.is_of cache.now h.pass × IsHeld metering.tally.captured (C.shown h.pass) h.out.items)
-        metering.holdings.items }
-    requires tallied { IsTallied metering.tally }
-    ensures index { IfOk result (λ m. IsIndexOf m.index (file_of part.now)) }
-    ensures many { IfOk result (λ m. length m.holdings.items ≡ length metering.holdings.items) }
-    ensures held { IfOk result
-        (λ m. All (λ h. C.is_of cache.now h.pass × IsHeld m.tally.captured (C.shown h.pass) h.out.items)
-        m.holdings.items) }
-    ensures packets { IfOk result
-        (λ m. IsPermutation (flat_map (λ h. (C.shown h.pass).note.packets) metering.holdings.items
-        ++ packets_in (answers_from metering.tally.captured (file_of part.now)))
-        (flat_map (λ h. (C.shown h.pass).note.packets) m.holdings.items)) }
-    ensures counts { IfOk result (λ m. (earlier : List Answer) → IsTallyOf metering.tally earlier
-        → IsTallyOf m.tally (earlier ++ answers_from metering.tally.captured (file_of part.now))) }
-    ensures tallied { IfOk result (λ m. IsTallied m.tally) }
-    ensures undamaged { OnOk result (damage_of (file_of part.now) ≡ None) }
-    ensures damaged { (at : ℕ) → result ≡ Err (IndexError.Damaged at) → damage_of (file_of part.now) ≡ Some at }
+    requires some { (0 < length shares.items) × (length shares.items ≤ 64) }
+    requires metered { (before : List Answer) × (length before ≤ part.now.base) × HaveMetered (IsShare
+        (C.is_of cache.now) C.shown (C.means cache.now).limits) before shares.items }
+    ensures many { IfOk result (λ r. length r.items ≡ length shares.items) }
+    ensures metered { (before : List Answer) → HaveMetered (IsShare (C.is_of cache.now) C.shown
+        (C.means cache.now).limits) before shares.items → IfOk result (λ r. HaveMetered (IsShare (C.is_of cache.now) C.shown
+        (C.means cache.now).limits) (before ++ answers_by part.now) r.items) }
 {
-    packets_law();
-    room_law();
-    let Metering {
-        holdings,
-        index,
-        tally,
-    } = metering;
-    let index = part.index_into(alloc, index)?;
-    let base = tally.captured;
-    match meter_part(rt, alloc, part, &index, base, cache, holdings, piece, gate) {
-        Ok((holdings, more)) => Ok(Metering {
-            holdings,
-            index,
-            tally: tally.sum_with(&more),
-        }),
-        Err(NoMemory) => Err(IndexError::NoMemory),
-    }
+    let seats = shares.len();
+    let (pieces, draws) = Pieces::open(alloc, part.index.count(), piece, seats)?;
+    let workers = seat_workers(alloc, shares, draws)?;
+    let workers = run_workers(rt, part, &pieces, cache, gate, workers);
+    let (shares, draws) = unseat_workers(alloc, workers)?;
+    unite_draws(&pieces, draws);
+    Ok(shares)
 }
 
-/// Meters an input whose first window was read, and begins with this file header.
-fn meter_input<S: Source, C: FlowCache, G: Gate, R: Threads + Sync>(
+/// Meters a capture of which the first part was read. How many bytes are left behind its last record, and the shares.
+fn meter_parts<S: Source, C: FlowCache, G: Gate, R: Threads + Sync>(
     rt: &R,
     alloc: Global,
     source: &mut S,
-    input: CaptureInput,
-    head: Head,
-    metering: Metering<C>,
+    first: (Reading, RecordIndex),
     cache: &C,
+    shares: Vec<Share<C>>,
     piece: u64,
     gate: &G,
-) -> Result<Metering<C>, MeterFault>
-    requires first { (capture_file input.window.bytes ≡ Some (headed_by head input.window.bytes))
-        × (input.taken ≡ length input.window.bytes) }
-    requires size { (262184 ≤ input.window.size) × (input.window.size ≤ 2 ^ 27) }
-    requires within { (input.taken ≤ input.limit) × (input.limit ≤ 2 ^ 30) }
-    requires ended { IsTrue input.ended → IsAtEnd (S.left source.old) }
+) -> Result<(Vec<Share<C>>, u64), MeterFault>
     requires piece { (0 < piece) × (piece ≤ 65536) }
-    requires some { (0 < length metering.holdings.items) × (length metering.holdings.items ≤ 64) }
-    requires held { All (λ h. C.is_of cache.now h.pass × IsHeld 0 (C.shown h.pass) h.out.items)
-        metering.holdings.items }
-    requires none { (flat_map (λ h. (C.shown h.pass).note.packets) metering.holdings.items ≡ [])
-        × IsTallyOf metering.tally [] }
-    ensures many { IfOk result (λ m. length m.holdings.items ≡ length metering.holdings.items) }
-    ensures held { IfOk result
-        (λ m. All (λ h. C.is_of cache.now h.pass × IsHeld m.tally.captured (C.shown h.pass) h.out.items)
-        m.holdings.items) }
-    ensures metered { IfOk result (λ m. (first : Option (List ℕ))
-        → Consumes first (S.left source.old) input.window.bytes
-        → IsMeteredWhole (side_from first (side S.left S.faults source.old source.new)) input.limit
-        (flat_map (λ h. (C.shown h.pass).note.packets) m.holdings.items) m.tally m.index.tail) }
-    ensures refused { IfErr result (λ fault. (first : Option (List ℕ))
-        → Consumes first (S.left source.old) input.window.bytes
-        → IsRefused (side_from first (side S.left S.faults source.old source.new)) input.limit fault) }
+    requires some { (0 < length shares.items) × (length shares.items ≤ 64) }
+    requires part { IsIndexOf first.1 (part_in first.0) }
+    requires few { base_in first.0 + length first.1.offsets < 2 ^ 32 }
+    requires base { base_in first.0 ≡ 0 }
+    requires given { (before : Option (List ℕ)) × (limit : ℕ) × HasGiven before (S.left source.old) limit first.0
+        (answers_from 0 (part_in first.0)) }
+    requires shares { All (IsShare (C.is_of cache.now) C.shown (C.means cache.now).limits []) shares.items }
+    ensures many { IfOk result (λ r. length r.0.items ≡ length shares.items) }
+    ensures metered { (before : Option (List ℕ)) (limit : ℕ)
+        → HasGiven before (S.left source.old) limit first.0 (answers_from 0 (part_in first.0))
+        → IfOk result (λ r. (answers : List Answer) × IsReadWhole before (S.left source.new) limit answers r.1
+        × HaveMetered (IsShare (C.is_of cache.now) C.shown (C.means cache.now).limits) answers r.0.items) }
+    ensures refused { (before : Option (List ℕ)) (limit : ℕ)
+        → HasGiven before (S.left source.old) limit first.0 (answers_from 0 (part_in first.0))
+        → IfErr result (λ fault. IsRefused (side_from before (side S.left S.faults source.old source.new)) limit fault) }
     ensures faults { HasFaults (side S.left S.faults source.old source.new) result }
 {
-    parts_law();
-    packets_law();
-    let mut input = input;
-    let mut metering = metering;
-    let mut from = FILE_HEADER;
+    let (mut reading, mut index) = first;
+    let mut shares = shares;
     loop {
-        let (_, bytes) = input.window.bytes().split_at(from);
-        let count = bytes.len();
-        let part = Capture::part(head, bytes);
-        metering = match meter_window(rt, alloc, &part, metering, cache, piece, gate) {
-            Ok(metering) => metering,
-            Err(error) => return Err(input.refusal(source, count, error)),
+        let part = reading.part(&index);
+        shares = match meter_part(rt, alloc, &part, cache, shares, piece, gate) {
+            Ok(shares) => shares,
+            Err(NoMemory) => return Err(MeterFault::NoMemory),
         };
-        if input.ended {
-            return Ok(metering);
+        if reading.is_last() {
+            return Ok((shares, reading.tail()));
         }
-        input
-            .window
-            .keep(from + count - metering.index.tail() as usize);
-        from = 0;
-        match input.fill(source) {
-            Ok(()) => {}
-            Err(broken) => return Err(broken),
-        }
+        (reading, index) = reading.next(alloc, source, index)?;
     }
 }
 
-/// An input of which nothing was read, and what stays from one window to the next before there is one.
-fn begin_metering<C: FlowCache>(
-    alloc: Global,
-    cache: &C,
-    passes: Vec<C::Pass>,
-    window: usize,
-    limit: u64,
-) -> Result<(CaptureInput, Metering<C>), NoMemory>
-    requires window { (262184 ≤ window) × (window ≤ 2 ^ 27) }
-    requires passes { All (λ p. C.is_of cache.now p × IsFresh (C.shown p)) passes.items }
-    ensures input { IfOk result (λ r. (r.0.window.bytes ≡ []) × (r.0.window.size ≡ window) × (r.0.taken ≡ 0)
-        × (r.0.limit ≡ limit)) }
-    ensures many { IfOk result (λ r. length r.1.holdings.items ≡ length passes.items) }
-    ensures held { IfOk result
-        (λ r. All (λ h. C.is_of cache.now h.pass × IsHeld 0 (C.shown h.pass) h.out.items) r.1.holdings.items) }
-    ensures none { IfOk result (λ r. (flat_map (λ h. (C.shown h.pass).note.packets) r.1.holdings.items ≡ [])
-        × IsTallyOf r.1.tally []) }
-{
-    let holdings = held_of(alloc, cache, passes)?;
-    let index = RecordIndex::with_room(alloc, window)?;
-    let input = CaptureInput::open(alloc, window, limit)?;
-    let metering = Metering {
-        holdings,
-        index,
-        tally: Tally::new(),
-    };
-    Ok((input, metering))
-}
-
-/// What all workers have in the end.
-fn gather_windows<C: FlowCache>(
-    cache: &C,
-    metering: Metering<C>,
-) -> Result<WindowGathered<C>, NoMemory>
-    requires held { All (λ h. C.is_of cache.now h.pass × IsHeld metering.tally.captured (C.shown h.pass) h.out.items)
-        metering.holdings.items }
-    requires some { 0 < length metering.holdings.items }
-    ensures own { IfOk result (λ r. C.is_of cache.now r.pass
-        × ((C.shown r.pass).note.seats ≡ length metering.holdings.items)) }
-    ensures packets { IfOk result
-        (λ r. IsPermutation (flat_map (λ h. (C.shown h.pass).note.packets) metering.holdings.items)
-        (C.shown r.pass).note.packets) }
-    ensures parts { IfOk result (λ r. r.parts.items ≡ (C.shown r.pass).note.handed) }
-    ensures counts { IfOk result (λ r. (r.tally ≡ metering.tally) × (r.tail ≡ metering.index.tail)) }
-{
-    let Metering {
-        holdings,
-        index,
-        tally,
-    } = metering;
-    let (pass, parts) = unite_passes(cache, tally.captured, holdings)?;
-    Ok(WindowGathered {
-        pass,
-        parts,
-        tally,
-        tail: index.tail(),
-    })
-}
-
-/// Meters a capture that is read in windows of `window` bytes (262,184 to 2^27), through a cache, by one worker for
-/// each of its passes (1 to 64). Each window is metered, by all workers at once, before the next is read; what is left
-/// behind the last record of a window begins the next one. The memory of the window and of its index is taken once.
+/// Meters a capture that is read in windows, through a cache, by one worker for each of its passes (1 to 64). Each window
+/// is metered, by all workers at once, before the next is read; what is left behind the last record of a window begins
+/// the next one. The memory of the window and of its index is taken once. Where fronts are asked for, each worker has
+/// one across all windows, and only what leaves it goes into the cache; behind the last window each front is emptied
+/// into the cache through its own pass.
 ///
-/// The records of a window are cut into pieces of `piece` records (1 to 65,536); the gate is told of each piece, by its
-/// number within the window. At most `limit` bytes may come, and at most 2^30. The united pass has metered just the
-/// packets of the capture, each once; `parts` are the fragments that it was handed; the tally is that of all records,
-/// and the source has nothing left.
+/// The records of a window are cut into pieces; the gate is told of each piece, by its number within the window. What
+/// was put in through the united pass shares out the packets of the capture; `parts` are the fragments that it was
+/// handed; the tally is that of all records, and the source has nothing left.
 ///
 /// Refusals in the order of [`MeterFault`]: where the input is no capture, of an unknown link type or damaged, it is
 /// read to its end first, so that `Failed` and `TooLarge` keep their place. `NoMemory` may come at any time.
@@ -242,31 +273,88 @@ pub fn meter_windows<S: Source, C: FlowCache, G: Gate, R: Threads + Sync>(
     source: &mut S,
     cache: &C,
     passes: Vec<C::Pass>,
-    window: usize,
-    piece: u64,
-    limit: u64,
+    windows: Windows,
     gate: &G,
-) -> Result<WindowGathered<C>, MeterFault>
-    requires window { (262184 ≤ window) × (window ≤ 2 ^ 27) }
-    requires piece { (0 < piece) × (piece ≤ 65536) }
-    requires limit { limit ≤ 2 ^ 30 }
+) -> Result<Gathered<C>, MeterFault>
+    requires front { IfSome windows.front (λ timeouts. timeouts ≡ (C.means cache.now).limits) }
     requires passes { (0 < length passes.items) × (length passes.items ≤ 64)
-        × All (λ p. C.is_of cache.now p × IsFresh (C.shown p)) passes.items }
+        × All (λ p. C.is_of cache.now p × IsFreshPass (C.shown p)) passes.items }
     ensures own { IfOk result (λ r. C.is_of cache.now r.pass × ((C.shown r.pass).note.seats ≡ length passes.items)) }
     ensures metered { IfOk result
-        (λ r. IsMeteredWhole (side S.left S.faults source.old source.new) limit
-        (C.shown r.pass).note.packets r.tally r.tail) }
+        (λ r. IsMeteredWhole (side S.left S.faults source.old source.new) windows.limit (C.means cache.now).limits
+        (C.shown r.pass).note.taken r.tally r.tail) }
     ensures parts { IfOk result (λ r. IsPermutation (C.shown r.pass).note.handed r.parts.items) }
-    ensures refused { IfErr result (λ fault. IsRefused (side S.left S.faults source.old source.new) limit fault) }
+    ensures refused { IfErr result
+        (λ fault. IsRefused (side S.left S.faults source.old source.new) windows.limit fault) }
     ensures faults { HasFaults (side S.left S.faults source.old source.new) result }
 {
-    let Ok((input, metering)) = begin_metering(alloc, cache, passes, window, limit) else {
+    let Ok(shares) = open_shares(alloc, cache, passes, windows.front) else {
         return Err(MeterFault::NoMemory);
     };
-    let (input, head) = input.begin(source)?;
-    let metering = meter_input(rt, alloc, source, input, head, metering, cache, piece, gate)?;
-    let Ok(all) = gather_windows(cache, metering) else {
-        return Err(MeterFault::NoMemory);
-    };
-    Ok(all)
+    let first = Reading::begin(alloc, source, windows.size, windows.limit)?;
+    let (shares, tail) = meter_parts(
+        rt,
+        alloc,
+        source,
+        first,
+        cache,
+        shares,
+        windows.piece,
+        gate,
+    )?;
+    match unite_all(cache, shares) {
+        Ok(all) => Ok(gathered(all, tail)),
+        Err(NoMemory) => Err(MeterFault::NoMemory),
+    }
+}
+
+/// What all shares did together, with so many bytes left behind the last record.
+pub(crate) fn gathered<C: FlowCache>(all: Share<C>, tail: u64) -> Gathered<C>
+    ensures { (result.pass ≡ all.pass) × (result.parts.items ≡ all.parts.items) × (result.tally ≡ all.tally)
+        × (result.tail ≡ tail) }
+{
+    let Share {
+        pass,
+        parts,
+        tally,
+        front: _,
+    } = all;
+    Gathered {
+        pass,
+        parts,
+        tally,
+        tail,
+    }
+}
+
+/// Meters a capture that is in memory, as its first and only part, through a cache, by one worker for each of its passes
+/// (1 to 64), all at once, without fronts.
+///
+/// The records are cut into pieces of `piece` records (1 to 65,536); the gate is told of each piece. What was put in
+/// through the united pass shares out the packets of the part; `parts` are the fragments that it was handed, in the order
+/// of its note; the tally is that of all records.
+///
+/// `NoMemory`: out of memory. Nothing of the capture is said then.
+pub fn meter_all<C: FlowCache, G: Gate, R: Threads + Sync>(
+    rt: &R,
+    alloc: Global,
+    part: &Part<'_>,
+    cache: &C,
+    passes: Vec<C::Pass>,
+    piece: u64,
+    gate: &G,
+) -> Result<Gathered<C>, NoMemory>
+    requires piece { (0 < piece) × (piece ≤ 65536) }
+    requires passes { (0 < length passes.items) × (length passes.items ≤ 64)
+        × All (λ p. C.is_of cache.now p × IsFreshPass (C.shown p)) passes.items }
+    ensures own { IfOk result (λ r. C.is_of cache.now r.pass × ((C.shown r.pass).note.seats ≡ length passes.items)) }
+    ensures shared { IfOk result (λ r. SharesOut (C.means cache.now).limits (packets_in (answers_by part.now))
+        (C.shown r.pass).note.taken) }
+    ensures parts { IfOk result (λ r. r.parts.items ≡ (C.shown r.pass).note.handed) }
+    ensures tally { IfOk result (λ r. IsTallyOf r.tally (answers_by part.now)) }
+{
+    let shares = open_shares(alloc, cache, passes, None)?;
+    let shares = meter_part(rt, alloc, part, cache, shares, piece, gate)?;
+    let all = unite_all(cache, shares)?;
+    Ok(gathered(all, part.index.tail()))
 }

@@ -1,37 +1,79 @@
 //! A worker, and how it stands.
 
+ghost use Rattle.std.specs.Prelude.{◌≡◌, length, map, All, IfOk, OnOk};
+
+use crate::share::Share;
 use cache_face::FlowCache;
-use capture_tally::Tally;
-use flow_parts::Fragment;
-use work_pieces::DrawPass;
+use no_memory::NoMemory;
+use std::alloc::Global;
 
 /// How a worker stands.
 #[derive(Clone, Copy, PartialEq, Eq, Debug)]
 pub enum WorkState {
     /// It has work to do.
     Going,
-    /// All pieces were drawn.
+    /// No work was left.
     Finished,
     /// It ended since memory was out.
     NoMemory,
 }
 
-/// A worker: its number, its pass of the cache and of the pieces, the fragments that the cache handed it, and the tally
-/// of its records.
+/// A worker: its number, what it has done, its seat at what hands out the work, and how it stands.
 #[derive(Drop)]
-pub struct Worker<C: FlowCache> {
+pub struct Worker<C: FlowCache, T> {
     pub number: usize,
-    pub pass: C::Pass,
-    pub draw: DrawPass,
-    pub out: Vec<Fragment>,
-    pub tally: Tally,
+    pub share: Share<C>,
+    pub seat: T,
     pub state: WorkState,
 }
 
-/// What a worker holds between two parts of a capture: its pass of the cache, and the fragments that the cache handed
-/// it.
-#[derive(Drop)]
-pub(crate) struct Held<C: FlowCache> {
-    pub(crate) pass: C::Pass,
-    pub(crate) out: Vec<Fragment>,
+/// A worker for each share and seat, in their order, numbered from 0.
+pub(crate) fn seat_workers<C: FlowCache, T: Drop>(
+    alloc: Global,
+    shares: Vec<Share<C>>,
+    seats: Vec<T>,
+) -> Result<Vec<Worker<C, T>>, NoMemory>
+    requires same { length shares.items ≡ length seats.items }
+    ensures shares { IfOk result (λ workers. map (λ w. w.share) workers.items ≡ shares.items) }
+    ensures seats { IfOk result (λ workers. map (λ w. w.seat) workers.items ≡ seats.items) }
+{
+    let mut shares = shares;
+    let mut seats = seats;
+    let mut workers = Vec::new(alloc);
+    while let Some(share) = shares.pop() {
+        let Some(seat) = seats.pop() else {
+            unreachable!()
+        };
+        let worker = Worker {
+            number: shares.len(),
+            share,
+            seat,
+            state: WorkState::Going,
+        };
+        workers.insert(0, worker)?;
+    }
+    Ok(workers)
+}
+
+/// What the workers have done, and their seats, where all have finished.
+pub(crate) fn unseat_workers<C: FlowCache, T: Drop>(
+    alloc: Global,
+    workers: Vec<Worker<C, T>>,
+) -> Result<(Vec<Share<C>>, Vec<T>), NoMemory>
+    ensures shares { IfOk result (λ r. r.0.items ≡ map (λ w. w.share) workers.items) }
+    ensures seats { IfOk result (λ r. r.1.items ≡ map (λ w. w.seat) workers.items) }
+    ensures finished { OnOk result (All (λ w. w.state ≡ WorkState.Finished) workers.items) }
+{
+    let mut workers = workers;
+    let mut shares = Vec::new(alloc);
+    let mut seats = Vec::new(alloc);
+    while let Some(worker) = workers.pop() {
+        match worker.state {
+            WorkState::Finished => {}
+            WorkState::Going | WorkState::NoMemory => return Err(NoMemory),
+        }
+        shares.insert(0, worker.share)?;
+        seats.insert(0, worker.seat)?;
+    }
+    Ok((shares, seats))
 }

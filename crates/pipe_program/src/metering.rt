@@ -13,9 +13,8 @@ use flow_parts::Timeouts;
 use flow_parts::laws::sharing_out_stands;
 use meter_io::{Sink, Source};
 use meter_program::{CaptureCount, Gathered, Status, gathered_of, write_stream};
-use meter_workers::Gate;
+use meter_workers::{Batches, Gate, meter_batches};
 use pcap_reader::CAPTURE_LIMIT;
-use pipe_workers::meter_batches;
 use std::alloc::Global;
 use std::sync::Wait;
 use std::thread::Threads;
@@ -47,9 +46,12 @@ fn meter_input<R: Threads + Wait + Sync, S: Source, M: Caches, G: Gate>(
         input,
         &cache,
         passes,
-        settings.queue,
-        settings.batch,
-        CAPTURE_LIMIT,
+        Batches {
+            size: settings.batch,
+            limit: CAPTURE_LIMIT,
+            room: settings.queue,
+            front: Some(limits),
+        },
         gate,
     )?;
     caches.close(alloc, cache, done.pass, done.parts)?;

@@ -4,42 +4,51 @@ ghost use Rattle.std.specs.Prelude.{◌≡◌, ◌+◌, ◌<◌, ◌≤◌, None
 ghost use Rattle.std.specs.Prelude.{OnOk, IsPermutation, IsTrue};
 ghost use Rattle.batch_queue.specs.Batches.{IsBefore};
 ghost use Rattle.batch_queue.specs.Passes.{room_of, IsPassOf, IsReaders, IsFresh, StandsForAll, put_of, took_of};
-ghost use Rattle.batch_queue.specs.Passes.{seats_of, others_of, IsSame, IsMore, AreOpened, IsFull};
+ghost use Rattle.batch_queue.specs.Passes.{seats_of, others_of, reader_of, IsOpen, IsSame, IsMore, IsFull};
 ghost use Rattle.batch_queue.specs.declared.batch.Batch.{Batch};
 
 use crate::batch::Batch;
-use crate::queue::{BatchQueue, QueuePass};
+use crate::queue::{BatchQueue, Feed, QueuePass};
 use crate::rule::{Puts, Seats, Takes};
 use crossbeam_queue::RuledArrayQueue;
 use no_memory::NoMemory;
 use std::alloc::Global;
 use std::sync::Wait;
+use std::sync::atomic::{AtomicBool, Ordering};
 
 impl BatchQueue {
-    /// An empty queue that has room for `room` batches (1 to 64), and a pass for each of `seats` seats (2 to 64). The
-    /// first pass is the reader's.
+    /// An empty queue that has room for `room` batches (1 to 64), the reader's pass, and a pass for each of `others`
+    /// other seats (1 to 63).
     pub fn open(
         alloc: Global,
         room: usize,
-        seats: usize,
-    ) -> Result<(BatchQueue, Vec<QueuePass>), NoMemory>
+        others: usize,
+    ) -> Result<(BatchQueue, Feed, Vec<QueuePass>), NoMemory>
         requires room { (1 ≤ room) × (room ≤ 64) }
-        requires seats { (2 ≤ seats) × (seats ≤ 64) }
+        requires others { (1 ≤ others) × (others ≤ 63) }
         ensures room { IfOk result (λ r. room_of r.0 ≡ room) }
-        ensures many { IfOk result (λ r. length r.1.items ≡ seats) }
-        ensures passes { IfOk result (λ r. All (λ p. IsPassOf r.0 p × IsFresh p) r.1.items) }
-        ensures reader { IfOk result (λ r. AreOpened seats r.1.items) }
+        ensures reader { IfOk result (λ r. IsPassOf r.0 (reader_of r.1) × IsFresh (reader_of r.1) × IsReaders (reader_of r.1)
+            × (others_of (reader_of r.1) ≡ others) × IsOpen r.1) }
+        ensures many { IfOk result (λ r. length r.2.items ≡ others) }
+        ensures passes { IfOk result (λ r. All (λ p. IsPassOf r.0 p × IsFresh p × (¬ IsReaders p) × (others_of p ≡ 0))
+            r.2.items) }
     {
         let (line, first) = RuledArrayQueue::ruled(alloc, room)?;
-        let queue = BatchQueue { line };
+        let queue = BatchQueue {
+            line,
+            ended: AtomicBool::new(false),
+        };
         let mut reader = QueuePass { pass: first };
         let mut passes = Vec::new(alloc);
-        for _turn in 1..seats {
+        for _turn in 0..others {
             let other = queue.another_pass(&mut reader);
             passes.push(other)?;
         }
-        passes.insert(0, reader)?;
-        Ok((queue, passes))
+        let feed = Feed {
+            pass: reader,
+            open: true,
+        };
+        Ok((queue, feed, passes))
     }
 
     /// A pass of one more seat, which puts nothing.
@@ -60,15 +69,33 @@ impl BatchQueue {
     ///
     /// The batch comes back unchanged, and only where the reader had put at least as many batches as the queue has room
     /// for; that it was full at a step of this call is in no clause.
-    pub fn offer<R: Wait>(&self, rt: &R, pass: &mut QueuePass, batch: Batch) -> Result<(), Batch>
-        requires own { IsPassOf self.now pass.old }
-        requires reader { IsReaders pass.old }
-        requires behind { All (λ b. IsBefore b batch) (put_of pass.old) }
-        ensures own { IsPassOf self.now pass.new }
-        ensures put { OnOk result (IsMore (batch ∷ []) [] pass.old pass.new) }
-        ensures full { IfErr result (λ back. (back ≡ batch) × IsSame pass.old pass.new × IsFull self.now pass.old) }
+    pub fn offer<R: Wait>(&self, rt: &R, feed: &mut Feed, batch: Batch) -> Result<(), Batch>
+        requires own { IsPassOf self.now (reader_of feed.old) }
+        requires reader { IsReaders (reader_of feed.old) }
+        requires open { IsOpen feed.old }
+        requires behind { All (λ b. IsBefore b batch) (put_of (reader_of feed.old)) }
+        ensures own { IsPassOf self.now (reader_of feed.new) }
+        ensures open { IsOpen feed.new }
+        ensures put { OnOk result (IsMore (batch ∷ []) [] (reader_of feed.old) (reader_of feed.new)) }
+        ensures full { IfErr result (λ back. (back ≡ batch) × IsSame (reader_of feed.old) (reader_of feed.new)
+            × IsFull self.now (reader_of feed.old)) }
     {
-        self.line.push_as::<Puts, R>(rt, &mut pass.pass, batch)
+        self.line.push_as::<Puts, R>(rt, &mut feed.pass.pass, batch)
+    }
+
+    /// Says that no more batches come. The feed can put none from now on.
+    pub fn end(&self, feed: &mut Feed)
+        ensures closed { ¬ IsOpen feed.new }
+        ensures same { reader_of feed.new ≡ reader_of feed.old }
+    {
+        feed.open = false;
+        self.ended.store(true, Ordering::SeqCst);
+    }
+
+    /// Whether it was said that no more batches come. What is taken from then on was put before; that a batch is found by
+    /// who looks for it then is in no clause.
+    pub fn is_ended(&self) -> bool {
+        self.ended.load(Ordering::SeqCst)
     }
 
     /// Takes the batch at the front, which stands behind each that the pass took.
@@ -103,5 +130,14 @@ impl BatchQueue {
         self.line.absorb::<Seats>(&mut pass, second.pass);
         self.line.learn_as::<Takes>(&mut pass);
         QueuePass { pass }
+    }
+}
+
+impl Feed {
+    /// The reader's pass, which puts no more.
+    pub fn into_pass(self) -> QueuePass
+        ensures { result ≡ reader_of self }
+    {
+        self.pass
     }
 }

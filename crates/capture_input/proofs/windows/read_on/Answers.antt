@@ -2,7 +2,7 @@
 use Rattle.std.proofs.Common.{◌≡◌, ◌+◌, ◌++◌, length, inr, rules, arith, ◌∙◌}
 use Rattle.std.proofs.lemmas.List.{length-append}
 use Rattle.std.proofs.KnownBytes.{Consumes-trans}
-use Rattle.capture_input.proofs.Reading.{cut-moved}
+use Rattle.capture_input.proofs.Filling.{cut-moved}
 use Rattle.capture_input.proofs.windows.read_on.Goals as goal
 
 pub returns-in-Err : goal.returns-in-Err

@@ -8,7 +8,6 @@ invariant-loop-turn l = record {
   reader : IsReaders l.reader;
   fresh : IsFresh l.reader;
   others : others_of l.reader ≡ length l.passes.items;
-  count : length l.passes.items + 1 ≡ l._turn;
-  each : All (λ p. IsPassOf l.queue p × IsFresh p) l.passes.items;
-  apart : All (λ p. (¬ IsReaders p) × (others_of p ≡ 0)) l.passes.items;
+  count : length l.passes.items ≡ l._turn;
+  each : All (λ p. IsPassOf l.queue p × IsFresh p × (¬ IsReaders p) × (others_of p ≡ 0)) l.passes.items;
 }

@@ -6,7 +6,7 @@ use Rattle.pcap_reader.specs.File.{capture_file, IsKnownLink}
 use Rattle.capture_input.specs.declared.fault.MeterFault.{MeterFault}
 use Rattle.capture_input.specs.Refusals.{IsRefused}
 use Rattle.capture_input.specs.Inputs.{ReadsOn}
-use Rattle.capture_input.proofs.Reading.{seen, head-refused}
+use Rattle.capture_input.proofs.Filling.{seen, head-refused}
 use Rattle.capture_input.proofs.input.CaptureInput.begin.Goals as goal
 
 pub returns-in-Err-clause-refused : goal.returns-in-Err-clause-refused

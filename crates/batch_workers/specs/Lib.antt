@@ -1,2 +1,0 @@
-pub mod Batched
-pub mod Sharing

@@ -1,0 +1,27 @@
+use Rattle.std.proofs.Common.{◌≡◌, ◌++◌, ◌∷◌, List, [], length, sym, ap, ◌∙◌, subst, arith, append_assoc, append-nil}
+use Rattle.front_cache.specs.Fronts.{open_in}
+use Rattle.meter_workers.proofs.Sharing.{room-out}
+use Rattle.meter_workers.proofs.share.empty_front.Goals as goal
+
+pub put_in-requires-clause-room : goal.put_in-requires-clause-room
+put_in-requires-clause-room g c κs within =
+    let taken = (g.C.FlowCache.shown c.loop-out.pass).note.taken in
+    room-out taken (open_in c.take_out.new.self) _ c.in-Some.out
+    (ap (λ l. taken ++ l) (sym c.in-Some.ensures.taken) ∙ c.loop-out.invariant.taken) c.requires.room
+
+pub loop-out-preserved : goal.loop-out-preserved
+loop-out-preserved g c =
+    let i = c.loop-out.invariant in
+    let told = c.in_ok-put_in.ensures in
+    let taken = (g.C.FlowCache.shown c.loop-out.pass).note.taken in
+    record {
+      own = told.own;
+      single = told.single;
+      taken = ap (λ l. l ++ open_in c.take_out.new.self) told.taken
+          ∙ append_assoc taken (c.in-Some.out ∷ []) (open_in c.take_out.new.self)
+          ∙ ap (λ l. taken ++ l) (sym c.in-Some.ensures.taken) ∙ i.taken;
+      handed = λ is. told.handed (i.handed is);
+    }
+
+pub loop-out-smaller : goal.loop-out-smaller
+loop-out-smaller g c = (let e = ap length c.in-Some.ensures.taken in omega (arith, e))

@@ -1,0 +1,14 @@
+use Rattle.std.proofs.Common.{◌≡◌, ◌++◌, length, map, vec_len}
+use Rattle.std.specs.Prelude.{All}
+use Rattle.meter_workers.specs.declared.worker.WorkState.TheVariants.{Finished}
+use Rattle.meter_workers.proofs.worker.unseat_workers.Given as goal
+
+abbrev pub invariant-loop-worker : goal.invariant-loop-worker
+invariant-loop-worker g l = record {
+  shares : map (λ w. w.share) l.workers.items ++ l.shares.items ≡ map (λ w. w.share) l.initial.workers.items;
+  seats : map (λ w. w.seat) l.workers.items ++ l.seats.items ≡ map (λ w. w.seat) l.initial.workers.items;
+  finished : All (λ w. w.state ≡ Finished) l.workers.items → All (λ w. w.state ≡ Finished) l.initial.workers.items;
+}
+
+abbrev pub decreases-loop-worker : goal.decreases-loop-worker
+decreases-loop-worker g l = vec_len l.workers

@@ -1,0 +1,33 @@
+-- What workers do with the pieces of a part.
+use Rattle.std.specs.Prelude.{◌≡◌, ℕ, ◌<◌, ◌≤◌, List, ◌++◌}
+use Rattle.flow_parts.specs.declared.timeouts.Timeouts.{Timeouts}
+use Rattle.cache_face.specs.Meaning.{PassMeans}
+use Rattle.capture_input.specs.Parts.{Answer}
+use Rattle.work_pieces.specs.declared.pieces.Pieces.{Pieces}
+use Rattle.work_pieces.specs.declared.pieces.DrawPass.{DrawPass}
+use Rattle.work_pieces.specs.Passes.{IsPassOf, IsFresh, size_of, drawn_of, seats_of, nones_of}
+use Rattle.meter_workers.specs.declared.share.Share.{Share}
+use Rattle.meter_workers.specs.Pieces.{pieces_of}
+use Rattle.meter_workers.specs.Shares.{IsShare}
+
+-- A worker before a part, behind so many records: it drew nothing of it.
+pub record IsReady {X P : Type 0} (is_of : P → Type 0) (shown : P → PassMeans) (limits : Timeouts) (pieces : Pieces)
+    (base : ℕ) (share : Share X P) (draw : DrawPass) : Type 0 where
+  pub done : List Answer
+  pub is : IsShare {X = X} {P = P} is_of shown limits done share
+  pub draws : IsPassOf pieces draw
+  pub fresh : IsFresh draw
+  pub few : share.tally.captured ≤ base
+
+-- A seat of the pieces that drew until none was left.
+pub record HasDrawn (pieces : Pieces) (draw : DrawPass) : Type 0 where
+  pub of : IsPassOf pieces draw
+  pub single : seats_of draw ≡ 1
+  pub ended : 0 < nones_of draw
+
+-- A worker that has worked: it drew until no piece was left, and its share metered the pieces that it drew besides.
+pub record HasWorked {X P : Type 0} (is_of : P → Type 0) (shown : P → PassMeans) (limits : Timeouts) (pieces : Pieces)
+    (answers : List Answer) (old new : Share X P) (draw : DrawPass) : Type 0 where
+  pub drawn : HasDrawn pieces draw
+  pub share : (done : List Answer) → IsShare {X = X} {P = P} is_of shown limits done old
+      → IsShare {X = X} {P = P} is_of shown limits (done ++ pieces_of (size_of pieces) answers (drawn_of draw)) new

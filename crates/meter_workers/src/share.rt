@@ -1,0 +1,297 @@
+//! What a seat has done, and how it meters records.
+
+ghost use Rattle.std.specs.Prelude.{◌≡◌, ◌+◌, ◌*◌, ◌^◌, ◌<◌, ◌≤◌, ◌++◌, ◌∷◌, [], List, length, All, IfOk, IfSome, OnOk, None};
+ghost use Rattle.std.specs.Prelude.{slice_range};
+ghost use Rattle.flow_parts.specs.Parts.{IsAlone};
+ghost use Rattle.flow_parts.specs.Reaching.{Reaches};
+ghost use Rattle.flow_parts.specs.declared.fragment.Fragment.{Fragment};
+ghost use Rattle.cache_face.specs.Keeping.{IsBounded, packet_count};
+ghost use Rattle.cache_face.specs.Meaning.{IsFresh};
+ghost use Rattle.front_cache.specs.Fronts.{open_in};
+ghost use Rattle.capture_input.specs.Parts.{Answer, answers_by};
+ghost use Rattle.meter_workers.specs.Shares.{HasMetered, HaveMetered, HasLimits, IsSeated, IsShare, put_by};
+
+use cache_face::FlowCache;
+use capture_input::Part;
+use capture_tally::{Tally, order_law, room_law};
+use flow_parts::laws::{
+    reaching_goes_on, reaching_shares_out, sharing_out_counts, sharing_out_goes_on, sharing_out_stands,
+};
+use flow_parts::{Fragment, Timeouts};
+use front_cache::Front;
+use no_memory::NoMemory;
+use packet_accept::{Packet, accept, packets_law};
+use std::alloc::Global;
+
+/// What a seat of the cache has done, or several together: its pass of the cache, its front, where it has one, the
+/// fragments that the cache handed it, and the tally of its records.
+#[derive(Drop)]
+pub struct Share<C: FlowCache> {
+    pub pass: C::Pass,
+    pub front: Option<Front>,
+    pub parts: Vec<Fragment>,
+    pub tally: Tally,
+}
+
+/// Puts a fragment into the cache, and keeps what this hands out.
+fn put_in<C: FlowCache>(
+    cache: &C,
+    pass: &mut C::Pass,
+    parts: &mut Vec<Fragment>,
+    part: &Fragment,
+) -> Result<(), NoMemory>
+    requires own { C.is_of cache.now pass.old }
+    requires single { (C.shown pass.old).note.seats ≡ 1 }
+    requires bounded { IsBounded part.now }
+    requires room { packet_count (C.shown pass.old).note.taken + part.now.packets ≤ 2 ^ 32 }
+    ensures own { C.is_of cache.now pass.new }
+    ensures single { (C.shown pass.new).note.seats ≡ 1 }
+    ensures taken { (C.shown pass.new).note.taken ≡ (C.shown pass.old).note.taken ++ part.now ∷ [] }
+    ensures handed { OnOk result (parts.old.items ≡ (C.shown pass.old).note.handed
+        → parts.new.items ≡ (C.shown pass.new).note.handed) }
+{
+    let metered = cache.meter_part(pass, part);
+    if let Some(fragment) = metered.out {
+        parts.push(fragment)?;
+    }
+    Ok(())
+}
+
+/// Meters a packet: through the front where there is one, of which only what leaves it goes into the cache.
+fn meter_packet<C: FlowCache>(
+    cache: &C,
+    pass: &mut C::Pass,
+    front: &mut Option<Front>,
+    parts: &mut Vec<Fragment>,
+    packet: &Packet,
+) -> Result<(), NoMemory>
+    requires seated { IsSeated (C.is_of cache.now) C.shown (C.means cache.now).limits pass.old front.old }
+    requires octets { packet.now.octets < 2 ^ 24 }
+    requires room { packet_count (put_by (C.shown pass.old) front.old) < 2 ^ 32 }
+    ensures seated { OnOk result (IsSeated (C.is_of cache.now) C.shown (C.means cache.now).limits pass.new front.new) }
+    ensures reached { OnOk result ((own : Fragment) × IsAlone packet.now own × Reaches (C.means cache.now).limits
+        (own ∷ put_by (C.shown pass.old) front.old) (put_by (C.shown pass.new) front.new)) }
+    ensures handed { OnOk result (parts.old.items ≡ (C.shown pass.old).note.handed
+        → parts.new.items ≡ (C.shown pass.new).note.handed) }
+{
+    reaching_goes_on();
+    reaching_shares_out();
+    match front {
+        Some(front) => match front.take_in(packet) {
+            Some(out) => put_in(cache, pass, parts, &out),
+            None => Ok(()),
+        },
+        None => put_in(cache, pass, parts, &Fragment::of(packet)),
+    }
+}
+
+/// Tallies a record of a part, and meters its packet where it has one.
+fn meter_record<C: FlowCache>(
+    cache: &C,
+    part: &Part<'_>,
+    n: u64,
+    share: &mut Share<C>,
+) -> Result<(), NoMemory>
+    requires share { (done : List Answer) × IsShare (C.is_of cache.now) C.shown (C.means cache.now).limits done share.old }
+    requires number { n < length part.now.index.now.offsets }
+    requires room { share.old.tally.captured < 2 ^ 32 }
+    ensures share { OnOk result ((done : List Answer) → IsShare (C.is_of cache.now) C.shown (C.means cache.now).limits done share.old
+        → IsShare (C.is_of cache.now) C.shown (C.means cache.now).limits
+        (done ++ slice_range (answers_by part.now) n (n + 1)) share.new) }
+    ensures captured { OnOk result (share.new.tally.captured ≡ share.old.tally.captured + 1) }
+{
+    packets_law();
+    room_law();
+    sharing_out_counts();
+    sharing_out_goes_on();
+    reaching_shares_out();
+    let record = part.capture.record(part.index, n);
+    let answer = accept(&part.capture, &record, part.base + n);
+    share.tally.add(&answer);
+    match answer {
+        Ok(packet) => meter_packet(
+            cache,
+            &mut share.pass,
+            &mut share.front,
+            &mut share.parts,
+            &packet,
+        ),
+        Err(_) => Ok(()),
+    }
+}
+
+/// Meters the records of a part from the one numbered `from` on and before that numbered `to`, in order.
+pub(crate) fn meter_run<C: FlowCache>(
+    cache: &C,
+    part: &Part<'_>,
+    from: u64,
+    to: u64,
+    share: &mut Share<C>,
+) -> Result<(), NoMemory>
+    requires share { (done : List Answer) × IsShare (C.is_of cache.now) C.shown (C.means cache.now).limits done share.old }
+    requires run { (from ≤ to) × (to ≤ length part.now.index.now.offsets) }
+    requires room { share.old.tally.captured + to ≤ 2 ^ 32 + from }
+    ensures share { OnOk result ((done : List Answer) → IsShare (C.is_of cache.now) C.shown (C.means cache.now).limits done share.old
+        → IsShare (C.is_of cache.now) C.shown (C.means cache.now).limits
+        (done ++ slice_range (answers_by part.now) from to) share.new) }
+    ensures captured { OnOk result (share.new.tally.captured + from ≡ share.old.tally.captured + to) }
+{
+    for n in from..to {
+        meter_record(cache, part, n, share)?;
+    }
+    Ok(())
+}
+
+/// A share that has done nothing, with a front of these time-outs or none.
+fn open_share<C: FlowCache>(
+    alloc: Global,
+    _cache: &C,
+    pass: C::Pass,
+    front: Option<Timeouts>,
+) -> Result<Share<C>, NoMemory>
+    requires pass { C.is_of _cache.now pass × IsFresh (C.shown pass) }
+    requires front { IfSome front (λ timeouts. timeouts ≡ (C.means _cache.now).limits) }
+    ensures { IfOk result (λ s. IsShare (C.is_of _cache.now) C.shown (C.means _cache.now).limits [] s) }
+{
+    sharing_out_stands();
+    let front = match front {
+        Some(timeouts) => Some(Front::open(alloc, timeouts)?),
+        None => None,
+    };
+    Ok(Share {
+        pass,
+        front,
+        parts: Vec::new(alloc),
+        tally: Tally::new(),
+    })
+}
+
+/// A share for each pass, in their order.
+pub(crate) fn open_shares<C: FlowCache>(
+    alloc: Global,
+    cache: &C,
+    passes: Vec<C::Pass>,
+    front: Option<Timeouts>,
+) -> Result<Vec<Share<C>>, NoMemory>
+    requires passes { All (λ p. C.is_of cache.now p × IsFresh (C.shown p)) passes.items }
+    requires front { IfSome front (λ timeouts. timeouts ≡ (C.means cache.now).limits) }
+    ensures many { IfOk result (λ shares. length shares.items ≡ length passes.items) }
+    ensures shares { IfOk result (λ shares. All (λ s. IsShare (C.is_of cache.now) C.shown (C.means cache.now).limits [] s) shares.items) }
+{
+    let mut passes = passes;
+    let mut shares = Vec::new(alloc);
+    while let Some(pass) = passes.pop() {
+        shares.insert(0, open_share(alloc, cache, pass, front)?)?;
+    }
+    Ok(shares)
+}
+
+/// Empties a front into the cache.
+fn empty_front<C: FlowCache>(
+    cache: &C,
+    pass: &mut C::Pass,
+    parts: &mut Vec<Fragment>,
+    front: Front,
+) -> Result<(), NoMemory>
+    requires own { C.is_of cache.now pass.old }
+    requires single { (C.shown pass.old).note.seats ≡ 1 }
+    requires room { packet_count ((C.shown pass.old).note.taken ++ open_in front) ≤ 2 ^ 32 }
+    ensures own { OnOk result (C.is_of cache.now pass.new) }
+    ensures single { OnOk result ((C.shown pass.new).note.seats ≡ 1) }
+    ensures taken { OnOk result ((C.shown pass.new).note.taken ≡ (C.shown pass.old).note.taken ++ open_in front) }
+    ensures handed { OnOk result (parts.old.items ≡ (C.shown pass.old).note.handed
+        → parts.new.items ≡ (C.shown pass.new).note.handed) }
+{
+    let mut front = front;
+    while let Some(out) = front.take_out() {
+        put_in(cache, pass, parts, &out)?;
+    }
+    Ok(())
+}
+
+/// The share without its front, which is emptied into the cache.
+pub(crate) fn finish<C: FlowCache>(cache: &C, share: Share<C>) -> Result<Share<C>, NoMemory>
+    requires share { (done : List Answer) × IsShare (C.is_of cache.now) C.shown (C.means cache.now).limits done share }
+    ensures share { (done : List Answer) → IsShare (C.is_of cache.now) C.shown (C.means cache.now).limits done share
+        → IfOk result (λ r. IsShare (C.is_of cache.now) C.shown (C.means cache.now).limits done r) }
+    ensures front { IfOk result (λ r. r.front ≡ None) }
+{
+    sharing_out_counts();
+    let Share {
+        mut pass,
+        front,
+        mut parts,
+        tally,
+    } = share;
+    if let Some(front) = front {
+        empty_front(cache, &mut pass, &mut parts, front)?;
+    }
+    Ok(Share {
+        pass,
+        front: None,
+        parts,
+        tally,
+    })
+}
+
+/// Two shares as one, whose fronts are empty.
+pub(crate) fn unite<C: FlowCache>(
+    cache: &C,
+    share: Share<C>,
+    other: Share<C>,
+) -> Result<Share<C>, NoMemory>
+    requires own { C.is_of cache.now share.pass × C.is_of cache.now other.pass }
+    requires fronts { (share.front ≡ None) × (other.front ≡ None) }
+    requires seats { (C.shown share.pass).note.seats + (C.shown other.pass).note.seats ≤ 64 }
+    requires some { (0 < (C.shown share.pass).note.seats) × (0 < (C.shown other.pass).note.seats) }
+    requires metered { (done rest : List Answer)
+        × HasMetered C.shown (C.means cache.now).limits done share
+        × HasMetered C.shown (C.means cache.now).limits rest other }
+    ensures own { IfOk result (λ r. C.is_of cache.now r.pass × (r.front ≡ None)
+        × ((C.shown r.pass).note.seats ≡ (C.shown share.pass).note.seats + (C.shown other.pass).note.seats)) }
+    ensures metered { (done rest : List Answer)
+        → HasMetered C.shown (C.means cache.now).limits done share
+        → HasMetered C.shown (C.means cache.now).limits rest other
+        → IfOk result (λ r. HasMetered C.shown (C.means cache.now).limits (done ++ rest) r) }
+{
+    packets_law();
+    room_law();
+    sharing_out_stands();
+    let mut parts = share.parts;
+    parts.extend_from_slice(other.parts.as_slice())?;
+    Ok(Share {
+        pass: cache.unite(share.pass, other.pass),
+        front: None,
+        parts,
+        tally: share.tally.sum_with(&other.tally),
+    })
+}
+
+/// All shares as one: each front is emptied into the cache through its own pass, and then the shares are united.
+pub(crate) fn unite_all<C: FlowCache>(
+    cache: &C,
+    shares: Vec<Share<C>>,
+) -> Result<Share<C>, NoMemory>
+    requires many { (0 < length shares.items) × (length shares.items ≤ 64) }
+    requires metered { (answers : List Answer) × HaveMetered (IsShare (C.is_of cache.now) C.shown
+        (C.means cache.now).limits) answers shares.items }
+    ensures own { IfOk result (λ r. C.is_of cache.now r.pass × (r.front ≡ None)
+        × ((C.shown r.pass).note.seats ≡ length shares.items)) }
+    ensures metered { (answers : List Answer) → HaveMetered (IsShare (C.is_of cache.now) C.shown
+        (C.means cache.now).limits) answers shares.items
+        → IfOk result (λ r. HasMetered C.shown (C.means cache.now).limits answers r) }
+{
+    packets_law();
+    order_law();
+    sharing_out_stands();
+    let mut shares = shares;
+    let Some(last) = shares.pop() else {
+        unreachable!()
+    };
+    let mut all = finish(cache, last)?;
+    while let Some(share) = shares.pop() {
+        let share = finish(cache, share)?;
+        all = unite(cache, all, share)?;
+    }
+    Ok(all)
+}
