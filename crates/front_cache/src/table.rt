@@ -1,6 +1,6 @@
 //! The front.
 
-ghost use Rattle.std.specs.Prelude.{◌≡◌, ◌+◌, ◌*◌, ◌<◌, ◌≤◌, ◌^◌, ℕ, [], ◌∷◌, ◌++◌, length, map, All, Option, Some};
+ghost use Rattle.std.specs.Prelude.{◌≡◌, ◌+◌, ◌*◌, ◌<◌, ◌≤◌, ◌^◌, ℕ, [], ◌∷◌, ◌++◌, length, map, All, Option, Some, List};
 ghost use Rattle.std.specs.Prelude.{IsNone, IfSome, IfOk, option_to_list, slice_set, slice_index_or};
 ghost use Rattle.flow_key.specs.Key.{words_of};
 ghost use Rattle.packet_accept.specs.declared.packet.Packet.{Packet};
@@ -8,13 +8,12 @@ ghost use Rattle.flow_parts.specs.Parts.{IsAlone, part_words};
 ghost use Rattle.flow_parts.specs.Reaching.{Reaches};
 ghost use Rattle.flow_parts.specs.declared.fragment.Fragment.{Fragment};
 ghost use Rattle.flow_parts.specs.declared.timeouts.Timeouts.{Timeouts};
-ghost use Rattle.cache_face.specs.Choice.{IsChoice, entry_at};
 ghost use Rattle.cache_face.specs.Keeping.{IsBounded, IsEmptyContent, IsSmall, IsWhole, entry_of, packet_count};
 ghost use Rattle.cache_face.specs.declared.metered.How.{How};
 ghost use Rattle.front_cache.specs.Fronts.{IsTakenIn, entries_of, open_in, parts_in, place_of};
 ghost use Rattle.front_cache.specs.Kept.{IsKept};
 
-use crate::contents::{entry_to_open, take_into};
+use crate::contents::{open_one, take_into_one};
 use cache_face::How;
 use flow_parts::{Fragment, Timeouts};
 use no_memory::NoMemory;
@@ -61,18 +60,32 @@ fn empty_contents(alloc: Global, count: usize) -> Result<Vec<[u64; 10]>, NoMemor
     Ok(vec![in alloc; [0u64; 10]; count]?)
 }
 
-/// Opens one of the two contents of a place with a fragment that neither can take in. What leaves is what it showed.
-fn open_anew(
-    _timeouts: &Timeouts,
-    contents: &mut [[u64; 10]],
-    first: usize,
-    words: &[u64; 5],
-    own: &Fragment,
-) -> (usize, Option<Fragment>) {
-    let entry = first + entry_to_open(_timeouts, &contents[first], &contents[first + 1], words, own);
-    let out = put_out(How::Replaced, &contents[entry]);
-    contents[entry] = own.to_words();
-    (entry, out)
+/// The lowest content from `next` on that isn't empty, or their number.
+fn next_open(contents: &[[u64; 10]], next: usize) -> usize
+    requires { next ≤ length contents.now }
+    ensures from { next ≤ result }
+    ensures within { result ≤ length contents.now }
+    ensures empty { (place : ℕ) → next ≤ place → place < result
+        → IsEmptyContent (slice_index_or contents.now place []) }
+    ensures found { result < length contents.now → ¬ IsEmptyContent (slice_index_or contents.now result []) }
+{
+    for place in next..contents.len() {
+        if contents[place][5] != 0 {
+            return place;
+        }
+    }
+    contents.len()
+}
+
+/// What a content shows, which is empty afterwards.
+fn take_content(contents: &mut [[u64; 10]], place: usize) -> Option<Fragment>
+    requires { place < length contents.old }
+    ensures shown { result ≡ entry_of (slice_index_or contents.old place []) }
+    ensures emptied { (content : List ℕ) × IsEmptyContent content × (contents.new ≡ slice_set contents.old place content) }
+{
+    let out = put_out(How::Replaced, &contents[place]);
+    contents[place] = [0; 10];
+    out
 }
 
 impl Front {
@@ -111,13 +124,12 @@ impl Front {
         let own = Fragment::of(packet);
         let words = own.key.to_words();
         let first = 2 * own.key.set_of(PLACES) as usize;
-        if take_into(&self.timeouts, &mut self.contents[first], &words, &own)
-            || take_into(&self.timeouts, &mut self.contents[first + 1], &words, &own)
-        {
+        let contents = self.contents.as_mut_slice();
+        if take_into_one(&self.timeouts, contents, first, &words, &own) {
             return None;
         }
-        let (entry, out) = open_anew(&self.timeouts, &mut self.contents, first, &words, &own);
-        self.next = self.next.min(entry);
+        let (place, out) = open_one(&self.timeouts, contents, first, &words, &own);
+        self.next = self.next.min(place);
         out
     }
 
@@ -128,15 +140,11 @@ impl Front {
         ensures none { IsNone result → open_in self.new ≡ [] }
         ensures bounded { IfSome result IsBounded }
     {
-        for entry in self.next..ENTRIES {
-            if self.contents[entry][5] != 0 {
-                let out = put_out(How::Replaced, &self.contents[entry]);
-                self.contents[entry] = [0; 10];
-                self.next = entry + 1;
-                return out;
-            }
+        let found = next_open(self.contents.as_slice(), self.next);
+        self.next = found;
+        if found == ENTRIES {
+            return None;
         }
-        self.next = ENTRIES;
-        None
+        take_content(self.contents.as_mut_slice(), found)
     }
 }
