@@ -136,7 +136,7 @@ part_count [] place old is = (let none : None ≡ Some old = is in cc)
 part_count (entry ∷ entries) zero old is =
     let sum : packet_count (parts_in (entry ∷ entries)) ≡ packet_count (listed entry) + packet_count (parts_in entries) =
     ap packet_count (flat_map-cons listed entry entries) ∙ sum_by-append count_of (listed entry) (parts_in entries) in
-    let one : packet_count (listed entry) ≡ old.packets + 0 = ap (λ e. packet_count (listed e)) is in
+    let one : packet_count (listed entry) ≡ 0 + old.packets = ap (λ e. packet_count (listed e)) is in
     omega (arith, sum, one)
 part_count (entry ∷ entries) (suc place) old is =
     let sum : packet_count (parts_in (entry ∷ entries)) ≡ packet_count (listed entry) + packet_count (parts_in entries) =

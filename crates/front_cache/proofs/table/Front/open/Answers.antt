@@ -1,0 +1,8 @@
+use Rattle.front_cache.proofs.Emptying.{empty_kept, empty_open}
+use Rattle.front_cache.proofs.table.Front.open.Goals as goal
+
+pub invariant_of-result : goal.invariant_of-result
+invariant_of-result c = ?
+
+pub returns-clause-empty : goal.returns-clause-empty
+returns-clause-empty c = ?
