@@ -7,12 +7,13 @@ use Rattle.std.proofs.lemmas.List.{length-map, length-set, map-set, get_or-set_o
 use Rattle.std.proofs.lemmas.List.Concat.{flat_map-cons}
 use Rattle.std.proofs.lemmas.List.Elements.{All-head, All-tail, All-get_or, All-set, All-weaker}
 use Rattle.flow_parts.specs.declared.fragment.Fragment.{Fragment}
+use Rattle.flow_parts.specs.declared.timeouts.Timeouts.{Timeouts}
 use Rattle.cache_face.specs.Choice.{entry_at}
 use Rattle.cache_face.specs.Keeping.{IsBounded, IsEmptyContent, IsWhole, entry_of}
 use Rattle.cache_face.proofs.Contents.{empty_shows}
 use Rattle.set_choice.proofs.ByWords.{entry_here}
 use Rattle.set_choice.proofs.Others.{empty_there, none_there}
-use Rattle.front_cache.specs.Fronts.{parts_in}
+use Rattle.front_cache.specs.Fronts.{FrontMeans, open_in, parts_in}
 use Rattle.front_cache.specs.Kept.{IsKept}
 
 abbrev listed : Option Fragment → List Fragment
@@ -43,6 +44,19 @@ first_open (entry ∷ entries) (suc found) none low =
     ∙ first_open entries found (λ place less. none (suc place) (omega (arith, less))) (omega (arith, low))
     ∙ ap (λ l. listed (entry_at entries found) ++ l)
     (sym (flat_map-cons listed entry (set entries found None) ∙ ap (λ l. l ++ parts_in (set entries found None)) empty))
+
+-- what is said of a front from which a fragment was taken out
+pub record Emptied (old : FrontMeans) (contents : List (List ℕ)) (next : ℕ) (out : Option Fragment) : Type 0 where
+  pub kept : IsKept contents next
+  pub taken : open_in old ≡ option_to_list out ++ parts_in (map entry_of contents)
+  pub some : ¬ IsNone out
+  pub bounded : IfSome out IsBounded
+
+pub emptied_to : (old old' : FrontMeans) (contents contents' : List (List ℕ)) (next : ℕ) (out out' : Option Fragment)
+    → old ≡ old' → contents' ≡ contents → out' ≡ out → Emptied old contents next out → Emptied old' contents' next out'
+emptied_to old old' contents contents' next out out' here there is emptied =
+    subst (λ f. Emptied f contents' next out') here
+    (subst (λ c. Emptied old c next out') (sym there) (subst (λ o. Emptied old contents next o) (sym is) emptied))
 
 -- empty contents show nothing
 pub empty_kept : (contents : List (List ℕ)) → length contents ≡ 4096 → All IsEmptyContent contents → IsKept contents 0
@@ -93,7 +107,7 @@ module _ (contents : List (List ℕ)) (next found : ℕ) (keeps : IsKept content
     new_is = ap (map entry_of) written ∙ map-set entry_of contents found content
         ∙ ap (λ e. set (map entry_of contents) found e) (empty_shows content nothing)
 
-    pub kept_taken : IsKept new found
+    kept_taken : IsKept new found
     kept_taken = record {
       many = ap length written ∙ length-set contents found content ∙ keeps.many;
       whole = subst (All IsWhole) (sym written) (All-set IsWhole contents found content (inl nothing) keeps.whole);
@@ -108,7 +122,7 @@ module _ (contents : List (List ℕ)) (next found : ℕ) (keeps : IsKept content
           (emptied place less));
     }
 
-    pub open_taken : parts_in (map entry_of contents)
+    open_taken : parts_in (map entry_of contents)
         ≡ option_to_list (entry_of (get_or contents found [])) ++ parts_in (map entry_of new)
     open_taken =
         first_open (map entry_of contents) found emptied
@@ -116,11 +130,13 @@ module _ (contents : List (List ℕ)) (next found : ℕ) (keeps : IsKept content
         ∙ ap (λ e. listed e ++ parts_in (set (map entry_of contents) found None)) (entry_here contents found there)
         ∙ ap (λ es. listed (entry_of (get_or contents found [])) ++ parts_in es) (sym new_is)
 
-    pub taken_bounded : IfSome (entry_of (get_or contents found [])) IsBounded
-    taken_bounded =
-        All-get_or (λ content. IfSome (entry_of content) IsBounded) contents found [] there keeps.bounded
-
-    pub taken_some : ¬ IsEmptyContent (get_or contents found []) → ¬ IsNone (entry_of (get_or contents found []))
-    taken_some full none = full (empty_there contents found there
-        (All-get_or IsWhole contents found [] there keeps.whole)
-        (subst IsNone (sym (entry_here contents found there)) none))
+    pub emptied_at : (limits : Timeouts) → ¬ IsEmptyContent (get_or contents found [])
+        → Emptied (record { limits = limits; entries = map entry_of contents }) new found
+        (entry_of (get_or contents found []))
+    emptied_at limits full = record {
+      kept = kept_taken;
+      taken = open_taken;
+      some = λ none. full (empty_there contents found there (All-get_or IsWhole contents found [] there keeps.whole)
+          (subst IsNone (sym (entry_here contents found there)) none));
+      bounded = All-get_or (λ content. IfSome (entry_of content) IsBounded) contents found [] there keeps.bounded;
+    }

@@ -4,7 +4,7 @@ use Rattle.std.proofs.Common.{sum_by, All, Option, Some, None, IsNone, IfSome, M
 use Rattle.std.proofs.Common.{refl, ap, sym, ◌∙◌, subst, arith, IsPermutation, append_assoc}
 use Rattle.std.specs.Prelude.{map}
 use Rattle.std.proofs.lemmas.Bool.{cases_lt}
-use Rattle.std.proofs.lemmas.List.{length-map, length-set, map-set, append-nil, get_or-set_other}
+use Rattle.std.proofs.lemmas.List.{length-map, length-set, map-set, get_or-set_other, set-get_or}
 use Rattle.std.proofs.lemmas.List.Concat.{flat_map-cons}
 use Rattle.std.proofs.lemmas.List.Elements.{All-get_or, All-set}
 use Rattle.std.proofs.lemmas.List.Sums.{sum_by-append}
@@ -21,13 +21,14 @@ use Rattle.flow_parts.specs.Reaching.{Reaches}
 use Rattle.flow_parts.proofs.Reaching.{itself, turned, reaches_joined}
 use Rattle.cache_face.specs.declared.metered.How.{How}
 use Rattle.cache_face.specs.declared.metered.How.TheVariants.{Joined, Opened, Replaced, PassedBy}
-use Rattle.cache_face.specs.Choice.{CanJoin, IsChoice, Takes, entry_at}
+use Rattle.cache_face.specs.Choice.{CanJoin, HasNone, IsChoice, Takes, entry_at}
 use Rattle.cache_face.specs.Keeping.{IsBounded, IsSmall, IsWhole, entry_of, packet_count}
 use Rattle.cache_face.proofs.Apart.{same, others, apart, anew, moved}
 use Rattle.cache_face.proofs.Contents.{choice_takes, words_show}
 use Rattle.set_choice.proofs.ByWords.{entry_here}
-use Rattle.front_cache.specs.Fronts.{IsTakenIn, entries_of, parts_in, place_of}
+use Rattle.front_cache.specs.Fronts.{FrontMeans, IsTakenIn, entries_of, open_in, parts_in, place_of}
 use Rattle.front_cache.specs.Kept.{IsKept, IsPutIn, two_shown}
+use Rattle.front_cache.proofs.Two.{joins_first, joins_second, none_of_two}
 
 abbrev listed : Option Fragment → List Fragment
 listed entry = option_to_list entry
@@ -61,7 +62,7 @@ two_are contents first place is low =
     sym (entry_here contents (first + 1) low) ∙ ap (λ i. entry_at (map entry_of contents) (i + 1)) is in
     λ i. one i ∷ other i ∷ []
 
-one_of_two : (contents : List (List ℕ)) (first entry : ℕ) → entry < 2
+pub one_of_two : (contents : List (List ℕ)) (first entry : ℕ) → entry < 2
     → entry_at (two_shown contents first) entry ≡ entry_of (get_or contents (first + entry) [])
 one_of_two contents first zero low = ap (λ i. entry_of (get_or contents i [])) (omega arith)
 one_of_two contents first (suc zero) low = ap (λ i. entry_of (get_or contents i [])) (omega arith)
@@ -73,15 +74,15 @@ module _ (limits : Timeouts) (entries : List (Option Fragment)) (own kept : Frag
   rest : List Fragment
   rest = flat_map listed (others entries place)
 
-  new : List (Option Fragment)
-  new = set entries place (Some kept)
+  written : List (Option Fragment)
+  written = set entries place (Some kept)
 
   before : IsPermutation (parts_in entries) (listed (entry_at entries place) ++ rest)
   unfolding rest
   before = apart listed entries place (entry_at entries place) (elem_at entries place None there)
 
-  after : IsPermutation (parts_in new) (kept ∷ rest)
-  unfolding rest new
+  after : IsPermutation (parts_in written) (kept ∷ rest)
+  unfolding rest written
   after = anew listed entries place (entry_at entries place) (Some kept) (elem_at entries place None there)
 
   -- the own fragment comes behind what was there
@@ -92,22 +93,22 @@ module _ (limits : Timeouts) (entries : List (Option Fragment)) (own kept : Frag
       (moved (own ∷ []) (listed (entry_at entries place)) rest)
 
   took : (old : Fragment) → entry_at entries place ≡ Some old → IsJoinable limits old own → IsJoined old own kept
-      → Reaches limits (own ∷ parts_in entries) (parts_in new)
+      → Reaches limits (own ∷ parts_in entries) (parts_in written)
   took old is joinable joined =
-      reaches_joined limits (own ∷ parts_in entries) (own ∷ parts_in entries) (parts_in new) rest old own kept joinable
+      reaches_joined limits (own ∷ parts_in entries) (own ∷ parts_in entries) (parts_in written) rest old own kept joinable
       joined (itself limits (own ∷ parts_in entries))
       (subst (λ e. IsPermutation (own ∷ parts_in entries) (listed e ++ (own ∷ rest))) is fronted) after
 
   opened : kept ≡ own
-      → Reaches limits (own ∷ parts_in entries) (listed (entry_at entries place) ++ parts_in new)
+      → Reaches limits (own ∷ parts_in entries) (listed (entry_at entries place) ++ parts_in written)
   opened is = turned limits (own ∷ parts_in entries) (own ∷ parts_in entries) (own ∷ parts_in entries)
-      (listed (entry_at entries place) ++ parts_in new)
+      (listed (entry_at entries place) ++ parts_in written)
       (IsPermutation-refl (own ∷ parts_in entries))
       (IsPermutation-trans (own ∷ parts_in entries) (listed (entry_at entries place) ++ (own ∷ rest))
-      (listed (entry_at entries place) ++ parts_in new) fronted
-      (IsPermutation-append_right (listed (entry_at entries place)) (own ∷ rest) (parts_in new)
-      (subst (λ k. IsPermutation (k ∷ rest) (parts_in new)) is
-      (IsPermutation-sym (parts_in new) (kept ∷ rest) after))))
+      (listed (entry_at entries place) ++ parts_in written) fronted
+      (IsPermutation-append_right (listed (entry_at entries place)) (own ∷ rest) (parts_in written)
+      (subst (λ k. IsPermutation (k ∷ rest) (parts_in written)) is
+      (IsPermutation-sym (parts_in written) (kept ∷ rest) after))))
       (itself limits (own ∷ parts_in entries))
 
 joins_in : (limits : Timeouts) (own kept : Fragment) (entry : Option Fragment)
@@ -120,7 +121,7 @@ joins_in limits own kept (Some old) h = (old, refl, h.0, h.1)
 reached_at : (limits : Timeouts) (entries : List (Option Fragment)) (own kept : Fragment) (place : ℕ)
     (out : Option Fragment) → place < length entries → Takes limits own (entry_at entries place) out kept
     → Reaches limits (own ∷ parts_in entries) (option_to_list out ++ parts_in (set entries place (Some kept)))
-unfolding new
+unfolding written
 reached_at limits entries own kept place out there (inl joins) =
     let found = joins_in limits own kept (entry_at entries place) joins.0 in
     subst (λ o. Reaches limits (own ∷ parts_in entries) (option_to_list o ++ parts_in (set entries place (Some kept))))
@@ -167,15 +168,70 @@ kept_fits limits entries own kept place out one few room bounded (inr opens) =
       subst (λ o. IfSome o IsBounded) (sym opens.0) bounded,
     )
 
--- what is said of a packet that was taken in
-pub record Answer (limits : Timeouts) (old new : List (List ℕ)) (next : ℕ) (packet : Packet)
+-- what is said of a front after a packet was taken in
+pub record Answer (limits : Timeouts) (old : FrontMeans) (contents : List (List ℕ)) (next : ℕ) (packet : Packet)
     (out : Option Fragment) : Type 0 where
-  pub kept : IsKept new next
-  pub taken : IsTakenIn (record { limits = limits; entries = map entry_of old })
-      (record { limits = limits; entries = map entry_of new }) packet out
+  pub kept : IsKept contents next
+  pub taken : IsTakenIn old (record { limits = limits; entries = map entry_of contents }) packet out
   pub reached : (own : Fragment) × IsAlone packet own
-      × Reaches limits (own ∷ parts_in (map entry_of old)) (option_to_list out ++ parts_in (map entry_of new))
+      × Reaches old.limits (own ∷ open_in old) (option_to_list out ++ parts_in (map entry_of contents))
   pub bounded : IfSome out IsBounded
+
+pub turned_to : (limits : Timeouts) (old old' : FrontMeans) (contents contents' : List (List ℕ)) (next : ℕ)
+    (packet : Packet) (out : Option Fragment) → old ≡ old' → contents' ≡ contents
+    → Answer limits old contents next packet out → Answer limits old' contents' next packet out
+turned_to limits old old' contents contents' next packet out here there answer =
+    subst (λ f. Answer limits f contents' next packet out) here
+    (subst (λ c. Answer limits old c next packet out) (sym there) answer)
+
+pub put_length : (limits : Timeouts) (old new : List (List ℕ)) (first : ℕ) (own : Fragment) (how : How) (place : ℕ)
+    (out : Option Fragment) → IsPutIn limits old new first own how place out → length new ≡ length old
+put_length limits old new first own how place out put =
+    ap length put.written ∙ length-set old place (part_words put.kept)
+
+-- the first of two contents took the fragment in
+pub put_first : (limits : Timeouts) (contents : List (List ℕ)) (first : ℕ) (own kept : Fragment) (content : List ℕ)
+    → CanJoin limits own (entry_of (get_or contents first []))
+    → MatchOption (entry_of (get_or contents first [])) ⊥ (λ old. IsJoined old own kept) → content ≡ part_words kept
+    → IsPutIn limits contents (set contents first content) first own Joined first None
+put_first limits contents first own kept content can joined words = record {
+  entry = 0;
+  kept = kept;
+  chosen = joins_first limits (entry_of (get_or contents first [])) (entry_of (get_or contents (first + 1) [])) own kept
+      can joined;
+  at = omega arith;
+  written = ap (λ c. set contents first c) words;
+}
+
+-- the second did, and the first could not
+pub put_second : (limits : Timeouts) (contents base : List (List ℕ)) (first : ℕ) (own kept : Fragment)
+    (content : List ℕ) → base ≡ contents → ¬ CanJoin limits own (entry_of (get_or contents first []))
+    → CanJoin limits own (entry_of (get_or base (first + 1) []))
+    → MatchOption (entry_of (get_or base (first + 1) [])) ⊥ (λ old. IsJoined old own kept) → content ≡ part_words kept
+    → IsPutIn limits contents (set base (first + 1) content) first own Joined (first + 1) None
+put_second limits contents base first own kept content same not can joined words =
+    subst (λ (b : List (List ℕ)). CanJoin limits own (entry_of (get_or b (first + 1) []))
+    → MatchOption (entry_of (get_or b (first + 1) [])) ⊥ (λ old. IsJoined old own kept)
+    → IsPutIn limits contents (set b (first + 1) content) first own Joined (first + 1) None) (sym same)
+    (λ can joined. record {
+      entry = 1;
+      kept = kept;
+      chosen = joins_second limits (entry_of (get_or contents first [])) (entry_of (get_or contents (first + 1) [])) own
+          kept not can joined;
+      at = refl;
+      written = ap (λ c. set contents (first + 1) c) words;
+    }) can joined
+
+-- neither could
+pub left_both : (limits : Timeouts) (contents base : List (List ℕ)) (first : ℕ) (own : Fragment) (content : List ℕ)
+    → base ≡ contents → ¬ CanJoin limits own (entry_of (get_or contents first []))
+    → content ≡ get_or base (first + 1) [] → ¬ CanJoin limits own (entry_of (get_or base (first + 1) []))
+    → (set base (first + 1) content ≡ contents) × HasNone (CanJoin limits own) (two_shown contents first)
+left_both limits contents base first own content same not words not' = (
+  ap (λ c. set base (first + 1) c) words ∙ set-get_or base (first + 1) [] ∙ same,
+  none_of_two (CanJoin limits own) (entry_of (get_or contents first [])) (entry_of (get_or contents (first + 1) [])) not
+      (subst (λ (b : List (List ℕ)). ¬ CanJoin limits own (entry_of (get_or b (first + 1) []))) same not'),
+)
 
 module _ (limits : Timeouts) (old new : List (List ℕ)) (next next' first : ℕ) (own : Fragment) (packet : Packet)
     (how : How) (place : ℕ) (out : Option Fragment)
@@ -228,7 +284,8 @@ module _ (limits : Timeouts) (old new : List (List ℕ)) (next next' first : ℕ
         (keeps.emptied other (omega (arith, below, less))));
   }
 
-  pub answer : next' ≤ next → next' ≤ place → Answer limits old new next' packet out
+  pub answer : next' ≤ next → next' ≤ place
+      → Answer limits (record { limits = limits; entries = map entry_of old }) new next' packet out
   answer less above = record {
     kept = still_kept less above;
     taken = record {
@@ -262,7 +319,8 @@ not_empty limits own (Some old) can = λ none. cc
 pub answer_joined : (limits : Timeouts) (old new : List (List ℕ)) (next first : ℕ) (own : Fragment) (packet : Packet)
     (place : ℕ) → IsKept old next → IsAlone packet own → packet.octets < 2 ^ 24
     → packet_count (parts_in (map entry_of old)) + 1 ≤ 2 ^ 32 → first ≡ 2 * place_of own.key
-    → place_of own.key < 2048 → IsPutIn limits old new first own Joined place None → Answer limits old new next packet None
+    → place_of own.key < 2048 → IsPutIn limits old new first own Joined place None
+    → Answer limits (record { limits = limits; entries = map entry_of old }) new next packet None
 answer_joined limits old new next first own packet place keeps alone few room here low put =
     answer limits old new next next first own packet Joined place None keeps alone few room here low put (omega arith)
     (above (cases_lt place next))
