@@ -87,3 +87,6 @@ returns-clause-taken c = (opened c).taken
 
 pub returns-clause-reached : goal.returns-clause-reached
 returns-clause-reached c = (opened c).reached
+
+pub returns-clause-bounded : goal.returns-clause-bounded
+returns-clause-bounded c = (opened c).bounded
