@@ -50,7 +50,7 @@ pub record Emptied (old : FrontMeans) (contents : List (List ℕ)) (next : ℕ) 
   pub kept : IsKept contents next
   pub taken : open_in old ≡ option_to_list out ++ parts_in (map entry_of contents)
   pub some : ¬ IsNone out
-  pub bounded : IfSome out IsBounded
+  pub others : (place : ℕ) × (map entry_of contents ≡ set old.entries place None)
 
 pub emptied_to : (old old' : FrontMeans) (contents contents' : List (List ℕ)) (next : ℕ) (out out' : Option Fragment)
     → old ≡ old' → contents' ≡ contents → out' ≡ out → Emptied old contents next out → Emptied old' contents' next out'
@@ -138,5 +138,5 @@ module _ (contents : List (List ℕ)) (next found : ℕ) (keeps : IsKept content
       taken = open_taken;
       some = λ none. full (empty_there contents found there (All-get_or IsWhole contents found [] there keeps.whole)
           (subst IsNone (sym (entry_here contents found there)) none));
-      bounded = All-get_or (λ content. IfSome (entry_of content) IsBounded) contents found [] there keeps.bounded;
+      others = (found, new_is);
     }

@@ -1,7 +1,7 @@
 -- What stands when a fragment is put into one of two entries.
 use Rattle.std.proofs.Common.{◌≡◌, ◌⊎◌, inl, inr, ℕ, zero, suc, ◌+◌, ◌*◌, ◌^◌, ◌<◌, ◌≤◌, List, [], ◌∷◌, ◌++◌, length, flat_map}
-use Rattle.std.proofs.Common.{sum_by, All, Option, Some, None, IsNone, IfSome, MatchOption, option_to_list, get_or, set}
-use Rattle.std.proofs.Common.{refl, ap, sym, ◌∙◌, subst, arith, IsPermutation, append_assoc}
+use Rattle.std.proofs.Common.{All, Option, Some, None, IsNone, IfSome, MatchOption, option_to_list, get_or, set}
+use Rattle.std.proofs.Common.{refl, ap, sym, ◌∙◌, subst, arith, IsPermutation}
 use Rattle.std.specs.Prelude.{map}
 use Rattle.std.proofs.lemmas.Bool.{cases_lt}
 use Rattle.std.proofs.lemmas.List.{length-map, length-set, map-set, get_or-set_other, set-get_or}

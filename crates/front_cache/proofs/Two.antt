@@ -1,7 +1,6 @@
 -- The choice among two entries.
-use Rattle.std.proofs.Common.{◌≡◌, ◌≢◌, inl, inr, ℕ, zero, suc, ◌<◌, ◌≤◌, List, [], ◌∷◌, length, Option, Some, None, IsNone}
-use Rattle.std.proofs.Common.{MatchOption, refl, sym, arith, subst}
-use Rattle.flow_key.specs.declared.key.FlowKey.{FlowKey}
+use Rattle.std.proofs.Common.{◌≡◌, inl, inr, ℕ, zero, suc, ◌<◌, ◌≤◌, [], ◌∷◌, length, Option, Some, None, IsNone}
+use Rattle.std.proofs.Common.{MatchOption, refl, arith}
 use Rattle.flow_parts.specs.declared.fragment.Fragment.{Fragment}
 use Rattle.flow_parts.specs.declared.timeouts.Timeouts.{Timeouts}
 use Rattle.flow_parts.specs.Parts.{IsJoined}
@@ -68,21 +67,27 @@ module _ (limits : Timeouts) (one other : Option Fragment) (own : Fragment) wher
   Opens entry = (how : How) × IsChoice limits (one ∷ other ∷ []) own how entry (entry_at (one ∷ other ∷ []) entry) own
 
   pub anew_first : HasNone (CanJoin limits own) (one ∷ other ∷ []) → HasKey own.key one → Opens 0
-  anew_first none has = (Replaced, inl (record {
-    none_joins = none;
-    lowest = first_lowest (HasKey own.key) one other has;
-    out_is = refl;
-    anew = refl;
-  }))
+  anew_first none has = (
+    Replaced,
+    inl (record {
+      none_joins = none;
+      lowest = first_lowest (HasKey own.key) one other has;
+      out_is = refl;
+      anew = refl;
+    }),
+  )
 
   pub anew_second : HasNone (CanJoin limits own) (one ∷ other ∷ []) → ¬ HasKey own.key one → HasKey own.key other
       → Opens 1
-  anew_second none first has = (Replaced, inl (record {
-    none_joins = none;
-    lowest = second_lowest (HasKey own.key) one other first has;
-    out_is = refl;
-    anew = refl;
-  }))
+  anew_second none first has = (
+    Replaced,
+    inl (record {
+      none_joins = none;
+      lowest = second_lowest (HasKey own.key) one other first has;
+      out_is = refl;
+      anew = refl;
+    }),
+  )
 
 none_is : (entry : Option Fragment) → IsNone entry → entry ≡ None
 none_is None h = refl
@@ -91,20 +96,26 @@ none_is (Some old) h = cc
 module _ (limits : Timeouts) (one other : Option Fragment) (own : Fragment)
     (none : HasNone (HasKey own.key) (one ∷ other ∷ [])) where
   pub empty_first : IsNone one → Opens limits one other own 0
-  empty_first empty = (Opened, record {
-    none_of_key = none;
-    lowest = first_lowest IsNone one other empty;
-    none_out = none_is one empty;
-    opened = refl;
-  })
+  empty_first empty = (
+    Opened,
+    record {
+      none_of_key = none;
+      lowest = first_lowest IsNone one other empty;
+      none_out = none_is one empty;
+      opened = refl;
+    },
+  )
 
   pub empty_second : ¬ IsNone one → IsNone other → Opens limits one other own 1
-  empty_second first empty = (Opened, record {
-    none_of_key = none;
-    lowest = second_lowest IsNone one other first empty;
-    none_out = none_is other empty;
-    opened = refl;
-  })
+  empty_second first empty = (
+    Opened,
+    record {
+      none_of_key = none;
+      lowest = second_lowest IsNone one other first empty;
+      none_out = none_is other empty;
+      opened = refl;
+    },
+  )
 
 some_last : (f g : Fragment) → Some f ≡ Some g → f.last ≡ g.last
 some_last f g e = let same : f ≡ g = cc in λ i. (same i).last
@@ -154,23 +165,29 @@ module _ (limits : Timeouts) (own : Fragment) where
       → ((f g : Fragment) → one ≡ Some f → other ≡ Some g → f.last ≤ g.last) → Opens limits one other own 0
   oldest_first None other none first second least = absurd (first refl)
   oldest_first (Some f) None none first second least = absurd (second refl)
-  oldest_first (Some f) (Some g) none first second least = (Replaced, inr (record {
-    none_of_key = none;
-    none_empty = none_of_two IsNone (Some f) (Some g) first second;
-    oldest = first_oldest f g (least f g refl refl);
-    out_is = refl;
-    anew = refl;
-  }))
+  oldest_first (Some f) (Some g) none first second least = (
+    Replaced,
+    inr (record {
+      none_of_key = none;
+      none_empty = none_of_two IsNone (Some f) (Some g) first second;
+      oldest = first_oldest f g (least f g refl refl);
+      out_is = refl;
+      anew = refl;
+    }),
+  )
 
   pub oldest_second : (one other : Option Fragment) → HasNone (HasKey own.key) (one ∷ other ∷ [])
       → ¬ IsNone one → ¬ IsNone other
       → ((f g : Fragment) → one ≡ Some f → other ≡ Some g → g.last < f.last) → Opens limits one other own 1
   oldest_second None other none first second least = absurd (first refl)
   oldest_second (Some f) None none first second least = absurd (second refl)
-  oldest_second (Some f) (Some g) none first second least = (Replaced, inr (record {
-    none_of_key = none;
-    none_empty = none_of_two IsNone (Some f) (Some g) first second;
-    oldest = second_oldest f g (least f g refl refl);
-    out_is = refl;
-    anew = refl;
-  }))
+  oldest_second (Some f) (Some g) none first second least = (
+    Replaced,
+    inr (record {
+      none_of_key = none;
+      none_empty = none_of_two IsNone (Some f) (Some g) first second;
+      oldest = second_oldest f g (least f g refl refl);
+      out_is = refl;
+      anew = refl;
+    }),
+  )

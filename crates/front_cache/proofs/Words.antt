@@ -1,7 +1,6 @@
 -- Contents of a key, and one that takes a fragment in.
-use Rattle.std.proofs.Common.{◌≡◌, ◌≢◌, inl, inr, ℕ, ◌<◌, List, [], ◌∷◌, ◌++◌, length, Option, Some, None, MatchOption, get_or}
-use Rattle.std.proofs.Common.{set, take, refl, ap, sym, ◌∙◌, subst, arith}
-use Rattle.std.proofs.lemmas.List.{get_or-set_other, length-set}
+use Rattle.std.proofs.Common.{◌≡◌, ◌≢◌, inl, inr, ℕ, List, [], ◌∷◌, ◌++◌, Option, Some, None, MatchOption, get_or}
+use Rattle.std.proofs.Common.{set, take, ap, sym, ◌∙◌, subst}
 use Rattle.flow_key.specs.declared.key.FlowKey.{FlowKey}
 use Rattle.flow_key.specs.Key.{words_of}
 use Rattle.flow_key.proofs.KeyWords.{same_words}

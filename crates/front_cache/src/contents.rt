@@ -18,12 +18,7 @@ use set_choice::{has_words, join_content, put_out};
 /// Takes a fragment into the content where it can be one with the fragment that this shows, and tells whether it did. Of
 /// the ten words the five behind the key change.
 #[inline(always)]
-fn take_into(
-    timeouts: &Timeouts,
-    content: &mut [u64; 10],
-    words: &[u64; 5],
-    own: &Fragment,
-) -> bool
+fn take_into(timeouts: &Timeouts, content: &mut [u64; 10], words: &[u64; 5], own: &Fragment) -> bool
     requires whole { IsWhole content.old }
     requires words { words.now ≡ words_of own.now.key }
     requires small { IsSmall own.now }
@@ -129,7 +124,13 @@ pub(crate) fn open_one(
     requires none_joins { HasNone (CanJoin _timeouts.now own.now) (two_shown contents.old first) }
     ensures { (how : How) × IsPutIn _timeouts.now contents.old contents.new first own.now how result.0 result.1 }
 {
-    let entry = entry_to_open(_timeouts, &contents[first], &contents[first + 1], words, own);
+    let entry = entry_to_open(
+        _timeouts,
+        &contents[first],
+        &contents[first + 1],
+        words,
+        own,
+    );
     let place = first + entry;
     let out = put_out(How::Replaced, &contents[place]);
     contents[place] = own.to_words();

@@ -1,7 +1,7 @@
 //! The front.
 
 ghost use Rattle.std.specs.Prelude.{◌≡◌, ◌+◌, ◌*◌, ◌<◌, ◌≤◌, ◌^◌, ℕ, [], ◌∷◌, ◌++◌, length, map, All, Option, Some, List};
-ghost use Rattle.std.specs.Prelude.{IsNone, IfSome, IfOk, option_to_list, slice_set, slice_index_or};
+ghost use Rattle.std.specs.Prelude.{None, IsNone, IsSome, IfSome, IfOk, option_to_list, slice_set, slice_index_or};
 ghost use Rattle.flow_key.specs.Key.{words_of};
 ghost use Rattle.packet_accept.specs.declared.packet.Packet.{Packet};
 ghost use Rattle.flow_parts.specs.Parts.{IsAlone, part_words};
@@ -96,6 +96,7 @@ impl Front {
     /// `NoMemory` where no memory was left.
     pub fn open(alloc: Global, timeouts: Timeouts) -> Result<Front, NoMemory>
         ensures limits { IfOk result (λ front. front.limits ≡ timeouts) }
+        ensures entries { IfOk result (λ front. length front.entries ≡ 4096) }
         ensures empty { IfOk result (λ front. open_in front ≡ []) }
     {
         let contents = empty_contents(alloc, ENTRIES)?;
@@ -138,6 +139,7 @@ impl Front {
         ensures limits { self.new.limits ≡ self.old.limits }
         ensures taken { open_in self.old ≡ option_to_list result ++ open_in self.new }
         ensures none { IsNone result → open_in self.new ≡ [] }
+        ensures others { IsSome result → (place : ℕ) × (self.new.entries ≡ slice_set self.old.entries place None) }
         ensures bounded { IfSome result IsBounded }
     {
         let found = next_open(self.contents.as_slice(), self.next);

@@ -13,9 +13,13 @@ use std::alloc::Global;
 
 /// Five flows by their source ports. The first three have one place, the others the first and the last place of all.
 const ONE: u16 = 1733;
+
 const TWO: u16 = 3226;
+
 const THREE: u16 = 4719;
+
 const FIRST: u16 = 13_637;
+
 const LAST: u16 = 1131;
 
 /// A front, and how many packets it may still take in.
@@ -29,10 +33,7 @@ struct Counted {
 /// A front where nothing is open, with time-outs of 300 and 1800 s.
 fn new_front(alloc: Global) -> Result<Counted, NoMemory> {
     let front = Front::open(alloc, Timeouts::new(300, 1800))?;
-    Ok(Counted {
-        front,
-        left: 1000,
-    })
+    Ok(Counted { front, left: 1000 })
 }
 
 impl Counted {

@@ -23,11 +23,11 @@ pub returns-then-take_into-clause-taken : goal.returns-then-take_into-clause-tak
 returns-then-take_into-clause-taken c = OnTrue_from c.take_into.result
     ((place : ℕ) × IsPutIn c.args.timeouts.now c.args.contents.now
     (set c.args.contents.now c.args.first c.take_into.new.content) c.args.first c.args.own.now Joined place None) (λ yes. (
-  c.args.first,
-  put_first c.args.timeouts.now c.args.contents.now c.args.first c.args.own.now c.if-take_into.ensures.taken.0
-      c.take_into.new.content c.if-take_into.ensures.taken.2 c.if-take_into.ensures.taken.3
-      c.if-take_into.ensures.taken.1,
-))
+      c.args.first,
+      put_first c.args.timeouts.now c.args.contents.now c.args.first c.args.own.now c.if-take_into.ensures.taken.0
+          c.take_into.new.content c.if-take_into.ensures.taken.2 c.if-take_into.ensures.taken.3
+          c.if-take_into.ensures.taken.1,
+    ))
 
 pub returns-else-take_into-clause-taken : goal.returns-else-take_into-clause-taken
 returns-else-take_into-clause-taken c = OnTrue_from c.take_into-else-take_into.result
@@ -40,18 +40,18 @@ returns-else-take_into-clause-taken c = OnTrue_from c.take_into-else-take_into.r
     × MatchOption
     (entry_of (get_or (set c.args.contents.now c.args.first c.take_into.new.content) (c.args.first + 1) [])) ⊥
     (λ old. IsJoined old c.args.own.now kept) = OnTrue_at yes c.take_into-else-take_into.ensures.taken in (
-  c.args.first + 1,
-  put_second c.args.timeouts.now c.args.contents.now
-      (set c.args.contents.now c.args.first c.take_into.new.content) c.args.first c.args.own.now
-      taken.0
-      c.take_into-else-take_into.new.content
-      (ap (set c.args.contents.now c.args.first) c.if-take_into.ensures.left.0
-      ∙ set-get_or c.args.contents.now c.args.first [])
-      c.if-take_into.ensures.left.1
-      taken.2
-      taken.3
-      taken.1,
-))
+      c.args.first + 1,
+      put_second c.args.timeouts.now c.args.contents.now
+          (set c.args.contents.now c.args.first c.take_into.new.content) c.args.first c.args.own.now
+          taken.0
+          c.take_into-else-take_into.new.content
+          (ap (set c.args.contents.now c.args.first) c.if-take_into.ensures.left.0
+          ∙ set-get_or c.args.contents.now c.args.first [])
+          c.if-take_into.ensures.left.1
+          taken.2
+          taken.3
+          taken.1,
+    ))
 
 pub returns-else-take_into-clause-left : goal.returns-else-take_into-clause-left
 returns-else-take_into-clause-left c = OnFalse_from c.take_into-else-take_into.result _ (λ no.

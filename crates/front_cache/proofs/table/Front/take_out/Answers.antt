@@ -65,3 +65,6 @@ returns-clause-taken c = (emptied c).taken
 
 pub returns-clause-none : goal.returns-clause-none
 returns-clause-none c = λ none. absurd ((emptied c).some none)
+
+pub returns-clause-others : goal.returns-clause-others
+returns-clause-others c = λ some. (emptied c).others
