@@ -9,11 +9,12 @@ ghost use Rattle.cache_face.specs.Choice as choice;
 ghost use Rattle.cache_face.specs.Keeping.{entry_of, IsWhole};
 ghost use Rattle.cache_face.specs.Meaning.{IsAnswer};
 ghost use Rattle.cache_face.specs.Notes.{note_with};
+ghost use Rattle.cache_face.specs.Tries.{HasLost};
 ghost use Rattle.cache_face.specs.declared.metered.How.TheVariants.{PassedBy};
 ghost use Rattle.set_choice.specs.Chosen.{out_of};
 ghost use Rattle.turn_cache.specs.Hands.{number_of, idle, reading, writing, entries_of};
 ghost use Rattle.turn_cache.specs.Moves as moves;
-ghost use Rattle.turn_cache.specs.Shown.{means_of, shown_of, IsOf, IsTryOf};
+ghost use Rattle.turn_cache.specs.Shown.{means_of, shown_of, lost_of, IsOf, IsTryOf};
 
 use crate::cache::{TurnCache, TurnPass};
 use crate::rule::Known;
@@ -213,8 +214,9 @@ impl TurnCache {
         requires passed_by { (metered.old.how ≡ PassedBy) × (metered.old.out ≡ None) }
         ensures own { IsOf self.now pass.new }
         ensures note { (shown_of pass.new).note ≡ note_with (shown_of pass.old).note own.now metered.new.out }
-        ensures answer { IsAnswer (means_of self.now) IsTryOf (shown_of pass.old)
-            (shown_of pass.new) own.now metered.new.how metered.new.out }
+        ensures answer { IsAnswer (means_of self.now) (shown_of pass.new) own.now metered.new.how metered.new.out }
+        ensures lost { HasLost (IsTryOf (set_number own.now.key self.now.sets)) metered.new.how (lost_of pass.old)
+            (lost_of pass.new) }
     {
         let set = own.key.set_of(self.sets);
         let number = pass.number;
