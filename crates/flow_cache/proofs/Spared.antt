@@ -91,3 +91,14 @@ collects_from retired fresh old mid new many few none some room =
       from = λ is. absurd (below is);
       below = λ is. refl;
     }))
+
+-- and the tries behind it collect nothing
+pub collects_on : (retired : ℕ) (old mid new : History) → CollectsFrom retired old mid → HasCollected 0 mid new
+    → CollectsFrom retired old new
+collects_on retired old mid new room spared = record {
+  times = room.times;
+  collected = (let c = room.collected in omega (arith, c, spared));
+  most = room.most;
+  from = room.from;
+  below = room.below;
+}

@@ -10,6 +10,7 @@ use Rattle.pebr_roots.specs.Passes.{note_by, past_by, lost_by}
 use Rattle.flow_cache.specs.Reading.{entries_read, set_read, written_in}
 use Rattle.flow_cache.specs.Shown.{means_of}
 use Rattle.flow_cache.specs.Trying.{IsOwn}
+use Rattle.flow_cache.proofs.Spared.{collects_on}
 use Rattle.flow_cache.proofs.Answering.{lost_on, lost_at, answered}
 use Rattle.flow_cache.proofs.cache.PebrCache.meter_stopping.Goals as goal
 
@@ -66,3 +67,8 @@ returns-clause-lost g c =
     c.put_in-lost.new.metered.how c.put_in-lost.new.metered.out _ _ (lost_by old.inner)
     (lost_by c.put_in-lost.new.pass) tries c.put_in-lost.ensures.outcome c.set_of-set.ensures.number
     (lost_on tries.tries (past_by old.inner).lost past.lost _ _ listed more)
+
+pub returns-clause-collects : goal.returns-clause-collects
+returns-clause-collects g c =
+    collects_on _ (past_by c.args.pass.now.inner) (past_by c.make_room.new.pass) (past_by c.put_in-lost.new.pass)
+    c.make_room.ensures.collects c.put_in-lost.ensures.spared

@@ -183,7 +183,10 @@ returns-in-Other-clause-undone g c undone =
 pub returns-in-Replaced-clause-spared : goal.returns-in-Replaced-clause-spared
 returns-in-Replaced-clause-spared g c =
     spared_put (past_by c.args.pass.now) (past_by c.read_contents.new.pass) (past_by c.fill.new.pass)
-    (past_by c.replace.new.pass) _ _ _ _ (answer_to c.replace.result) (known_by c.fill.new.pass)
+    (past_by c.replace.new.pass) (number_by c.fill.new.pass)
+    (root_of c.args.set c.choose_by_words-choice.result.place)
+    (slot_at (known_by c.fill.new.pass) c.choose_by_words-choice.result.place)
+    (least_in (known_by c.fill.new.pass).fresh) (answer_to c.replace.result) (known_by c.fill.new.pass)
     (ap (λ (p : History). p.notes) c.read_contents.ensures.past) (ap (λ (p : History). p.pins) c.read_contents.ensures.past)
     (ap (λ (p : History). p.notes) c.fill.ensures.past) (ap (λ (p : History). p.pins) c.fill.ensures.past)
     c.replace.ensures.step.past
@@ -191,7 +194,10 @@ returns-in-Replaced-clause-spared g c =
 pub returns-in-Other-clause-spared : goal.returns-in-Other-clause-spared
 returns-in-Other-clause-spared g c =
     spared_put (past_by c.args.pass.now) (past_by c.read_contents.new.pass) (past_by c.fill.new.pass)
-    (past_by c.replace.new.pass) _ _ _ _ (answer_to c.replace.result) (known_by c.fill.new.pass)
+    (past_by c.replace.new.pass) (number_by c.fill.new.pass)
+    (root_of c.args.set c.choose_by_words-choice.result.place)
+    (slot_at (known_by c.fill.new.pass) c.choose_by_words-choice.result.place)
+    (least_in (known_by c.fill.new.pass).fresh) (answer_to c.replace.result) (known_by c.fill.new.pass)
     (ap (λ (p : History). p.notes) c.read_contents.ensures.past) (ap (λ (p : History). p.pins) c.read_contents.ensures.past)
     (ap (λ (p : History). p.notes) c.fill.ensures.past) (ap (λ (p : History). p.pins) c.fill.ensures.past)
     c.replace.ensures.step.past

@@ -54,9 +54,10 @@ returns-clause-spared g c =
     let mid = past_by c.load_set.new.pass in
     let end = past_by c.check.new.pass in
     collected_on 0 0 start first end
-    (subst (HasCollected 0 start) (sym c.enter.ensures.past) (enter_spares _ _ (known_by c.args.pass.now) start))
+    (subst (HasCollected 0 start) (sym c.enter.ensures.past) (enter_spares (number_by c.args.pass.now)
+    (known_by c.enter.new.pass).noted (known_by c.args.pass.now) start))
     (collected_on 0 0 first mid end
     (spared_one first mid (ap (λ (p : History). p.notes) c.load_set.ensures.past)
     (ap (λ (p : History). p.pins) c.load_set.ensures.past))
     (subst (HasCollected 0 mid) (sym c.check.ensures.step.past)
-    (check_spares _ (answer_to c.check.result) (known_by c.load_set.new.pass) mid)))
+    (check_spares (number_by c.load_set.new.pass) (answer_to c.check.result) (known_by c.load_set.new.pass) mid)))
