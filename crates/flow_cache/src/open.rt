@@ -86,7 +86,12 @@ impl PebrCache {
             batch: 32,
             width: 10,
         };
-        let (roots, inner) = Roots::open(alloc, shape, CacheFixed { sets, timeouts }, words.as_slice())?;
+        let (roots, inner) = Roots::open(
+            alloc,
+            shape,
+            CacheFixed { sets, timeouts },
+            words.as_slice(),
+        )?;
         let cache = PebrCache {
             roots,
             sets,

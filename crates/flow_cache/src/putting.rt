@@ -37,10 +37,7 @@ fn is_passed_by(last: bool, done: bool) -> bool
 /// What is done to the note of a pass that leaves: where its packet is passed by, it is metered, and its own fragment
 /// handed out.
 #[inline]
-fn leaving_note(
-    own: &Fragment,
-    passes_by: bool,
-) -> Option<(Fragment, Option<Fragment>)>
+fn leaving_note(own: &Fragment, passes_by: bool) -> Option<(Fragment, Option<Fragment>)>
     ensures { result ≡ (if passes_by then Some (own.now, Some own.now) else None) }
 {
     if passes_by {

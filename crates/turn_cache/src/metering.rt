@@ -171,13 +171,7 @@ impl TurnCache {
     }
 
     /// Tries three times to take the turn of a set. After the third lost try the own fragment is handed out.
-    fn take_turn(
-        &self,
-        seat: &mut Seat<(), Known>,
-        number: u64,
-        set: u64,
-        own: &Fragment,
-    ) -> bool
+    fn take_turn(&self, seat: &mut Seat<(), Known>, number: u64, set: u64, own: &Fragment) -> bool
         requires at { seat.old.table_id ≡ self.now.table.shared.table_id }
         requires idle { (seat.old.me.0.turn ≡ idle) × (0 < length seat.old.me.0.numbers)
             × (number_of seat.old.me.0.numbers ≡ number) }
@@ -203,12 +197,7 @@ impl TurnCache {
     /// Puts a fragment into its set, or passes it by. The answer begins as that of a packet that is passed by, with
     /// nothing handed out; what is to be otherwise is written.
     #[inline(never)]
-    pub(crate) fn put_in(
-        &self,
-        pass: &mut TurnPass,
-        own: &Fragment,
-        metered: &mut Metered,
-    )
+    pub(crate) fn put_in(&self, pass: &mut TurnPass, own: &Fragment, metered: &mut Metered)
         requires own { IsOf self.now pass.old }
         requires fragment { moves.IsOwn (shown_of pass.old).note own.now }
         requires passed_by { (metered.old.how ≡ PassedBy) × (metered.old.out ≡ None) }

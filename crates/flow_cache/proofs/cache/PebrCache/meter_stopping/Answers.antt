@@ -48,9 +48,9 @@ returns-clause-answer g c =
       entries = entries_read past (set_read past.loads);
       written = written_in past.put;
     } in
-      answered (means_of c.args.self.now) now past c.args.part.now c.put_in-lost.new.metered.out
-          c.set_of-set.result c.put_in-lost.result c.set_of-set.ensures.number refl refl refl
-          c.put_in-lost.new.metered.how c.put_in-lost.ensures.outcome
+    answered (means_of c.args.self.now) now past c.args.part.now c.put_in-lost.new.metered.out
+    c.set_of-set.result c.put_in-lost.result c.set_of-set.ensures.number refl refl refl
+    c.put_in-lost.new.metered.how c.put_in-lost.ensures.outcome
 
 pub returns-clause-lost : goal.returns-clause-lost
 returns-clause-lost g c =
