@@ -24,6 +24,9 @@ import generate  # noqa: E402
 
 TOP = Path(__file__).resolve().parent.parent
 FIELDS = [(7, 2), (11, 2), (4, 1), (6, 2), (2, 8), (1, 8), (152, 8), (153, 8), (136, 1)]
+# Whether the program's workers have fronts, and how many places of two entries a front has.
+WITH_FRONT = False
+PLACES = 2048
 TEMPLATES = {256: [(8, 4), (12, 4)] + FIELDS, 257: [(27, 16), (28, 16)] + FIELDS}
 
 
@@ -180,23 +183,39 @@ def set_of(key: tuple, sets: int) -> int:
     return (hashed >> 32) % sets
 
 
+def put_in(entries: list, own: list, limits: Limits):
+    """Puts a flow into one of the entries of its place or set. What is put out for it, or None."""
+    places = [place for place, entry in enumerate(entries) if entry and entry[0] == own[0]]
+    fit = [place for place in places if joinable(entries[place], own, limits)]
+    empty = [place for place, entry in enumerate(entries) if not entry]
+    if fit:
+        entries[fit[0]] = joined(entries[fit[0]], own)
+        return None
+    oldest = [min(range(len(entries)), key=lambda place: entries[place][4])] if not empty else []
+    place = (places or empty or oldest)[0]
+    out, entries[place] = entries[place], own
+    return out
+
+
+def through_front(packets: list[Packet], limits: Limits):
+    """What leaves a worker's front of two entries a place, in order: behind the last packet what is open, place by place."""
+    front: dict[int, list] = {}
+    for packet in packets:
+        out = put_in(front.setdefault(set_of(packet.key, PLACES), [None] * 2), alone(packet), limits)
+        if out:
+            yield out
+    for place in sorted(front):
+        yield from (entry for entry in front[place] if entry)
+
+
 def cached(packets: list[Packet], limits: Limits, sets: int) -> list[list]:
     """What a cache of so many sets of four entries hands out and keeps, where one worker meters all packets."""
     cache: dict[int, list] = {}
     out = []
-    for packet in packets:
-        own = alone(packet)
-        entries = cache.setdefault(set_of(packet.key, sets), [None] * 4)
-        places = [place for place, entry in enumerate(entries) if entry and entry[0] == packet.key]
-        fit = [place for place in places if joinable(entries[place], own, limits)]
-        empty = [place for place, entry in enumerate(entries) if not entry]
-        if fit:
-            entries[fit[0]] = joined(entries[fit[0]], own)
-            continue
-        place = (places or empty or [min(range(4), key=lambda place: entries[place][4])])[0]
-        if entries[place]:
-            out.append(entries[place])
-        entries[place] = own
+    for part in through_front(packets, limits) if WITH_FRONT else map(alone, packets):
+        left = put_in(cache.setdefault(set_of(part[0], sets), [None] * 4), part, limits)
+        if left:
+            out.append(left)
     return out + [entry for entries in cache.values() for entry in entries if entry]
 
 
@@ -328,6 +347,16 @@ def differs(stream: bytes, packets: list[Packet], limits: Limits, size: int, set
     return stream != stream_of(flows, export_time, size)
 
 
+def crowd(count: int) -> list[int]:
+    """Ports to which UDP from port 53 of 10.0.0.1 to 10.0.0.2 has one place in a front."""
+    source, destination = bytes((10, 0, 0, 1)), bytes((10, 0, 0, 2))
+    places = {port: set_of((4, source, destination, 17, 53, port), PLACES) for port in range(1, 1 << 13)}
+    return [port for port, place in places.items() if place == places[1]][:count]
+
+
+CROWD = crowd(3)
+
+
 def random_chain(chance: random.Random, kind: int, payload: bytes) -> tuple[int, bytes]:
     """A payload of this kind behind extension headers: none, a few, or all five kinds in some order."""
     kinds = list(generate.EXTENSIONS)
@@ -347,8 +376,8 @@ def random_chain(chance: random.Random, kind: int, payload: bytes) -> tuple[int,
 def random_ip(chance: random.Random) -> bytes:
     """An IP packet of few keys, most often whole."""
     six = chance.random() < 0.4
-    ports = 53, chance.choice((1, 1, 1, 2))
-    kind = chance.choice((6, 6, 6, 17, 17, 1))
+    ports = 53, chance.choice((1, 1, 1, 2, *CROWD))
+    kind = chance.choice((6, 6, 6, 17, 17, 17, 1))
     data = bytes(chance.choice((0, 0, 5, 40)))
     control = chance.randrange(1 << 12) & (0xFFF if chance.random() < 0.2 else 0xFFA)
     payload = {6: generate.segment(*ports, control, data), 17: generate.datagram(*ports, data), 1: data}[kind]

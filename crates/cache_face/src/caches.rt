@@ -1,7 +1,8 @@
 //! A shared cache, and who opens and closes caches.
 
-ghost use Rattle.std.specs.Prelude.{◌≡◌, ◌+◌, ◌*◌, ◌<◌, ◌≤◌, ◌^◌, ◌++◌, ℕ, List, length, All, IfOk, OnOk, OnErr};
+ghost use Rattle.std.specs.Prelude.{◌≡◌, ◌+◌, ◌*◌, ◌<◌, ◌≤◌, ◌^◌, ◌++◌, ℕ, List, [], length, All, IfOk, OnOk, OnErr};
 ghost use Rattle.std.specs.Prelude.{IsPermutation};
+ghost use Rattle.flow_key.specs.Key.{set_number};
 ghost use Rattle.packet_accept.specs.declared.packet.Packet.{Packet};
 ghost use Rattle.flow_parts.specs.declared.fragment.Fragment.{Fragment};
 ghost use Rattle.flow_parts.specs.Reaching.{Reaches};
@@ -9,7 +10,7 @@ ghost use Rattle.flow_parts.specs.Sharing.{SharesOut};
 ghost use Rattle.cache_face.specs.Keeping.{packet_count};
 ghost use Rattle.cache_face.specs.Meaning.{CacheMeans, PassMeans, IsFresh, IsAnswer, IsMetered, IsUnited};
 ghost use Rattle.cache_face.specs.Notes.{note_with};
-ghost use Rattle.cache_face.specs.Tries.{LostTry};
+ghost use Rattle.cache_face.specs.Tries.{HasLost};
 
 use crate::metered::Metered;
 use flow_parts::{Fragment, Timeouts};
@@ -29,8 +30,14 @@ pub trait FlowCache: Sync + Drop {
     // The pass is of this cache.
     ghost is_of: { Self → Self.Pass → Type 0 };
 
-    // The lost try is one of the set.
-    ghost is_try_of: { ℕ → LostTry → Type 0 };
+    // What a lost try is: a step of a pass that found what another seat had done.
+    ghost lost_try: { Type 0 };
+
+    // The lost try is one at the set.
+    ghost is_try_of: { ℕ → lost_try → Type 0 };
+
+    // The tries that the pass lost, newest first.
+    ghost lost: { Self.Pass → List lost_try };
 
     /// Puts a fragment in, of one packet or of several. It waits for nobody and takes no memory. With all that was put
     /// in through the pass before, the fragment has at most 2^32 packets, and it has fewer octets than 2^24 for each of
@@ -45,8 +52,9 @@ pub trait FlowCache: Sync + Drop {
         requires room { packet_count (shown pass.old).note.taken + part.now.packets ≤ 2 ^ 32 }
         ensures own { is_of self.now pass.new }
         ensures note { (shown pass.new).note ≡ note_with (shown pass.old).note part.now result.out }
-        ensures answer { IsAnswer (means self.now) is_try_of (shown pass.old)
-            (shown pass.new) part.now result.how result.out };
+        ensures answer { IsAnswer (means self.now) (shown pass.new) part.now result.how result.out }
+        ensures lost { HasLost (is_try_of (set_number part.now.key (means self.now).sets)) result.how (lost pass.old)
+            (lost pass.new) };
 
     /// Meters a packet: puts the fragment of it alone in. It has fewer than 2^24 octets, and the fragments that were
     /// put in through the pass before have fewer than 2^32 packets together.
@@ -56,8 +64,9 @@ pub trait FlowCache: Sync + Drop {
         requires octets { packet.now.octets < 2 ^ 24 }
         requires room { packet_count (shown pass.old).note.taken < 2 ^ 32 }
         ensures own { is_of self.now pass.new }
-        ensures metered { IsMetered (means self.now) is_try_of (shown pass.old)
-            (shown pass.new) packet.now result.how result.out }
+        ensures metered { IsMetered (means self.now) (shown pass.old) (shown pass.new) packet.now result.how result.out }
+        ensures lost { HasLost (is_try_of (set_number packet.now.key (means self.now).sets)) result.how (lost pass.old)
+            (lost pass.new) }
     {
         self.meter_part(pass, &Fragment::of(packet))
     }
@@ -67,7 +76,8 @@ pub trait FlowCache: Sync + Drop {
         requires first { is_of self.now first }
         requires second { is_of self.now second }
         ensures own { is_of self.now result }
-        ensures united { IsUnited (shown first) (shown second) (shown result) };
+        ensures united { IsUnited (shown first) (shown second) (shown result) }
+        ensures lost { lost result ≡ lost first ++ lost second };
 
     /// The entries that aren't empty. With the fragments that the pass was handed they are reached from those that were
     /// put in through it, so whatever packets these share out, they do. Without memory they are given up.
@@ -107,6 +117,7 @@ pub trait Caches {
             × ((Self.Cache.means r.0).limits ≡ timeouts)) }
         ensures passes { IfOk result (λ r. (length r.1.items ≡ seats)
             × All (λ pass. Self.Cache.is_of r.0 pass × IsFresh (Self.Cache.shown pass)) r.1.items) }
+        ensures unlost { IfOk result (λ r. All (λ pass. Self.Cache.lost pass ≡ []) r.1.items) }
         ensures kept { metered self.new ≡ metered self.old };
 
     /// Closes a cache with the pass for all its seats and the fragments that this was handed. Without memory these and

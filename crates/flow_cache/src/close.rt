@@ -7,7 +7,7 @@ ghost use Rattle.cache_face.specs.Meaning.{IsUnited};
 ghost use Rattle.pebr_words.specs.Opening.{slot_of};
 ghost use Rattle.flow_cache.specs.Ending.{rows_at};
 ghost use Rattle.flow_cache.specs.Places.{cache_shape};
-ghost use Rattle.flow_cache.specs.Shown.{means_of, shown_of, IsOf};
+ghost use Rattle.flow_cache.specs.Shown.{means_of, shown_of, tries_of, IsOf};
 
 use crate::cache::{PebrCache, PebrPass};
 use crate::reading::entry;
@@ -64,6 +64,7 @@ impl PebrCache {
         requires second { IsOf self.now second }
         ensures own { IsOf self.now result }
         ensures united { IsUnited (shown_of first) (shown_of second) (shown_of result) }
+        ensures lost { tries_of result ≡ tries_of first ++ tries_of second }
     {
         let PebrPass { inner, lost } = first;
         let PebrPass {

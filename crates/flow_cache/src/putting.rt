@@ -13,7 +13,8 @@ ghost use Rattle.pebr_words.specs.Pasts.{Lost, written_at};
 ghost use Rattle.pebr_words.specs.Ruled.{IsSure};
 ghost use Rattle.pebr_roots.specs.Passes.{shape_at, known_by, note_by, past_by, IsOf, IsSame};
 ghost use Rattle.set_choice.specs.Chosen.{out_of};
-ghost use Rattle.flow_cache.specs.Shown.{try_of, IsTryOf};
+ghost use Rattle.flow_cache.specs.Collecting.{HasCollected};
+ghost use Rattle.flow_cache.specs.Shown.{IsTryOf};
 ghost use Rattle.flow_cache.specs.Trying.{IsOwn, AreProtected, IsUnlost, HasChosen};
 
 use crate::cache::PebrCache;
@@ -36,10 +37,7 @@ fn is_passed_by(last: bool, done: bool) -> bool
 /// What is done to the note of a pass that leaves: where its packet is passed by, it is metered, and its own fragment
 /// handed out.
 #[inline]
-fn leaving_note(
-    own: &Fragment,
-    passes_by: bool,
-) -> Option<(Fragment, Option<Fragment>)>
+fn leaving_note(own: &Fragment, passes_by: bool) -> Option<(Fragment, Option<Fragment>)>
     ensures { result ≡ (if passes_by then Some (own.now, Some own.now) else None) }
 {
     if passes_by {
@@ -108,13 +106,14 @@ impl PebrCache {
         ensures same { IsSame self.now.roots pass.old pass.new }
         ensures entered { is_out (known_by pass.new).status ≡ false }
         ensures ejections { (past_by pass.new).ejections ≡ (past_by pass.old).ejections }
+        ensures spared { HasCollected 0 (past_by pass.old) (past_by pass.new) }
         ensures done { IsTrue result
             → (note_by first_note pass.new ≡ note_with (note_by first_note pass.old) own.now metered.new.out)
             × ((past_by pass.new).lost ≡ (past_by pass.old).lost)
             × HasChosen self.now.timeouts set (past_by pass.new) own.now metered.new.how metered.new.out }
         ensures undone { result ≡ false → (note_by first_note pass.new ≡ note_by first_note pass.old)
             × ((known_by pass.new).fresh ≡ (known_by pass.old).fresh)
-            × ((try : Lost) × ((past_by pass.new).lost ≡ try ∷ (past_by pass.old).lost) × IsTryOf set (try_of try)) }
+            × ((try : Lost) × ((past_by pass.new).lost ≡ try ∷ (past_by pass.old).lost) × IsTryOf set try) }
         ensures untouched { result ≡ false → metered.new.out ≡ None }
     {
         stop.at(Point::Read);
@@ -154,13 +153,14 @@ impl PebrCache {
         ensures same { IsSame self.now.roots pass.old pass.new }
         ensures entered { is_out (known_by pass.new).status ≡ false }
         ensures ejections { (past_by pass.new).ejections ≡ (past_by pass.old).ejections }
+        ensures spared { HasCollected 0 (past_by pass.old) (past_by pass.new) }
         ensures done { IsTrue result
             → (note_by first_note pass.new ≡ note_with (note_by first_note pass.old) own.now metered.new.out)
             × ((past_by pass.new).lost ≡ (past_by pass.old).lost)
             × HasChosen self.now.timeouts set (past_by pass.new) own.now metered.new.how metered.new.out }
         ensures undone { result ≡ false → (note_by first_note pass.new ≡ note_by first_note pass.old)
             × ((known_by pass.new).fresh ≡ (known_by pass.old).fresh)
-            × ((try : Lost) × ((past_by pass.new).lost ≡ try ∷ (past_by pass.old).lost) × IsTryOf set (try_of try)) }
+            × ((try : Lost) × ((past_by pass.new).lost ≡ try ∷ (past_by pass.old).lost) × IsTryOf set try) }
         ensures untouched { result ≡ false → metered.new.out ≡ None }
     {
         match self.reach(pass, set, stop) {
@@ -240,6 +240,7 @@ impl PebrCache {
         ensures out { IsTrue (is_out (known_by pass.new).status) }
         ensures down { IsTrue (list_all is_down (known_by pass.new).shields) }
         ensures ejections { (past_by pass.new).ejections ≡ (past_by pass.old).ejections }
+        ensures spared { HasCollected 0 (past_by pass.old) (past_by pass.new) }
         ensures done { IsTrue result
             → (note_by first_note pass.new ≡ note_with (note_by first_note pass.old) own.now metered.new.out)
             × ((past_by pass.new).lost ≡ (past_by pass.old).lost)
@@ -249,7 +250,7 @@ impl PebrCache {
             then note_with (note_by first_note pass.old) own.now (Some own.now)
             else note_by first_note pass.old))
             × ((known_by pass.new).fresh ≡ (known_by pass.old).fresh) × ((shape_at self.now.roots).seats ≢ 1)
-            × ((try : Lost) × ((past_by pass.new).lost ≡ try ∷ (past_by pass.old).lost) × IsTryOf set (try_of try)) }
+            × ((try : Lost) × ((past_by pass.new).lost ≡ try ∷ (past_by pass.old).lost) × IsTryOf set try) }
         ensures untouched { result ≡ false → metered.new.out ≡ None }
     {
         let done = self.reach_and_put(pass, set, own, metered, stop);

@@ -9,10 +9,10 @@ use Rattle.cache_face.proofs.Contents.{words_show, empty_shows}
 use Rattle.set_choice.proofs.ByWords.{entry_here}
 
 -- a whole content shows no fragment exactly where it is empty
-none_where : (content : List ℕ) → IsEmptyContent content → IsNone (entry_of content)
+pub none_where : (content : List ℕ) → IsEmptyContent content → IsNone (entry_of content)
 none_where content empty = subst IsNone (sym (empty_shows content empty)) refl
 
-empty_where : (content : List ℕ) → IsWhole content → IsNone (entry_of content) → IsEmptyContent content
+pub empty_where : (content : List ℕ) → IsWhole content → IsNone (entry_of content) → IsEmptyContent content
 empty_where content (inl empty) none = empty
 empty_where content (inr whole) none =
     let some : IsNone (Some whole.0) = subst IsNone (ap entry_of (sym whole.1) ∙ words_show whole.0) none in
@@ -29,7 +29,7 @@ empty_there contents place low whole none =
     empty_where (get_or contents place []) whole (subst IsNone (entry_here contents place low) none)
 
 -- the ninth word of a whole content is the last time of the fragment that it shows
-last_shown : (content : List ℕ) (old : Fragment) → IsWhole content → entry_of content ≡ Some old
+pub last_shown : (content : List ℕ) (old : Fragment) → IsWhole content → entry_of content ≡ Some old
     → get_or content 8 0 ≡ old.last
 last_shown content old (inl empty) shown =
     let none : None ≡ Some old = sym (empty_shows content empty) ∙ shown in

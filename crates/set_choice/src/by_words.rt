@@ -29,7 +29,7 @@ fn entry(words: &[u64; 10]) -> Option<Fragment>
 
 /// Whether the first five words of a content are these.
 #[inline]
-fn has_words(content: &[u64; 10], words: &[u64; 5]) -> bool
+pub fn has_words(content: &[u64; 10], words: &[u64; 5]) -> bool
     ensures { IsTrue result ↔ (take 5 content.now ≡ words.now) }
 {
     for k in 0..5 {
@@ -79,7 +79,7 @@ fn entry_of_key(content: &[u64; 10], key: FlowKey) -> Option<Fragment>
 
 /// The fragment that stands at the place as one with the given one, where they can be one. The content has the words of
 /// its key.
-fn join_content(timeouts: &Timeouts, content: &[u64; 10], own: &Fragment) -> Option<Fragment>
+pub fn join_content(timeouts: &Timeouts, content: &[u64; 10], own: &Fragment) -> Option<Fragment>
     requires whole { IsWhole content.now }
     requires words { take 5 content.now ≡ words_of own.now.key }
     requires small { IsSmall own.now }

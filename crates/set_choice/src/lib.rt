@@ -14,4 +14,4 @@ mod by_words;
 #[cfg(test)]
 mod tests;
 
-pub use by_words::{WordChoice, choose_by_words, put_out};
+pub use by_words::{WordChoice, choose_by_words, has_words, join_content, put_out};

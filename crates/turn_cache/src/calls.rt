@@ -1,10 +1,12 @@
 //! A fragment is metered.
 
 ghost use Rattle.std.specs.Prelude.{◌≡◌, ◌+◌, ◌*◌, ◌<◌, ◌≤◌, ◌^◌};
+ghost use Rattle.flow_key.specs.Key.{set_number};
 ghost use Rattle.cache_face.specs.Keeping.{packet_count};
 ghost use Rattle.cache_face.specs.Meaning.{IsAnswer};
 ghost use Rattle.cache_face.specs.Notes.{note_with};
-ghost use Rattle.turn_cache.specs.Shown.{means_of, shown_of, IsOf, IsTryOf};
+ghost use Rattle.cache_face.specs.Tries.{HasLost};
+ghost use Rattle.turn_cache.specs.Shown.{means_of, shown_of, lost_of, IsOf, IsTryOf};
 
 use crate::cache::{TurnCache, TurnPass};
 use cache_face::laws::contents_show;
@@ -20,8 +22,9 @@ impl TurnCache {
         requires room { packet_count (shown_of pass.old).note.taken + part.now.packets ≤ 2 ^ 32 }
         ensures own { IsOf self.now pass.new }
         ensures note { (shown_of pass.new).note ≡ note_with (shown_of pass.old).note part.now result.out }
-        ensures answer { IsAnswer (means_of self.now) IsTryOf (shown_of pass.old)
-            (shown_of pass.new) part.now result.how result.out }
+        ensures answer { IsAnswer (means_of self.now) (shown_of pass.new) part.now result.how result.out }
+        ensures lost { HasLost (IsTryOf (set_number part.now.key self.now.sets)) result.how (lost_of pass.old)
+            (lost_of pass.new) }
     {
         let mut metered = Metered {
             how: How::PassedBy,

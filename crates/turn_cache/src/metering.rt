@@ -9,11 +9,12 @@ ghost use Rattle.cache_face.specs.Choice as choice;
 ghost use Rattle.cache_face.specs.Keeping.{entry_of, IsWhole};
 ghost use Rattle.cache_face.specs.Meaning.{IsAnswer};
 ghost use Rattle.cache_face.specs.Notes.{note_with};
+ghost use Rattle.cache_face.specs.Tries.{HasLost};
 ghost use Rattle.cache_face.specs.declared.metered.How.TheVariants.{PassedBy};
 ghost use Rattle.set_choice.specs.Chosen.{out_of};
 ghost use Rattle.turn_cache.specs.Hands.{number_of, idle, reading, writing, entries_of};
 ghost use Rattle.turn_cache.specs.Moves as moves;
-ghost use Rattle.turn_cache.specs.Shown.{means_of, shown_of, IsOf, IsTryOf};
+ghost use Rattle.turn_cache.specs.Shown.{means_of, shown_of, lost_of, IsOf, IsTryOf};
 
 use crate::cache::{TurnCache, TurnPass};
 use crate::rule::Known;
@@ -170,13 +171,7 @@ impl TurnCache {
     }
 
     /// Tries three times to take the turn of a set. After the third lost try the own fragment is handed out.
-    fn take_turn(
-        &self,
-        seat: &mut Seat<(), Known>,
-        number: u64,
-        set: u64,
-        own: &Fragment,
-    ) -> bool
+    fn take_turn(&self, seat: &mut Seat<(), Known>, number: u64, set: u64, own: &Fragment) -> bool
         requires at { seat.old.table_id ≡ self.now.table.shared.table_id }
         requires idle { (seat.old.me.0.turn ≡ idle) × (0 < length seat.old.me.0.numbers)
             × (number_of seat.old.me.0.numbers ≡ number) }
@@ -202,19 +197,15 @@ impl TurnCache {
     /// Puts a fragment into its set, or passes it by. The answer begins as that of a packet that is passed by, with
     /// nothing handed out; what is to be otherwise is written.
     #[inline(never)]
-    pub(crate) fn put_in(
-        &self,
-        pass: &mut TurnPass,
-        own: &Fragment,
-        metered: &mut Metered,
-    )
+    pub(crate) fn put_in(&self, pass: &mut TurnPass, own: &Fragment, metered: &mut Metered)
         requires own { IsOf self.now pass.old }
         requires fragment { moves.IsOwn (shown_of pass.old).note own.now }
         requires passed_by { (metered.old.how ≡ PassedBy) × (metered.old.out ≡ None) }
         ensures own { IsOf self.now pass.new }
         ensures note { (shown_of pass.new).note ≡ note_with (shown_of pass.old).note own.now metered.new.out }
-        ensures answer { IsAnswer (means_of self.now) IsTryOf (shown_of pass.old)
-            (shown_of pass.new) own.now metered.new.how metered.new.out }
+        ensures answer { IsAnswer (means_of self.now) (shown_of pass.new) own.now metered.new.how metered.new.out }
+        ensures lost { HasLost (IsTryOf (set_number own.now.key self.now.sets)) metered.new.how (lost_of pass.old)
+            (lost_of pass.new) }
     {
         let set = own.key.set_of(self.sets);
         let number = pass.number;

@@ -5,6 +5,7 @@ use Rattle.cache_face.specs.Notes.{Note, first_note, note_with}
 use Rattle.pebr_words.specs.Pasts.{History}
 use Rattle.pebr_roots.specs.Passes.{note_by, past_by}
 use Rattle.flow_cache.proofs.Histories.{chosen_still}
+use Rattle.flow_cache.proofs.Spared.{collected_on, spared_one}
 use Rattle.flow_cache.proofs.cache.PebrCache.attempt.Goals as goal
 
 pub returns-clause-done : goal.returns-clause-done
@@ -23,3 +24,12 @@ returns-clause-done g c done =
           (past_by end) c.args.own.now metered.how metered.out put.2 (ap (λ (p : History). p.loads) c.end.ensures.past)
           (ap (λ (p : History). p.reads) c.end.ensures.past) (ap (λ (p : History). p.put) c.end.ensures.past),
     )
+
+pub returns-clause-spared : goal.returns-clause-spared
+returns-clause-spared g c =
+    let start = past_by c.args.pass.now in
+    let mid = past_by c.reach_and_put-done.new.pass in
+    let end = past_by c.end.new.pass in
+    collected_on 0 0 start mid end c.reach_and_put-done.ensures.spared
+    (spared_one mid end (ap (λ (p : History). p.notes) c.end.ensures.past)
+    (ap (λ (p : History). p.pins) c.end.ensures.past))

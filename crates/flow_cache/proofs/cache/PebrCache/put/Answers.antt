@@ -27,6 +27,7 @@ use Rattle.flow_cache.specs.Trying.{HasTen, HasChosen}
 use Rattle.flow_cache.proofs.Choosing.{choice_is}
 use Rattle.flow_cache.proofs.Histories.{chosen_of, lost_here}
 use Rattle.flow_cache.proofs.Sets.{can_replace, at_place, written_is}
+use Rattle.flow_cache.proofs.Spared.{spared_put}
 use Rattle.flow_cache.proofs.cache.PebrCache.put.Goals as goal
 
 pub replace-requires-clause-keeps : goal.replace-requires-clause-keeps
@@ -178,3 +179,25 @@ returns-in-Other-clause-undone g c undone =
         inr (place, low, refl),
       ),
     )
+
+pub returns-in-Replaced-clause-spared : goal.returns-in-Replaced-clause-spared
+returns-in-Replaced-clause-spared g c =
+    spared_put (past_by c.args.pass.now) (past_by c.read_contents.new.pass) (past_by c.fill.new.pass)
+    (past_by c.replace.new.pass) (number_by c.fill.new.pass)
+    (root_of c.args.set c.choose_by_words-choice.result.place)
+    (slot_at (known_by c.fill.new.pass) c.choose_by_words-choice.result.place)
+    (least_in (known_by c.fill.new.pass).fresh) (answer_to c.replace.result) (known_by c.fill.new.pass)
+    (ap (λ (p : History). p.notes) c.read_contents.ensures.past) (ap (λ (p : History). p.pins) c.read_contents.ensures.past)
+    (ap (λ (p : History). p.notes) c.fill.ensures.past) (ap (λ (p : History). p.pins) c.fill.ensures.past)
+    c.replace.ensures.step.past
+
+pub returns-in-Other-clause-spared : goal.returns-in-Other-clause-spared
+returns-in-Other-clause-spared g c =
+    spared_put (past_by c.args.pass.now) (past_by c.read_contents.new.pass) (past_by c.fill.new.pass)
+    (past_by c.replace.new.pass) (number_by c.fill.new.pass)
+    (root_of c.args.set c.choose_by_words-choice.result.place)
+    (slot_at (known_by c.fill.new.pass) c.choose_by_words-choice.result.place)
+    (least_in (known_by c.fill.new.pass).fresh) (answer_to c.replace.result) (known_by c.fill.new.pass)
+    (ap (λ (p : History). p.notes) c.read_contents.ensures.past) (ap (λ (p : History). p.pins) c.read_contents.ensures.past)
+    (ap (λ (p : History). p.notes) c.fill.ensures.past) (ap (λ (p : History). p.pins) c.fill.ensures.past)
+    c.replace.ensures.step.past

@@ -23,6 +23,8 @@ returns c =
     (parts_in (contents_at words n) ++ note.handed)) cache.told.0
     (subst (λ (ws : List ℕ). Reaches cache.table.shared.key.timeouts note.taken
     (parts_in (contents_at ws cache.table.shared.key.sets) ++ note.handed)) final.2 kept)) in
-    record { reached = if_ok c.gather-entries.result _ _
-    (λ parts is. subst (λ (ps : List Fragment). Reaches cache.timeouts note.taken (ps ++ note.handed))
-    (sym is) kept') c.gather-entries.ensures }
+    record {
+      reached = if_ok c.gather-entries.result _ _
+          (λ parts is. subst (λ (ps : List Fragment). Reaches cache.timeouts note.taken (ps ++ note.handed))
+          (sym is) kept') c.gather-entries.ensures;
+    }

@@ -1,0 +1,4 @@
+pub mod Emptying
+pub mod Putting
+pub mod Two
+pub mod Words
