@@ -1,24 +1,23 @@
 -- What comes of a capture that was metered through a cache.
 use Rattle.std.proofs.Common.{◌≡◌, ◌^◌, ◌*◌, ℕ, List, sum_by, sym, subst, ◌∙◌}
-use Rattle.std.proofs.lemmas.List.Sorted.{IsPermutation-sym, IsPermutation-refl}
 use Rattle.packet_accept.specs.declared.packet.Packet.{Packet}
 use Rattle.packet_accept.specs.Packets.{packets_of}
 use Rattle.capture_tally.specs.declared.tally.Tally.{Tally}
 use Rattle.flow_parts.specs.declared.fragment.Fragment.{Fragment}
 use Rattle.flow_parts.specs.declared.timeouts.Timeouts.{Timeouts}
-use Rattle.flow_parts.specs.Laws.{StandsPermuted, CountsAll}
+use Rattle.flow_parts.specs.Laws.{CountsAll}
 use Rattle.flow_parts.specs.Sharing.{SharesOut}
 use Rattle.record_ledger.specs.declared.record.FlowRecord.{FlowRecord}
 use Rattle.meter_io.specs.Sides.{Side}
-use Rattle.meter_workers.specs.Windows.{IsMeteredWhole}
+use Rattle.meter_workers.specs.Whole.{IsMeteredWhole}
 use Rattle.meter_program.specs.Metering.{AreGathered, IsKept, IsReadAndKept, IsGathered}
 
--- the fragments that a cache kept share out the packets of the file, in whatever order these were metered
-pub read-and-kept : (input : Side) (means limits : Timeouts) (packets : List Packet) (metered : List Fragment)
-    (tally : Tally) (tail : ℕ) → StandsPermuted
-    → means ≡ limits → IsMeteredWhole input (2 ^ 30) packets tally tail → SharesOut means packets metered
+-- the fragments that a cache kept share out the packets of the file, as those that were put in do
+pub read-and-kept : (input : Side) (means limits : Timeouts) (taken metered : List Fragment) (tally : Tally) (tail : ℕ)
+    → means ≡ limits → IsMeteredWhole input (2 ^ 30) means taken tally tail
+    → ((packets : List Packet) → SharesOut means packets taken → SharesOut means packets metered)
     → IsReadAndKept input limits metered tally tail
-read-and-kept input means limits packets metered tally tail permuted same whole shared = record {
+read-and-kept input means limits taken metered tally tail same whole kept = record {
   bytes = whole.bytes;
   read = whole.read;
   kept = record {
@@ -26,9 +25,8 @@ read-and-kept input means limits packets metered tally tail permuted same whole 
     is_file = whole.is_file;
     known = whole.known;
     undamaged = whole.undamaged;
-    shared = permuted limits packets (packets_of whole.file) metered metered
-        (IsPermutation-sym (packets_of whole.file) packets whole.packets)
-        (IsPermutation-refl metered) (subst (λ (t : Timeouts). SharesOut t packets metered) same shared);
+    shared = subst (λ (t : Timeouts). SharesOut t (packets_of whole.file) metered) same
+        (kept (packets_of whole.file) whole.shared);
     tally_is = whole.tallied;
     tail_is = whole.tail_is;
   };

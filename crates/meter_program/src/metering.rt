@@ -12,7 +12,7 @@ use crate::status::Status;
 use cache_face::Caches;
 use capture_tally::Tally;
 use flow_parts::Timeouts;
-use flow_parts::laws::{sharing_out_counts, sharing_out_stands};
+use flow_parts::laws::sharing_out_counts;
 use meter_io::Source;
 use meter_workers::{Gate, Windows, meter_windows};
 use no_memory::NoMemory;
@@ -54,7 +54,6 @@ fn meter_input<R: Threads + Sync, S: Source, M: Caches, G: Gate>(
         (λ r. IsReadAndKept (side S.left S.faults input.old input.new) limits (M.metered caches.new) r.tally r.tail) }
     ensures refused { IfErr result (λ status. MeterRefuses (side S.left S.faults input.old input.new) status) }
 {
-    sharing_out_stands();
     let (cache, passes) = caches.open(alloc, settings.sets, settings.workers, limits)?;
     let done = meter_windows(
         rt,

@@ -1,3 +1,6 @@
 pub mod Taken
 pub mod Records
+pub mod Drawn
 pub mod Sharing
+pub mod Whole
+pub mod Taking

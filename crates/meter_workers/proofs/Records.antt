@@ -2,7 +2,7 @@
 use Rattle.std.proofs.Common.{◌≡◌, ℕ, ◌+◌, ◌-◌, ◌*◌, ◌<◌, ◌≤◌, ◌^◌, List, [], ◌∷◌, ◌++◌, length, get_or, take, drop}
 use Rattle.std.proofs.Common.{Some, None, sym, refl, ap, ◌∙◌, subst, arith, append_assoc, append-nil, length-drop}
 use Rattle.std.specs.Prelude.{slice_range, slice_get, Option, Result, Ok, Err, IfOk, OnOk, IsPermutation}
-use Rattle.std.proofs.lemmas.List.{take_more, get_or-drop, length-append, drop-drop}
+use Rattle.std.proofs.lemmas.List.{take_all, take_more, get_or-drop, length-append, drop-drop}
 use Rattle.std.proofs.Math.Seq.{take-add}
 use Rattle.std.proofs.lemmas.List.Elements.{All-push, All-append}
 use Rattle.std.proofs.lemmas.List.Sums.{sum_by-append}
@@ -242,3 +242,9 @@ reached-alone limits own taken taken' front onward permuted together none more =
 pub on-ok : {T E A : Type 0} (result : Result T E) → A → OnOk result A
 on-ok (Ok x) a = a
 on-ok (Err e) a = tt
+
+-- all answers of a part
+pub whole-range : (xs ys : List Answer) (n : ℕ) → xs ≡ ys → length ys ≤ n → slice_range xs 0 n ≡ ys
+whole-range xs ys n same long =
+    let none : n - 0 ≡ n = omega arith in
+    ap (λ k. take k (drop 0 xs)) none ∙ ap (take n) same ∙ take_all n ys long

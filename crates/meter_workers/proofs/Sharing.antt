@@ -1,5 +1,5 @@
 -- Shares that are emptied, united and listed.
-use Rattle.std.proofs.Common.{◌≡◌, ℕ, suc, ◌+◌, ◌*◌, ◌<◌, ◌≤◌, ◌^◌, List, [], ◌∷◌, ◌++◌, length, map, get_or, None, refl, sym, ap}
+use Rattle.std.proofs.Common.{◌≡◌, ℕ, zero, suc, ◌+◌, ◌*◌, ◌<◌, ◌≤◌, ◌^◌, List, [], ◌∷◌, ◌++◌, length, map, get_or, None, refl, sym, ap}
 use Rattle.std.proofs.Common.{◌∙◌, subst, arith, append_assoc, append-nil, length-append, All}
 use Rattle.std.specs.Prelude.{Option, flat_map, IsPermutation}
 use Rattle.std.specs.List.{AllZip}
@@ -170,7 +170,7 @@ nothing-metered = nothing-each
 -- one more in front
 front-at : {X : Type 0} (P : X → Type 0) (xs : List X) (x : X) → P x → All P xs → (k : ℕ) (d : X)
     → k < length (x ∷ xs) → P (get_or (x ∷ xs) k d)
-front-at P xs x px all 0 d inside = px
+front-at P xs x px all zero d inside = px
 front-at P xs x px all (suc k) d inside = all k d (omega (arith, inside))
 
 pub all-front : {X : Type 0} (P : X → Type 0) (xs : List X) (x : X) → P x → All P xs → All P (x ∷ xs)
@@ -301,3 +301,23 @@ pub flat-mapped : {W D Y : Type 0} (f : D → List Y) (g : W → D) (ws : List W
     → flat_map f (map g ws) ≡ flat_map (λ w. f (g w)) ws
 flat-mapped f g [] = refl
 flat-mapped f g (w ∷ ws) = ap (λ l. f (g w) ++ l) (flat-mapped f g ws)
+
+-- what was the rest's is put to the others
+pub moved-back : {Y : Type 0} (answers rest done rest' list : List Y) → IsPermutation answers (rest ++ done)
+    → IsPermutation rest (rest' ++ list) → IsPermutation answers (rest' ++ (done ++ list))
+moved-back answers rest done rest' list all some =
+    IsPermutation-trans _ (rest ++ done) _ all
+    (IsPermutation-trans _ ((rest' ++ list) ++ done) _ (IsPermutation-append_left done rest (rest' ++ list) some)
+    (subst (λ l. IsPermutation l (rest' ++ (done ++ list))) (sym (append_assoc rest' list done))
+    (IsPermutation-append_right rest' (list ++ done) (done ++ list) (IsPermutation-append_comm list done))))
+
+map-last : {W Y : Type 0} (f : W → Y) (ws : List W) (w : W) → map f (ws ++ w ∷ []) ≡ map f ws ++ f w ∷ []
+map-last f [] w = refl
+map-last f (v ∷ ws) w = ap (λ l. f v ∷ l) (map-last f ws w)
+
+-- one is taken off the end, and what is taken of it put to the front of the others
+pub moved-front : {W Y : Type 0} (f : W → Y) (ws ws' : List W) (w : W) (ys ys' all : List Y) → ws ≡ ws' ++ w ∷ []
+    → ys' ≡ f w ∷ ys → map f ws ++ ys ≡ all → map f ws' ++ ys' ≡ all
+moved-front f ws ws' w ys ys' all taken put is =
+    ap (λ l. map f ws' ++ l) put ∙ sym (append_assoc (map f ws') (f w ∷ []) ys)
+    ∙ ap (λ l. l ++ ys) (sym (ap (map f) taken ∙ map-last f ws' w)) ∙ is

@@ -3,3 +3,4 @@ pub mod Pieces
 pub mod Shares
 pub mod Working
 pub mod Whole
+pub mod Batched

@@ -1,8 +1,28 @@
 //! A capture that is metered while it is read.
 
+ghost use Rattle.std.specs.Prelude.{◌≡◌, ◌↔◌, ◌+◌, ◌++◌, ◌^◌, ◌<◌, ◌≤◌, [], List, ℕ, length, flat_map, All, IfOk, IfErr, IfSome, None};
+ghost use Rattle.std.specs.Prelude.{OnOk, IsPermutation};
+ghost use Rattle.std.specs.Thread.{IsSync};
+ghost use Rattle.std.specs.declared.option.Option.{Option};
+ghost use Rattle.meter_io.specs.Sides.{side};
+ghost use Rattle.pcap_reader.specs.Index.{IsIndexOf};
+ghost use Rattle.cache_face.specs.Meaning.{IsFresh as IsFreshPass};
+ghost use Rattle.capture_input.specs.Refusals.{IsRefused, HasFaults};
+ghost use Rattle.capture_input.specs.Inputs.{side_from};
+ghost use Rattle.capture_input.specs.Parts.{Answer, answers_from};
+ghost use Rattle.capture_input.specs.Giving.{HasGiven, IsLast, part_in, base_in, size_in, left_in};
+ghost use Rattle.batch_queue.specs.Batches.{count_of};
+ghost use Rattle.batch_queue.specs.Passes.{IsPassOf, IsReaders, IsFresh, IsMore, StandsForAll, put_of, took_of};
+ghost use Rattle.batch_queue.specs.Passes.{seats_of, others_of, reader_of, IsOpen};
+ghost use Rattle.batch_queue.specs.declared.batch.Batch.{Batch};
+ghost use Rattle.meter_workers.specs.Shares.{HasMetered, IsShare};
+ghost use Rattle.meter_workers.specs.Batched.{answers_of_batch, answers_in, IsReadyFor, IsReadyToTake, HasTaken};
+ghost use Rattle.meter_workers.specs.Batched.{HasHanded, IsReadyAt, IsStill, HasRead};
+ghost use Rattle.meter_workers.specs.Whole.{IsMeteredWhole};
+
 use crate::gate::Gate;
 use crate::share::{Share, meter_run, open_shares, unite_all};
-use crate::windows::Gathered;
+use crate::windows::{Gathered, gather_all};
 use crate::worker::{WorkState, Worker, seat_workers, unseat_workers};
 use batch_queue::{Batch, BatchQueue, Feed, QueuePass};
 use cache_face::FlowCache;
@@ -28,6 +48,9 @@ pub struct Batches {
     pub room: usize,
     /// The time-outs of the fronts, where there are some: those of the cache.
     pub front: Option<Timeouts>,
+    pub ghost size_bounds: { (262184 ≤ size) × (size ≤ 2 ^ 27) },
+    pub ghost limit_bound: { limit ≤ 2 ^ 30 },
+    pub ghost room_bounds: { (1 ≤ room) × (room ≤ 64) },
 }
 
 /// The memory of a batch.
@@ -43,6 +66,9 @@ struct Memory {
 struct Shared {
     queue: BatchQueue,
     spare: ArrayQueue<Memory>,
+    /// How many bytes the memory of a batch has.
+    size: usize,
+    ghost bounds: { (262184 ≤ size) × (size ≤ 2 ^ 27) },
 }
 
 impl Shared {
@@ -53,22 +79,25 @@ impl Shared {
         let _freed = self.spare.push(rt, Memory { bytes, index });
     }
 
-    /// Memory for a batch of `size` bytes: some that came back, or new where none did.
-    fn memory<R: Wait>(&self, rt: &R, alloc: Global, size: usize) -> Result<Memory, NoMemory> {
+    /// Memory for a batch: some that came back, or new where none did.
+    fn memory<R: Wait>(&self, rt: &R, alloc: Global) -> Result<Memory, NoMemory>
+        ensures { IfOk result (λ memory. length memory.bytes.items ≡ self.now.size) }
+    {
         match self.spare.pop(rt) {
             Some(Memory { mut bytes, index }) => {
-                bytes.resize(size, 0)?;
+                bytes.resize(self.size, 0)?;
                 Ok(Memory { bytes, index })
             }
             None => Ok(Memory {
-                bytes: vec![in alloc; 0u8; size]?,
-                index: RecordIndex::with_room(alloc, size)?,
+                bytes: vec![in alloc; 0u8; self.size]?,
+                index: RecordIndex::with_room(alloc, self.size)?,
             }),
         }
     }
 }
 
-/// Takes batches and meters each, until no more come and none is left. The gate is told of each batch before.
+/// Takes batches and meters each, until no more come and none is left. The gate is told of each batch before. A seat that
+/// stands for all took all batches that were put then.
 fn work_batches<C: FlowCache, G: Gate, R: Wait>(
     rt: &R,
     shared: &Shared,
@@ -77,7 +106,16 @@ fn work_batches<C: FlowCache, G: Gate, R: Wait>(
     number: usize,
     seat: &mut QueuePass,
     share: &mut Share<C>,
-) -> Result<(), NoMemory> {
+) -> Result<(), NoMemory>
+    requires own { IsPassOf shared.now.queue seat.old }
+    requires share { (done : List Answer) × IsShare (C.is_of cache.now) C.shown (C.means cache.now).limits done share.old }
+    requires ready { IsReadyFor (took_of seat.old) share.old.tally.captured }
+    ensures own { IsPassOf shared.now.queue seat.new }
+    ensures did { OnOk result ((more : List Batch) × IsMore [] more seat.old seat.new
+        × ((done : List Answer) → IsShare (C.is_of cache.now) C.shown (C.means cache.now).limits done share.old
+        → IsShare (C.is_of cache.now) C.shown (C.means cache.now).limits (done ++ answers_in more) share.new)) }
+    ensures all { OnOk result (StandsForAll seat.new → IsPermutation (put_of seat.new) (took_of seat.new)) }
+{
     for _ in rt.forever() {
         let ended = shared.queue.is_ended();
         match shared.queue.take(rt, seat) {
@@ -105,7 +143,11 @@ fn work<C: FlowCache, G: Gate, R: Wait>(
     cache: &C,
     gate: &G,
     worker: &mut Worker<C, QueuePass>,
-) {
+)
+    requires ready { IsReadyToTake (C.is_of cache.now) C.shown (C.means cache.now).limits shared.now.queue worker.old.share worker.old.seat }
+    ensures worked { worker.new.state ≡ WorkState.Finished → HasTaken (C.is_of cache.now) C.shown (C.means cache.now).limits shared.now.queue worker.new.share
+        worker.new.seat }
+{
     let end = work_batches(
         rt,
         shared,
@@ -128,22 +170,51 @@ fn work_all<C: FlowCache, G: Gate, R: Threads + Wait + Sync>(
     cache: &C,
     gate: &G,
     workers: &mut [Worker<C, QueuePass>],
-) {
+)
+    requires some { 0 < length workers.old }
+    requires ready { All (λ w. IsReadyToTake (C.is_of cache.now) C.shown (C.means cache.now).limits shared.now.queue w.share w.seat) workers.old }
+    ensures same { length workers.new ≡ length workers.old }
+    ensures worked { All (λ w. w.state ≡ WorkState.Finished → HasTaken (C.is_of cache.now) C.shown (C.means cache.now).limits shared.now.queue w.share w.seat)
+        workers.new }
+{
     let count = workers.len();
     thread::for_each_mut(
         rt,
         workers,
         count,
-        &|_, worker: &mut Worker<C, QueuePass>| { work(rt, shared, cache, gate, worker) },
+        &|_, w: &mut Worker<C, QueuePass>|
+            requires ready { IsReadyToTake (C.is_of cache.now) C.shown (C.means cache.now).limits shared.now.queue
+                w.old.share w.old.seat }
+            ensures worked { w.new.state ≡ WorkState.Finished → HasTaken (C.is_of cache.entry.now) C.shown
+                (C.means cache.entry.now).limits shared.entry.now.queue w.new.share w.new.seat }
+        { work(rt, shared, cache, gate, w) },
     );
 }
 
-/// The reader: its number, its feed of the queue, and what it has done.
+/// The workers, once they have worked, all at once.
+fn run_workers<C: FlowCache, G: Gate, R: Threads + Wait + Sync>(
+    rt: &R,
+    shared: &Shared,
+    cache: &C,
+    gate: &G,
+    workers: &mut Vec<Worker<C, QueuePass>>,
+)
+    requires some { 0 < length workers.old.items }
+    requires ready { All (λ w. IsReadyToTake (C.is_of cache.now) C.shown (C.means cache.now).limits shared.now.queue w.share w.seat) workers.old.items }
+    ensures same { length workers.new.items ≡ length workers.old.items }
+    ensures worked { All (λ w. w.state ≡ WorkState.Finished → HasTaken (C.is_of cache.now) C.shown (C.means cache.now).limits shared.now.queue w.share w.seat)
+        workers.new.items }
+{
+    work_all(rt, shared, cache, gate, workers.as_mut_slice());
+}
+
+/// The reader: its number, its feed of the queue, what it has done, and the number of its next batch.
 #[derive(Drop)]
 struct Reader<C: FlowCache> {
     number: usize,
     feed: Feed,
     share: Share<C>,
+    next: u64,
 }
 
 /// Puts a batch into the queue. The reader meters it itself where the queue has no room, and the gate is told of it
@@ -155,7 +226,22 @@ fn hand_over<C: FlowCache, G: Gate, R: Wait>(
     gate: &G,
     reader: &mut Reader<C>,
     batch: Batch,
-) -> Result<(), NoMemory> {
+) -> Result<(), NoMemory>
+    requires own { IsPassOf shared.now.queue (reader_of reader.old.feed) × IsReaders (reader_of reader.old.feed)
+        × IsOpen reader.old.feed }
+    requires handed { (answers : List Answer) × HasHanded (C.is_of cache.now) C.shown (C.means cache.now).limits answers (put_of (reader_of reader.old.feed))
+        reader.old.share }
+    requires ready { IsReadyAt batch.number batch.base (put_of (reader_of reader.old.feed))
+        reader.old.share.tally.captured }
+    ensures own { OnOk result (IsPassOf shared.now.queue (reader_of reader.new.feed) × IsOpen reader.new.feed) }
+    ensures still { OnOk result (IsStill (reader_of reader.old.feed) (reader_of reader.new.feed)) }
+    ensures ready { OnOk result (IsReadyAt (batch.number + 1) (batch.base + count_of batch)
+        (put_of (reader_of reader.new.feed)) reader.new.share.tally.captured) }
+    ensures next { OnOk result (reader.new.next ≡ reader.old.next) }
+    ensures handed { OnOk result ((answers : List Answer)
+        → HasHanded (C.is_of cache.now) C.shown (C.means cache.now).limits answers (put_of (reader_of reader.old.feed)) reader.old.share
+        → HasHanded (C.is_of cache.now) C.shown (C.means cache.now).limits (answers ++ answers_of_batch batch) (put_of (reader_of reader.new.feed)) reader.new.share) }
+{
     match shared.queue.offer(rt, &mut reader.feed, batch) {
         Ok(()) => Ok(()),
         Err(back) => {
@@ -168,6 +254,61 @@ fn hand_over<C: FlowCache, G: Gate, R: Wait>(
     }
 }
 
+/// Hands on the part that was read last, as one batch, where it has records.
+fn hand_part<C: FlowCache, G: Gate, R: Wait>(
+    rt: &R,
+    alloc: Global,
+    shared: &Shared,
+    cache: &C,
+    gate: &G,
+    reader: &mut Reader<C>,
+    read: (Reading, RecordIndex),
+) -> Result<(Reading, RecordIndex), NoMemory>
+    requires part { IsIndexOf read.1 (part_in read.0) }
+    requires few { (base_in read.0 + length read.1.offsets < 2 ^ 32) × (reader.old.next ≤ base_in read.0) }
+    requires size { size_in read.0 ≡ shared.now.size }
+    requires given { (before left : Option (List ℕ)) × (limit : ℕ) × (answers : List Answer)
+        × HasGiven before left limit read.0 answers }
+    requires own { IsPassOf shared.now.queue (reader_of reader.old.feed) × IsReaders (reader_of reader.old.feed)
+        × IsOpen reader.old.feed }
+    requires handed { (answers : List Answer) × HasHanded (C.is_of cache.now) C.shown (C.means cache.now).limits answers (put_of (reader_of reader.old.feed))
+        reader.old.share }
+    requires ready { IsReadyAt reader.old.next (base_in read.0) (put_of (reader_of reader.old.feed))
+        reader.old.share.tally.captured }
+    ensures same { IfOk result (λ r. (size_in r.0 ≡ size_in read.0) × (left_in r.0 ≡ left_in read.0)
+        × (IsLast r.0 ↔ IsLast read.0)) }
+    ensures given { (before left : Option (List ℕ)) (limit : ℕ) (answers : List Answer)
+        → HasGiven before left limit read.0 answers → IfOk result (λ r. HasGiven before left limit r.0 answers) }
+    ensures own { OnOk result (IsPassOf shared.now.queue (reader_of reader.new.feed) × IsOpen reader.new.feed) }
+    ensures still { OnOk result (IsStill (reader_of reader.old.feed) (reader_of reader.new.feed)) }
+    ensures next { OnOk result (reader.new.next ≤ base_in read.0 + length read.1.offsets) }
+    ensures ready { OnOk result (IsReadyAt reader.new.next (base_in read.0 + length read.1.offsets)
+        (put_of (reader_of reader.new.feed)) reader.new.share.tally.captured) }
+    ensures handed { OnOk result ((answers : List Answer)
+        → HasHanded (C.is_of cache.now) C.shown (C.means cache.now).limits answers (put_of (reader_of reader.old.feed)) reader.old.share
+        → HasHanded (C.is_of cache.now) C.shown (C.means cache.now).limits (answers ++ answers_from (base_in read.0) (part_in read.0))
+        (put_of (reader_of reader.new.feed)) reader.new.share) }
+{
+    let (reading, index) = read;
+    if index.count() == 0 {
+        return Ok((reading, index));
+    }
+    let memory = shared.memory(rt, alloc)?;
+    let head = reading.head();
+    let base = reading.base();
+    let (bytes, reading) = reading.take_bytes(memory.bytes);
+    let batch = Batch {
+        number: reader.next,
+        base,
+        head,
+        bytes,
+        index,
+    };
+    reader.next += 1;
+    hand_over(rt, shared, cache, gate, reader, batch)?;
+    Ok((reading, memory.index))
+}
+
 /// Reads a capture to its end and hands on its records. How many bytes are left behind the last record.
 fn read_all<S: Source, C: FlowCache, G: Gate, R: Wait>(
     rt: &R,
@@ -177,34 +318,25 @@ fn read_all<S: Source, C: FlowCache, G: Gate, R: Wait>(
     cache: &C,
     gate: &G,
     reader: &mut Reader<C>,
-    batches: Batches,
-) -> Result<u64, MeterFault> {
-    let (mut reading, mut index) = Reading::begin(alloc, source, batches.size, batches.limit)?;
-    let mut number = 0;
+    limit: u64,
+) -> Result<u64, MeterFault>
+    requires limit { limit ≤ 2 ^ 30 }
+    requires own { IsPassOf shared.now.queue (reader_of reader.old.feed) × IsReaders (reader_of reader.old.feed)
+        × IsOpen reader.old.feed }
+    requires fresh { IsFresh (reader_of reader.old.feed) × (reader.old.next ≡ 0) }
+    requires share { IsShare (C.is_of cache.now) C.shown (C.means cache.now).limits [] reader.old.share }
+    ensures read { IfOk result (λ tail. HasRead (C.is_of cache.now) C.shown (C.means cache.now).limits shared.now.queue (S.left source.old) (S.left source.new) limit
+        (reader_of reader.old.feed) (reader_of reader.new.feed) reader.new.share tail) }
+    ensures refused { IfErr result (λ fault. IsRefused (side S.left S.faults source.old source.new) limit fault) }
+    ensures faults { HasFaults (side S.left S.faults source.old source.new) result }
+{
+    let (mut reading, mut index) = Reading::begin(alloc, source, shared.size, limit)?;
     loop {
-        if index.count() > 0 {
-            let memory = match shared.memory(rt, alloc, batches.size) {
-                Ok(memory) => memory,
+        (reading, index) =
+            match hand_part(rt, alloc, shared, cache, gate, reader, (reading, index)) {
+                Ok(read) => read,
                 Err(NoMemory) => return Err(MeterFault::NoMemory),
             };
-            let head = reading.head();
-            let base = reading.base();
-            let (bytes, following) = reading.take_bytes(memory.bytes);
-            let batch = Batch {
-                number,
-                base,
-                head,
-                bytes,
-                index,
-            };
-            reading = following;
-            index = memory.index;
-            number += 1;
-            match hand_over(rt, shared, cache, gate, reader, batch) {
-                Ok(()) => {}
-                Err(NoMemory) => return Err(MeterFault::NoMemory),
-            }
-        }
         if reading.is_last() {
             return Ok(reading.tail());
         }
@@ -221,9 +353,19 @@ fn read_and_end<S: Source, C: FlowCache, G: Gate, R: Wait>(
     cache: &C,
     gate: &G,
     reader: &mut Reader<C>,
-    batches: Batches,
-) -> Result<u64, MeterFault> {
-    let end = read_all(rt, alloc, source, shared, cache, gate, reader, batches);
+    limit: u64,
+) -> Result<u64, MeterFault>
+    requires limit { limit ≤ 2 ^ 30 }
+    requires own { IsPassOf shared.now.queue (reader_of reader.old.feed) × IsReaders (reader_of reader.old.feed)
+        × IsOpen reader.old.feed }
+    requires fresh { IsFresh (reader_of reader.old.feed) × (reader.old.next ≡ 0) }
+    requires share { IsShare (C.is_of cache.now) C.shown (C.means cache.now).limits [] reader.old.share }
+    ensures read { IfOk result (λ tail. HasRead (C.is_of cache.now) C.shown (C.means cache.now).limits shared.now.queue (S.left source.old) (S.left source.new) limit
+        (reader_of reader.old.feed) (reader_of reader.new.feed) reader.new.share tail) }
+    ensures refused { IfErr result (λ fault. IsRefused (side S.left S.faults source.old source.new) limit fault) }
+    ensures faults { HasFaults (side S.left S.faults source.old source.new) result }
+{
+    let end = read_all(rt, alloc, source, shared, cache, gate, reader, limit);
     shared.queue.end(&mut reader.feed);
     end
 }
@@ -237,15 +379,48 @@ fn run_both<S: Source, C: FlowCache, G: Gate, R: Threads + Wait + Sync>(
     cache: &C,
     gate: &G,
     reader: &mut Reader<C>,
-    workers: &mut [Worker<C, QueuePass>],
-    batches: Batches,
-) -> Result<u64, MeterFault> {
+    workers: &mut Vec<Worker<C, QueuePass>>,
+    limit: u64,
+) -> Result<u64, MeterFault>
+    requires limit { limit ≤ 2 ^ 30 }
+    requires own { IsPassOf shared.now.queue (reader_of reader.old.feed) × IsReaders (reader_of reader.old.feed)
+        × IsOpen reader.old.feed }
+    requires fresh { IsFresh (reader_of reader.old.feed) × (reader.old.next ≡ 0) }
+    requires share { IsShare (C.is_of cache.now) C.shown (C.means cache.now).limits [] reader.old.share }
+    requires some { 0 < length workers.old.items }
+    requires ready { All (λ w. IsReadyToTake (C.is_of cache.now) C.shown (C.means cache.now).limits shared.now.queue w.share w.seat) workers.old.items }
+    ensures same { length workers.new.items ≡ length workers.old.items }
+    ensures worked { All (λ w. w.state ≡ WorkState.Finished → HasTaken (C.is_of cache.now) C.shown (C.means cache.now).limits shared.now.queue w.share w.seat)
+        workers.new.items }
+    ensures read { IfOk result (λ tail. HasRead (C.is_of cache.now) C.shown (C.means cache.now).limits shared.now.queue (S.left source.old) (S.left source.new) limit
+        (reader_of reader.old.feed) (reader_of reader.new.feed) reader.new.share tail) }
+    ensures refused { IfErr result (λ fault. IsRefused (side S.left S.faults source.old source.new) limit fault) }
+    ensures faults { HasFaults (side S.left S.faults source.old source.new) result }
+{
     let (_, end) = join_mut(
         rt,
-        &mut || { work_all(rt, shared, cache, gate, workers) },
-        &mut || -> Result<u64, MeterFault> {
-            read_and_end(rt, alloc, source, shared, cache, gate, reader, batches)
-        },
+        &mut || -> ()
+            requires sync { IsSync R.row }
+            requires some { 0 < length workers.now.items }
+            requires ready { All (λ w. IsReadyToTake (C.is_of cache.now) C.shown (C.means cache.now).limits shared.now.queue w.share w.seat) workers.now.items }
+            ensures same { length workers.exit.now.items ≡ length workers.entry.now.items }
+            ensures worked { All (λ w. w.state ≡ WorkState.Finished → HasTaken (C.is_of cache.entry.now) C.shown
+                (C.means cache.entry.now).limits shared.entry.now.queue w.share w.seat) workers.exit.now.items }
+        { run_workers(rt, shared, cache, gate, workers) },
+        &mut || -> Result<u64, MeterFault>
+            requires limit { limit ≤ 2 ^ 30 }
+            requires own { IsPassOf shared.now.queue (reader_of reader.now.feed)
+                × IsReaders (reader_of reader.now.feed) × IsOpen reader.now.feed }
+            requires fresh { IsFresh (reader_of reader.now.feed) × (reader.now.next ≡ 0) }
+            requires share { IsShare (C.is_of cache.now) C.shown (C.means cache.now).limits [] reader.now.share }
+            ensures read { IfOk result (λ tail. HasRead (C.is_of cache.entry.now) C.shown
+                (C.means cache.entry.now).limits shared.entry.now.queue (S.left source.entry.now)
+                (S.left source.exit.now) limit (reader_of reader.entry.now.feed) (reader_of reader.exit.now.feed)
+                reader.exit.now.share tail) }
+            ensures refused { IfErr result
+                (λ fault. IsRefused (side S.left S.faults source.entry.now source.exit.now) limit fault) }
+            ensures faults { HasFaults (side S.left S.faults source.entry.now source.exit.now) result }
+        { read_and_end(rt, alloc, source, shared, cache, gate, reader, limit) },
     );
     end
 }
@@ -265,7 +440,18 @@ fn open_crew<C: FlowCache>(
     cache: &C,
     passes: Vec<C::Pass>,
     batches: Batches,
-) -> Result<Crew<C>, NoMemory> {
+) -> Result<Crew<C>, NoMemory>
+    requires front { IfSome batches.front (λ timeouts. timeouts ≡ (C.means cache.now).limits) }
+    requires passes { (3 ≤ length passes.items) × (length passes.items ≤ 64)
+        × All (λ p. C.is_of cache.now p × IsFreshPass (C.shown p)) passes.items }
+    ensures reader { IfOk result (λ r. IsPassOf r.shared.queue (reader_of r.reader.feed)
+        × IsReaders (reader_of r.reader.feed) × IsOpen r.reader.feed × IsFresh (reader_of r.reader.feed)) }
+    ensures others { IfOk result (λ r. (others_of (reader_of r.reader.feed) ≡ length r.workers.items)
+        × (length r.workers.items + 2 ≡ length passes.items) × (r.reader.next ≡ 0)
+        × (r.reader.number ≡ length r.workers.items)) }
+    ensures shares { IfOk result (λ r. IsShare (C.is_of cache.now) C.shown (C.means cache.now).limits [] r.reader.share × IsShare (C.is_of cache.now) C.shown (C.means cache.now).limits [] r.last) }
+    ensures workers { IfOk result (λ r. All (λ w. IsReadyToTake (C.is_of cache.now) C.shown (C.means cache.now).limits r.shared.queue w.share w.seat) r.workers.items) }
+{
     let mut shares = open_shares(alloc, cache, passes, batches.front)?;
     let share = shares.remove(0);
     let last = shares.remove(0);
@@ -277,9 +463,15 @@ fn open_crew<C: FlowCache>(
         number: count,
         feed,
         share,
+        next: 0,
+    };
+    let shared = Shared {
+        queue,
+        spare,
+        size: batches.size,
     };
     Ok(Crew {
-        shared: Shared { queue, spare },
+        shared,
         reader,
         workers,
         last,
@@ -287,7 +479,16 @@ fn open_crew<C: FlowCache>(
 }
 
 /// One pass of the queue for the reader and all others.
-fn unite_seats(queue: &BatchQueue, reader: QueuePass, seats: Vec<QueuePass>) -> QueuePass {
+fn unite_seats(queue: &BatchQueue, reader: QueuePass, seats: Vec<QueuePass>) -> QueuePass
+    requires own { IsPassOf queue.now reader }
+    requires others { All (λ s. IsPassOf queue.now s × (put_of s ≡ []) × (seats_of s ≡ 1) × (others_of s ≡ 0))
+        seats.items }
+    ensures own { IsPassOf queue.now result }
+    ensures reader { IsReaders reader → IsReaders result }
+    ensures same { (put_of result ≡ put_of reader) × (others_of result ≡ others_of reader)
+        × (seats_of result ≡ seats_of reader + length seats.items) }
+    ensures took { IsPermutation (took_of reader ++ flat_map took_of seats.items) (took_of result) }
+{
     let mut all = reader;
     let mut seats = seats;
     while let Some(seat) = seats.pop() {
@@ -304,7 +505,22 @@ fn gather<C: FlowCache, G: Gate, R: Wait>(
     cache: &C,
     crew: Crew<C>,
     gate: &G,
-) -> Result<Share<C>, NoMemory> {
+) -> Result<Share<C>, NoMemory>
+    requires reader { IsPassOf crew.shared.queue (reader_of crew.reader.feed) × IsReaders (reader_of crew.reader.feed)
+        × (seats_of (reader_of crew.reader.feed) ≡ 1) × (took_of (reader_of crew.reader.feed) ≡ []) }
+    requires many { (others_of (reader_of crew.reader.feed) ≡ length crew.workers.items)
+        × (crew.reader.number ≡ length crew.workers.items) × (length crew.workers.items ≤ 62) }
+    requires handed { (answers : List Answer) × HasHanded (C.is_of cache.now) C.shown (C.means cache.now).limits answers (put_of (reader_of crew.reader.feed))
+        crew.reader.share }
+    requires workers { All (λ w. w.state ≡ WorkState.Finished → HasTaken (C.is_of cache.now) C.shown (C.means cache.now).limits crew.shared.queue w.share w.seat)
+        crew.workers.items }
+    requires last { IsShare (C.is_of cache.now) C.shown (C.means cache.now).limits [] crew.last }
+    ensures own { IfOk result (λ r. C.is_of cache.now r.pass × (r.front ≡ None)
+        × ((C.shown r.pass).note.seats ≡ length crew.workers.items + 2)) }
+    ensures metered { (answers : List Answer)
+        → HasHanded (C.is_of cache.now) C.shown (C.means cache.now).limits answers (put_of (reader_of crew.reader.feed)) crew.reader.share
+        → IfOk result (λ r. HasMetered C.shown (C.means cache.now).limits answers r) }
+{
     let Crew {
         shared,
         reader,
@@ -320,7 +536,19 @@ fn gather<C: FlowCache, G: Gate, R: Wait>(
     unite_all(cache, shares)
 }
 
-/// Meters a capture through a cache while it is read.
+/// Meters a capture through a cache while it is read: the caller's thread reads it, in windows of so many bytes, into a
+/// queue of batches, and a thread for each worker takes them from it. The passes of the cache (3 to 64) are one for the
+/// reader, one for what is left in the queue at the end, and one for each worker; each has a front where fronts are asked
+/// for, which is emptied into the cache at the end.
+///
+/// The gate is told of each batch by its number, before it is metered: by a worker's number, counted from 0, by the
+/// number of workers where the reader meters it, and by that and one more at the end. What was put in through the united
+/// pass shares out the packets of the capture; `parts` are the fragments that it was handed; the tally is that of all
+/// records, and the source has nothing left. At most `room` + workers + 2 buffers of `size` bytes exist.
+///
+/// Refusals in the order of [`MeterFault`]: where the input is no capture, of an unknown link type or damaged, it is
+/// read to its end first, so that `Failed` and `TooLarge` keep their place. `NoMemory` may come at any time. All
+/// workers have ended then.
 pub fn meter_batches<S: Source, C: FlowCache, G: Gate, R: Threads + Wait + Sync>(
     rt: &R,
     alloc: Global,
@@ -329,28 +557,48 @@ pub fn meter_batches<S: Source, C: FlowCache, G: Gate, R: Threads + Wait + Sync>
     passes: Vec<C::Pass>,
     batches: Batches,
     gate: &G,
-) -> Result<Gathered<C>, MeterFault> {
-    let Ok(mut crew) = open_crew(alloc, cache, passes, batches) else {
+) -> Result<Gathered<C>, MeterFault>
+    requires front { IfSome batches.front (λ timeouts. timeouts ≡ (C.means cache.now).limits) }
+    requires passes { (3 ≤ length passes.items) × (length passes.items ≤ 64)
+        × All (λ p. C.is_of cache.now p × IsFreshPass (C.shown p)) passes.items }
+    ensures own { IfOk result (λ r. C.is_of cache.now r.pass × ((C.shown r.pass).note.seats ≡ length passes.items)) }
+    ensures metered { IfOk result
+        (λ r. IsMeteredWhole (side S.left S.faults source.old source.new) batches.limit (C.means cache.now).limits
+        (C.shown r.pass).note.taken r.tally r.tail) }
+    ensures parts { IfOk result (λ r. IsPermutation (C.shown r.pass).note.handed r.parts.items) }
+    ensures refused { IfErr result
+        (λ fault. IsRefused (side S.left S.faults source.old source.new) batches.limit fault) }
+    ensures faults { HasFaults (side S.left S.faults source.old source.new) result }
+{
+    let Ok(crew) = open_crew(alloc, cache, passes, batches) else {
         return Err(MeterFault::NoMemory);
     };
-    let tail = run_both(
+    let Crew {
+        shared,
+        mut reader,
+        mut workers,
+        last,
+    } = crew;
+    let end = run_both(
         rt,
         alloc,
         source,
-        &crew.shared,
+        &shared,
         cache,
         gate,
-        &mut crew.reader,
-        crew.workers.as_mut_slice(),
-        batches,
-    )?;
+        &mut reader,
+        &mut workers,
+        batches.limit,
+    );
+    let tail = end?;
+    let crew = Crew {
+        shared,
+        reader,
+        workers,
+        last,
+    };
     match gather(rt, alloc, cache, crew, gate) {
-        Ok(all) => Ok(Gathered {
-            pass: all.pass,
-            parts: all.parts,
-            tally: all.tally,
-            tail,
-        }),
+        Ok(all) => Ok(gather_all(all, tail)),
         Err(NoMemory) => Err(MeterFault::NoMemory),
     }
 }

@@ -303,13 +303,13 @@ pub fn meter_windows<S: Source, C: FlowCache, G: Gate, R: Threads + Sync>(
         gate,
     )?;
     match unite_all(cache, shares) {
-        Ok(all) => Ok(gathered(all, tail)),
+        Ok(all) => Ok(gather_all(all, tail)),
         Err(NoMemory) => Err(MeterFault::NoMemory),
     }
 }
 
 /// What all shares did together, with so many bytes left behind the last record.
-pub(crate) fn gathered<C: FlowCache>(all: Share<C>, tail: u64) -> Gathered<C>
+pub(crate) fn gather_all<C: FlowCache>(all: Share<C>, tail: u64) -> Gathered<C>
     ensures { (result.pass ≡ all.pass) × (result.parts.items ≡ all.parts.items) × (result.tally ≡ all.tally)
         × (result.tail ≡ tail) }
 {
@@ -356,5 +356,5 @@ pub fn meter_all<C: FlowCache, G: Gate, R: Threads + Sync>(
     let shares = open_shares(alloc, cache, passes, None)?;
     let shares = meter_part(rt, alloc, part, cache, shares, piece, gate)?;
     let all = unite_all(cache, shares)?;
-    Ok(gathered(all, part.index.tail()))
+    Ok(gather_all(all, part.index.tail()))
 }

@@ -13,7 +13,7 @@ use cache_face::Caches;
 use capture_tally::Tally;
 use flow_parts::Timeouts;
 use meter_io::{Source, StdSource};
-use meter_workers::{OpenGate, meter_windows};
+use meter_workers::{OpenGate, Windows, meter_windows};
 use pcap_reader::CAPTURE_LIMIT;
 use std::alloc::Global;
 use std::env;
@@ -61,13 +61,9 @@ fn meter_source<R: Threads + Sync, S: Source>(
     setting: Setting,
 ) -> Option<Tally> {
     let mut caches = TurnCaches::new();
+    let limits = Timeouts::new(300, 1800);
     let (cache, passes) = caches
-        .open(
-            alloc,
-            setting.sets,
-            setting.workers,
-            Timeouts::new(300, 1800),
-        )
+        .open(alloc, setting.sets, setting.workers, limits)
         .ok()?;
     let done = meter_windows(
         rt,
@@ -75,9 +71,12 @@ fn meter_source<R: Threads + Sync, S: Source>(
         input,
         &cache,
         passes,
-        setting.window,
-        PIECE,
-        CAPTURE_LIMIT,
+        Windows {
+            size: setting.window,
+            limit: CAPTURE_LIMIT,
+            piece: PIECE,
+            front: Some(limits),
+        },
         &OpenGate,
     );
     let Ok(gathered) = done else {

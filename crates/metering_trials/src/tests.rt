@@ -11,7 +11,7 @@ use cache_face::Caches;
 use capture_tally::Tally;
 use flow_parts::{Fragment, Timeouts};
 use meter_io::Source;
-use meter_workers::{Gate, MeterFault, meter_windows};
+use meter_workers::{Gate, MeterFault, Windows, meter_windows};
 use record_ledger::{FlowRecord, gather};
 use std::alloc::Global;
 use std::test::Fail;
@@ -94,9 +94,13 @@ fn meter_source<R: Threads + Sync, S: Source, G: Gate>(
     let limits = Timeouts::new(300, 1800);
     let mut caches = TurnCaches::new();
     let (cache, passes) = caches.open(alloc, 4096, seats, limits)?;
-    let done = meter_windows(
-        rt, alloc, source, &cache, passes, window, piece, limit, gate,
-    );
+    let windows = Windows {
+        size: window,
+        limit,
+        piece,
+        front: Some(limits),
+    };
+    let done = meter_windows(rt, alloc, source, &cache, passes, windows, gate);
     let gathered = match done {
         Ok(gathered) => gathered,
         Err(fault) => return Ok(Err(fault)),

@@ -4,7 +4,7 @@
 //! and the standard streams, and ends with the exit status of its [`Status`](meter_program::Status). A run goes so:
 //!
 //! 1. **Words** (`words.rt`): `pipe` and its options are [`PipeSettings`], or it is `Usage`. Nothing is read then.
-//! 2. **Metering** (`metering.rt`): a cache of those that were handed in is opened, and [`pipe_workers`] meters the
+//! 2. **Metering** (`metering.rt`): a cache of those that were handed in is opened, and [`meter_workers`] meters the
 //!    input in batches through it: the reader fills a queue, and workers take from it. Then the cache is closed.
 //! 3. **Writing**: what the cache gave is gathered into records, and these are written and noted, by the calls of
 //!    [`meter_program`] by which the command `meter` does it.

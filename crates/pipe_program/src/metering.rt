@@ -10,7 +10,6 @@ ghost use Rattle.pipe_program.specs.Words.{as_meter, piping_of};
 use crate::settings::PipeSettings;
 use cache_face::Caches;
 use flow_parts::Timeouts;
-use flow_parts::laws::sharing_out_stands;
 use meter_io::{Sink, Source};
 use meter_program::{CaptureCount, Gathered, Status, gathered_of, write_stream};
 use meter_workers::{Batches, Gate, meter_batches};
@@ -37,7 +36,6 @@ fn meter_input<R: Threads + Wait + Sync, S: Source, M: Caches, G: Gate>(
         (λ r. IsReadAndKept (side S.left S.faults input.old input.new) limits (M.metered caches.new) r.tally r.tail) }
     ensures refused { IfErr result (λ status. MeterRefuses (side S.left S.faults input.old input.new) status) }
 {
-    sharing_out_stands();
     let seats = settings.workers + OTHER_SEATS;
     let (cache, passes) = caches.open(alloc, settings.sets, seats, limits)?;
     let done = meter_batches(

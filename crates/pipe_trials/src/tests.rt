@@ -9,8 +9,7 @@ use cache_face::{Caches, FlowCache};
 use capture_tally::Tally;
 use flow_parts::Timeouts;
 use meter_io::{MemSource, Source};
-use meter_workers::{Gate, MeterFault, WindowGathered, meter_windows};
-use pipe_workers::meter_batches;
+use meter_workers::{Batches, Gate, Gathered, MeterFault, Windows, meter_batches, meter_windows};
 use std::alloc::Global;
 use std::sync::Wait;
 use std::test::Fail;
@@ -51,9 +50,11 @@ fn run<S: Source, C: FlowCache, G: Gate, R: Threads + Wait + Sync>(
     source: &mut S,
     cache: &C,
     passes: Vec<C::Pass>,
+    limits: Timeouts,
     setting: Setting,
     gate: &G,
-) -> Result<WindowGathered<C>, MeterFault>
+) -> Result<Gathered<C>, MeterFault>
+    requires front { limits ≡ (C.means cache.now).limits }
     requires room { setting.room ≤ 64 }
     requires window { (262184 ≤ setting.window) × (setting.window ≤ 4194304) }
     requires limit { setting.limit ≤ 2 ^ 30 }
@@ -69,9 +70,21 @@ fn run<S: Source, C: FlowCache, G: Gate, R: Threads + Wait + Sync>(
         ..
     } = setting;
     if room == 0 {
-        return meter_windows(rt, alloc, source, cache, passes, window, 256, limit, gate);
+        let windows = Windows {
+            size: window,
+            limit,
+            piece: 256,
+            front: Some(limits),
+        };
+        return meter_windows(rt, alloc, source, cache, passes, windows, gate);
     }
-    meter_batches(rt, alloc, source, cache, passes, room, window, limit, gate)
+    let batches = Batches {
+        size: window,
+        limit,
+        room,
+        front: Some(limits),
+    };
+    meter_batches(rt, alloc, source, cache, passes, batches, gate)
 }
 
 /// Meters a capture, and adds up what the cache kept of it.
@@ -92,7 +105,7 @@ fn meter_capture<G: Gate, R: Threads + Wait + Sync>(
     let limits = Timeouts::new(300, 1800);
     let mut caches = TurnCaches::new();
     let (cache, passes) = caches.open(alloc, 4096, setting.passes, limits)?;
-    let gathered = match run(rt, alloc, &mut source, &cache, passes, setting, gate) {
+    let gathered = match run(rt, alloc, &mut source, &cache, passes, limits, setting, gate) {
         Ok(gathered) => gathered,
         Err(fault) => return Ok(Err(fault)),
     };

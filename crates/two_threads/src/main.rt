@@ -9,7 +9,7 @@ ghost use Rattle.std.specs.Prelude.{◌<◌, ◌≤◌, ◌^◌, length};
 use cache_face::Caches;
 use flow_parts::{Fragment, Timeouts};
 use meter_io::{Source, StdSink, StdSource, read_all, write_all};
-use meter_workers::{OpenGate, meter_all};
+use meter_workers::{OpenGate, Part, meter_all};
 use pcap_reader::{CAPTURE_LIMIT, Capture};
 use std::alloc::Global;
 use std::process::ExitCode;
@@ -44,7 +44,12 @@ fn is_whole<R: Threads + Sync>(rt: &R, alloc: Global, bytes: &[u8]) -> Option<bo
     let index = capture.index(alloc).ok()?;
     let mut caches = TurnCaches::new();
     let (cache, passes) = caches.open(alloc, 4, 2, Timeouts::new(300, 1800)).ok()?;
-    let gathered = meter_all(rt, alloc, &capture, &index, &cache, passes, 64, &OpenGate).ok()?;
+    let part = Part {
+        capture,
+        index: &index,
+        base: 0,
+    };
+    let gathered = meter_all(rt, alloc, &part, &cache, passes, 64, &OpenGate).ok()?;
     caches
         .close(alloc, cache, gathered.pass, gathered.parts)
         .ok()?;

@@ -17,7 +17,7 @@ use flow_cache::{PebrCaches, PebrPass};
 use flow_key::FlowKey;
 use flow_parts::{Fragment, Timeouts};
 use meter_io::{Source, read_all};
-use meter_workers::{Gathered, OpenGate, meter_all};
+use meter_workers::{Gathered, OpenGate, Part, meter_all};
 use pcap_reader::{CAPTURE_LIMIT, Capture, RecordIndex};
 use std::alloc::Global;
 use std::thread;
@@ -96,7 +96,12 @@ fn meter_bytes<R: Threads + Sync>(
     ensures { IfSome result (λ r. IsOf cache.now r.pass × ((shown_of r.pass).note.seats ≡ length passes.items)) }
 {
     let capture = Capture::open(bytes).ok()?;
-    meter_all(rt, alloc, &capture, index, cache, passes, PIECE, &OpenGate).ok()
+    let part = Part {
+        capture,
+        index: index,
+        base: 0,
+    };
+    meter_all(rt, alloc, &part, cache, passes, PIECE, &OpenGate).ok()
 }
 
 /// Meters, and asks for open flows at the seat of one more pass, at once.

@@ -22,7 +22,7 @@ use flow_cache::{PebrCache, PebrCaches, PebrPass};
 use flow_key::FlowKey;
 use flow_parts::Timeouts;
 use flow_parts::laws::sharing_out_counts;
-use meter_workers::{Gate, Gathered, meter_all};
+use meter_workers::{Gate, Gathered, Part, meter_all};
 use no_memory::NoMemory;
 use pcap_reader::{Capture, RecordIndex};
 use std::alloc::Global;
@@ -72,7 +72,12 @@ fn meter_bytes<R: Threads + Sync, G: Gate>(
     let Ok(capture) = Capture::open(bytes) else {
         unreachable!()
     };
-    meter_all(rt, alloc, &capture, index, cache, passes, PIECE, gate)
+    let part = Part {
+        capture,
+        index,
+        base: 0,
+    };
+    meter_all(rt, alloc, &part, cache, passes, PIECE, gate)
 }
 
 /// Meters the capture that these bytes are, and asks for open flows at the seat of one more pass, at once. Neither

@@ -46,6 +46,3 @@ run_workers-requires-clause-ready g c κs within =
       few = (let le = s.1 in let base = had.1 in omega (arith, le, base, s.2.metered.tallied.captured));
     }
 
-worked : (g : given.Over) (c : goal.Foo g)
-    → All (λ (w : W g). w.state ≡ Finished) c.run_workers-workers.result.items
-worked g c = ?

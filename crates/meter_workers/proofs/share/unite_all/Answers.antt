@@ -1,0 +1,60 @@
+use Rattle.std.proofs.Common.{◌≡◌, ◌+◌, ◌++◌, ◌<◌, List, [], length, rules, sym, ap, subst, arith, refl, append-nil}
+use Rattle.std.specs.Prelude.{IsPermutation, IfOk}
+use Rattle.std.proofs.lemmas.List.Sorted.{IsPermutation-refl, IsPermutation-trans, IsPermutation-sym}
+use Rattle.std.proofs.lemmas.List.Sorted.{IsPermutation-append_comm, IsPermutation-append_left, IsPermutation-append_right}
+use Rattle.cache_face.specs.Notes.{Note}
+use Rattle.capture_input.specs.Parts.{Answer}
+use Rattle.meter_workers.specs.declared.share.Share.{Share}
+use Rattle.meter_workers.specs.Shares.{IsShare, HasMetered, HaveMetered}
+use Rattle.meter_workers.proofs.Taken.{popped_length}
+use Rattle.meter_workers.proofs.Sharing.{popped, none-left, metered-permuted, moved-back}
+use Rattle.meter_workers.proofs.share.unite_all.Given as given
+use Rattle.meter_workers.proofs.share.unite_all.Goals as goal
+
+abbrev S : given.Over → Type 0
+S g = Share g.row.C.Denot g.row.C-Pass.Denot
+
+pub finish-requires-clause-share : goal.finish-requires-clause-share
+finish-requires-clause-share g c κs within =
+    let Has : List Answer → S g → Type 0 =
+    IsShare (g.C.FlowCache.is_of c.args.cache.now) g.C.FlowCache.shown (g.C.FlowCache.means c.args.cache.now).limits in
+    let had = c.requires.metered in
+    let p = popped {S = S g} Has had.0 c.args.shares.items c.pop.new.self.items c.in-Some.last c.in-Some.ensures.items
+    had.1 in
+    (p.1, p.3)
+
+pub loop-share-init : goal.loop-share-init
+loop-share-init g c =
+    let Has : List Answer → S g → Type 0 =
+    IsShare (g.C.FlowCache.is_of c.args.cache.now) g.C.FlowCache.shown (g.C.FlowCache.means c.args.cache.now).limits in
+    let had = c.requires.metered in
+    let is = c.in-Some.ensures.items in
+    let p = popped {S = S g} Has had.0 c.args.shares.items c.pop.new.self.items c.in-Some.last is had.1 in
+    let one = c.in_ok-all.ensures.share p.1 p.3 in
+    let e = popped_length c.args.shares.items c.pop.new.self.items c.in-Some.last is in
+    let s = one.seated.single in
+    record {
+      own = one.seated.own;
+      front = c.in_ok-all.ensures.front;
+      many = omega (arith, e, s);
+      some = omega (arith, s);
+      metered = λ answers have.
+          (let q = popped {S = S g} Has answers c.args.shares.items c.pop.new.self.items c.in-Some.last is have in
+          (q.0, q.1, q.2, (c.in_ok-all.ensures.share q.1 q.3).metered, q.4));
+    }
+
+pub finish-requires-in-Some-pop-clause-share : goal.finish-requires-in-Some-pop-clause-share
+finish-requires-in-Some-pop-clause-share g c κs within =
+    let Has : List Answer → S g → Type 0 =
+    IsShare (g.C.FlowCache.is_of c.args.cache.now) g.C.FlowCache.shown (g.C.FlowCache.means c.args.cache.now).limits in
+    let had = c.requires.metered in
+    let m = c.loop-share.invariant.metered had.0 had.1 in
+    let p = popped {S = S g} Has m.0 c.loop-share.shares.items c.pop-in-loop-share.new.self.items c.in-Some-pop.share
+    c.in-Some-pop.ensures.items m.2 in
+    (p.1, p.3)
+
+-- the share that was finished
+next : (g : given.Over) (c : goal.After-branch-share g) → (list : List Answer)
+    × IsShare {X = g.row.C.Denot} {P = g.row.C-Pass.Denot} (g.C.FlowCache.is_of c.args.cache.now)
+    g.C.FlowCache.shown (g.C.FlowCache.means c.args.cache.now).limits list c.in_ok-share.share
+next g c = ?
