@@ -1,5 +1,5 @@
 -- A step that is made by itself keeps the rule: the one place where core, words and views meet.
-use Rattle.std.proofs.Common.{◌≡◌, ◌≢◌, ℕ, suc, ◌+◌, ◌<◌, ◌≤◌, Bool, true, false, List, [], ◌∷◌, length, get_or, map}
+use Rattle.std.proofs.Common.{Some, ◌≡◌, ◌≢◌, ℕ, suc, ◌+◌, ◌<◌, ◌≤◌, Bool, true, false, List, [], ◌∷◌, length, get_or, map}
 use Rattle.std.proofs.Common.{set, sym, refl, ap, ◌∙◌, subst, inl, inr, ◌⊎◌, ⊎_elim, le_trans, arith}
 use Rattle.std.proofs.lemmas.Bool.{cases_eq, cases_lt, false≢true}
 use Rattle.std.proofs.lemmas.List.{length-set, get_or_past}
@@ -112,6 +112,7 @@ grows (step.Replace i root old new) a known past e h =
           shown = record { root = root; slot = new } ∷ past.shown;
           written =
               without_slot new past.written;
+          put = Some (record { root = root; slot = new; written = past.written });
         }
         else (if c then (if d then past else record past { lost = found_other root ∷ past.lost; has_lost = true })
         else past)) { last = a; steps = past.steps + 1 }).ejections

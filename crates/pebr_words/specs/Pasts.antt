@@ -34,6 +34,12 @@ pub data Lost : Type 0 where
   was_ejected : Lost
   found_other : ℕ → Lost
 
+-- the slot that was put into a root, and what was written before into slots that were fresh
+pub record Replaced : Type 0 where
+  pub root : ℕ
+  pub slot : ℕ
+  pub written : List Read
+
 pub record History : Type 0 where
   -- what its last step answered
   pub last : Answer
@@ -50,6 +56,8 @@ pub record History : Type 0 where
   pub shown : List Load
   -- what it wrote into slots that are fresh at it, the newest first
   pub written : List Read
+  -- its last replacement: the root, the slot, and what it had written then
+  pub put : Option Replaced
   -- the tries that it lost, at most one for each pin, the newest first, and whether one since its last pin
   pub lost : List Lost
   pub has_lost : Bool
@@ -68,6 +76,7 @@ no_history = record {
   reads = [];
   shown = [];
   written = [];
+  put = None;
   lost = [];
   has_lost = false;
   ejections = [];
@@ -159,6 +168,7 @@ history_after (step.Replace i root old new) a seat past =
       shown = record { root = root; slot = new } ∷ past.shown;
       written =
           without_slot new past.written;
+      put = Some (record { root = root; slot = new; written = past.written });
     }
     else (if is_shown (shown_at past.shown root) old then with_lost (found_other root) past else past)
 history_after (step.Scan i j place) a seat past = past
