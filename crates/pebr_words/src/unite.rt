@@ -3,7 +3,7 @@
 ghost use Rattle.std.specs.Prelude.{◌≡◌, ◌++◌, ◌+◌, true, IsTrue, None};
 ghost use Rattle.pebr_core.specs.State.{is_out};
 ghost use Rattle.pebr_words.specs.Seats.{IsAt, IsUnited, known_of, number_of, numbers_of, count_of, note_of, past_of};
-ghost use Rattle.pebr_words.specs.Seats.{lost_of, ejections_of};
+ghost use Rattle.pebr_words.specs.Seats.{lost_of, ejections_of, operations_of};
 
 use crate::protocol::RootProtocol;
 use crate::rule::Unites;
@@ -20,6 +20,7 @@ impl<P: RootProtocol> Words<P> {
         ensures known { known_of result ≡ known_of first }
         ensures note { note_of P.first result ≡ P.merged (note_of P.first first) (note_of P.first second) }
         ensures past { past_of result ≡ past_of first }
+        ensures operations { operations_of result ≡ operations_of first }
         ensures lost { lost_of result ≡ lost_of first ++ lost_of second }
         ensures ejections { ejections_of result ≡ ejections_of first ++ ejections_of second }
         ensures united { IsUnited P.empty first → IsUnited P.empty second → IsUnited P.empty result }
@@ -38,7 +39,7 @@ impl<P: RootProtocol> Words<P> {
             slots: spent_slots,
             found: spent_found,
         } = second;
-        self.table.shared.join_seat::<Unites<P>>(&mut inner, other);
+        self.table.unite::<Unites<P>>(&mut inner, other);
         drop(spent_slots);
         drop(spent_found);
         Seat {
