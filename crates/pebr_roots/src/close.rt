@@ -4,7 +4,7 @@ ghost use Rattle.std.specs.Prelude.{◌≡◌, ◌++◌, ◌+◌, ◌*◌, IsTru
 ghost use Rattle.pebr_core.specs.State.{is_out};
 ghost use Rattle.pebr_words.specs.Opening.{rows_of};
 ghost use Rattle.pebr_roots.specs.Passes.{shape_at, fixed_at, known_by, number_by, numbers_by, count_by_pass, note_by};
-ghost use Rattle.pebr_roots.specs.Passes.{past_by, lost_by, ejections_by, IsUnitedPass, IsOf};
+ghost use Rattle.pebr_roots.specs.Passes.{past_by, lost_by, ejections_by, operations_by, IsUnitedPass, IsOf};
 
 use crate::pass::{RootPass, Roots};
 use pebr_shields::{NoMemory, RootProtocol};
@@ -22,6 +22,7 @@ impl<P: RootProtocol> Roots<P> {
         ensures known { known_by result ≡ known_by first }
         ensures note { note_by P.first result ≡ P.merged (note_by P.first first) (note_by P.first second) }
         ensures past { past_by result ≡ past_by first }
+        ensures operations { operations_by result ≡ operations_by first }
         ensures lost { lost_by result ≡ lost_by first ++ lost_by second }
         ensures ejections { ejections_by result ≡ ejections_by first ++ ejections_by second }
         ensures united { IsUnitedPass P.empty first → IsUnitedPass P.empty second → IsUnitedPass P.empty result }
