@@ -179,3 +179,8 @@ module _ (shape : Shape) (force : Bool) (me me' noted found : ℕ) (known opened
         (subst (λ s. HasEndedAt shape s force me' (opened_operations shape noted found old) new) is_opened
         (subst (λ l. HasEndedAt shape opened force me' l new) is_begun h));
   }
+
+-- what is made for the others is made otherwise
+pub but_as : (me j : ℕ) (f g : ℕ → List Op → List Op → Type 0) (old new : List Op) → (f j old new → g j old new)
+    → ButFor me f j old new → ButFor me g j old new
+but_as me j f g old new may h = (h.0, λ ne. may (h.1 ne))
