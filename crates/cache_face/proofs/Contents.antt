@@ -47,8 +47,11 @@ words_show f = ap (λ k. part_with (record (part_fields f) { key = k }))
 pub empty_shows : (content : List ℕ) → IsEmptyContent content → entry_of content ≡ None
 empty_shows content e = part_with-none (part_fields_in content) (λ fit. (let c = fit.1.counted in omega (arith, c, e)))
 
-none_some : {A : Type 0} (a : A) → None ≡ Some a → ⊥
+pub none_some : {A : Type 0} (a : A) → None ≡ Some a → ⊥
 none_some a e = cc
+
+pub some_is : (f g : Fragment) → Some f ≡ Some g → f ≡ g
+some_is f g e = cc
 
 pub whole_is_small : WholeIsSmall
 whole_is_small content fragment (inl empty) shown =

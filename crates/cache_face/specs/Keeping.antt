@@ -1,13 +1,13 @@
 -- What a cache keeps, whatever its threads do in turn: contents of ten words each, and the notes of its passes.
-use Rattle.std.specs.Prelude.{◌≡◌, ◌⊎◌, ℕ, ◌*◌, ◌<◌, ◌≤◌, ◌^◌, List, [], ◌∷◌, ◌++◌, length, sum_by, flat_map, All}
-use Rattle.std.specs.Prelude.{Option, option_to_list, slice_index}
-use Rattle.packet_accept.specs.declared.packet.Packet.{Packet}
+use Rattle.std.specs.Prelude.{◌≡◌, ◌⊎◌, ℕ, ◌*◌, ◌/◌, ◌<◌, ◌≤◌, ◌^◌, List, [], ◌++◌, length, sum_by, flat_map, All}
+use Rattle.std.specs.Prelude.{Option, Some, option_to_list, slice_index, slice_index_or}
+use Rattle.flow_key.specs.Key.{set_number}
 use Rattle.flow_parts.specs.declared.fragment.Fragment.{Fragment}
 use Rattle.flow_parts.specs.declared.timeouts.Timeouts.{Timeouts}
 use Rattle.flow_parts.specs.Fields.{part_fields_in}
 use Rattle.flow_parts.specs.PartWith.{part_with}
 use Rattle.flow_parts.specs.Parts.{part_words}
-use Rattle.flow_parts.specs.Sharing.{SharesOut}
+use Rattle.flow_parts.specs.Reaching.{Reaches}
 use Rattle.cache_face.specs.Notes.{Note}
 
 -- The entry that ten words show: the fragment with these words, or none.
@@ -30,34 +30,40 @@ IsWhole content = IsEmptyContent content ⊎ ((fragment : Fragment) × (part_wor
 abbrev pub parts_in : List (List ℕ) → List Fragment
 parts_in contents = flat_map (λ (content : List ℕ). option_to_list (entry_of content)) contents
 
--- The packets of all notes, and the fragments that were handed out.
-abbrev pub packets_in : List Note → List Packet
-packets_in notes = flat_map (λ (note : Note). note.packets) notes
+-- The fragments that were put in by all passes, and those that were handed out.
+abbrev pub taken_in : List Note → List Fragment
+taken_in notes = flat_map (λ (note : Note). note.taken) notes
 
 abbrev pub handed_in : List Note → List Fragment
 handed_in notes = flat_map (λ (note : Note). note.handed) notes
 
--- The packets' numbers rise.
-abbrev pub NumbersRise : List Packet → Type 0
-NumbersRise [] = Unit {0}
-NumbersRise (packet ∷ later) = All (λ p. packet.number < p.number) later × NumbersRise later
+-- Of so many sets, the one that this place lies in is that of the fragment's key: four places make a set.
+abbrev pub IsInSet : ℕ → ℕ → Fragment → Type 0
+IsInSet sets place fragment = set_number fragment.key sets ≡ place / 4
 
--- A packet of a capture: its number has 32 bits, and its octets 24.
-abbrev pub IsBounded : Packet → Type 0
-IsBounded packet = (packet.number < 2 ^ 32) × (packet.octets < 2 ^ 24)
+-- The packets that fragments have together.
+abbrev pub packet_count : List Fragment → ℕ
+packet_count parts = sum_by (λ (part : Fragment). part.packets) parts
 
--- A note is within bounds: it has at most 2^32 packets for each of its seats, and where it has one seat their numbers
--- rise.
+-- A fragment is bounded: it has fewer octets than 2^24 for each of its packets.
+abbrev pub IsBounded : Fragment → Type 0
+IsBounded part = part.octets < part.packets * 2 ^ 24
+
+-- A note is within bounds: the fragments that were put in are bounded, and have at most 2^32 packets together for each
+-- of its seats.
 pub record IsWithin (note : Note) : Type 0 where
-  pub count : length note.packets ≤ note.seats * 2 ^ 32
-  pub rises : note.seats ≡ 1 → NumbersRise note.packets
-  pub each : All IsBounded note.packets
+  pub count : packet_count note.taken ≤ note.seats * 2 ^ 32
+  pub each : All IsBounded note.taken
 
--- What a cache keeps. Each content is whole. The packets of all notes are shared out by the contents that aren't empty
--- and all fragments that were handed out. There are at most 64 seats, and each note is within bounds; so all have at
--- most 2^38 packets and fewer than 2^62 octets.
-pub record Keeps (limits : Timeouts) (contents : List (List ℕ)) (notes : List Note) : Type 0 where
+-- What a cache of so many sets keeps. It has four contents for each set; each content is whole, and what it shows is of
+-- the set that it lies in. The contents that aren't empty and all fragments that were handed out are reached from all
+-- that were put in. There are at most 64 seats, and each note is within bounds; so all have at most 2^38 packets and
+-- fewer than 2^62 octets.
+pub record Keeps (limits : Timeouts) (sets : ℕ) (contents : List (List ℕ)) (notes : List Note) : Type 0 where
+  pub four : length contents ≡ 4 * sets
   pub whole : All IsWhole contents
-  pub shared : SharesOut limits (packets_in notes) (parts_in contents ++ handed_in notes)
+  pub placed : (place : ℕ) (fragment : Fragment) → entry_of (slice_index_or contents place []) ≡ Some fragment
+      → IsInSet sets place fragment
+  pub regrouped : Reaches limits (taken_in notes) (parts_in contents ++ handed_in notes)
   pub seats : sum_by (λ (note : Note). note.seats) notes ≤ 64
   pub each : All IsWithin notes

@@ -1,70 +1,71 @@
 -- Laws by which a cache keeps what it keeps.
-use Rattle.std.specs.Prelude.{◌≡◌, ◌≢◌, ℕ, suc, ◌<◌, ◌≤◌, List, [], ◌∷◌, ◌++◌, sum_by, All, Option, Some, slice_set}
+use Rattle.std.specs.Prelude.{◌≡◌, ◌≢◌, ℕ, suc, ◌+◌, ◌*◌, ◌≤◌, ◌^◌, List, [], ◌∷◌, ◌++◌, length, sum_by, All, Option, Some}
+use Rattle.std.specs.Prelude.{slice_set}
 use mathlib.Core.Option.{some}
 use lib.ListN.{get_elem?}
-use Rattle.packet_accept.specs.declared.packet.Packet.{Packet}
 use Rattle.flow_parts.specs.declared.fragment.Fragment.{Fragment}
 use Rattle.flow_parts.specs.declared.timeouts.Timeouts.{Timeouts}
 use Rattle.flow_parts.specs.Parts.{part_words}
-use Rattle.flow_parts.specs.Sharing.{SharesOut}
+use Rattle.flow_parts.specs.Reaching.{Reaches}
 use Rattle.cache_face.specs.declared.metered.How.{How}
 use Rattle.cache_face.specs.Choice.{IsChoice, Takes, entry_at}
-use Rattle.cache_face.specs.Keeping.{Keeps, IsWhole, IsSmall, IsEmptyContent, IsBounded, NumbersRise, entry_of}
-use Rattle.cache_face.specs.Keeping.{parts_in}
+use Rattle.cache_face.specs.Keeping.{Keeps, IsWhole, IsSmall, IsEmptyContent, IsBounded, IsInSet, entry_of, parts_in}
+use Rattle.cache_face.specs.Keeping.{packet_count}
 use Rattle.cache_face.specs.Notes.{Note, unused_note, first_note, empty_note, merged_note, note_with}
 
--- A pass of one seat can meter these packets: they are bounded, their numbers rise, and stand above its own.
-pub record CanMeter (note : Note) (taken : List Packet) : Type 0 where
+-- A pass of one seat can take the fragment: this is bounded, and with all that was put in before it has at most 2^32
+-- packets.
+pub record CanTake (note : Note) (own : Fragment) : Type 0 where
   pub single : note.seats ≡ 1
-  pub bounded : All IsBounded taken
-  pub rises : NumbersRise taken
-  pub above : All (λ p. All (λ q. p.number < q.number) taken) note.packets
+  pub bounded : IsBounded own
+  pub room : packet_count note.taken + own.packets ≤ 2 ^ 32
 
--- A note of which nothing was metered.
+-- A note of a pass through which nothing was put in.
 abbrev pub IsUnused : Note → Type 0
-IsUnused note = (note.packets ≡ []) × (note.handed ≡ [])
+IsUnused note = (note.taken ≡ []) × (note.handed ≡ [])
 
--- Empty contents and notes of at most 64 seats that have done nothing keep.
+-- Empty contents, four for each set, and notes of at most 64 seats that have done nothing keep.
 abbrev pub KeepsOpening : Type 0
-KeepsOpening = (limits : Timeouts) (contents : List (List ℕ)) (notes : List Note)
-    → All IsEmptyContent contents → All IsUnused notes → sum_by (λ (note : Note). note.seats) notes ≤ 64
-    → Keeps limits contents notes
+KeepsOpening = (limits : Timeouts) (sets : ℕ) (contents : List (List ℕ)) (notes : List Note)
+    → length contents ≡ 4 * sets → All IsEmptyContent contents → All IsUnused notes → sum_by (λ (note : Note). note.seats) notes ≤ 64
+    → Keeps limits sets contents notes
 
 -- A seat of an unused note gets a note of its own.
 abbrev pub KeepsSplit : Type 0
-KeepsSplit = (limits : Timeouts) (contents : List (List ℕ)) (notes : List Note) (i seats : ℕ)
-    → Keeps limits contents notes → get_elem? notes i ≡ some (unused_note (suc seats))
-    → Keeps limits contents (slice_set notes i (unused_note seats) ++ first_note ∷ [])
+KeepsSplit = (limits : Timeouts) (sets : ℕ) (contents : List (List ℕ)) (notes : List Note) (i seats : ℕ)
+    → Keeps limits sets contents notes → get_elem? notes i ≡ some (unused_note (suc seats))
+    → Keeps limits sets contents (slice_set notes i (unused_note seats) ++ first_note ∷ [])
 
 -- Two notes are merged, and one becomes empty.
 abbrev pub KeepsMerged : Type 0
-KeepsMerged = (limits : Timeouts) (contents : List (List ℕ)) (notes : List Note) (i j : ℕ) (one other : Note)
-    → Keeps limits contents notes → j ≢ i → get_elem? notes i ≡ some one → get_elem? notes j ≡ some other
-    → Keeps limits contents (slice_set (slice_set notes i (merged_note one other)) j empty_note)
+KeepsMerged = (limits : Timeouts) (sets : ℕ) (contents : List (List ℕ)) (notes : List Note) (i j : ℕ) (one other : Note)
+    → Keeps limits sets contents notes → j ≢ i → get_elem? notes i ≡ some one → get_elem? notes j ≡ some other
+    → Keeps limits sets contents (slice_set (slice_set notes i (merged_note one other)) j empty_note)
 
--- A fragment of packets is put into a content: the words are its entry's afterwards, and the note grows.
+-- A fragment is put into a content of the set of its key: the words are its entry's afterwards, and the note grows.
 abbrev pub KeepsTaken : Type 0
-KeepsTaken = (limits : Timeouts) (contents : List (List ℕ)) (notes : List Note) (place i : ℕ) (content : List ℕ)
-    (note : Note)
-    (taken : List Packet) (own kept : Fragment) (out : Option Fragment)
-    → Keeps limits contents notes → get_elem? contents place ≡ some content → get_elem? notes i ≡ some note
-    → CanMeter note taken → SharesOut limits taken (own ∷ []) → Takes limits own (entry_of content) out kept
-    → Keeps limits (slice_set contents place (part_words kept)) (slice_set notes i (note_with note taken out))
+KeepsTaken = (limits : Timeouts) (sets : ℕ) (contents : List (List ℕ)) (notes : List Note) (place i : ℕ) (content : List ℕ)
+    (note : Note) (own kept : Fragment) (out : Option Fragment)
+    → Keeps limits sets contents notes → get_elem? contents place ≡ some content → get_elem? notes i ≡ some note
+    → CanTake note own → IsInSet sets place own → Takes limits own (entry_of content) out kept
+    → Keeps limits sets (slice_set contents place (part_words kept)) (slice_set notes i (note_with note own out))
 
--- A fragment of packets is handed out as it is: the note grows alone.
+-- A fragment is handed out as it is: the note grows alone.
 abbrev pub KeepsPassed : Type 0
-KeepsPassed = (limits : Timeouts) (contents : List (List ℕ)) (notes : List Note) (i : ℕ) (note : Note)
-    (taken : List Packet) (own : Fragment)
-    → Keeps limits contents notes → get_elem? notes i ≡ some note → CanMeter note taken
-    → SharesOut limits taken (own ∷ [])
-    → Keeps limits contents (slice_set notes i (note_with note taken (Some own)))
+KeepsPassed = (limits : Timeouts) (sets : ℕ) (contents : List (List ℕ)) (notes : List Note) (i : ℕ) (note : Note) (own : Fragment)
+    → Keeps limits sets contents notes → get_elem? notes i ≡ some note → CanTake note own
+    → Keeps limits sets contents (slice_set notes i (note_with note own (Some own)))
 
--- Where all other notes are unused, the contents and what one was handed share out its packets.
+-- Where all other notes are unused, the contents and what one was handed are reached from what it took.
 abbrev pub KeptAtEnd : Type 0
-KeptAtEnd = (limits : Timeouts) (contents : List (List ℕ)) (notes : List Note) (i : ℕ) (note : Note)
-    → Keeps limits contents notes → get_elem? notes i ≡ some note
+KeptAtEnd = (limits : Timeouts) (sets : ℕ) (contents : List (List ℕ)) (notes : List Note) (i : ℕ) (note : Note)
+    → Keeps limits sets contents notes → get_elem? notes i ≡ some note
     → ((j : ℕ) (other : Note) → j ≢ i → get_elem? notes j ≡ some other → IsUnused other)
-    → SharesOut limits note.packets (parts_in contents ++ note.handed)
+    → Reaches limits note.taken (parts_in contents ++ note.handed)
+
+-- A fragment that a pass can take is small.
+abbrev pub TakenIsSmall : Type 0
+TakenIsSmall = (note : Note) (own : Fragment) → CanTake note own → IsSmall own
 
 -- A whole content shows a small fragment, or none.
 abbrev pub WholeIsSmall : Type 0

@@ -1,9 +1,19 @@
--- The tries that other seats made futile.
-use Rattle.std.specs.Prelude.{ℕ}
+-- The tries that other seats made futile. What a lost try is, each kind of cache says of itself.
+use Rattle.std.specs.Prelude.{◌≡◌, ℕ, ◌<◌, List, ◌++◌, length, All}
+use Rattle.cache_face.specs.declared.metered.How.{How}
+use Rattle.cache_face.specs.declared.metered.How.TheVariants.{Joined, Opened, Replaced, PassedBy}
 
--- A lost try is one step of a pass that found what another seat had written: that the turn of this set is another's;
--- that its own seat was ejected; that this root has another slot.
-pub data LostTry : Type 0 where
-  turn_taken : ℕ → LostTry
-  was_ejected : LostTry
-  found_other : ℕ → LostTry
+-- How many tries a call loses: three where the fragment is passed by, and else fewer.
+abbrev pub IsTryCount : How → ℕ → Type 0
+IsTryCount PassedBy count = count ≡ 3
+IsTryCount Joined count = count < 3
+IsTryCount Opened count = count < 3
+IsTryCount Replaced count = count < 3
+
+-- What a call with this answer lost: so many tries, each of them so. All tries that the pass lost are listed newest
+-- first, so these stand before those that it had lost.
+pub record HasLost {T : Type 0} (IsTry : T → Type 0) (how : How) (old new : List T) : Type 0 where
+  pub tries : List T
+  pub listed : new ≡ tries ++ old
+  pub each : All IsTry tries
+  pub many : IsTryCount how (length tries)

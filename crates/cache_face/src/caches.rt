@@ -1,13 +1,16 @@
 //! A shared cache, and who opens and closes caches.
 
-ghost use Rattle.std.specs.Prelude.{◌≡◌, ◌<◌, ◌≤◌, ◌^◌, ◌∷◌, ◌++◌, ℕ, List, [], length, All, IfOk, IfErr, OnOk, OnErr};
+ghost use Rattle.std.specs.Prelude.{◌≡◌, ◌+◌, ◌*◌, ◌<◌, ◌≤◌, ◌^◌, ◌++◌, ℕ, List, [], length, All, IfOk, OnOk, OnErr};
 ghost use Rattle.std.specs.Prelude.{IsPermutation};
+ghost use Rattle.flow_key.specs.Key.{set_number};
 ghost use Rattle.packet_accept.specs.declared.packet.Packet.{Packet};
 ghost use Rattle.flow_parts.specs.declared.fragment.Fragment.{Fragment};
+ghost use Rattle.flow_parts.specs.Reaching.{Reaches};
 ghost use Rattle.flow_parts.specs.Sharing.{SharesOut};
-ghost use Rattle.cache_face.specs.Meaning.{CacheMeans, PassMeans, IsFresh, IsMetered, IsUnited};
+ghost use Rattle.cache_face.specs.Keeping.{packet_count};
+ghost use Rattle.cache_face.specs.Meaning.{CacheMeans, PassMeans, IsFresh, IsAnswer, IsMetered, IsUnited};
 ghost use Rattle.cache_face.specs.Notes.{note_with};
-ghost use Rattle.cache_face.specs.Tries.{LostTry};
+ghost use Rattle.cache_face.specs.Tries.{HasLost};
 
 use crate::metered::Metered;
 use flow_parts::{Fragment, Timeouts};
@@ -27,40 +30,66 @@ pub trait FlowCache: Sync + Drop {
     // The pass is of this cache.
     ghost is_of: { Self → Self.Pass → Type 0 };
 
-    // The lost try is one of the set.
-    ghost is_try_of: { ℕ → LostTry → Type 0 };
+    // What a lost try is: a step of a pass that found what another seat had done.
+    ghost lost_try: { Type 0 };
 
-    /// Meters a packet whose number is above those that the pass metered. It waits for nobody and takes no memory.
-    /// The packet's number is below 2^32, and it has fewer than 2^24 octets.
+    // The lost try is one at the set.
+    ghost is_try_of: { ℕ → lost_try → Type 0 };
+
+    // The tries that the pass lost, newest first.
+    ghost lost: { Self.Pass → List lost_try };
+
+    /// Puts a fragment in, of one packet or of several. It waits for nobody and takes no memory. With all that was put
+    /// in through the pass before, the fragment has at most 2^32 packets, and it has fewer octets than 2^24 for each of
+    /// its own.
     ///
-    /// The choice over the four entries of the packet's set decides what becomes of it; where other seats were in the
-    /// way three times, it is passed by. The pass lists each lost try, and each is one of the packet's set.
+    /// The choice over the four entries of the set of the fragment's key decides what becomes of it; where other seats
+    /// were in the way three times, it is passed by. The pass lists each lost try, and each is one of this set.
+    fn meter_part(&self, pass: &mut Self::Pass, part: &Fragment) -> Metered
+        requires own { is_of self.now pass.old }
+        requires single { (shown pass.old).note.seats ≡ 1 }
+        requires octets { part.now.octets < part.now.packets * 2 ^ 24 }
+        requires room { packet_count (shown pass.old).note.taken + part.now.packets ≤ 2 ^ 32 }
+        ensures own { is_of self.now pass.new }
+        ensures note { (shown pass.new).note ≡ note_with (shown pass.old).note part.now result.out }
+        ensures answer { IsAnswer (means self.now) (shown pass.new) part.now result.how result.out }
+        ensures lost { HasLost (is_try_of (set_number part.now.key (means self.now).sets)) result.how (lost pass.old)
+            (lost pass.new) };
+
+    /// Meters a packet: puts the fragment of it alone in. It has fewer than 2^24 octets, and the fragments that were
+    /// put in through the pass before have fewer than 2^32 packets together.
     fn meter(&self, pass: &mut Self::Pass, packet: &Packet) -> Metered
         requires own { is_of self.now pass.old }
         requires single { (shown pass.old).note.seats ≡ 1 }
-        requires number { packet.now.number < 2 ^ 32 }
-        requires rises { All (λ p. p.number < packet.now.number) (shown pass.old).note.packets }
         requires octets { packet.now.octets < 2 ^ 24 }
+        requires room { packet_count (shown pass.old).note.taken < 2 ^ 32 }
         ensures own { is_of self.now pass.new }
-        ensures note { (shown pass.new).note ≡ note_with (shown pass.old).note (packet.now ∷ []) result.out }
-        ensures answer { IsMetered (means self.now) is_try_of (shown pass.old)
-            (shown pass.new) packet.now result.how result.out };
+        ensures metered { IsMetered (means self.now) (shown pass.old) (shown pass.new) packet.now result.how result.out }
+        ensures lost { HasLost (is_try_of (set_number packet.now.key (means self.now).sets)) result.how (lost pass.old)
+            (lost pass.new) }
+    {
+        self.meter_part(pass, &Fragment::of(packet))
+    }
 
     /// One pass for both, which only `unite` and `close` take where it stands for more than one seat.
     fn unite(&self, first: Self::Pass, second: Self::Pass) -> Self::Pass
         requires first { is_of self.now first }
         requires second { is_of self.now second }
         ensures own { is_of self.now result }
-        ensures united { IsUnited (shown first) (shown second) (shown result) };
+        ensures united { IsUnited (shown first) (shown second) (shown result) }
+        ensures lost { lost result ≡ lost first ++ lost second };
 
-    /// The entries that aren't empty. With the fragments that the pass was handed they share out its packets. Without
-    /// memory they are given up.
+    /// The entries that aren't empty. With the fragments that the pass was handed they are reached from those that were
+    /// put in through it, so whatever packets these share out, they do. Without memory they are given up.
     fn close(self, alloc: Global, pass: Self::Pass) -> Result<Vec<Fragment>, NoMemory>
         requires own { is_of self pass }
         requires all { (shown pass).note.seats ≡ (means self).seats }
-        ensures { IfOk result
-            (λ entries. SharesOut (means self).limits (shown pass).note.packets
-            (entries.items ++ (shown pass).note.handed)) };
+        ensures reached { IfOk result
+            (λ entries. Reaches (means self).limits (shown pass).note.taken
+            (entries.items ++ (shown pass).note.handed)) }
+        ensures shared { IfOk result
+            (λ entries. (packets : List Packet) → SharesOut (means self).limits packets (shown pass).note.taken
+            → SharesOut (means self).limits packets (entries.items ++ (shown pass).note.handed)) };
 }
 
 /// Who opens and closes caches. It keeps the fragments of the last cache that it closed.
@@ -88,6 +117,7 @@ pub trait Caches {
             × ((Self.Cache.means r.0).limits ≡ timeouts)) }
         ensures passes { IfOk result (λ r. (length r.1.items ≡ seats)
             × All (λ pass. Self.Cache.is_of r.0 pass × IsFresh (Self.Cache.shown pass)) r.1.items) }
+        ensures unlost { IfOk result (λ r. All (λ pass. Self.Cache.lost pass ≡ []) r.1.items) }
         ensures kept { metered self.new ≡ metered self.old };
 
     /// Closes a cache with the pass for all its seats and the fragments that this was handed. Without memory these and
@@ -104,10 +134,13 @@ pub trait Caches {
         requires handed { IsPermutation handed.items (Self.Cache.shown pass).note.handed }
         ensures entries { OnOk result ((entries : List Fragment)
             × IsPermutation (metered self.new) (handed.items ++ entries)
-            × SharesOut (Self.Cache.means cache).limits (Self.Cache.shown pass).note.packets
+            × Reaches (Self.Cache.means cache).limits (Self.Cache.shown pass).note.taken
             (entries ++ (Self.Cache.shown pass).note.handed)) }
-        ensures shared { OnOk result
-            (SharesOut (Self.Cache.means cache).limits (Self.Cache.shown pass).note.packets (metered self.new)) }
+        ensures reached { OnOk result
+            (Reaches (Self.Cache.means cache).limits (Self.Cache.shown pass).note.taken (metered self.new)) }
+        ensures shared { OnOk result ((packets : List Packet)
+            → SharesOut (Self.Cache.means cache).limits packets (Self.Cache.shown pass).note.taken
+            → SharesOut (Self.Cache.means cache).limits packets (metered self.new)) }
         ensures kept { OnErr result (metered self.new ≡ metered self.old) };
 
     /// The fragments of the last cache that was closed: those that were handed out, and its entries.

@@ -1,4 +1,4 @@
-//! The choice among the four entries of a set.
+//! The choice among the entries of a set.
 
 ghost use Rattle.std.specs.Prelude.{◌≡◌, ◌↔◌, ◌<◌, ◌≤◌, ◌^◌, ℕ, IsTrue, IsNone, IfSome, IfNone, Some, MatchOption, All};
 ghost use Rattle.std.specs.Prelude.{length};
@@ -49,13 +49,13 @@ fn has_key(entry: &Option<Fragment>, key: &FlowKey) -> bool
 /// The lowest entry that can be one with the fragment.
 fn lowest_joinable(
     timeouts: &Timeouts,
-    entries: &[Option<Fragment>; 4],
+    entries: &[Option<Fragment>],
     own: &Fragment,
 ) -> Option<usize>
     ensures some { IfSome result (λ place. IsLowest (CanJoin timeouts.now own.now) entries.now place) }
     ensures none { IsNone result → HasNone (CanJoin timeouts.now own.now) entries.now }
 {
-    for place in 0..4 {
+    for place in 0..entries.len() {
         if can_join(timeouts, &entries[place], own) {
             return Some(place);
         }
@@ -64,11 +64,11 @@ fn lowest_joinable(
 }
 
 /// The lowest entry of the key.
-fn lowest_of_key(entries: &[Option<Fragment>; 4], key: &FlowKey) -> Option<usize>
+fn lowest_of_key(entries: &[Option<Fragment>], key: &FlowKey) -> Option<usize>
     ensures some { IfSome result (λ place. IsLowest (HasKey key.now) entries.now place) }
     ensures none { IsNone result → HasNone (HasKey key.now) entries.now }
 {
-    for place in 0..4 {
+    for place in 0..entries.len() {
         if has_key(&entries[place], key) {
             return Some(place);
         }
@@ -77,11 +77,11 @@ fn lowest_of_key(entries: &[Option<Fragment>; 4], key: &FlowKey) -> Option<usize
 }
 
 /// The lowest empty entry.
-fn lowest_empty(entries: &[Option<Fragment>; 4]) -> Option<usize>
+fn lowest_empty(entries: &[Option<Fragment>]) -> Option<usize>
     ensures some { IfSome result (λ place. IsLowest IsNone entries.now place) }
     ensures none { IsNone result → HasNone IsNone entries.now }
 {
-    for place in 0..4 {
+    for place in 0..entries.len() {
         if entries[place].is_none() {
             return Some(place);
         }
@@ -112,12 +112,13 @@ fn last_of(entry: &Option<Fragment>) -> u64
 }
 
 /// The entry with the least last time, the lowest among equals.
-fn oldest_entry(entries: &[Option<Fragment>; 4]) -> usize
+fn oldest_entry(entries: &[Option<Fragment>]) -> usize
+    requires some { 0 < length entries.now }
     ensures { IsOldest entries.now result }
 {
     let mut best = 0;
     let mut last = last_of(&entries[0]);
-    for place in 1..4 {
+    for place in 1..entries.len() {
         if ends_before(&entries[place], last) {
             best = place;
             last = last_of(&entries[place]);
@@ -138,13 +139,14 @@ fn join_entry(timeouts: &Timeouts, entry: &Option<Fragment>, own: &Fragment) -> 
     }
 }
 
-/// Puts a fragment into one of four entries: the lowest one that can be one with it takes it in; else the lowest one of
+/// Puts a fragment into one of a set's entries: the lowest one that can be one with it takes it in; else the lowest one of
 /// its key is put out and opened anew; else the lowest empty one is opened; else the one with the least last time, the
 /// lowest among equals, is put out and opened anew.
-pub fn choose(timeouts: Timeouts, entries: &[Option<Fragment>; 4], own: Fragment) -> Choice
+pub fn choose(timeouts: Timeouts, entries: &[Option<Fragment>], own: Fragment) -> Choice
+    requires some { 0 < length entries.now }
     requires entries { All IsSmallEntry entries.now }
     requires own { IsSmall own }
-    ensures place { result.place < 4 }
+    ensures place { result.place < length entries.now }
     ensures chosen { IsChoice timeouts entries.now own result.how result.place result.out result.kept }
 {
     if let Some(place) = lowest_joinable(&timeouts, entries, &own) {
@@ -160,9 +162,10 @@ pub fn choose(timeouts: Timeouts, entries: &[Option<Fragment>; 4], own: Fragment
 }
 
 /// The same, where none takes the fragment in.
-fn open_entry(_timeouts: &Timeouts, entries: &[Option<Fragment>; 4], own: Fragment) -> Choice
+fn open_entry(_timeouts: &Timeouts, entries: &[Option<Fragment>], own: Fragment) -> Choice
+    requires some { 0 < length entries.now }
     requires none { HasNone (CanJoin _timeouts.now own) entries.now }
-    ensures place { result.place < 4 }
+    ensures place { result.place < length entries.now }
     ensures chosen { IsChoice _timeouts.now entries.now own result.how result.place result.out result.kept }
 {
     if let Some(place) = lowest_of_key(entries, &own.key) {
@@ -180,8 +183,8 @@ fn open_entry(_timeouts: &Timeouts, entries: &[Option<Fragment>; 4], own: Fragme
 }
 
 /// The entry is put out, and opened anew.
-fn anew(entries: &[Option<Fragment>; 4], place: usize, own: Fragment) -> Choice
-    requires { place < 4 }
+fn anew(entries: &[Option<Fragment>], place: usize, own: Fragment) -> Choice
+    requires { place < length entries.now }
     ensures how { result.how ≡ Replaced }
     ensures place { result.place ≡ place }
     ensures out { result.out ≡ entry_at entries.now place }

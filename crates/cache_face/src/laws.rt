@@ -1,6 +1,6 @@
 //! Laws about what a cache keeps. These functions do nothing; each contract is a law.
 ghost use Rattle.cache_face.specs.Laws.{KeepsOpening, KeepsSplit, KeepsMerged, KeepsTaken, KeepsPassed, KeptAtEnd};
-ghost use Rattle.cache_face.specs.Laws.{WholeIsSmall, WordsShow, ChoiceTakes};
+ghost use Rattle.cache_face.specs.Laws.{TakenIsSmall, WholeIsSmall, WordsShow, ChoiceTakes};
 
 /// Steps by which a cache keeps what it keeps.
 pub fn steps_keep()
@@ -19,6 +19,7 @@ pub fn ends_keep()
 /// What ten words show, and what a choice does to the entry at its place.
 pub fn contents_show()
     ensures small { WholeIsSmall }
+    ensures taken { TakenIsSmall }
     ensures words { WordsShow }
     ensures takes { ChoiceTakes }
 {}

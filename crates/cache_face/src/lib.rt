@@ -1,24 +1,29 @@
 //! A shared cache of open flows, by what its passes mean.
 //!
-//! A cache has sets of four entries, each a fragment or empty. Threads meter packets into one cache, each through a
-//! pass of its own: a [`FlowCache`]'s `meter` puts a packet into an entry of the packet's set, and may hand a fragment
-//! out. A pass means what it has done (`specs/Notes.antt`): the packets that it metered, and the fragments that it was
-//! handed. [`Caches`] opens and closes caches, and keeps the fragments of the last one.
+//! A cache has sets of four entries, each a fragment or empty. Threads put fragments into one cache, each through a
+//! pass of its own: a [`FlowCache`]'s `meter_part` puts a fragment, of one packet or of several, into an entry of the
+//! set of its key, and may hand a fragment out; `meter` does this with the fragment of one packet. A pass means what it
+//! has done (`specs/Notes.antt`): the fragments that were put in through it, and those that it was handed. [`Caches`]
+//! opens and closes caches, and keeps the fragments of the last one in a [`MeteredList`].
 //!
-//! What becomes of a packet is one choice over the four entries of its set (`specs/Choice.antt`), which [`choose`]
+//! What becomes of a fragment is one choice over the four entries of its set (`specs/Choice.antt`), which [`choose`]
 //! makes for any cache. What a cache keeps is said once (`specs/Keeping.antt`): its entries and all fragments that were
-//! handed out share out the packets of all passes. Nothing here knows how threads take turns. [`laws`] holds the laws
-//! by which a cache keeps this, as contracts.
+//! handed out are reached from all that were put in, by permuting and by joining joinable ones, and each entry is of
+//! the set of its key. So whatever packets are shared out by what was put in, they are by what is kept and handed out.
+//! Nothing here knows how threads take turns: what a lost try is, each cache says itself. [`laws`] holds the laws by
+//! which a cache keeps this, as contracts.
 #![tactic(auto)]
 
 mod caches;
 mod choice;
 pub mod laws;
 mod metered;
+mod metered_list;
 #[cfg(test)]
 mod tests;
 
 pub use caches::{Caches, FlowCache};
 pub use choice::{Choice, choose};
 pub use metered::{How, Metered};
+pub use metered_list::MeteredList;
 pub use no_memory::NoMemory;

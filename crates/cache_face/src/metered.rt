@@ -1,21 +1,21 @@
-//! What a call of `meter` answers.
+//! What a call of `meter_part` or `meter` answers.
 
 use flow_parts::Fragment;
 
-/// What became of a packet.
+/// What became of a fragment that was put in.
 #[derive(Clone, Copy, PartialEq, Eq, Debug)]
 pub enum How {
-    /// An entry of the packet's flow took it in.
+    /// An entry of its flow took it in.
     Joined,
-    /// The packet opened an empty entry.
+    /// It opened an empty entry.
     Opened,
-    /// The packet opened an entry anew, whose fragment was put out.
+    /// It opened an entry anew, whose fragment was put out.
     Replaced,
-    /// Other seats were in the way three times: the packet's own fragment is handed out, and no entry changed.
+    /// Other seats were in the way three times: the fragment itself is handed out, and no entry changed.
     PassedBy,
 }
 
-/// The answer of `meter`: what became of the packet, and the fragment that is handed out.
+/// The answer of `meter_part` and `meter`: what became of the fragment, and the fragment that is handed out.
 #[derive(Clone, Copy, Debug)]
 pub struct Metered {
     pub how: How,

@@ -41,6 +41,14 @@ fn put(
     choose(Timeouts::new(300, 1800), &entries, own)
 }
 
+/// The choice among two entries, where the time-outs are 300 and 1800 s.
+fn put_in_two(entries: &[Option<Fragment>; 2], own: Fragment) -> Choice
+    requires entries { All IsSmallEntry entries.now }
+    requires own { IsSmall own }
+{
+    choose(Timeouts::new(300, 1800), entries, own)
+}
+
 /// Whether the choice is this answer at this place, with this fragment put out, and this entry afterwards.
 fn is(choice: &Choice, how: How, place: usize, out: Option<Fragment>, kept: Fragment) -> bool {
     choice.how == how && choice.place == place && choice.out == out && choice.kept == kept
@@ -135,6 +143,27 @@ fn lowest_among_equals(rt: HostRuntime) {
             0,
             None,
             third
+        )
+    );
+}
+
+/// One of two entries, by the same rules.
+#[test]
+fn choices_of_two(rt: HostRuntime) {
+    let old = part(1, 100, 101);
+    let new = part(2, 200, 201);
+    let own = part(2, 202, 202);
+    let both = [Some(old), Some(new)];
+    let with = put_in_two(&both, own);
+    assert!(rt; with.how == How::Joined && with.place == 1 && with.kept.packets == 4);
+    let other = part(3, 300, 300);
+    assert!(rt;
+        is(
+            &put_in_two(&both, other),
+            How::Replaced,
+            0,
+            Some(old),
+            other
         )
     );
 }

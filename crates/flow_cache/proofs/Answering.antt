@@ -1,84 +1,63 @@
--- What a pass is told of the packet that it metered.
-use Rattle.std.proofs.Common.{◌≡◌, ◌<◌, ◌^◌, List, [], ◌∷◌, ◌++◌, ℕ, length, map, Option, All, sym, ap, ◌∙◌, subst}
-use Rattle.std.proofs.Common.{arith, append_assoc}
-use Rattle.std.proofs.lemmas.List.{length-map, map-append}
-use Rattle.std.proofs.lemmas.List.Elements.{All-nil, All-cons, All-map, All-weaker}
-use Rattle.packet_accept.specs.declared.packet.Packet.{Packet}
+-- What a pass is told of the fragment that it put in, or that was passed by.
+use Rattle.std.proofs.Common.{◌≡◌, ◌<◌, List, ◌++◌, ℕ, length, Option, MatchOption, All, sym, ap, ◌∙◌, subst, append_assoc}
 use Rattle.flow_key.specs.Key.{set_number}
 use Rattle.flow_parts.specs.declared.fragment.Fragment.{Fragment}
 use Rattle.flow_parts.specs.declared.timeouts.Timeouts.{Timeouts}
-use Rattle.flow_parts.specs.Heap.{IsHeap}
-use Rattle.flow_parts.specs.Parts.{IsAlone}
-use Rattle.flow_parts.proofs.Shares.{its_heap}
 use Rattle.cache_face.specs.declared.metered.How.{How}
 use Rattle.cache_face.specs.declared.metered.How.TheVariants as how
 use Rattle.cache_face.specs.Choice.{IsChoice}
-use Rattle.cache_face.specs.Keeping.{IsBounded}
-use Rattle.cache_face.specs.Meaning.{CacheMeans, PassMeans, HasLost, IsAnswer, IsPutIn}
-use Rattle.cache_face.specs.Notes.{Note}
+use Rattle.cache_face.specs.Meaning.{CacheMeans, Written, PassMeans, IsAnswer, IsChosen}
+use Rattle.cache_face.specs.Tries.{HasLost, IsTryCount}
 use Rattle.pebr_words.specs.Pasts.{Lost, History}
-use Rattle.flow_cache.specs.Outcome.{IsOutcome}
-use Rattle.flow_cache.specs.Reading.{entries_read, set_read}
-use Rattle.flow_cache.specs.Shown.{try_of, IsTryOf}
-use Rattle.flow_cache.specs.Trying.{IsOwn, HasChosen}
-
--- the fragment of one packet can be metered
-pub own_of : (limits : Timeouts) (note : Note) (packet : Packet) (own : Fragment) → note.seats ≡ 1
-    → packet.number < 2 ^ 32 → packet.octets < 2 ^ 24 → All (λ p. p.number < packet.number) note.packets
-    → IsAlone packet own → IsHeap limits (packet ∷ []) own → IsOwn limits note packet own
-own_of limits note packet own single number octets rises alone heap = record {
-  can = record {
-    single = single;
-    bounded = All-cons IsBounded packet [] (number, octets) (All-nil IsBounded);
-    rises = (All-nil (λ p. packet.number < p.number), tt);
-    above = All-weaker (λ p. p.number < packet.number) (λ p. All (λ q. p.number < q.number) (packet ∷ []))
-        (λ p low. All-cons (λ q. p.number < q.number) packet [] low (All-nil (λ q. p.number < q.number))) note.packets
-        rises;
-  };
-  shares = (its_heap limits (packet ∷ []) own).0 heap;
-  small = (let p = alone.packets in let o = alone.octets in (omega (arith, p), omega (arith, o, octets)));
-}
+use Rattle.flow_cache.specs.Outcome.{IsOutcome, HaveLost}
+use Rattle.flow_cache.specs.Reading.{entries_read, set_read, written_in}
+use Rattle.flow_cache.specs.Shown.{IsTryOf}
+use Rattle.flow_cache.specs.Trying.{HasChosen}
 
 -- the tries that a pass lost stand before those that it had lost
 pub lost_on : (tries lost lost' more more' : List Lost) → lost' ≡ tries ++ lost → more' ≡ more
-    → map try_of (lost' ++ more') ≡ map try_of tries ++ map try_of (lost ++ more)
+    → lost' ++ more' ≡ tries ++ (lost ++ more)
 lost_on tries lost lost' more more' is same =
-    ap (λ l. map try_of (l ++ more')) is ∙ ap (λ l. map try_of ((tries ++ lost) ++ l)) same
-    ∙ ap (map try_of) (append_assoc tries lost more) ∙ map-append try_of tries (lost ++ more)
+    ap (λ l. l ++ more') is ∙ ap (λ l. (tries ++ lost) ++ l) same ∙ append_assoc tries lost more
 
-module _ (cache : CacheMeans) (old new : PassMeans) (past : History) (own : Fragment) (out : Option Fragment)
-    (at count : ℕ) (tries : List Lost)
-    (set_is : at ≡ set_number own.key cache.sets) (set_shown : new.set ≡ set_read past.loads)
-    (entries_shown : new.entries ≡ entries_read past (set_read past.loads))
-    (listed : new.lost ≡ map try_of tries ++ old.lost) (many : length tries ≡ count)
-    (each : All (λ try. IsTryOf at (try_of try)) tries) where
-  lost : HasLost IsTryOf (set_number own.key cache.sets) old new (map try_of tries)
-  lost = (listed, subst (λ n. All (IsTryOf n) (map try_of tries)) set_is (All-map (IsTryOf at) try_of tries each))
+try_count : (limits : Timeouts) (seats set : ℕ) (past : History) (own : Fragment) (count : ℕ) (by : How)
+    (out : Option Fragment) → IsOutcome limits seats set past own count by out → IsTryCount by count
+try_count limits seats set past own count how.Joined out h = h.0
+try_count limits seats set past own count how.Opened out h = h.0
+try_count limits seats set past own count how.Replaced out h = h.0
+try_count limits seats set past own count how.PassedBy out h = h.0
 
-  put_in : (by : How) → count < 3 → HasChosen cache.limits at past own by out → IsPutIn cache IsTryOf old new own by out
-  put_in by few h = record {
-    chosen = record {
-      set = set_shown ∙ h.last ∙ set_is;
-      four = ap length (entries_shown ∙ ap (entries_read past) h.last) ∙ h.four;
-      place = h.place;
-      kept = h.kept;
-      chosen = subst (λ es. IsChoice cache.limits es own by h.place out h.kept)
-          (sym (entries_shown ∙ ap (entries_read past) h.last)) h.chosen;
-    };
-    tries = map try_of tries;
-    lost = lost;
-    few = (let l = length-map tries try_of in omega (arith, l, many, few));
+-- the tries that a call lost
+pub lost_at : (limits : Timeouts) (seats set at : ℕ) (past : History) (own : Fragment) (count : ℕ) (by : How)
+    (out : Option Fragment) (old new : History) (lost lost' : List Lost) (tries : HaveLost set count old new)
+    → IsOutcome limits seats set past own count by out → set ≡ at → lost' ≡ tries.tries ++ lost
+    → HasLost (IsTryOf at) by lost lost'
+lost_at limits seats set at past own count by out old new lost lost' tries outcome is listed = record {
+  tries = tries.tries;
+  listed = listed;
+  each = subst (λ (n : ℕ). All (IsTryOf n) tries.tries) is tries.each;
+  many = subst (IsTryCount by) (sym tries.many) (try_count limits seats set past own count by out outcome);
+}
+
+module _ (cache : CacheMeans) (pass : PassMeans) (past : History) (own : Fragment) (out : Option Fragment) (at count : ℕ)
+    (set_is : at ≡ set_number own.key cache.sets) (set_shown : pass.set ≡ set_read past.loads)
+    (entries_shown : pass.entries ≡ entries_read past (set_read past.loads))
+    (written_shown : pass.written ≡ written_in past.put) where
+  put_in : (by : How) → HasChosen cache.limits at past own by out → IsChosen cache pass own by out
+  put_in by h = record {
+    set = set_shown ∙ h.last ∙ set_is;
+    four = ap length (entries_shown ∙ ap (entries_read past) h.last) ∙ h.four;
+    chosen = subst
+        (λ (w : Option Written). MatchOption w ⊥
+        (λ wrote. IsChoice cache.limits pass.entries own by wrote.place out wrote.kept)) (sym written_shown)
+        (subst (λ es. MatchOption (written_in past.put) ⊥
+        (λ wrote. IsChoice cache.limits es own by wrote.place out wrote.kept))
+        (sym (entries_shown ∙ ap (entries_read past) h.last)) h.chosen);
   }
 
   pub answered : (by : How) → IsOutcome cache.limits cache.seats at past own count by out
-      → IsAnswer cache IsTryOf old new own by out
-  answered how.Joined h = put_in how.Joined h.0 h.1
-  answered how.Opened h = put_in how.Opened h.0 h.1
-  answered how.Replaced h = put_in how.Replaced h.0 h.1
-  answered how.PassedBy h = record {
-    tries = map try_of tries;
-    lost = lost;
-    three = length-map tries try_of ∙ many ∙ h.0;
-    others = h.1;
-    out_is = h.2;
-  }
+      → IsAnswer cache pass own by out
+  answered how.Joined h = put_in how.Joined h.1
+  answered how.Opened h = put_in how.Opened h.1
+  answered how.Replaced h = put_in how.Replaced h.1
+  answered how.PassedBy h = (h.1, h.2)

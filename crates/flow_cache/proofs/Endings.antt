@@ -3,7 +3,7 @@ use Rattle.std.proofs.Common.{◌≡◌, ◌≢◌, ℕ, zero, suc, ◌<◌, Lis
 use mathlib.Core.Option.{some, some-injective, some-ne-none}
 use lib.ListN.{get_elem?}
 use Rattle.flow_parts.specs.declared.timeouts.Timeouts.{Timeouts}
-use Rattle.flow_parts.specs.Sharing.{SharesOut}
+use Rattle.flow_parts.specs.Reaching.{Reaches}
 use Rattle.cache_face.specs.Keeping.{Keeps, parts_in}
 use Rattle.cache_face.specs.Laws.{IsUnused}
 use Rattle.cache_face.specs.Notes.{Note, empty_note}
@@ -28,10 +28,10 @@ another (suc n) zero (suc j) note other apart e = one n j other e
 another (suc n) (suc i) zero note other apart e = subst IsUnused (some-injective empty_note other e) (refl, refl)
 another (suc n) (suc i) (suc j) note other apart e = another n i j note other (λ s. apart (ap suc s)) e
 
-pub ends : (limits : Timeouts) (contents : List (List ℕ)) (seats number : ℕ) (note : Note) → number < seats
-    → Keeps limits contents (set (replicate seats empty_note) number note)
-    → SharesOut limits note.packets (parts_in contents ++ note.handed)
-ends limits contents seats number note low keeps =
-    kept_at_end limits contents (set (replicate seats empty_note) number note) number note keeps
+pub ends : (limits : Timeouts) (sets : ℕ) (contents : List (List ℕ)) (seats number : ℕ) (note : Note) → number < seats
+    → Keeps limits sets contents (set (replicate seats empty_note) number note)
+    → Reaches limits note.taken (parts_in contents ++ note.handed)
+ends limits sets contents seats number note low keeps =
+    kept_at_end limits sets contents (set (replicate seats empty_note) number note) number note keeps
     (here (replicate seats empty_note) number empty_note note (in_all seats number empty_note low))
     (λ j other apart at. another seats number j note other apart at)

@@ -16,6 +16,10 @@ use Rattle.cache_face.specs.declared.metered.How.{How}
 use Rattle.cache_face.specs.Choice.{IsChoice}
 use Rattle.flow_cache.specs.Reading.{entries_read, set_read}
 use Rattle.flow_cache.specs.Trying.{HasMore, HasChosen}
+use Rattle.cache_face.specs.Meaning.{Written}
+use Rattle.pebr_words.specs.Pasts.{Replaced}
+use Rattle.flow_cache.specs.Reading.{written_in}
+use Rattle.std.specs.Prelude.{MatchOption}
 
 -- a word that was read or written, and any other
 pub word_here : (reads : List Read) (slot word value : ℕ)
@@ -95,19 +99,28 @@ pub chosen_of : (limits : Timeouts) (set : ℕ) (old new : History) (own kept : 
     (out : Option Fragment) (entries : List (Option Fragment)) → set_read old.loads ≡ set
     → length entries ≡ 4 → entries ≡ entries_read old set
     → IsChoice limits entries own how place out kept → new.loads ≡ old.loads → new.reads ≡ old.reads
+    → written_in new.put ≡ Some (record { place = place; kept = kept })
     → HasChosen limits set new own how out
-chosen_of limits set old new own kept how place out entries last four is chosen loads reads = record {
+chosen_of limits set old new own kept how place out entries last four is chosen loads reads wrote = record {
   last = ap set_read loads ∙ last;
   four = ap length (entries_same old new set loads reads ∙ sym is) ∙ four;
-  place = place;
-  kept = kept;
-  chosen = subst (λ es. IsChoice limits es own how place out kept)
-      (is ∙ sym (entries_same old new set loads reads)) chosen;
+  chosen = subst
+      (λ (w : Option Written). MatchOption w ⊥
+      (λ wrote. IsChoice limits (entries_read new set) own how wrote.place out wrote.kept)) (sym wrote)
+      (subst (λ es. IsChoice limits es own how place out kept)
+      (is ∙ sym (entries_same old new set loads reads)) chosen);
 }
 
 pub chosen_still : (limits : Timeouts) (set : ℕ) (old new : History) (own : Fragment) (how : How)
     (out : Option Fragment) → HasChosen limits set old own how out → new.loads ≡ old.loads → new.reads ≡ old.reads
-    → HasChosen limits set new own how out
-chosen_still limits set old new own how out h loads reads =
-    chosen_of limits set old new own h.kept how h.place out (entries_read old set) h.last h.four refl h.chosen loads
-    reads
+    → new.put ≡ old.put → HasChosen limits set new own how out
+chosen_still limits set old new own how out h loads reads put = record {
+  last = ap set_read loads ∙ h.last;
+  four = ap length (entries_same old new set loads reads) ∙ h.four;
+  chosen = subst
+      (λ (p : Option Replaced). MatchOption (written_in p) ⊥
+      (λ wrote. IsChoice limits (entries_read new set) own how wrote.place out wrote.kept)) (sym put)
+      (subst (λ es. MatchOption (written_in old.put) ⊥
+      (λ wrote. IsChoice limits es own how wrote.place out wrote.kept))
+      (sym (entries_same old new set loads reads)) h.chosen);
+}

@@ -4,3 +4,4 @@ pub mod Endings
 pub mod Histories
 pub mod Sets
 pub mod Tries
+pub mod Spared

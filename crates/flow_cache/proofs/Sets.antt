@@ -1,19 +1,21 @@
 -- The entries of a set, and the content that is put in place of one.
-use Rattle.std.proofs.Common.{◌≡◌, ℕ, zero, suc, ◌+◌, ◌<◌, ◌≤◌, Bool, true, false, List, [], ◌∷◌, ◌++◌, length, map}
+use Rattle.std.proofs.Common.{◌≡◌, ℕ, zero, suc, ◌+◌, ◌/◌, ◌<◌, ◌≤◌, Bool, true, false, List, [], ◌∷◌, ◌++◌, length, map}
 use Rattle.std.proofs.Common.{set, Option, Some, None, refl, sym, ap, ◌∙◌, subst, arith}
-use Rattle.std.specs.Prelude.{◌==◌, slice_index, if◌then◌else◌, filter_map}
+use Rattle.std.specs.Prelude.{◌==◌, ◌%◌, option_map, slice_index, if◌then◌else◌, filter_map}
 use Rattle.std.specs.List.{range_with_len, cons_option}
 use Rattle.std.proofs.lemmas.List.{ext_get_or}
 use Rattle.std.proofs.lemmas.List.FromFn.{get_or-map-range_with_len}
 use mathlib.Core.Option.{some, some-injective}
 use lib.ListN.{get_elem?}
-use Rattle.packet_accept.specs.declared.packet.Packet.{Packet}
 use Rattle.flow_parts.specs.declared.fragment.Fragment.{Fragment}
 use Rattle.flow_parts.specs.declared.timeouts.Timeouts.{Timeouts}
 use Rattle.flow_parts.specs.Parts.{part_words}
 use Rattle.cache_face.specs.Choice.{Takes, entry_at}
-use Rattle.cache_face.specs.Keeping.{Keeps, IsWhole, entry_of}
+use Rattle.cache_face.specs.Keeping.{Keeps, IsWhole, IsInSet, entry_of}
+use Rattle.cache_face.specs.Laws.{CanTake}
 use Rattle.cache_face.specs.Notes.{Note, note_with}
+use Rattle.cache_face.specs.Meaning.{Written}
+use Rattle.cache_face.proofs.Contents.{words_show}
 use Rattle.cache_face.proofs.Apart.{here, all_at}
 use Rattle.cache_face.proofs.Keeping.{keeps_taken, keeps_passed}
 use Rattle.pebr_core.specs.declared.kinds.Shape.{Shape}
@@ -21,7 +23,7 @@ use Rattle.pebr_words.specs.Pasts.{Read, History, written_at, shown_at}
 use Rattle.pebr_words.specs.Making.{act_on}
 use Rattle.pebr_words.specs.Ruled.{CanNote, CanReplace}
 use Rattle.flow_cache.specs.Places.{root_of}
-use Rattle.flow_cache.specs.Reading.{words_read, entry_found, entry_read, entries_read}
+use Rattle.flow_cache.specs.Reading.{written_in, words_read, entry_found, entry_read, entries_read}
 use Rattle.flow_cache.specs.Trying.{IsOwn, HasMore, HasTen}
 use Rattle.flow_cache.proofs.Histories.{found_read}
 
@@ -109,8 +111,8 @@ entry_is past root slot shown ten = ap (entry_found past.reads) shown
     ∙ ap (λ n. if n == 10 then entry_of (words_read past.reads slot) ∷ [] else []) ten
 
 -- what an act makes of a note
-abbrev pub after_act : Note → Packet × Option Fragment → Note
-after_act note act = note_with note (act.0 ∷ []) act.1
+abbrev pub after_act : Note → Fragment × Option Fragment → Note
+after_act note act = note_with note act.0 act.1
 
 -- a note that stays
 set_self : {A : Type 0} (l : List A) (i : ℕ) (a : A) → get_elem? l i ≡ some a → set l i a ≡ l
@@ -119,13 +121,14 @@ set_self (x ∷ xs) zero a e = ap (λ y. y ∷ xs) (sym (some-injective x a e))
 set_self (x ∷ xs) (suc i) a e = ap (λ l. x ∷ l) (set_self xs i a e)
 
 -- what a pass that leaves does to its note
-pub can_end : (limits : Timeouts) (number : ℕ) (note : Note) (packet : Packet) (own : Fragment) (passes_by : Bool)
-    → (passes_by ≡ true → IsOwn limits note packet own)
-    → CanNote (Keeps limits) number note (act_on after_act (if passes_by then Some (packet, Some own) else None) note)
-can_end limits number note packet own true owned contents notes keeps at =
-    keeps_passed limits contents notes number note (packet ∷ []) own keeps at (owned refl).can (owned refl).shares
-can_end limits number note packet own false owned contents notes keeps at =
-    subst (Keeps limits contents) (sym (set_self notes number note at)) keeps
+pub can_end : (limits : Timeouts) (sets number : ℕ) (note : Note) (own : Fragment) (passes_by : Bool)
+    → (passes_by ≡ true → CanTake note own)
+    → CanNote (Keeps limits sets) number note
+    (act_on after_act (if passes_by then Some (own, Some own) else None) note)
+can_end limits sets number note own true can contents notes keeps at =
+    keeps_passed limits sets contents notes number note own keeps at (can refl)
+can_end limits sets number note own false can contents notes keeps at =
+    subst (Keeps limits sets contents) (sym (set_self notes number note at)) keeps
 
 -- the four entries of a set that was read
 pub four_read : (past : History) (set : ℕ) (slots : ℕ → ℕ)
@@ -149,24 +152,39 @@ at_place past set slots loaded ten place low =
     ∙ get_or-map-range_with_len (λ p. entry_of (words_read past.reads (slots p))) 0 4 place place None low (omega arith)
 
 -- an entry is replaced
-pub can_replace : (limits : Timeouts) (shape : Shape) (past : History) (number root slot fresh : ℕ) (note : Note)
-    (packet : Packet) (own kept : Fragment) (out : Option Fragment)
-    → shape.width ≡ 10 → HasTen past.reads slot
+pub can_replace : (limits : Timeouts) (sets set_at place : ℕ) (shape : Shape) (past : History)
+    (number slot fresh : ℕ) (note : Note) (own kept : Fragment) (out : Option Fragment)
+    → place < 4 → shape.width ≡ 10 → HasTen past.reads slot
     → ((word : ℕ) → word < 10 → written_at past.written fresh word ≡ Some (slice_index (part_words kept) word))
-    → IsOwn limits note packet own → Takes limits own (entry_of (words_read past.reads slot)) out kept
-    → CanReplace (Keeps limits) IsWhole shape past number root slot fresh note (note_with note (packet ∷ []) out)
-can_replace limits shape past number root slot fresh note packet own kept out width ten filled owned takes contents
-    notes from to keeps at at' long long' read written =
+    → IsOwn sets set_at note own → Takes limits own (entry_of (words_read past.reads slot)) out kept
+    → CanReplace (Keeps limits sets) IsWhole shape past number (root_of set_at place) slot fresh note
+    (note_with note own out)
+can_replace limits sets set_at place shape past number slot fresh note own kept out low width ten filled owned takes
+    contents notes from to keeps at at' long long' read written =
+    let root : ℕ = root_of set_at place in
     let from_is : from ≡ words_read past.reads slot =
     ten_words from (words_read past.reads slot) (long ∙ width) ten (λ word low. (let f = found_read past.reads slot word
     (slice_index (words_read past.reads slot) word) (last_read past.reads slot ten word low) in
     ap (slice_index from) (sym f.3) ∙ read f.0 f.1 f.2 ∙ f.4)) in
     let to_is : to ≡ part_words kept = ten_words to (part_words kept) (long' ∙ width) refl
     (λ word low. written word (slice_index (part_words kept) word) (filled word low)) in
-    let state = keeps_taken limits contents notes root number from note
-    (packet ∷ []) own kept out keeps at at' owned.can owned.shares
+    let in_set : IsInSet sets root own = owned.of_set ∙ (let p : set_at ≡ root / 4 = omega (arith, low) in p) in
+    let state = keeps_taken limits sets contents notes root number from note own kept out keeps at at' owned.can in_set
     (subst (λ c. Takes limits own (entry_of c) out kept) (sym from_is) takes) in
     let kept_state =
-    subst (λ c. Keeps limits (set contents root c) (set notes number (note_with note (packet ∷ []) out)))
+    subst (λ c. Keeps limits sets (set contents root c) (set notes number (note_with note own out)))
     (sym to_is) state in
     (all_at IsWhole (set contents root to) root to kept_state.whole (here contents root from to at), kept_state)
+
+-- what is put into a root shows the fragment whose words were written
+pub written_is : (writes : List Read) (set_at place slot : ℕ) (kept : Fragment) → place < 4
+    → ((word : ℕ) → word < 10 → written_at writes slot word ≡ Some (slice_index (part_words kept) word))
+    → written_in (Some (record { root = root_of set_at place; slot = slot; written = writes }))
+    ≡ Some (record { place = place; kept = kept })
+written_is writes set_at place slot kept low filled =
+    let rest : root_of set_at place % 4 ≡ place = omega (arith, low) in
+    let as_kept : ℕ → Fragment → Written = λ p f. record { place = p; kept = f } in
+    ap (λ (ws : List ℕ). option_map (as_kept (root_of set_at place % 4)) (entry_of ws))
+    (sym (words_are writes slot (part_words kept) refl filled))
+    ∙ (ap (option_map (as_kept (root_of set_at place % 4))) (words_show kept)
+    ∙ ap (λ p. Some (as_kept p kept)) rest)

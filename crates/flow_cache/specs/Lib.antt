@@ -6,3 +6,4 @@ pub mod Trying
 pub mod Outcome
 pub mod Ending
 pub mod Closed
+pub mod Collecting

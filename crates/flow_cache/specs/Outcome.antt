@@ -5,7 +5,7 @@ use Rattle.flow_parts.specs.declared.timeouts.Timeouts.{Timeouts}
 use Rattle.cache_face.specs.declared.metered.How.{How}
 use Rattle.cache_face.specs.declared.metered.How.TheVariants.{Joined, Opened, Replaced, PassedBy}
 use Rattle.pebr_words.specs.Pasts.{Lost, History}
-use Rattle.flow_cache.specs.Shown.{try_of, IsTryOf}
+use Rattle.flow_cache.specs.Shown.{IsTryOf}
 use Rattle.flow_cache.specs.Trying.{HasChosen}
 
 -- So many tries were lost at a set.
@@ -13,7 +13,7 @@ pub record HaveLost (set count : ℕ) (old new : History) : Type 0 where
   pub tries : List Lost
   pub listed : new.lost ≡ tries ++ old.lost
   pub many : length tries ≡ count
-  pub each : All (λ try. IsTryOf set (try_of try)) tries
+  pub each : All (IsTryOf set) tries
 
 -- The fragment was put in after fewer than three lost tries, or it is handed out after three, and there is another
 -- seat.

@@ -1,9 +1,11 @@
 -- The entries that a pass read since it last entered.
 use Rattle.std.specs.Prelude.{ℕ, List, [], ◌∷◌, length, Option, None, Some, ◌==◌, if◌then◌else◌, flat_map, filter_map}
+use Rattle.std.specs.Prelude.{◌%◌, option_map}
 use Rattle.std.specs.List.{range_with_len}
 use Rattle.flow_parts.specs.declared.fragment.Fragment.{Fragment}
 use Rattle.cache_face.specs.Keeping.{entry_of}
-use Rattle.pebr_words.specs.Pasts.{Load, Read, History, shown_at, written_at}
+use Rattle.cache_face.specs.Meaning.{Written}
+use Rattle.pebr_words.specs.Pasts.{Load, Read, Replaced, History, shown_at, written_at}
 use Rattle.flow_cache.specs.Places.{root_of, set_of_root}
 
 -- The words of a slot that were read, in their order, each as it was read last.
@@ -29,3 +31,10 @@ entries_read past set = flat_map (λ place. entry_read past (root_of set place))
 abbrev pub set_read : List Load → ℕ
 set_read [] = 0
 set_read (load ∷ loads) = set_of_root load.root
+
+-- What was put into a root, as its place in the root's set and the fragment that its words show.
+abbrev pub written_in : Option Replaced → Option Written
+written_in None = None
+written_in (Some put) =
+    option_map (λ (kept : Fragment). let wrote : Written = record { place = put.root % 4; kept = kept } in wrote)
+    (entry_of (words_read put.written put.slot))

@@ -1,33 +1,29 @@
 -- What the cache and its passes mean.
-use Rattle.std.specs.Prelude.{◌≡◌, ◌⊎◌, ℕ, ◌+◌, ◌*◌, ◌<◌, List, Option, map}
-use Rattle.packet_accept.specs.declared.packet.Packet.{Packet}
+use Rattle.std.specs.Prelude.{◌≡◌, ◌⊎◌, ℕ, ◌+◌, ◌*◌, ◌<◌, List, Option}
 use Rattle.flow_parts.specs.declared.fragment.Fragment.{Fragment}
-use Rattle.flow_parts.specs.declared.timeouts.Timeouts.{Timeouts}
 use Rattle.cache_face.specs.Meaning.{CacheMeans, PassMeans}
 use Rattle.cache_face.specs.Notes.{Note, first_note, empty_note}
-use Rattle.cache_face.specs.Tries.{LostTry}
-use Rattle.cache_face.specs.Tries as tries
 use Rattle.pebr_core.specs.Frames.{retired_count}
-use Rattle.pebr_words.specs.Pasts.{Lost, Ejection}
-use Rattle.pebr_words.specs.Pasts as pasts
+use Rattle.pebr_words.specs.Pasts.{Lost, was_ejected, found_other, Ejection, History}
 use Rattle.pebr_roots.specs.Passes as roots
 use Rattle.pebr_roots.specs.Passes.{shape_at, known_by, note_by, past_by, lost_by, count_by_pass, IsUnitedPass}
 use Rattle.pebr_roots.specs.declared.pass.RootPass.{RootPass}
 use Rattle.pebr_roots.specs.declared.pass.Roots.{Roots}
 use Rattle.flow_cache.specs.contracts.protocol.CacheRuleRootProtocol.TheImpl as rule
+use Rattle.flow_cache.specs.declared.protocol.CacheFixed.{CacheFixed}
 use Rattle.flow_cache.specs.declared.protocol.CacheRule.{CacheRule}
 use Rattle.flow_cache.specs.declared.cache.PebrCache.{PebrCache}
 use Rattle.flow_cache.specs.declared.cache.PebrPass.{PebrPass}
 use Rattle.flow_cache.specs.Places.{root_of}
-use Rattle.flow_cache.specs.Reading.{entries_read, set_read}
+use Rattle.flow_cache.specs.Reading.{entries_read, set_read, written_in}
 
 -- The roots of a cache of open flows, and a seat at them: their contents are entries, and their notes say what a pass
 -- has done.
 abbrev pub CacheRoots : Type 0
-CacheRoots = Roots CacheRule Note (Packet × Option Fragment) Timeouts
+CacheRoots = Roots CacheRule Note (Fragment × Option Fragment) CacheFixed
 
 abbrev pub CacheSeat : Type 0
-CacheSeat = RootPass CacheRule Note (Packet × Option Fragment) Timeouts rule.ghosts
+CacheSeat = RootPass CacheRule Note (Fragment × Option Fragment) CacheFixed rule.ghosts
 
 -- The roots of the cache's entries: the four of the set s have the numbers from 4 * s on.
 abbrev pub roots_of : PebrCache → CacheRoots
@@ -40,19 +36,23 @@ seat_of pass = pass.inner
 abbrev pub means_of : PebrCache → CacheMeans
 means_of cache = record { sets = cache.sets; seats = (shape_at (roots_of cache)).seats; limits = cache.timeouts }
 
--- A lost try of the seat is one of the cache.
-abbrev pub try_of : Lost → LostTry
-try_of pasts.was_ejected = tries.was_ejected
-try_of (pasts.found_other root) = tries.found_other root
-
 -- The set that its last try read is that of the roots which it loaded.
 abbrev pub shown_of : PebrPass → PassMeans
 shown_of pass = record {
   note = note_by first_note (seat_of pass);
-  lost = map try_of (lost_by (seat_of pass));
   set = set_read (past_by (seat_of pass)).loads;
   entries = entries_read (past_by (seat_of pass)) (set_read (past_by (seat_of pass)).loads);
+  written = written_in (past_by (seat_of pass)).put;
 }
+
+-- The tries that it lost, newest first, as its seat lists them: that the seat was found ejected, or that a root had
+-- another slot.
+abbrev pub tries_of : PebrPass → List Lost
+tries_of pass = lost_by (seat_of pass)
+
+-- What its seat's steps were.
+abbrev pub past_of : PebrPass → History
+past_of pass = past_by (seat_of pass)
 
 -- How many slots it has retired, and the ejections that its seat made.
 abbrev pub retired_of : PebrPass → ℕ
@@ -66,9 +66,8 @@ abbrev pub slots_of : PebrCache → ℕ
 slots_of cache = 32 + 4 * (means_of cache).seats
 
 -- A lost try at a set is that the pass was found ejected, or that one of the set's roots had another slot.
-abbrev pub IsTryOf : ℕ → LostTry → Type 0
-IsTryOf set try = (try ≡ tries.was_ejected)
-    ⊎ ((place : ℕ) × (place < 4) × (try ≡ tries.found_other (root_of set place)))
+abbrev pub IsTryOf : ℕ → Lost → Type 0
+IsTryOf set try = (try ≡ was_ejected) ⊎ ((place : ℕ) × (place < 4) × (try ≡ found_other (root_of set place)))
 
 -- A pass of this cache, whose note counts its seats.
 pub record IsOf (cache : PebrCache) (pass : PebrPass) : Type 0 where

@@ -1,25 +1,24 @@
 -- How far a try is.
-use Rattle.std.specs.Prelude.{◌≡◌, ℕ, ◌<◌, true, false, List, [], ◌∷◌, ◌++◌, length, Option, Some}
-use Rattle.packet_accept.specs.declared.packet.Packet.{Packet}
+use Rattle.std.specs.Prelude.{◌≡◌, ℕ, ◌<◌, true, false, List, ◌++◌, length, Option, Some, MatchOption}
+use Rattle.flow_key.specs.Key.{set_number}
 use Rattle.flow_parts.specs.declared.fragment.Fragment.{Fragment}
 use Rattle.flow_parts.specs.declared.timeouts.Timeouts.{Timeouts}
-use Rattle.flow_parts.specs.Sharing.{SharesOut}
 use Rattle.cache_face.specs.declared.metered.How.{How}
 use Rattle.cache_face.specs.Choice.{IsChoice}
 use Rattle.cache_face.specs.Keeping.{IsSmall, entry_of}
-use Rattle.cache_face.specs.Laws.{CanMeter}
+use Rattle.cache_face.specs.Laws.{CanTake}
 use Rattle.cache_face.specs.Notes.{Note}
 use Rattle.pebr_core.specs.declared.kinds.ShieldAt.TheVariants as shield
 use Rattle.pebr_core.specs.State.{Seat, has, shield_at}
 use Rattle.pebr_words.specs.Pasts.{Read, History, shown_at, written_at}
 use Rattle.pebr_roots.specs.Under.{slot_at}
 use Rattle.flow_cache.specs.Places.{root_of}
-use Rattle.flow_cache.specs.Reading.{words_read, entries_read, set_read}
+use Rattle.flow_cache.specs.Reading.{words_read, entries_read, set_read, written_in}
 
--- The packet's own fragment, which a pass of this note can meter.
-pub record IsOwn (limits : Timeouts) (note : Note) (packet : Packet) (own : Fragment) : Type 0 where
-  pub can : CanMeter note (packet ∷ [])
-  pub shares : SharesOut limits (packet ∷ []) (own ∷ [])
+-- A fragment of this set, which a pass of this note can take.
+pub record IsOwn (sets set : ℕ) (note : Note) (own : Fragment) : Type 0 where
+  pub can : CanTake note own
+  pub of_set : set_number own.key sets ≡ set
   pub small : IsSmall own
 
 -- The slot under a shield is the one that the set's root of this place had when it was loaded, and since.
@@ -65,6 +64,5 @@ pub record HasChosen (limits : Timeouts) (set : ℕ) (past : History) (own : Fra
     (out : Option Fragment) : Type 0 where
   pub last : set_read past.loads ≡ set
   pub four : length (entries_read past set) ≡ 4
-  pub place : ℕ
-  pub kept : Fragment
-  pub chosen : IsChoice limits (entries_read past set) own how place out kept
+  pub chosen : MatchOption (written_in past.put) ⊥
+      (λ wrote. IsChoice limits (entries_read past set) own how wrote.place out wrote.kept)

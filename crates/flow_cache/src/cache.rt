@@ -17,7 +17,7 @@ pub struct PebrCache {
     pub(crate) sets: u64,
     pub(crate) timeouts: Timeouts,
     ghost shaped: { shape_at roots ≡ cache_shape sets (shape_at roots).seats },
-    ghost fixed: { fixed_at roots ≡ timeouts },
+    ghost fixed: { ((fixed_at roots).timeouts ≡ timeouts) × ((fixed_at roots).sets ≡ sets) },
     ghost sized: { (1 ≤ sets) × (sets ≤ 65536) × (1 ≤ (shape_at roots).seats) × ((shape_at roots).seats ≤ 64) },
 }
 

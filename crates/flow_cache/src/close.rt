@@ -1,13 +1,13 @@
 //! Two passes made one, and the end of a cache.
 
 ghost use Rattle.std.specs.Prelude.{◌≡◌, ℕ, ◌+◌, ◌*◌, ◌<◌, ◌≤◌, ◌++◌, [], length, IfOk, OnOk, Option, option_to_list};
-ghost use Rattle.flow_parts.specs.Sharing.{SharesOut};
+ghost use Rattle.flow_parts.specs.Reaching.{Reaches};
 ghost use Rattle.cache_face.specs.Keeping.{entry_of, parts_in};
 ghost use Rattle.cache_face.specs.Meaning.{IsUnited};
 ghost use Rattle.pebr_words.specs.Opening.{slot_of};
 ghost use Rattle.flow_cache.specs.Ending.{rows_at};
 ghost use Rattle.flow_cache.specs.Places.{cache_shape};
-ghost use Rattle.flow_cache.specs.Shown.{means_of, shown_of, IsOf};
+ghost use Rattle.flow_cache.specs.Shown.{means_of, shown_of, tries_of, IsOf};
 
 use crate::cache::{PebrCache, PebrPass};
 use crate::reading::entry;
@@ -64,6 +64,7 @@ impl PebrCache {
         requires second { IsOf self.now second }
         ensures own { IsOf self.now result }
         ensures united { IsUnited (shown_of first) (shown_of second) (shown_of result) }
+        ensures lost { tries_of result ≡ tries_of first ++ tries_of second }
     {
         let PebrPass { inner, lost } = first;
         let PebrPass {
@@ -82,7 +83,7 @@ impl PebrCache {
         requires own { IsOf self pass }
         requires all { (shown_of pass).note.seats ≡ (means_of self).seats }
         ensures { IfOk result
-            (λ entries. SharesOut (means_of self).limits (shown_of pass).note.packets
+            (λ entries. Reaches (means_of self).limits (shown_of pass).note.taken
             (entries.items ++ (shown_of pass).note.handed)) }
     {
         let PebrPass { inner, lost: _ } = pass;

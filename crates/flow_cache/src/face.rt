@@ -1,17 +1,21 @@
 //! The cache as a shared cache, and who opens and closes such caches.
 
-ghost use Rattle.std.specs.Prelude.{◌≡◌, ◌≢◌, ◌+◌, ◌*◌, ◌<◌, ◌≤◌, ◌^◌, ◌∷◌, [], All};
-ghost use Rattle.cache_face.specs.Meaning.{IsMetered};
+ghost use Rattle.std.specs.Prelude.{◌≡◌, ◌≢◌, ◌+◌, ◌*◌, ◌<◌, ◌≤◌, ◌^◌, []};
+ghost use Rattle.flow_key.specs.Key.{set_number};
+ghost use Rattle.cache_face.specs.Keeping.{packet_count};
+ghost use Rattle.cache_face.specs.Meaning.{IsAnswer};
 ghost use Rattle.cache_face.specs.Notes.{note_with};
+ghost use Rattle.cache_face.specs.Tries.{HasLost};
 ghost use Rattle.flow_cache.specs.Closed.{metered_by};
-ghost use Rattle.flow_cache.specs.Shown.{means_of, shown_of, retired_of, ejections_of, slots_of, IsOf, IsTryOf};
+ghost use Rattle.flow_cache.specs.Collecting.{CollectsFrom};
+ghost use Rattle.flow_cache.specs.Shown.{means_of, shown_of, tries_of, retired_of, ejections_of, slots_of, IsOf};
+ghost use Rattle.flow_cache.specs.Shown.{past_of, IsTryOf};
+ghost use Rattle.pebr_words.specs.Pasts.{Lost};
 
 use crate::cache::{PebrCache, PebrPass};
 use crate::stop::Never;
-use cache_face::{Caches, FlowCache, Metered, NoMemory};
+use cache_face::{Caches, FlowCache, Metered, MeteredList, NoMemory};
 use flow_parts::{Fragment, Timeouts};
-use metered_list::MeteredList;
-use packet_accept::Packet;
 use std::alloc::Global;
 
 impl FlowCache for PebrCache {
@@ -23,22 +27,27 @@ impl FlowCache for PebrCache {
 
     ghost is_of = { IsOf };
 
+    ghost lost_try = { Lost };
+
     ghost is_try_of = { IsTryOf };
 
-    fn meter(&self, pass: &mut PebrPass, packet: &Packet) -> Metered
+    ghost lost = { tries_of };
+
+    fn meter_part(&self, pass: &mut PebrPass, part: &Fragment) -> Metered
         requires own { IsOf self.now pass.old }
         requires single { (shown_of pass.old).note.seats ≡ 1 }
-        requires number { packet.now.number < 2 ^ 32 }
-        requires rises { All (λ p. p.number < packet.now.number) (shown_of pass.old).note.packets }
-        requires octets { packet.now.octets < 2 ^ 24 }
+        requires octets { part.now.octets < part.now.packets * 2 ^ 24 }
+        requires room { packet_count (shown_of pass.old).note.taken + part.now.packets ≤ 2 ^ 32 }
         ensures own { IsOf self.now pass.new }
-        ensures note { (shown_of pass.new).note ≡ note_with (shown_of pass.old).note (packet.now ∷ []) result.out }
-        ensures answer { IsMetered (means_of self.now) IsTryOf (shown_of pass.old)
-            (shown_of pass.new) packet.now result.how result.out }
+        ensures note { (shown_of pass.new).note ≡ note_with (shown_of pass.old).note part.now result.out }
+        ensures answer { IsAnswer (means_of self.now) (shown_of pass.new) part.now result.how result.out }
+        ensures lost { HasLost (IsTryOf (set_number part.now.key (means_of self.now).sets)) result.how
+            (tries_of pass.old) (tries_of pass.new) }
         ensures retired { retired_of pass.new ≤ slots_of self.now }
         ensures ejections { retired_of pass.old ≢ slots_of self.now → ejections_of pass.new ≡ ejections_of pass.old }
+        ensures collects { CollectsFrom (retired_of pass.old) (past_of pass.old) (past_of pass.new) }
     {
-        self.meter_stopping(pass, packet, &mut Never)
+        self.meter_stopping(pass, part, &mut Never)
     }
 
     fn unite(&self, first: PebrPass, second: PebrPass) -> PebrPass {

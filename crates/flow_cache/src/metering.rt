@@ -1,15 +1,20 @@
 //! A packet is metered.
 
-ghost use Rattle.std.specs.Prelude.{◌≡◌, ◌≢◌, ◌+◌, ◌*◌, ◌<◌, ◌≤◌, ◌^◌, ◌∷◌, [], All, None, IsTrue};
+ghost use Rattle.std.specs.Prelude.{◌≡◌, ◌≢◌, ◌+◌, ◌*◌, ◌<◌, ◌≤◌, ◌^◌, None, IsTrue};
 ghost use Rattle.std.specs.List.{list_all};
-ghost use Rattle.cache_face.specs.Meaning.{IsMetered};
+ghost use Rattle.flow_key.specs.Key.{set_number};
+ghost use Rattle.cache_face.specs.Keeping.{packet_count};
+ghost use Rattle.cache_face.specs.Meaning.{IsAnswer};
 ghost use Rattle.cache_face.specs.Notes.{first_note, note_with};
+ghost use Rattle.cache_face.specs.Tries.{HasLost};
 ghost use Rattle.pebr_core.specs.State.{is_out, is_down};
 ghost use Rattle.pebr_core.specs.Frames.{fresh_count, retired_count};
 ghost use Rattle.pebr_roots.specs.Passes.{shape_at, known_by, note_by, past_by, IsOf, IsSame};
+ghost use Rattle.flow_cache.specs.Collecting.{HasCollected, CollectsFrom};
 ghost use Rattle.flow_cache.specs.Outcome.{HaveLost, IsOutcome};
 ghost use Rattle.flow_cache.specs.Shown as shown;
-ghost use Rattle.flow_cache.specs.Shown.{means_of, shown_of, retired_of, ejections_of, slots_of, IsTryOf};
+ghost use Rattle.flow_cache.specs.Shown.{means_of, shown_of, past_of, tries_of, retired_of, ejections_of, slots_of};
+ghost use Rattle.flow_cache.specs.Shown.{IsTryOf};
 ghost use Rattle.flow_cache.specs.Trying.{IsOwn};
 
 use crate::cache::{PebrCache, PebrPass};
@@ -17,7 +22,6 @@ use crate::protocol::CacheRule;
 use crate::stop::Stop;
 use cache_face::{How, Metered};
 use flow_parts::Fragment;
-use packet_accept::Packet;
 use pebr_roots::RootPass;
 
 /// From so many retired slots on a pass collects.
@@ -38,6 +42,8 @@ impl PebrCache {
         ensures note { note_by first_note pass.new ≡ note_by first_note pass.old }
         ensures lost { (past_by pass.new).lost ≡ (past_by pass.old).lost }
         ensures ejections { (past_by pass.new).ejections ≡ (past_by pass.old).ejections }
+        ensures many { 32 ≤ retired_count (known_by pass.old) → HasCollected 1 (past_by pass.old) (past_by pass.new) }
+        ensures few { retired_count (known_by pass.old) < 32 → HasCollected 0 (past_by pass.old) (past_by pass.new) }
         ensures fresh { fresh_count (known_by pass.old) ≤ fresh_count (known_by pass.new) }
     {
         if pass.retired() >= BATCH {
@@ -57,6 +63,8 @@ impl PebrCache {
         ensures lost { (past_by pass.new).lost ≡ (past_by pass.old).lost }
         ensures ejections { 0 < fresh_count (known_by pass.old)
             → (past_by pass.new).ejections ≡ (past_by pass.old).ejections }
+        ensures none { fresh_count (known_by pass.old) ≡ 0 → HasCollected 1 (past_by pass.old) (past_by pass.new) }
+        ensures some { 0 < fresh_count (known_by pass.old) → HasCollected 0 (past_by pass.old) (past_by pass.new) }
         ensures fresh { 0 < fresh_count (known_by pass.new) }
     {
         if pass.fresh() == 0 {
@@ -76,6 +84,7 @@ impl PebrCache {
         ensures lost { (past_by pass.new).lost ≡ (past_by pass.old).lost }
         ensures ejections { retired_count (known_by pass.old) ≢ 32 + 4 * (shape_at self.now.roots).seats
             → (past_by pass.new).ejections ≡ (past_by pass.old).ejections }
+        ensures collects { CollectsFrom (retired_count (known_by pass.old)) (past_by pass.old) (past_by pass.new) }
         ensures fresh { 0 < fresh_count (known_by pass.new) }
     {
         self.collect_batch(pass);
@@ -88,7 +97,6 @@ impl PebrCache {
         &self,
         pass: &mut RootPass<CacheRule>,
         set: u64,
-        packet: &Packet,
         own: &Fragment,
         metered: &mut Metered,
         stop: &mut T,
@@ -98,21 +106,22 @@ impl PebrCache {
         requires out { IsTrue (is_out (known_by pass.old).status) }
         requires down { IsTrue (list_all is_down (known_by pass.old).shields) }
         requires fresh { 0 < fresh_count (known_by pass.old) }
-        requires own { IsOwn self.now.timeouts (note_by first_note pass.old) packet.now own.now }
+        requires own { IsOwn self.now.sets set (note_by first_note pass.old) own.now }
         requires none { metered.old.out ≡ None }
         ensures same { IsSame self.now.roots pass.old pass.new }
         ensures out { IsTrue (is_out (known_by pass.new).status) }
         ensures down { IsTrue (list_all is_down (known_by pass.new).shields) }
         ensures ejections { (past_by pass.new).ejections ≡ (past_by pass.old).ejections }
         ensures note { note_by first_note pass.new
-            ≡ note_with (note_by first_note pass.old) (packet.now ∷ []) metered.new.out }
+            ≡ note_with (note_by first_note pass.old) own.now metered.new.out }
         ensures lost { HaveLost set result (past_by pass.old) (past_by pass.new) }
+        ensures spared { HasCollected 0 (past_by pass.old) (past_by pass.new) }
         ensures outcome { IsOutcome self.now.timeouts (shape_at self.now.roots).seats set
             (past_by pass.new) own.now result metered.new.how metered.new.out }
     {
         for lost in 0..TRIES {
             let last = lost + 1 == TRIES;
-            if self.attempt(pass, set, packet, own, last, metered, stop) {
+            if self.attempt(pass, set, own, last, metered, stop) {
                 return lost;
             }
         }
@@ -123,36 +132,37 @@ impl PebrCache {
         TRIES
     }
 
-    /// Meters a packet whose number is above those that the pass metered, and calls `stop` at each point of each try.
-    /// It waits for nobody and takes no memory.
+    /// Puts a fragment in, as [`meter_part`](cache_face::FlowCache::meter_part) does. It waits for nobody and takes no
+    /// memory. At the points of each try it calls `stop`; that it does is tested, and no clause says where.
     ///
-    /// Another seat is ejected only where the pass had all its slots retired when the call began.
+    /// From 32 retired slots on it collects, and with fewer it doesn't. Another seat is ejected only where the pass had
+    /// all its slots retired when the call began.
     pub fn meter_stopping<T: Stop>(
         &self,
         pass: &mut PebrPass,
-        packet: &Packet,
+        part: &Fragment,
         stop: &mut T,
     ) -> Metered
         requires own { shown.IsOf self.now pass.old }
         requires single { (shown_of pass.old).note.seats ≡ 1 }
-        requires number { packet.now.number < 2 ^ 32 }
-        requires rises { All (λ p. p.number < packet.now.number) (shown_of pass.old).note.packets }
-        requires octets { packet.now.octets < 2 ^ 24 }
+        requires octets { part.now.octets < part.now.packets * 2 ^ 24 }
+        requires room { packet_count (shown_of pass.old).note.taken + part.now.packets ≤ 2 ^ 32 }
         ensures own { shown.IsOf self.now pass.new }
-        ensures note { (shown_of pass.new).note ≡ note_with (shown_of pass.old).note (packet.now ∷ []) result.out }
-        ensures answer { IsMetered (means_of self.now) IsTryOf (shown_of pass.old)
-            (shown_of pass.new) packet.now result.how result.out }
+        ensures note { (shown_of pass.new).note ≡ note_with (shown_of pass.old).note part.now result.out }
+        ensures answer { IsAnswer (means_of self.now) (shown_of pass.new) part.now result.how result.out }
+        ensures lost { HasLost (IsTryOf (set_number part.now.key (means_of self.now).sets)) result.how
+            (tries_of pass.old) (tries_of pass.new) }
         ensures retired { retired_of pass.new ≤ slots_of self.now }
         ensures ejections { retired_of pass.old ≢ slots_of self.now → ejections_of pass.new ≡ ejections_of pass.old }
+        ensures collects { CollectsFrom (retired_of pass.old) (past_of pass.old) (past_of pass.new) }
     {
-        let own = Fragment::of(packet);
-        let set = own.key.set_of(self.sets);
+        let set = part.key.set_of(self.sets);
         self.make_room(&mut pass.inner);
         let mut metered = Metered {
             how: How::PassedBy,
             out: None,
         };
-        let lost = self.put_in(&mut pass.inner, set, packet, &own, &mut metered, stop);
+        let lost = self.put_in(&mut pass.inner, set, part, &mut metered, stop);
         pass.lost = pass.lost.saturating_add(lost);
         metered
     }

@@ -4,10 +4,10 @@ ghost use Rattle.std.specs.Prelude.{◌≡◌, ◌*◌, ◌≤◌, ◌++◌, ◌
 ghost use Rattle.cache_face.specs.Meaning.{IsFresh};
 ghost use Rattle.cache_face.specs.Notes.{first_note};
 ghost use Rattle.pebr_roots.specs.Passes.{shape_at, IsOpenedPass, AreOpenedPasses};
-ghost use Rattle.flow_cache.specs.Shown.{means_of, shown_of, IsOf};
+ghost use Rattle.flow_cache.specs.Shown.{means_of, shown_of, tries_of, IsOf};
 
 use crate::cache::{PebrCache, PebrPass};
-use crate::protocol::CacheRule;
+use crate::protocol::{CacheFixed, CacheRule};
 use cache_face::NoMemory;
 use flow_parts::Timeouts;
 use pebr_roots::{RootPass, Roots, Shape};
@@ -31,7 +31,8 @@ impl PebrCache {
     /// The pass of a seat that has done nothing.
     fn pass(&self, inner: RootPass<CacheRule>, number: usize) -> PebrPass
         requires { IsOpenedPass self.now.roots first_note number inner }
-        ensures { IsOf self.now result × IsFresh (shown_of result) }
+        ensures pass { IsOf self.now result × IsFresh (shown_of result) }
+        ensures unlost { tries_of result ≡ [] }
     {
         PebrPass { inner, lost: 0 }
     }
@@ -43,8 +44,9 @@ impl PebrCache {
         mut inner: Vec<RootPass<CacheRule>>,
     ) -> Result<Vec<PebrPass>, NoMemory>
         requires { AreOpenedPasses self.now.roots first_note inner.items }
-        ensures { IfOk result (λ passes. (length passes.items ≡ (shape_at self.now.roots).seats)
+        ensures passes { IfOk result (λ passes. (length passes.items ≡ (shape_at self.now.roots).seats)
             × All (λ pass. IsOf self.now pass × IsFresh (shown_of pass)) passes.items) }
+        ensures unlost { IfOk result (λ passes. All (λ pass. tries_of pass ≡ []) passes.items) }
     {
         let mut passes = Vec::new(alloc);
         for _turn in 0..inner.len() {
@@ -74,6 +76,7 @@ impl PebrCache {
             × ((means_of r.0).limits ≡ timeouts)) }
         ensures passes { IfOk result (λ r. (length r.1.items ≡ seats)
             × All (λ pass. IsOf r.0 pass × IsFresh (shown_of pass)) r.1.items) }
+        ensures unlost { IfOk result (λ r. All (λ pass. tries_of pass ≡ []) r.1.items) }
     {
         let words = zeros(alloc, 40 * sets as usize)?;
         let shape = Shape {
@@ -83,7 +86,12 @@ impl PebrCache {
             batch: 32,
             width: 10,
         };
-        let (roots, inner) = Roots::open(alloc, shape, timeouts, words.as_slice())?;
+        let (roots, inner) = Roots::open(
+            alloc,
+            shape,
+            CacheFixed { sets, timeouts },
+            words.as_slice(),
+        )?;
         let cache = PebrCache {
             roots,
             sets,

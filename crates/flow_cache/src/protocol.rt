@@ -3,7 +3,6 @@
 ghost use Rattle.cache_face.specs.Keeping as keeping;
 
 use flow_parts::{Fragment, Timeouts};
-use packet_accept::Packet;
 use pebr_roots::RootProtocol;
 use std::marker::Model;
 
@@ -20,23 +19,29 @@ impl Model for SeatNote {
     ghost view = { λ _. empty_note };
 }
 
-/// The contents of the roots are entries of a cache. With all fragments that were handed out they share out the packets
-/// of all passes, whatever the threads do in turn.
+/// What a cache is opened with.
+#[derive(Clone, Copy)]
+pub struct CacheFixed {
+    pub sets: u64,
+    pub timeouts: Timeouts,
+}
+
+/// The contents of the roots are entries of a cache. They and all fragments that were handed out are reached from all
+/// that were put in, whatever the threads do in turn.
 pub struct CacheRule;
 
 impl RootProtocol for CacheRule {
-    ghost use Rattle.std.specs.Prelude.{[], ◌∷◌};
     ghost use Rattle.cache_face.specs.Notes.{first_note, empty_note, merged_note, note_with};
     ghost use Rattle.cache_face.proofs.Keeping.{keeps_merged};
 
     type Note = SeatNote;
 
-    /// A packet is metered, and a fragment is handed out, or none.
-    type Act = (Packet, Option<Fragment>);
+    /// A fragment is put in, and a fragment is handed out, or none.
+    type Act = (Fragment, Option<Fragment>);
 
-    type Fixed = Timeouts;
+    type Fixed = CacheFixed;
 
-    ghost keeps = { keeping.Keeps };
+    ghost keeps = { λ fixed contents notes. keeping.Keeps fixed.timeouts fixed.sets contents notes };
 
     ghost whole = { keeping.IsWhole };
 
@@ -46,8 +51,8 @@ impl RootProtocol for CacheRule {
 
     ghost merged = { merged_note };
 
-    ghost after = { λ note act. note_with note (act.0 ∷ []) act.1 };
+    ghost after = { λ note act. note_with note act.0 act.1 };
 
-    ghost unites = { λ fixed contents notes i j a b kept apart at at'. keeps_merged fixed contents notes i j a b kept
-        apart at at' };
+    ghost unites = { λ fixed contents notes i j a b kept apart at at'. keeps_merged fixed.timeouts fixed.sets contents
+        notes i j a b kept apart at at' };
 }

@@ -5,6 +5,7 @@ ghost use Rattle.std.specs.Prelude.{slice_index};
 ghost use Rattle.std.specs.List.{list_all};
 ghost use Rattle.cache_face.specs.Notes.{first_note, note_with};
 ghost use Rattle.cache_face.specs.Keeping.{IsWhole};
+ghost use Rattle.cache_face.specs.Laws.{CanTake};
 ghost use Rattle.pebr_core.specs.State.{is_out, is_down};
 ghost use Rattle.pebr_core.specs.Frames.{fresh_count};
 ghost use Rattle.seat_slots.specs.Sets.{least_in};
@@ -12,7 +13,8 @@ ghost use Rattle.pebr_words.specs.Pasts.{Lost, written_at};
 ghost use Rattle.pebr_words.specs.Ruled.{IsSure};
 ghost use Rattle.pebr_roots.specs.Passes.{shape_at, known_by, note_by, past_by, IsOf, IsSame};
 ghost use Rattle.set_choice.specs.Chosen.{out_of};
-ghost use Rattle.flow_cache.specs.Shown.{try_of, IsTryOf};
+ghost use Rattle.flow_cache.specs.Collecting.{HasCollected};
+ghost use Rattle.flow_cache.specs.Shown.{IsTryOf};
 ghost use Rattle.flow_cache.specs.Trying.{IsOwn, AreProtected, IsUnlost, HasChosen};
 
 use crate::cache::PebrCache;
@@ -20,7 +22,6 @@ use crate::protocol::CacheRule;
 use crate::stop::{Point, Stop};
 use cache_face::{How, Metered};
 use flow_parts::Fragment;
-use packet_accept::Packet;
 use pebr_roots::{Checked, ReplaceEnd, RootPass};
 use set_choice::{choose_by_words, put_out};
 
@@ -36,15 +37,11 @@ fn is_passed_by(last: bool, done: bool) -> bool
 /// What is done to the note of a pass that leaves: where its packet is passed by, it is metered, and its own fragment
 /// handed out.
 #[inline]
-fn leaving_note(
-    packet: &Packet,
-    own: &Fragment,
-    passes_by: bool,
-) -> Option<(Packet, Option<Fragment>)>
-    ensures { result ≡ (if passes_by then Some (packet.now, Some own.now) else None) }
+fn leaving_note(own: &Fragment, passes_by: bool) -> Option<(Fragment, Option<Fragment>)>
+    ensures { result ≡ (if passes_by then Some (own.now, Some own.now) else None) }
 {
     if passes_by {
-        Some((*packet, Some(*own)))
+        Some((*own, Some(*own)))
     } else {
         None
     }
@@ -94,7 +91,6 @@ impl PebrCache {
         &self,
         pass: &mut RootPass<CacheRule>,
         set: u64,
-        packet: &Packet,
         own: &Fragment,
         metered: &mut Metered,
         stop: &mut T,
@@ -105,18 +101,19 @@ impl PebrCache {
         requires fresh { 0 < fresh_count (known_by pass.old) }
         requires protected { AreProtected set (known_by pass.old) (past_by pass.old) }
         requires unlost { (past_by pass.old).has_lost ≡ false }
-        requires own { IsOwn self.now.timeouts (note_by first_note pass.old) packet.now own.now }
+        requires own { IsOwn self.now.sets set (note_by first_note pass.old) own.now }
         requires none { metered.old.out ≡ None }
         ensures same { IsSame self.now.roots pass.old pass.new }
         ensures entered { is_out (known_by pass.new).status ≡ false }
         ensures ejections { (past_by pass.new).ejections ≡ (past_by pass.old).ejections }
+        ensures spared { HasCollected 0 (past_by pass.old) (past_by pass.new) }
         ensures done { IsTrue result
-            → (note_by first_note pass.new ≡ note_with (note_by first_note pass.old) (packet.now ∷ []) metered.new.out)
+            → (note_by first_note pass.new ≡ note_with (note_by first_note pass.old) own.now metered.new.out)
             × ((past_by pass.new).lost ≡ (past_by pass.old).lost)
             × HasChosen self.now.timeouts set (past_by pass.new) own.now metered.new.how metered.new.out }
         ensures undone { result ≡ false → (note_by first_note pass.new ≡ note_by first_note pass.old)
             × ((known_by pass.new).fresh ≡ (known_by pass.old).fresh)
-            × ((try : Lost) × ((past_by pass.new).lost ≡ try ∷ (past_by pass.old).lost) × IsTryOf set (try_of try)) }
+            × ((try : Lost) × ((past_by pass.new).lost ≡ try ∷ (past_by pass.old).lost) × IsTryOf set try) }
         ensures untouched { result ≡ false → metered.new.out ≡ None }
     {
         stop.at(Point::Read);
@@ -128,7 +125,7 @@ impl PebrCache {
         self.fill(pass, &choice.words);
         stop.at(Point::Replace);
         let root = 4 * set as usize + choice.place;
-        let act = Some((*packet, out));
+        let act = Some((*own, out));
         match self.roots.replace(pass, root, choice.place, act) {
             ReplaceEnd::Replaced => {
                 tell(metered, choice.how, out);
@@ -143,7 +140,6 @@ impl PebrCache {
         &self,
         pass: &mut RootPass<CacheRule>,
         set: u64,
-        packet: &Packet,
         own: &Fragment,
         metered: &mut Metered,
         stop: &mut T,
@@ -152,22 +148,23 @@ impl PebrCache {
         requires set { set < self.now.sets }
         requires out { IsTrue (is_out (known_by pass.old).status) }
         requires fresh { 0 < fresh_count (known_by pass.old) }
-        requires own { IsOwn self.now.timeouts (note_by first_note pass.old) packet.now own.now }
+        requires own { IsOwn self.now.sets set (note_by first_note pass.old) own.now }
         requires none { metered.old.out ≡ None }
         ensures same { IsSame self.now.roots pass.old pass.new }
         ensures entered { is_out (known_by pass.new).status ≡ false }
         ensures ejections { (past_by pass.new).ejections ≡ (past_by pass.old).ejections }
+        ensures spared { HasCollected 0 (past_by pass.old) (past_by pass.new) }
         ensures done { IsTrue result
-            → (note_by first_note pass.new ≡ note_with (note_by first_note pass.old) (packet.now ∷ []) metered.new.out)
+            → (note_by first_note pass.new ≡ note_with (note_by first_note pass.old) own.now metered.new.out)
             × ((past_by pass.new).lost ≡ (past_by pass.old).lost)
             × HasChosen self.now.timeouts set (past_by pass.new) own.now metered.new.how metered.new.out }
         ensures undone { result ≡ false → (note_by first_note pass.new ≡ note_by first_note pass.old)
             × ((known_by pass.new).fresh ≡ (known_by pass.old).fresh)
-            × ((try : Lost) × ((past_by pass.new).lost ≡ try ∷ (past_by pass.old).lost) × IsTryOf set (try_of try)) }
+            × ((try : Lost) × ((past_by pass.new).lost ≡ try ∷ (past_by pass.old).lost) × IsTryOf set try) }
         ensures untouched { result ≡ false → metered.new.out ≡ None }
     {
         match self.reach(pass, set, stop) {
-            Checked::Valid => self.put(pass, set, packet, own, metered, stop),
+            Checked::Valid => self.put(pass, set, own, metered, stop),
             Checked::Ejected => false,
         }
     }
@@ -193,20 +190,19 @@ impl PebrCache {
     fn end<T: Stop>(
         &self,
         pass: &mut RootPass<CacheRule>,
-        packet: &Packet,
         own: &Fragment,
         passes_by: bool,
         stop: &mut T,
     )
         requires of { IsOf self.now.roots pass.old }
         requires entered { is_out (known_by pass.old).status ≡ false }
-        requires own { IsTrue passes_by → IsOwn self.now.timeouts (note_by first_note pass.old) packet.now own.now }
+        requires own { IsTrue passes_by → CanTake (note_by first_note pass.old) own.now }
         ensures same { IsSame self.now.roots pass.old pass.new }
         ensures out { IsTrue (is_out (known_by pass.new).status) }
         ensures down { IsTrue (list_all is_down (known_by pass.new).shields) }
         ensures fresh { (known_by pass.new).fresh ≡ (known_by pass.old).fresh }
         ensures note { note_by first_note pass.new
-            ≡ (if passes_by then note_with (note_by first_note pass.old) (packet.now ∷ []) (Some own.now)
+            ≡ (if passes_by then note_with (note_by first_note pass.old) own.now (Some own.now)
             else note_by first_note pass.old) }
         ensures past { past_by pass.new ≡ record (past_by pass.old) {
           last = (past_by pass.new).last;
@@ -217,7 +213,7 @@ impl PebrCache {
     {
         self.take_down(pass, stop);
         stop.at(Point::Leave);
-        self.roots.leave(pass, leaving_note(packet, own, passes_by));
+        self.roots.leave(pass, leaving_note(own, passes_by));
     }
 
     /// One try. `false` where it is lost; where it is the last one the packet is passed by then.
@@ -229,7 +225,6 @@ impl PebrCache {
         &self,
         pass: &mut RootPass<CacheRule>,
         set: u64,
-        packet: &Packet,
         own: &Fragment,
         last: bool,
         metered: &mut Metered,
@@ -239,27 +234,28 @@ impl PebrCache {
         requires set { set < self.now.sets }
         requires out { IsTrue (is_out (known_by pass.old).status) }
         requires fresh { 0 < fresh_count (known_by pass.old) }
-        requires own { IsOwn self.now.timeouts (note_by first_note pass.old) packet.now own.now }
+        requires own { IsOwn self.now.sets set (note_by first_note pass.old) own.now }
         requires none { metered.old.out ≡ None }
         ensures same { IsSame self.now.roots pass.old pass.new }
         ensures out { IsTrue (is_out (known_by pass.new).status) }
         ensures down { IsTrue (list_all is_down (known_by pass.new).shields) }
         ensures ejections { (past_by pass.new).ejections ≡ (past_by pass.old).ejections }
+        ensures spared { HasCollected 0 (past_by pass.old) (past_by pass.new) }
         ensures done { IsTrue result
-            → (note_by first_note pass.new ≡ note_with (note_by first_note pass.old) (packet.now ∷ []) metered.new.out)
+            → (note_by first_note pass.new ≡ note_with (note_by first_note pass.old) own.now metered.new.out)
             × ((past_by pass.new).lost ≡ (past_by pass.old).lost)
             × HasChosen self.now.timeouts set (past_by pass.new) own.now metered.new.how metered.new.out }
         ensures undone { result ≡ false
             → (note_by first_note pass.new ≡ (if last
-            then note_with (note_by first_note pass.old) (packet.now ∷ []) (Some own.now)
+            then note_with (note_by first_note pass.old) own.now (Some own.now)
             else note_by first_note pass.old))
             × ((known_by pass.new).fresh ≡ (known_by pass.old).fresh) × ((shape_at self.now.roots).seats ≢ 1)
-            × ((try : Lost) × ((past_by pass.new).lost ≡ try ∷ (past_by pass.old).lost) × IsTryOf set (try_of try)) }
+            × ((try : Lost) × ((past_by pass.new).lost ≡ try ∷ (past_by pass.old).lost) × IsTryOf set try) }
         ensures untouched { result ≡ false → metered.new.out ≡ None }
     {
-        let done = self.reach_and_put(pass, set, packet, own, metered, stop);
+        let done = self.reach_and_put(pass, set, own, metered, stop);
         let passes_by = is_passed_by(last, done);
-        self.end(pass, packet, own, passes_by, stop);
+        self.end(pass, own, passes_by, stop);
         done
     }
 }

@@ -9,6 +9,7 @@ ghost use Rattle.pebr_shields.specs.declared.checked.Checked.TheVariants as chec
 ghost use Rattle.pebr_words.specs.Pasts.{was_ejected, written_at};
 ghost use Rattle.pebr_roots.specs.Under.{slot_at, is_valid_at};
 ghost use Rattle.pebr_roots.specs.Passes.{known_by, note_by, past_by, IsOf, IsSame};
+ghost use Rattle.flow_cache.specs.Collecting.{HasCollected};
 ghost use Rattle.flow_cache.specs.Reading.{words_read, entries_read, set_read};
 ghost use Rattle.flow_cache.specs.Shown.{roots_of};
 ghost use Rattle.flow_cache.specs.Trying.{AreLoaded, AreProtected, IsUnlost, HasMore, HasTen, HasReadTen};
@@ -73,6 +74,7 @@ impl PebrCache {
         ensures fresh { (known_by pass.new).fresh ≡ (known_by pass.old).fresh }
         ensures entered { is_out (known_by pass.new).status ≡ false }
         ensures pins { (past_by pass.new).pins ≡ (past_by pass.old).pins + 1 }
+        ensures spared { HasCollected 0 (past_by pass.old) (past_by pass.new) }
         ensures ejections { (past_by pass.new).ejections ≡ (past_by pass.old).ejections }
         ensures valid { result ≡ checked.Valid → AreProtected set (known_by pass.new) (past_by pass.new)
             × IsUnlost (past_by pass.old) (past_by pass.new) }

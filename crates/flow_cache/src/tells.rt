@@ -1,7 +1,7 @@
 //! What a pass tells.
 
 ghost use Rattle.std.specs.Prelude.{◌≡◌, ◌^◌, ◌-◌, length, min};
-ghost use Rattle.flow_cache.specs.Shown.{shown_of, retired_of};
+ghost use Rattle.flow_cache.specs.Shown.{tries_of, retired_of};
 
 use crate::cache::PebrPass;
 
@@ -15,7 +15,7 @@ impl PebrPass {
 
     /// How many tries it has lost, at most 2^64 - 1.
     pub fn lost(&self) -> u64
-        ensures { result ≡ min (length (shown_of self.now).lost) (2 ^ 64 - 1) }
+        ensures { result ≡ min (length (tries_of self.now)) (2 ^ 64 - 1) }
     {
         self.lost
     }

@@ -1,9 +1,9 @@
 //! What a watcher is asked to do.
 
-ghost use Rattle.std.specs.Prelude.{◌≡◌, ◌≢◌, ◌<◌, ◌∷◌, map, IsNone, IfSome, Some, None};
+ghost use Rattle.std.specs.Prelude.{◌≡◌, ◌≢◌, ◌<◌, ◌∷◌, IsNone, IfSome, Some, None};
 ghost use Rattle.flow_cache.specs.declared.cache.PebrCache.{PebrCache};
 ghost use Rattle.flow_cache.specs.Shown as shown;
-ghost use Rattle.flow_cache.specs.Shown.{means_of, shown_of, try_of};
+ghost use Rattle.flow_cache.specs.Shown.{means_of, shown_of, tries_of};
 ghost use Rattle.flow_key.specs.Key.{set_number};
 ghost use Rattle.pebr_words.specs.Pasts.{was_ejected};
 ghost use Rattle.flow_watch.specs.Watching.{IsOf, IsWatched, HasRead, held_by, slot_held_by, note_of, past_of, lost_of};
@@ -24,7 +24,7 @@ impl Watcher {
         ensures idle { held_by result ≡ None }
         ensures of { (cache : PebrCache) → shown.IsOf cache pass → IsOf cache result }
         ensures note { note_of result ≡ (shown_of pass).note }
-        ensures lost { map try_of (lost_of result) ≡ (shown_of pass).lost }
+        ensures lost { lost_of result ≡ tries_of pass }
     {
         let lost = pass.lost();
         Watcher {
@@ -122,7 +122,7 @@ impl Watcher {
         requires idle { held_by self ≡ None }
         ensures of { (cache : PebrCache) → IsOf cache self → shown.IsOf cache result }
         ensures note { (shown_of result).note ≡ note_of self }
-        ensures lost { (shown_of result).lost ≡ map try_of (lost_of self) }
+        ensures lost { tries_of result ≡ lost_of self }
     {
         let Watcher {
             seat,

@@ -1,6 +1,7 @@
 //! A flow that is held while another pass puts it out.
 
-ghost use Rattle.std.specs.Prelude.{◌≡◌, ◌+◌, ◌<◌, ◌^◌, [], All, IfSome};
+ghost use Rattle.std.specs.Prelude.{◌≡◌, ◌+◌, ◌<◌, ◌≤◌, ◌^◌, All, IfSome};
+ghost use Rattle.cache_face.specs.Keeping.{packet_count};
 ghost use Rattle.cache_face.specs.Meaning.{IsFresh};
 ghost use Rattle.flow_cache.specs.Shown.{shown_of, IsOf};
 
@@ -33,17 +34,30 @@ fn take(_cache: &PebrCache, passes: &mut Vec<PebrPass>) -> Option<PebrPass>
     passes.pop()
 }
 
+/// Meters the packet of this number.
+fn meter_next(cache: &PebrCache, pass: &mut PebrPass, number: u64, flow: u16, second: u32)
+    requires own { IsOf cache.now pass.old }
+    requires single { (shown_of pass.old).note.seats ≡ 1 }
+    requires below { number < 2 ^ 32 }
+    requires few { packet_count (shown_of pass.old).note.taken ≤ number }
+    ensures own { IsOf cache.now pass.new }
+    ensures single { (shown_of pass.new).note.seats ≡ 1 }
+    ensures few { packet_count (shown_of pass.new).note.taken ≤ number + 1 }
+{
+    cache.meter(pass, &packet(number, flow, second));
+}
+
 /// Meters 200 packets of 200 other flows at 2 s: the most slots that were retired behind one of them.
 fn meter_crowd(cache: &PebrCache, pass: &mut PebrPass) -> usize
     requires own { IsOf cache.now pass.old }
     requires single { (shown_of pass.old).note.seats ≡ 1 }
-    requires rises { All (λ p. p.number < 1) (shown_of pass.old).note.packets }
+    requires few { packet_count (shown_of pass.old).note.taken ≤ 1 }
     ensures own { IsOf cache.now pass.new }
     ensures single { (shown_of pass.new).note.seats ≡ 1 }
 {
     let mut most = 0;
     for number in 1..201 {
-        cache.meter(pass, &packet(number, 1000 + number as u16, 2));
+        meter_next(cache, pass, number, 1000 + number as u16, 2);
         most = most.max(pass.retired());
     }
     most
@@ -64,7 +78,7 @@ fn watch_flow(cache: &PebrCache, mut pass: PebrPass, other: PebrPass) -> Came
     requires first { IsOf cache.now pass × IsFresh (shown_of pass) }
     requires second { IsOf cache.now other × IsFresh (shown_of other) }
 {
-    cache.meter(&mut pass, &packet(0, 1, 1));
+    meter_next(cache, &mut pass, 0, 1, 1);
     let mut watcher = Watcher::open(other);
     let before = watcher.hold(cache, &udp_key(1));
     let most = meter_crowd(cache, &mut pass);

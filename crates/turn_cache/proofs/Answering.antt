@@ -1,102 +1,95 @@
 -- What a pass is told of the fragment that it put in, or that was passed by.
-use Rattle.std.proofs.Common.{◌≡◌, ◌≢◌, ℕ, zero, suc, ◌<◌, List, ◌++◌, length, map, replicate, Option, Some, ◌∷◌, refl}
-use Rattle.std.proofs.Common.{ap, ◌∙◌, subst, arith, All}
-use Rattle.std.proofs.lemmas.List.{length-replicate, map-append}
+use Rattle.std.proofs.Common.{◌≡◌, ℕ, zero, suc, ◌<◌, List, ◌++◌, length, replicate, Option, Some, refl, ap, subst, sym}
+use Rattle.std.proofs.Common.{All, MatchOption, option_map}
+use Rattle.std.proofs.lemmas.List.{length-replicate}
 use Rattle.std.proofs.lemmas.List.Elements.{All-nil, All-cons}
-use Rattle.packet_accept.specs.declared.packet.Packet.{Packet}
 use Rattle.flow_key.specs.Key.{set_number}
 use Rattle.flow_parts.specs.declared.fragment.Fragment.{Fragment}
+use Rattle.flow_parts.specs.declared.timeouts.Timeouts.{Timeouts}
 use Rattle.cache_face.specs.Choice.{IsChoice}
 use Rattle.cache_face.specs.declared.metered.How.{How}
 use Rattle.cache_face.specs.declared.metered.How.TheVariants as how
-use Rattle.cache_face.specs.Meaning.{CacheMeans, PassMeans, HasLost, IsAnswer, IsPassedBy}
-use Rattle.cache_face.specs.Tries.{LostTry, turn_taken}
+use Rattle.flow_parts.specs.Parts.{part_words}
+use Rattle.cache_face.proofs.Contents.{words_show}
+use Rattle.cache_face.specs.Meaning.{CacheMeans, Written, PassMeans, IsAnswer}
+use Rattle.cache_face.specs.Tries.{HasLost, IsTryCount}
 use Rattle.turn_cache.specs.Hands.{Hand, entries_of}
-use Rattle.turn_cache.specs.Moves.{filled_hand, after_tries, passed_by}
+use Rattle.turn_cache.specs.Moves.{filled_hand, after_tries}
 use Rattle.turn_cache.specs.Shown.{IsTryOf}
 use Rattle.turn_cache.proofs.Writing.{shown_there}
 
 -- what a seat's knowledge means
 abbrev pub hand_means : Hand → PassMeans
 hand_means hand =
-    record { note = hand.note; lost = map turn_taken hand.lost; set = hand.set; entries = entries_of hand.read }
+    record { note = hand.note; set = hand.set; entries = entries_of hand.read; written = hand.written }
 
 -- so many tries that were lost at a set
-tries_at : ℕ → ℕ → List LostTry
-tries_at tries set = replicate tries (turn_taken set)
-
-all_at_set : (tries set : ℕ) → All (IsTryOf set) (tries_at tries set)
-unfolding tries_at
+all_at_set : (tries set : ℕ) → All (IsTryOf set) (replicate tries set)
 all_at_set zero set = All-nil (IsTryOf set)
-all_at_set (suc tries) set = All-cons (IsTryOf set) (turn_taken set) (replicate tries (turn_taken set)) refl
-    (all_at_set tries set)
+all_at_set (suc tries) set = All-cons (IsTryOf set) set (replicate tries set) refl (all_at_set tries set)
 
-as_tries : (tries set : ℕ) → map turn_taken (replicate tries set) ≡ tries_at tries set
-unfolding tries_at
-as_tries zero set = refl
-as_tries (suc tries) set = ap (λ l. turn_taken set ∷ l) (as_tries tries set)
+cites : (cache : CacheMeans) (entries : List (Option Fragment)) (own : Fragment) (out : Option Fragment) (by : How)
+    (place : ℕ) (kept : Fragment) (written : Option Written) → written ≡ Some (record { place = place; kept = kept })
+    → IsChoice cache.limits entries own by place out kept
+    → MatchOption written ⊥ (λ wrote. IsChoice cache.limits entries own by wrote.place out wrote.kept)
+cites cache entries own out by place kept written is chosen =
+    subst (λ (w : Option Written). MatchOption w ⊥ (λ wrote. IsChoice cache.limits entries own by wrote.place out
+    wrote.kept)) (sym is) chosen
 
-listed : (lost : List ℕ) (tries set : ℕ)
-    → map turn_taken (replicate tries set ++ lost) ≡ tries_at tries set ++ map turn_taken lost
-listed lost tries set = map-append turn_taken (replicate tries set) lost
-    ∙ ap (λ l. l ++ map turn_taken lost) (as_tries tries set)
-
-so_many : (tries set : ℕ) → length (tries_at tries set) ≡ tries
-unfolding tries_at
-so_many tries set = length-replicate {A = LostTry} tries (turn_taken set)
-
-answer_is : (cache : CacheMeans) (old new : PassMeans) (own : Fragment) (out : Option Fragment) (place : ℕ)
-    (kept : Fragment) (by : How) (tries : List LostTry)
-    → new.set ≡ set_number own.key cache.sets → length new.entries ≡ 4
-    → IsChoice cache.limits new.entries own by place out kept
-    → HasLost IsTryOf (set_number own.key cache.sets) old new tries → length tries < 3
-    → IsAnswer cache IsTryOf old new own by out
-answer_is cache old new own out place kept how.Joined tries set four chosen lost few =
-    record {
-      chosen = record { set = set; four = four; place = place; kept = kept; chosen = chosen };
-      tries =
-          tries;
-      lost = lost;
-      few = few;
-    }
-answer_is cache old new own out place kept how.Opened tries set four chosen lost few =
-    record {
-      chosen = record { set = set; four = four; place = place; kept = kept; chosen = chosen };
-      tries =
-          tries;
-      lost = lost;
-      few = few;
-    }
-answer_is cache old new own out place kept how.Replaced tries set four chosen lost few =
-    record {
-      chosen = record { set = set; four = four; place = place; kept = kept; chosen = chosen };
-      tries =
-          tries;
-      lost = lost;
-      few = few;
-    }
-answer_is cache old new own out place kept how.PassedBy tries set four chosen lost few = absurd chosen
+answer_is : (cache : CacheMeans) (pass : PassMeans) (own : Fragment) (out : Option Fragment) (place : ℕ)
+    (kept : Fragment) (by : How)
+    → pass.set ≡ set_number own.key cache.sets → length pass.entries ≡ 4
+    → pass.written ≡ Some (record { place = place; kept = kept })
+    → IsChoice cache.limits pass.entries own by place out kept → IsAnswer cache pass own by out
+answer_is cache pass own out place kept how.Joined set four wrote chosen = record {
+  set = set;
+  four = four;
+  chosen = cites cache pass.entries own out how.Joined place kept pass.written wrote chosen;
+}
+answer_is cache pass own out place kept how.Opened set four wrote chosen = record {
+  set = set;
+  four = four;
+  chosen = cites cache pass.entries own out how.Opened place kept pass.written wrote chosen;
+}
+answer_is cache pass own out place kept how.Replaced set four wrote chosen = record {
+  set = set;
+  four = four;
+  chosen = cites cache pass.entries own out how.Replaced place kept pass.written wrote chosen;
+}
+answer_is cache pass own out place kept how.PassedBy set four wrote chosen = absurd chosen
 
 pub answered : (cache : CacheMeans) (hand : Hand) (own : Fragment) (out : Option Fragment) (place : ℕ) (kept : Fragment)
-    (by : How) (set tries : ℕ) (words : List ℕ) (packets : List Packet)
-    → set ≡ set_number own.key cache.sets → tries < 3 → length words ≡ 40
+    (by : How) (set tries : ℕ) (words : List ℕ)
+    → set ≡ set_number own.key cache.sets → length words ≡ 40
     → IsChoice cache.limits (entries_of words) own by place out kept
-    → IsAnswer cache IsTryOf (hand_means hand)
-    (hand_means (filled_hand words packets out (after_tries set tries hand))) own by out
-answered cache hand own out place kept by set tries words packets is_set few long chosen =
-    answer_is cache (hand_means hand) (hand_means (filled_hand words packets out (after_tries set tries hand)))
-    own out place
-    kept by (tries_at tries set) is_set (ap length (shown_there words long)) chosen
-    (listed hand.lost tries set, subst (λ n. All (IsTryOf n) (tries_at tries set)) is_set (all_at_set tries set))
-    (let many = so_many tries set in omega (arith, many, few))
+    → IsAnswer cache (hand_means (filled_hand words place (part_words kept) own out (after_tries set tries hand))) own
+    by out
+answered cache hand own out place kept by set tries words is_set long chosen =
+    answer_is cache (hand_means (filled_hand words place (part_words kept) own out (after_tries set tries hand)))
+    own out place kept by is_set (ap length (shown_there words long))
+    (ap (option_map (λ (f : Fragment). let wrote : Written = record { place = place; kept = f } in wrote))
+    (words_show kept)) chosen
 
-pub passed : (cache : CacheMeans) (hand : Hand) (own : Fragment) (set : ℕ) (packets : List Packet)
-    → set ≡ set_number own.key cache.sets → cache.seats ≢ 1
-    → IsPassedBy cache IsTryOf (hand_means hand) (hand_means (passed_by set packets own hand)) own (Some own)
-passed cache hand own set packets is_set others = record {
-  tries = tries_at 3 set;
-  lost = (listed hand.lost 3 set, subst (λ n. All (IsTryOf n) (tries_at 3 set)) is_set (all_at_set 3 set));
-  three = so_many 3 set;
-  others = others;
-  out_is = refl;
+few : (limits : Timeouts) (entries : List (Option Fragment)) (own kept : Fragment) (by : How) (place tries : ℕ)
+    (out : Option Fragment) → IsChoice limits entries own by place out kept → tries < 3 → IsTryCount by tries
+few limits entries own kept how.Joined place tries out chosen low = low
+few limits entries own kept how.Opened place tries out chosen low = low
+few limits entries own kept how.Replaced place tries out chosen low = low
+few limits entries own kept how.PassedBy place tries out chosen low = absurd chosen
+
+-- the tries that were lost at a set, in a call that answers so
+pub lost_at : (by : How) (tries set at : ℕ) (lost : List ℕ) → set ≡ at → IsTryCount by tries
+    → HasLost (IsTryOf at) by lost (replicate tries set ++ lost)
+lost_at by tries set at lost is_set many = record {
+  tries = replicate tries set;
+  listed = refl;
+  each = subst (λ n. All (IsTryOf n) (replicate tries set)) is_set (all_at_set tries set);
+  many = subst (IsTryCount by) (sym (length-replicate {A = ℕ} tries set)) many;
 }
+
+pub lost_before : (limits : Timeouts) (entries : List (Option Fragment)) (own kept : Fragment) (by : How) (place : ℕ)
+    (out : Option Fragment) (tries set at : ℕ) (lost : List ℕ)
+    → IsChoice limits entries own by place out kept → tries < 3 → set ≡ at
+    → HasLost (IsTryOf at) by lost (replicate tries set ++ lost)
+lost_before limits entries own kept by place out tries set at lost chosen low is_set =
+    lost_at by tries set at lost is_set (few limits entries own kept by place tries out chosen low)

@@ -9,7 +9,7 @@ use mathlib.Core.Option.{some, some-injective, some-ne-none}
 use lib.ListN.{get_elem?}
 use Rattle.atomic_table.specs.Table.{State}
 use Rattle.atomic_table.proofs.Lists.{at_map}
-use Rattle.flow_parts.specs.Sharing.{SharesOut}
+use Rattle.flow_parts.specs.Reaching.{Reaches}
 use Rattle.cache_face.specs.Keeping.{entry_of, parts_in}
 use Rattle.cache_face.specs.Laws.{IsUnused}
 use Rattle.cache_face.specs.Notes.{Note}
@@ -126,12 +126,12 @@ module _ (told : Told) (s : State (Unit {0}) Hand) (h : Ruled told s) (id : ℕ)
       ∷ content_is n 1 (omega (arith, low)) (omega arith) i ∷ content_is n 2 (omega (arith, low)) (omega arith) i
       ∷ content_is n 3 (omega (arith, low)) (omega arith) i ∷ []))
 
-  pub closes : SharesOut told.timeouts v.note.packets (parts_in (contents_at s.words told.sets) ++ v.note.handed)
+  pub closes : Reaches told.timeouts v.note.taken (parts_in (contents_at s.words told.sets) ++ v.note.handed)
   closes =
       let whole : h.contents ≡ contents_at s.words told.sets =
       sym (take_whole h.contents (4 * told.sets) h.many) ∙ shown told.sets (omega arith) in
-      subst (λ cs. SharesOut told.timeouts v.note.packets (parts_in cs ++ v.note.handed)) whole
-      (kept_at_end told.timeouts h.contents (map (λ (hand : Hand). hand.note) s.views) id v.note h.kept
+      subst (λ cs. Reaches told.timeouts v.note.taken (parts_in cs ++ v.note.handed)) whole
+      (kept_at_end told.timeouts told.sets h.contents (map (λ (hand : Hand). hand.note) s.views) id v.note h.kept
       (at_map (λ (hand : Hand). hand.note) s.views id v at)
       (λ j note ne e. let found = from_map s.views j note e in
       subst IsUnused found.2 ((h.each j found.0 found.1).gone (others_none j found.0 ne found.1))))
@@ -148,3 +148,7 @@ module _ (told : Told) (s : State (Unit {0}) Hand) (h : Ruled told s) (id : ℕ)
       from_map [] j note e = absurd (some-ne-none note (sym e))
       from_map (x ∷ xs) zero note e = (x, refl, some-injective x.note note e)
       from_map (x ∷ xs) (suc j) note e = from_map xs j note e
+
+pub if_ok_weaker : {A E : Type 0} (r : Result A E) (P Q : A → Type 0) → ((a : A) → P a → Q a) → IfOk r P → IfOk r Q
+if_ok_weaker (Ok a) P Q f h = f a h
+if_ok_weaker (Err e) P Q f h = h

@@ -1,5 +1,5 @@
 -- The first word of an entry is stored.
-use Rattle.std.proofs.Common.{◌≡◌, ⊎_elim, inl, inr, ℕ, suc, ◌+◌, ◌*◌, ◌<◌, true, cond, List, [], ◌++◌, length, map}
+use Rattle.std.proofs.Common.{◌≡◌, ⊎_elim, inl, inr, ℕ, suc, ◌+◌, ◌*◌, ◌/◌, ◌<◌, true, cond, List, [], ◌++◌, length, map}
 use Rattle.std.proofs.Common.{get_or, set, Option, sym, refl, ap, ◌∙◌, subst, arith, eq-eqb, length-append}
 use Rattle.std.proofs.lemmas.List.{length-set, get_or-set_same, get_or-set_other}
 use mathlib.Core.Logic.{dite}
@@ -8,11 +8,11 @@ use mathlib.Core.Option.{some}
 use lib.ListN.{get_elem?}
 use Rattle.atomic_table.specs.Table.{keeps, Allows}
 use Rattle.atomic_table.proofs.Lists.{at_map}
-use Rattle.packet_accept.specs.declared.packet.Packet.{Packet}
+use Rattle.flow_key.specs.Key.{set_number}
 use Rattle.flow_parts.specs.declared.fragment.Fragment.{Fragment}
 use Rattle.flow_parts.specs.Parts.{part_words}
 use Rattle.cache_face.specs.Choice.{Takes}
-use Rattle.cache_face.specs.Keeping.{Keeps, entry_of}
+use Rattle.cache_face.specs.Keeping.{Keeps, IsInSet, entry_of}
 use Rattle.cache_face.proofs.Keeping.{keeps_taken}
 use Rattle.turn_cache.specs.declared.rule.Told.{Told}
 use Rattle.turn_cache.specs.Hands.{Hand, Turn, reading, number_of, is_at, turns_held, claim, at_work}
@@ -31,20 +31,22 @@ moved_here at_set place contents new low at p ne low' =
     get_or-set_other contents (content_place at_set place) (content_place at p) new []
     (λ e. ne (omega (arith, e, low, low')))
 
-pub commits : (told : Told) (slots id at_set place value : ℕ) (packets : List Packet) (own kept : Fragment)
+pub commits : (told : Told) (slots id at_set place value : ℕ) (own kept : Fragment)
     (out : Option Fragment) (before old after new : List ℕ) (me : Sat)
     → me.0.turn ≡ reading at_set → at_set < told.sets → place < 4 → me.0.read ≡ before ++ (old ++ after)
     → length before ≡ 10 * place → length old ≡ 10 → length new ≡ 10 → value ≡ get_or new 5 0
-    → IsOwn told.timeouts me.0.note packets own → part_words kept ≡ new
+    → IsOwn me.0.note own → set_number own.key told.sets ≡ at_set → part_words kept ≡ new
     → Takes told.timeouts own (entry_of old) out kept
     → Allows (Ruled told) slots id me (64 * at_set + 16 + (10 * place + 5)) (λ _. value)
-    (λ _. Commits (writes_to at_set place packets out old new) me)
-commits told slots id at_set place value packets own kept out before old after new me is low low' read_is at_place long
-    long' value_is owned kept_is takes s h wide at fits =
+    (λ _. Commits (writes_to at_set place own out old new) me)
+commits told slots id at_set place value own kept out before old after new me is low low' read_is at_place long
+    long' value_is owned of_set kept_is takes s h wide at fits =
     let i : ℕ = 64 * at_set + 16 + (10 * place + 5) in
     let c : ℕ = content_place at_set place in
     let v : Hand = me.0 in
-    let w : Hand = committed_hand (writes_to at_set place packets out old new) v in
+    let in_set : IsInSet told.sets c own =
+    of_set ∙ (let p : at_set ≡ c / 4 = omega (arith, low') in p) in
+    let w : Hand = committed_hand (writes_to at_set place own out old new) v in
     let f = h.each id v at in
     let known : FitsTurn told.sets s.words h.contents v.read (reading at_set) =
     subst (FitsTurn told.sets s.words h.contents v.read) is f.turn in
@@ -128,10 +130,10 @@ commits told slots id at_set place value packets own kept out before old after n
           (omega (arith, low')) s.words h.contents contents' (moved_here at_set place h.contents new low') u
           (not_other told s at_set id j v u h at has ne e) (h.each j u e))
           mine
-          (subst (Keeps told.timeouts contents') (sym (notes_set s.views id w))
-          (subst (λ x. Keeps told.timeouts (set h.contents c x)
+          (subst (Keeps told.timeouts told.sets contents') (sym (notes_set s.views id w))
+          (subst (λ x. Keeps told.timeouts told.sets (set h.contents c x)
           (set (map (λ (hand : Hand). hand.note) s.views) id w.note)) kept_is
-          (keeps_taken told.timeouts h.contents (map (λ (hand : Hand). hand.note) s.views) c id old v.note packets own
-          kept out h.kept there (at_map (λ (hand : Hand). hand.note) s.views id v at) owned.can owned.shares takes))),
+          (keeps_taken told.timeouts told.sets h.contents (map (λ (hand : Hand). hand.note) s.views) c id old v.note own
+          kept out h.kept there (at_map (λ (hand : Hand). hand.note) s.views id v at) owned.can in_set takes))),
       refl,
     )

@@ -145,7 +145,7 @@ module _ (told : Told) (s : State (Unit {0}) Hand) (h : Ruled told s) (id : ℕ)
       ≡ get_or (set s.words i n) (set_word at_set (10 * place + k)) 0)
       → ((j : ℕ) (u : Hand) → j ≢ id → get_elem? s.views j ≡ some u → Fits told.sets (set s.words i n) contents' u)
       → Fits told.sets (set s.words i n) contents' w
-      → Keeps told.timeouts contents' (map (λ (hand : Hand). hand.note) (set s.views id w))
+      → Keeps told.timeouts told.sets contents' (map (λ (hand : Hand). hand.note) (set s.views id w))
       → Ruled told (stepped s i n id c w keeps)
   build i n c contents' many ten turn_words one settled others mine kept = record {
     contents = contents';

@@ -78,6 +78,6 @@ gives told slots id at_set place new me is low s h wide at fits =
           (λ other. else_where (λ a b. other a)))
           (λ j u ne e. frame_turn told.sets 0 at_set s.words h.contents u (h.each j u e))
           record { seats = f.seats; gone = f.gone; live = tt; turn = tt }
-          (subst (Keeps told.timeouts h.contents) (sym (notes_same s.views id v w at refl)) h.kept),
+          (subst (Keeps told.timeouts told.sets h.contents) (sym (notes_same s.views id v w at refl)) h.kept),
       refl,
     )

@@ -5,7 +5,6 @@ pub mod Closing
 pub mod Uniting
 pub mod Splitting
 pub mod Opening
-pub mod Own
 pub mod TakeStep
 pub mod Writing
 pub mod LoadStep

@@ -102,7 +102,7 @@ loads told slots id at_set k me is long low below s h wide at fits =
           ∙ ap (λ ws. get_or ws (set_word q (10 * place + m)) 0) (sym same))
           (λ j u ne e. subst (λ ws. Fits told.sets ws h.contents u) (sym same) (h.each j u e))
           (subst (λ ws. Fits told.sets ws h.contents w) (sym same) mine)
-          (subst (Keeps told.timeouts h.contents) (sym (notes_same s.views id v w at refl)) h.kept),
+          (subst (Keeps told.timeouts told.sets h.contents) (sym (notes_same s.views id v w at refl)) h.kept),
       (
         refl,
         λ before content place is_read at_place low' ten.

@@ -81,8 +81,8 @@ opens told some_sets few_sets few_seats =
           ap (once_below n) (let z : 0 + told.seats ≡ told.seats = omega arith in z) in omega (arith, r, e));
       seats = omega arith;
       each = λ j u e. first_fits hand long j u e;
-      kept = keeps_opening told.timeouts contents (unused_note told.seats ∷ [])
-          (all_rows IsEmptyContent (4 * told.sets) row refl)
+      kept = keeps_opening told.timeouts told.sets contents (unused_note told.seats ∷ [])
+          (length-replicate {A = List ℕ} (4 * told.sets) row) (all_rows IsEmptyContent (4 * told.sets) row refl)
           (All-cons IsUnused (unused_note told.seats) [] (refl, refl) (All-nil IsUnused))
           (let s = sum_by-cons (λ (note : Note). note.seats) (unused_note told.seats) [] in
           omega (arith, s, few_seats));

@@ -53,7 +53,7 @@ splits told id number numbers s h at =
           (λ x. ⊎_elim (λ (y : (j ≡ id) × (left ≡ u)). subst (Fits told.sets s.words h.contents) y.1 fits_left)
           (λ (y : (j ≢ id) × (get_elem? s.views j ≡ some u)). h.each j u y.1) (at_set s.views id j left u x))
           (λ x. subst (Fits told.sets s.words h.contents) x fits_right) (at_snoc (set s.views id left) right u j e);
-      kept = subst (Keeps told.timeouts h.contents) (sym notes)
-          (keeps_split told.timeouts h.contents (map note_of s.views) id (length numbers) h.kept
+      kept = subst (Keeps told.timeouts told.sets h.contents) (sym notes)
+          (keeps_split told.timeouts told.sets h.contents (map note_of s.views) id (length numbers) h.kept
           (at_map note_of s.views id v at));
     }

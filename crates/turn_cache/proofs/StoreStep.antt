@@ -106,6 +106,6 @@ stores told slots id at_set place k value new now me is value_is low low' low'' 
           (omega (arith, low', low'')) s.words h.contents h.contents (nothing_moved at_set h.contents) u
           (not_other told s at_set id j v u h at has ne e) (h.each j u e))
           mine
-          (subst (Keeps told.timeouts h.contents) (sym (notes_same s.views id v w at refl)) h.kept),
+          (subst (Keeps told.timeouts told.sets h.contents) (sym (notes_same s.views id v w at refl)) h.kept),
       ap (λ t. (at_turn t v, me.1)) (sym (written_is at_set place k value new now v.turn is)),
     )

@@ -10,7 +10,6 @@ use lib.ListN.{get_elem?}
 use prog.Atomic.{either}
 use Rattle.atomic_table.specs.Table.{State, Act, Valid, carried_after, step, stepped, keeps, Allows}
 use Rattle.atomic_table.proofs.Lists.{at_map}
-use Rattle.packet_accept.specs.declared.packet.Packet.{Packet}
 use Rattle.flow_parts.specs.declared.fragment.Fragment.{Fragment}
 use Rattle.cache_face.specs.Keeping.{Keeps}
 use Rattle.cache_face.specs.Notes.{Note, note_with}
@@ -92,14 +91,14 @@ number_low told s id v h at live =
     let one = first_times v.numbers live in
     let sum = h.numbers number in once_in number told.seats (omega (arith, least, one, sum))
 
-noted_seats : (last : Bool) (note : Note) (packets : List Packet) (own : Fragment)
-    → (if last then note_with note packets (Some own) else note).seats ≡ note.seats
-noted_seats true note packets own = refl
-noted_seats false note packets own = refl
+noted_seats : (last : Bool) (note : Note) (own : Fragment)
+    → (if last then note_with note own (Some own) else note).seats ≡ note.seats
+noted_seats true note own = refl
+noted_seats false note own = refl
 
-module _ (told : Told) (id number at_set : ℕ) (packets : List Packet) (own : Fragment) (last : Bool) (me : Sat)
+module _ (told : Told) (id number at_set : ℕ) (own : Fragment) (last : Bool) (me : Sat)
     (no_turn : me.0.turn ≡ idle) (live : 0 < length me.0.numbers) (numbered : number_of me.0.numbers ≡ number)
-    (low : at_set < told.sets) (owned : IsOwn told.timeouts me.0.note packets own)
+    (low : at_set < told.sets) (owned : IsOwn me.0.note own)
     (s : State (Unit {0}) Hand) (h : Ruled told s) (at : get_elem? s.views id ≡ some me.0) where
   v : Hand
   v = me.0
@@ -170,27 +169,27 @@ module _ (told : Told) (id number at_set : ℕ) (packets : List Packet) (own : F
         turn =
             (low, omega arith, λ k below. absurd (omega (arith, below)));
       }
-      (subst (Keeps told.timeouts h.contents) (sym (notes_same s.views id me.0 w at refl)) h.kept)
+      (subst (Keeps told.timeouts told.sets h.contents) (sym (notes_same s.views id me.0 w at refl)) h.kept)
 
-  kept_lost : (b : Bool) → Keeps told.timeouts h.contents
+  kept_lost : (b : Bool) → Keeps told.timeouts told.sets h.contents
       (set (map (λ (hand : Hand). hand.note) s.views) id
-      (if b then note_with me.0.note packets (Some own) else me.0.note))
-  kept_lost true = keeps_passed told.timeouts h.contents
-      (map (λ (hand : Hand). hand.note) s.views) id me.0.note packets own h.kept
-      (at_map (λ (hand : Hand). hand.note) s.views id me.0 at) owned.can owned.shares
-  kept_lost false = subst (Keeps told.timeouts h.contents)
+      (if b then note_with me.0.note own (Some own) else me.0.note))
+  kept_lost true = keeps_passed told.timeouts told.sets h.contents
+      (map (λ (hand : Hand). hand.note) s.views) id me.0.note own h.kept
+      (at_map (λ (hand : Hand). hand.note) s.views id me.0 at) owned.can
+  kept_lost false = subst (Keeps told.timeouts told.sets h.contents)
       (sym (notes_same s.views id me.0 me.0 at refl) ∙ notes_set s.views id me.0) h.kept
 
   missed : (seats : ℕ)
       → Ruled told
       (stepped s (turn_word at_set) (get_or s.words (turn_word at_set) 0) id me.1
-      (hand_losing (move_of_try seats at_set packets own last) me.0) keeps)
+      (hand_losing (move_of_try seats at_set own last) me.0) keeps)
   missed seats =
       let n : ℕ = get_or s.words (turn_word at_set) 0 in
-      let w : Hand = hand_losing (move_of_try seats at_set packets own last) me.0 in
+      let w : Hand = hand_losing (move_of_try seats at_set own last) me.0 in
       let f = h.each id me.0 at in
       let same : set s.words (turn_word at_set) n ≡ s.words = set-get_or s.words (turn_word at_set) 0 in
-      let count : w.note.seats ≡ me.0.note.seats = noted_seats last me.0.note packets own in
+      let count : w.note.seats ≡ me.0.note.seats = noted_seats last me.0.note own in
       build told s h id me.0 w at refl count (turn_word at_set) n me.1 h.contents h.many h.ten
       (λ q lower. ap (λ ws. claim q me.0 + get_or ws (turn_word q) 0) (sym same))
       (λ q. (let t = total-set (turns_held q) s.views id me.0 w at in let o = h.once q in omega (arith, t, o)))
@@ -205,7 +204,7 @@ module _ (told : Told) (id number at_set : ℕ) (packets : List Packet) (own : F
         live = f.live;
         turn = subst (FitsTurn told.sets (set s.words (turn_word at_set) n) h.contents me.0.read) (sym no_turn) tt;
       }
-      (subst (Keeps told.timeouts h.contents) (sym (notes_set s.views id w)) (kept_lost last))
+      (subst (Keeps told.timeouts told.sets h.contents) (sym (notes_set s.views id w)) (kept_lost last))
 
   tells : (seats : ℕ) → seats ≡ told.seats → get_or s.words (turn_word at_set) 0 ≢ 0
       → (other : ℕ) × (get_or s.words (turn_word at_set) 0 ≡ suc other) × (other < seats)
@@ -232,15 +231,15 @@ module _ (told : Told) (id number at_set : ℕ) (packets : List Packet) (own : F
             omega (arith, a, b, single, all)),
       )
 
-pub takes : (told : Told) (slots id number at_set seats : ℕ) (packets : List Packet) (own : Fragment) (last : Bool)
+pub takes : (told : Told) (slots id number at_set seats : ℕ) (own : Fragment) (last : Bool)
     (me : Sat) → seats ≡ told.seats
     → me.0.turn ≡ idle → 0 < length me.0.numbers → number_of me.0.numbers ≡ number → at_set < told.sets
-    → IsOwn told.timeouts me.0.note packets own
+    → IsOwn me.0.note own
     → Allows (Ruled told) slots id me (64 * at_set) (λ n. either (eqb n 0) (number + 1) n)
-    (Takes (move_of_try seats at_set packets own last) (step slots (64 * at_set) 0 (number + 1) none) me)
-takes told slots id number at_set seats packets own last me all no_turn live numbered low owned s h wide at fits =
+    (Takes (move_of_try seats at_set own last) (step slots (64 * at_set) 0 (number + 1) none) me)
+takes told slots id number at_set seats own last me all no_turn live numbered low owned s h wide at fits =
     let n : ℕ = get_or s.words (64 * at_set) 0 in
-    let move : Move = move_of_try seats at_set packets own last in
+    let move : Move = move_of_try seats at_set own last in
     let Goal : Bool → Type 0 = λ b. (w : Hand) × (a : Act (Unit {0})) × Valid s.homes me.1 a
     × Ruled told (stepped s (64 * at_set) (either b (number + 1) n) id me.1 w a)
     × ((64 * at_set ≡ turn_word at_set)
@@ -251,13 +250,13 @@ takes told slots id number at_set seats packets own last me all no_turn live num
       hand_taking at_set me.0,
       keeps,
       tt,
-      took told id number at_set packets own last me no_turn live numbered low owned s h at free,
+      took told id number at_set own last me no_turn live numbered low owned s h at free,
       (refl, (refl, λ nz. absurd (nz free))),
     ))
     (λ nz. subst Goal (sym (ne_eqb n 0 nz)) (
       hand_losing move me.0,
       keeps,
       tt,
-      missed told id number at_set packets own last me no_turn live numbered low owned s h at seats,
-      (refl, (refl, tells told id number at_set packets own last me no_turn live numbered low owned s h at seats all)),
+      missed told id number at_set own last me no_turn live numbered low owned s h at seats,
+      (refl, (refl, tells told id number at_set own last me no_turn live numbered low owned s h at seats all)),
     ))

@@ -48,7 +48,7 @@ joins told id v other w no_turn no_turn' s h at apart at' =
       seats = (let a = f.seats in let b = g.seats in let l = length-append v.numbers w.numbers in
           omega (arith, a, b, l));
       gone = λ none. (let a = f.gone (omega (arith, none)) in let b = g.gone (omega (arith, none)) in
-          (nothing_left v.note.packets w.note.packets a.0 b.0, nothing_left v.note.handed w.note.handed a.1 b.1));
+          (nothing_left v.note.taken w.note.taken a.0 b.0, nothing_left v.note.handed w.note.handed a.1 b.1));
       live = subst (LiveAt (length both.numbers)) (sym no_turn) tt;
       turn = idle_turn v.read;
     } in
@@ -80,7 +80,7 @@ joins told id v other w no_turn no_turn' s h at apart at' =
           (λ (y : (j ≡ id) × (both ≡ u)). subst (Fits told.sets s.words h.contents) y.1 fits_both)
           (λ (y : (j ≢ id) × (get_elem? s.views j ≡ some u)). h.each j u y.1) (at_set s.views id j both u x.1))
           (at_set views' other j spent_hand u e);
-      kept = subst (Keeps told.timeouts h.contents) (sym notes)
-          (keeps_merged told.timeouts h.contents (map note_of s.views) id other v.note w.note h.kept ne
+      kept = subst (Keeps told.timeouts told.sets h.contents) (sym notes)
+          (keeps_merged told.timeouts told.sets h.contents (map note_of s.views) id other v.note w.note h.kept ne
           (at_map note_of s.views id v at) (at_map note_of s.views other w before));
     }

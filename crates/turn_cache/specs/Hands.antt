@@ -1,8 +1,9 @@
 -- What a seat knows.
 use Rattle.std.specs.Prelude.{ℕ, suc, ◌+◌, ◌-◌, Bool, false, ◌==◌, ◌&&◌, cond, if◌then◌else◌, List, [], ◌∷◌, ◌++◌}
-use Rattle.std.specs.Prelude.{length, Option, take, drop, nat_lt, slice_index_or}
+use Rattle.std.specs.Prelude.{length, Option, None, option_map, take, drop, nat_lt, slice_index_or}
 use Rattle.flow_parts.specs.declared.fragment.Fragment.{Fragment}
 use Rattle.cache_face.specs.Keeping.{entry_of}
+use Rattle.cache_face.specs.Meaning.{Written}
 use Rattle.cache_face.specs.Notes.{Note, unused_note, first_note, empty_note, merged_note}
 
 -- What a seat is at: at no set; or it holds the turn of a set and reads its words; or, with the turn, it writes one
@@ -13,7 +14,7 @@ pub data Turn : Type 0 where
   writing : ℕ → ℕ → List ℕ → List ℕ → Turn
 
 -- The numbers that a seat stands for, of which it acts as the first; its note; the sets at which it lost a try, newest
--- first; what it is at; the set that its last try read, and the content words that it read there.
+-- first; what it is at; the set that its last try read, and the content words that it read there; what it wrote last.
 pub record Hand : Type 0 where
   pub numbers : List ℕ
   pub note : Note
@@ -21,10 +22,17 @@ pub record Hand : Type 0 where
   pub turn : Turn
   pub set : ℕ
   pub read : List ℕ
+  pub written : Option Written
+
+-- What is written with ten words at a place.
+abbrev pub written_as : ℕ → List ℕ → Option Written
+written_as place content =
+    option_map (λ (kept : Fragment). let wrote : Written = record { place = place; kept = kept } in wrote)
+    (entry_of content)
 
 -- A seat of these numbers that has done nothing.
 abbrev pub new_hand : List ℕ → Note → Hand
-new_hand numbers note = record { numbers = numbers; note = note; lost = []; turn = idle; set = 0; read = [] }
+new_hand numbers note = record { numbers = numbers; note = note; lost = []; turn = idle; set = 0; read = []; written = None }
 
 -- A seat that was united with another.
 abbrev pub spent_hand : Hand

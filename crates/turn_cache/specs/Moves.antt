@@ -1,31 +1,33 @@
 -- What each kind of step does to its seat.
 use Rattle.std.specs.Prelude.{◌≡◌, ◌≢◌, ℕ, Bool, suc, ◌-◌, ◌*◌, ◌<◌, List, [], ◌∷◌, ◌++◌, Option, Some, false}
-use Rattle.std.specs.Prelude.{replicate, length, ◌==◌, if◌then◌else◌, slice_set, slice_index}
-use Rattle.packet_accept.specs.declared.packet.Packet.{Packet}
+use Rattle.std.specs.Prelude.{replicate, length, ◌==◌, if◌then◌else◌, slice_set, slice_index, option_to_list}
 use Rattle.flow_parts.specs.declared.fragment.Fragment.{Fragment}
 use Rattle.atomic_table.specs.Table.{Me, Step}
-use Rattle.flow_parts.specs.declared.timeouts.Timeouts.{Timeouts}
-use Rattle.flow_parts.specs.Sharing.{SharesOut}
 use Rattle.cache_face.specs.Keeping.{IsWhole, IsSmall}
-use Rattle.cache_face.specs.Laws.{CanMeter}
+use Rattle.cache_face.specs.Laws.{CanTake}
 use Rattle.cache_face.specs.Notes.{Note, note_with}
-use Rattle.turn_cache.specs.Hands.{Hand, Turn, idle, reading, writing, number_of}
+use Rattle.turn_cache.specs.Hands.{Hand, Turn, idle, reading, writing, number_of, written_as}
 use Rattle.turn_cache.specs.Places.{turn_word, set_word}
 
 abbrev pub Sat : Type 0
 Sat = Me (Unit {0}) Hand
 
--- What a step is about: the number of seats and the set; whether a try is the last; the packets that its fragment
--- stands for and the fragment handed out, if any; the entry, its words as they were read, and its new ones.
+-- What a step is about: the number of seats and the set; whether a try is the last; the fragment that is
+-- put in, if any, and the one handed out; the entry, its words as they were read, and its new ones.
 pub record Move : Type 0 where
   pub seats : ℕ
   pub set : ℕ
   pub last : Bool
-  pub packets : List Packet
+  pub taken : List Fragment
   pub out : Option Fragment
   pub place : ℕ
   pub old : List ℕ
   pub new : List ℕ
+
+-- What was put in and what was handed out grow.
+abbrev pub note_after : Note → List Fragment → Option Fragment → Note
+note_after note taken out =
+    record { seats = note.seats; taken = note.taken ++ taken; handed = note.handed ++ option_to_list out }
 
 -- The turn is taken: the seat reads the set.
 abbrev pub hand_taking : ℕ → Hand → Hand
@@ -37,7 +39,7 @@ hand_losing move hand =
     record hand {
       lost = move.set ∷ hand.lost;
       note =
-          if move.last then note_with hand.note move.packets move.out else hand.note;
+          if move.last then note_after hand.note move.taken move.out else hand.note;
     }
 
 -- To try to take a turn tells whose it was: nobody's, or that of another seat.
@@ -66,7 +68,8 @@ Loads m found m' = (m' ≡ (more_read (found ∷ []) m.0, m.1)) × AreWhole (m.0
 abbrev pub committed_hand : Move → Hand → Hand
 committed_hand move hand = record hand {
   turn = writing move.set move.place move.new (slice_set move.old 5 (slice_index move.new 5));
-  note = note_with hand.note move.packets move.out;
+  note = note_after hand.note move.taken move.out;
+  written = written_as move.place move.new;
 }
 
 abbrev pub Commits : Move → Sat → Sat → Type 0
@@ -91,12 +94,12 @@ abbrev pub Gives : Sat → Sat → Type 0
 Gives m m' = m' ≡ (at_turn idle m.0, m.1)
 
 -- A try to take the turn of a set. Where it is lost, and is the last, the own fragment is handed out.
-abbrev pub move_of_try : ℕ → ℕ → List Packet → Fragment → Bool → Move
-move_of_try seats set packets own last = record {
+abbrev pub move_of_try : ℕ → ℕ → Fragment → Bool → Move
+move_of_try seats set own last = record {
   seats = seats;
   set = set;
   last = last;
-  packets = packets;
+  taken = own ∷ [];
   out = Some own;
   place = 0;
   old = [];
@@ -104,14 +107,13 @@ move_of_try seats set packets own last = record {
 }
 
 -- An entry of a set is written.
-abbrev pub writes_to : ℕ → ℕ → List Packet → Option Fragment → List ℕ → List ℕ → Move
-writes_to set place packets out old new =
-    record { seats = 0; set = set; last = false; packets = packets; out = out; place = place; old = old; new = new }
+abbrev pub writes_to : ℕ → ℕ → Fragment → Option Fragment → List ℕ → List ℕ → Move
+writes_to set place own out old new =
+    record { seats = 0; set = set; last = false; taken = own ∷ []; out = out; place = place; old = old; new = new }
 
--- The fragment stands for packets that a pass of this note can meter.
-pub record IsOwn (limits : Timeouts) (note : Note) (packets : List Packet) (own : Fragment) : Type 0 where
-  pub can : CanMeter note packets
-  pub shares : SharesOut limits packets (own ∷ [])
+-- A pass of this note can take the fragment.
+pub record IsOwn (note : Note) (own : Fragment) : Type 0 where
+  pub can : CanTake note own
   pub small : IsSmall own
 
 -- The turn was taken, after so many lost tries.
@@ -119,10 +121,15 @@ abbrev pub after_tries : ℕ → ℕ → Hand → Hand
 after_tries set tries hand = hand_taking set (record hand { lost = replicate tries set ++ hand.lost })
 
 -- Three tries were lost: the fragment is handed out.
-abbrev pub passed_by : ℕ → List Packet → Fragment → Hand → Hand
-passed_by set packets own hand =
-    record hand { lost = replicate 3 set ++ hand.lost; note = note_with hand.note packets (Some own) }
+abbrev pub passed_by : ℕ → Fragment → Hand → Hand
+passed_by set own hand =
+    record hand { lost = replicate 3 set ++ hand.lost; note = note_with hand.note own (Some own) }
 
 -- A fragment was put into the set whose turn the seat had, by the choice over the entries read.
-abbrev pub filled_hand : List ℕ → List Packet → Option Fragment → Hand → Hand
-filled_hand words packets out hand = record hand { read = words; turn = idle; note = note_with hand.note packets out }
+abbrev pub filled_hand : List ℕ → ℕ → List ℕ → Fragment → Option Fragment → Hand → Hand
+filled_hand words place new own out hand = record hand {
+  read = words;
+  turn = idle;
+  note = note_with hand.note own out;
+  written = written_as place new;
+}

@@ -61,4 +61,4 @@ pub record Ruled (told : Told) (s : State (Unit {0}) Hand) : Type 0 where
   -- what each seat knows is so
   pub each : (j : ℕ) (hand : Hand) → get_elem? s.views j ≡ some hand → Fits told.sets s.words contents hand
   -- the cache keeps
-  pub kept : Keeps told.timeouts contents (map (λ (hand : Hand). hand.note) s.views)
+  pub kept : Keeps told.timeouts told.sets contents (map (λ (hand : Hand). hand.note) s.views)

@@ -3,7 +3,7 @@
 ghost use Rattle.std.specs.Prelude.{◌≡◌, ◌+◌, ◌*◌, ◌<◌, ◌≤◌, ◌++◌, [], ◌∷◌, IfOk, OnOk, Option, option_to_list};
 ghost use Rattle.std.specs.Prelude.{slice_index};
 ghost use Rattle.std.specs.Slots.{slots_items, slots_len, IsFull};
-ghost use Rattle.flow_parts.specs.Sharing.{SharesOut};
+ghost use Rattle.flow_parts.specs.Reaching.{Reaches};
 ghost use Rattle.cache_face.specs.Keeping.{entry_of, parts_in};
 ghost use Rattle.turn_cache.specs.Closing.{content_at, four_at, contents_at};
 ghost use Rattle.turn_cache.specs.Places.{set_word};
@@ -116,8 +116,8 @@ impl TurnCache {
     pub(crate) fn entries(self, alloc: Global, pass: TurnPass) -> Result<Vec<Fragment>, NoMemory>
         requires own { IsOf self pass }
         requires all { (shown_of pass).note.seats ≡ (means_of self).seats }
-        ensures { IfOk result
-            (λ entries. SharesOut (means_of self).limits (shown_of pass).note.packets
+        ensures reached { IfOk result
+            (λ entries. Reaches (means_of self).limits (shown_of pass).note.taken
             (entries.items ++ (shown_of pass).note.handed)) }
     {
         let TurnPass { seat, number: _ } = pass;

@@ -1,13 +1,11 @@
 //! The cache as a shared cache, and who opens and closes such caches.
 
 ghost use Rattle.std.specs.Prelude.{◌≡◌, []};
-ghost use Rattle.turn_cache.specs.Shown.{means_of, shown_of, IsOf, IsTryOf};
+ghost use Rattle.turn_cache.specs.Shown.{means_of, shown_of, lost_of, IsOf, IsTryOf, LostTry};
 
 use crate::cache::{TurnCache, TurnPass};
-use cache_face::{Caches, FlowCache, Metered, NoMemory};
+use cache_face::{Caches, FlowCache, Metered, MeteredList, NoMemory};
 use flow_parts::{Fragment, Timeouts};
-use metered_list::MeteredList;
-use packet_accept::Packet;
 use std::alloc::Global;
 
 impl FlowCache for TurnCache {
@@ -19,10 +17,14 @@ impl FlowCache for TurnCache {
 
     ghost is_of = { IsOf };
 
+    ghost lost_try = { LostTry };
+
     ghost is_try_of = { IsTryOf };
 
-    fn meter(&self, pass: &mut TurnPass, packet: &Packet) -> Metered {
-        self.meter_packet(pass, packet)
+    ghost lost = { lost_of };
+
+    fn meter_part(&self, pass: &mut TurnPass, part: &Fragment) -> Metered {
+        self.meter_fragment(pass, part)
     }
 
     fn unite(&self, first: TurnPass, second: TurnPass) -> TurnPass {

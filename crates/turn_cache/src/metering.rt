@@ -9,14 +9,15 @@ ghost use Rattle.cache_face.specs.Choice as choice;
 ghost use Rattle.cache_face.specs.Keeping.{entry_of, IsWhole};
 ghost use Rattle.cache_face.specs.Meaning.{IsAnswer};
 ghost use Rattle.cache_face.specs.Notes.{note_with};
+ghost use Rattle.cache_face.specs.Tries.{HasLost};
 ghost use Rattle.cache_face.specs.declared.metered.How.TheVariants.{PassedBy};
 ghost use Rattle.set_choice.specs.Chosen.{out_of};
 ghost use Rattle.turn_cache.specs.Hands.{number_of, idle, reading, writing, entries_of};
 ghost use Rattle.turn_cache.specs.Moves as moves;
-ghost use Rattle.turn_cache.specs.Shown.{means_of, shown_of, IsOf, IsTryOf};
+ghost use Rattle.turn_cache.specs.Shown.{means_of, shown_of, lost_of, IsOf, IsTryOf};
 
 use crate::cache::{TurnCache, TurnPass};
-use crate::rule::{IsTaken, Known};
+use crate::rule::Known;
 use atomic_table::Seat;
 use cache_face::{How, Metered};
 use flow_parts::Fragment;
@@ -103,7 +104,7 @@ impl TurnCache {
     }
 
     /// Writes an entry of the set whose turn the seat has, and gives the turn back.
-    fn write<K: IsTaken>(
+    fn write(
         &self,
         seat: &mut Seat<(), Known>,
         set: u64,
@@ -118,23 +119,24 @@ impl TurnCache {
         requires below { (set < self.now.sets) × (place < 4) }
         requires read { (before after : List ℕ) × (seat.old.me.0.read ≡ before ++ (old.now ++ after))
             × (length before ≡ 10 * place) }
-        requires own { moves.IsOwn self.now.timeouts seat.old.me.0.note K.packets own.now }
+        requires own { moves.IsOwn seat.old.me.0.note own.now }
+        requires of_set { set_number own.now.key self.now.sets ≡ set }
         requires kept { (kept : Fragment) × (part_words kept ≡ new.now)
             × choice.Takes self.now.timeouts own.now (entry_of old.now) (out_of how (entry_of old.now)) kept }
         ensures at { seat.new.table_id ≡ seat.old.table_id }
         ensures filled { seat.new.me
             ≡ (
-              moves.filled_hand seat.old.me.0.read K.packets (out_of how (entry_of old.now)) seat.old.me.0,
+              moves.filled_hand seat.old.me.0.read place new.now own.now (out_of how (entry_of old.now)) seat.old.me.0,
               seat.old.me.1,
             ) }
     {
-        self.commit::<K>(seat, set, place, old, new, own, how);
+        self.commit(seat, set, place, old, new, own, how);
         self.write_rest(seat, set, place, old, new);
         self.give(seat, set);
     }
 
     /// Puts a fragment into the set whose turn the seat has. The words of the set are read into `contents`.
-    fn put<K: IsTaken>(
+    fn put(
         &self,
         seat: &mut Seat<(), Known>,
         set: u64,
@@ -145,12 +147,17 @@ impl TurnCache {
         requires at { seat.old.table_id ≡ self.now.table.shared.table_id }
         requires reading { (seat.old.me.0.turn ≡ reading set) × (seat.old.me.0.read ≡ []) }
         requires below { set < self.now.sets }
-        requires own { moves.IsOwn self.now.timeouts seat.old.me.0.note K.packets own.now }
+        requires own { moves.IsOwn seat.old.me.0.note own.now }
+        requires of_set { set_number own.now.key self.now.sets ≡ set }
         requires none_out { metered.old.out ≡ None }
         ensures at { seat.new.table_id ≡ seat.old.table_id }
         ensures filled { (words : List ℕ) × (length words ≡ 40)
-            × (seat.new.me ≡ (moves.filled_hand words K.packets metered.new.out seat.old.me.0, seat.old.me.1))
-            × ((place : ℕ) × (kept : Fragment) × choice.IsChoice self.now.timeouts
+            × ((place : ℕ) × (kept : Fragment) × (seat.new.me
+            ≡ (
+              moves.filled_hand words place (part_words kept) own.now metered.new.out seat.old.me.0,
+              seat.old.me.1,
+            ))
+            × choice.IsChoice self.now.timeouts
             (entries_of words) own.now metered.new.how place metered.new.out kept) }
     {
         self.read_entry(seat, set, 0, &mut contents[0]);
@@ -159,62 +166,52 @@ impl TurnCache {
         self.read_entry(seat, set, 3, &mut contents[3]);
         let choice = choose_by_words(self.timeouts, contents, own);
         let old = &contents[choice.place];
-        self.write::<K>(seat, set, choice.place, old, &choice.words, own, choice.how);
+        self.write(seat, set, choice.place, old, &choice.words, own, choice.how);
         answer(choice.how, old, metered);
     }
 
     /// Tries three times to take the turn of a set. After the third lost try the own fragment is handed out.
-    fn take_turn<K: IsTaken>(
-        &self,
-        seat: &mut Seat<(), Known>,
-        number: u64,
-        set: u64,
-        own: &Fragment,
-    ) -> bool
+    fn take_turn(&self, seat: &mut Seat<(), Known>, number: u64, set: u64, own: &Fragment) -> bool
         requires at { seat.old.table_id ≡ self.now.table.shared.table_id }
         requires idle { (seat.old.me.0.turn ≡ idle) × (0 < length seat.old.me.0.numbers)
             × (number_of seat.old.me.0.numbers ≡ number) }
         requires set { set < self.now.sets }
         requires number { number < 64 }
-        requires own { moves.IsOwn self.now.timeouts seat.old.me.0.note K.packets own.now }
+        requires own { moves.IsOwn seat.old.me.0.note own.now }
         ensures at { seat.new.table_id ≡ seat.old.table_id }
         ensures taken { IsTrue result
             → ((n : ℕ) × (n < 3) × (seat.new.me ≡ (moves.after_tries set n seat.old.me.0, seat.old.me.1))) }
         ensures lost { result ≡ false
-            → (seat.new.me ≡ (moves.passed_by set K.packets own.now seat.old.me.0, seat.old.me.1))
+            → (seat.new.me ≡ (moves.passed_by set own.now seat.old.me.0, seat.old.me.1))
             × (self.now.seats ≢ 1) }
     {
-        if self.take::<K>(seat, number, set, own, false) {
+        if self.take(seat, number, set, own, false) {
             return true;
         }
-        if self.take::<K>(seat, number, set, own, false) {
+        if self.take(seat, number, set, own, false) {
             return true;
         }
-        self.take::<K>(seat, number, set, own, true)
+        self.take(seat, number, set, own, true)
     }
 
     /// Puts a fragment into its set, or passes it by. The answer begins as that of a packet that is passed by, with
     /// nothing handed out; what is to be otherwise is written.
     #[inline(never)]
-    pub(crate) fn put_in<K: IsTaken>(
-        &self,
-        pass: &mut TurnPass,
-        own: &Fragment,
-        metered: &mut Metered,
-    )
+    pub(crate) fn put_in(&self, pass: &mut TurnPass, own: &Fragment, metered: &mut Metered)
         requires own { IsOf self.now pass.old }
-        requires fragment { moves.IsOwn self.now.timeouts (shown_of pass.old).note K.packets own.now }
+        requires fragment { moves.IsOwn (shown_of pass.old).note own.now }
         requires passed_by { (metered.old.how ≡ PassedBy) × (metered.old.out ≡ None) }
         ensures own { IsOf self.now pass.new }
-        ensures note { (shown_of pass.new).note ≡ note_with (shown_of pass.old).note K.packets metered.new.out }
-        ensures answer { IsAnswer (means_of self.now) IsTryOf (shown_of pass.old)
-            (shown_of pass.new) own.now metered.new.how metered.new.out }
+        ensures note { (shown_of pass.new).note ≡ note_with (shown_of pass.old).note own.now metered.new.out }
+        ensures answer { IsAnswer (means_of self.now) (shown_of pass.new) own.now metered.new.how metered.new.out }
+        ensures lost { HasLost (IsTryOf (set_number own.now.key self.now.sets)) metered.new.how (lost_of pass.old)
+            (lost_of pass.new) }
     {
         let set = own.key.set_of(self.sets);
         let number = pass.number;
         let mut contents = [[0; 10]; 4];
-        if self.take_turn::<K>(&mut pass.seat, number, set, own) {
-            self.put::<K>(&mut pass.seat, set, own, &mut contents, metered);
+        if self.take_turn(&mut pass.seat, number, set, own) {
+            self.put(&mut pass.seat, set, own, &mut contents, metered);
         } else {
             metered.out = Some(*own);
         }

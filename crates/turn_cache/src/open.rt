@@ -6,7 +6,7 @@ ghost use Rattle.std.specs.List.{range_with_len};
 ghost use Rattle.cache_face.specs.Meaning.{IsFresh, IsUnited};
 ghost use Rattle.cache_face.specs.Notes.{unused_note, first_note};
 ghost use Rattle.turn_cache.specs.Hands.{new_hand};
-ghost use Rattle.turn_cache.specs.Shown.{means_of, shown_of, IsOf};
+ghost use Rattle.turn_cache.specs.Shown.{means_of, shown_of, lost_of, IsOf};
 
 use crate::cache::{TurnCache, TurnPass};
 use crate::rule::{Known, Parts, Told};
@@ -38,6 +38,7 @@ impl TurnCache {
         ensures at { seat.new.table_id ≡ seat.old.table_id }
         ensures me { seat.new.me ≡ (new_hand (range_with_len (number + 1) left) (unused_note left), []) }
         ensures pass { IsOf self.now result × IsFresh (shown_of result) }
+        ensures unlost { lost_of result ≡ [] }
     {
         let seat = self.table.shared.split_seat::<Parts>(seat);
         TurnPass { seat, number }
@@ -47,8 +48,9 @@ impl TurnCache {
     fn deal(&self, alloc: Global, mut seat: Seat<(), Known>) -> Result<Vec<TurnPass>, NoMemory>
         requires at { seat.table_id ≡ self.now.table.shared.table_id }
         requires me { seat.me ≡ (new_hand (range_with_len 0 self.now.seats) (unused_note self.now.seats), []) }
-        ensures { IfOk result (λ passes. (length passes.items ≡ self.now.seats)
+        ensures passes { IfOk result (λ passes. (length passes.items ≡ self.now.seats)
             × All (λ pass. IsOf self.now pass × IsFresh (shown_of pass)) passes.items) }
+        ensures unlost { IfOk result (λ passes. All (λ pass. lost_of pass ≡ []) passes.items) }
     {
         let mut passes = Vec::new(alloc);
         for number in 0..self.seats {
@@ -75,6 +77,7 @@ impl TurnCache {
             × ((means_of r.0).limits ≡ timeouts)) }
         ensures passes { IfOk result (λ r. (length r.1.items ≡ seats)
             × All (λ pass. IsOf r.0 pass × IsFresh (shown_of pass)) r.1.items) }
+        ensures unlost { IfOk result (λ r. All (λ pass. lost_of pass ≡ []) r.1.items) }
     {
         let words = zeros(alloc, 64 * sets as usize)?;
         let seats = seats as u64;
@@ -100,6 +103,7 @@ impl TurnCache {
         requires second { IsOf self.now second }
         ensures own { IsOf self.now result }
         ensures united { IsUnited (shown_of first) (shown_of second) (shown_of result) }
+        ensures lost { lost_of result ≡ lost_of first ++ lost_of second }
     {
         let TurnPass { mut seat, number } = first;
         let TurnPass {

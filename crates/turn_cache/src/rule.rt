@@ -1,7 +1,5 @@
 //! The rule of the table, and its kinds of step. They stand in proofs alone.
 
-ghost use Rattle.std.specs.Prelude.{List};
-ghost use Rattle.packet_accept.specs.declared.packet.Packet.{Packet};
 ghost use Rattle.turn_cache.specs.Moves.{Move};
 
 use atomic_table::{Join, Play, Split, TableRule};
@@ -55,24 +53,13 @@ impl IsMove for Brand {
       seats = 0;
       set = 0;
       last = false;
-      packets = [];
+      taken = [];
       out = None;
       place = 0;
       old = [];
       new =
           [];
     } };
-}
-
-/// The packets that a fragment stands for. A proof picks them at the call.
-pub trait IsTaken {
-    ghost packets: { List Packet };
-}
-
-impl IsTaken for Brand {
-    ghost use Rattle.std.specs.Prelude.{[]};
-
-    ghost packets = { [] };
 }
 
 /// A turn is taken, or a try lost.

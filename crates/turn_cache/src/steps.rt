@@ -2,6 +2,7 @@
 
 ghost use Rattle.std.specs.Prelude.{◌≡◌, ◌≢◌, ℕ, ◌+◌, ◌*◌, ◌<◌, ◌≤◌, ◌++◌, length, [], ◌∷◌, List, IsTrue, true, false};
 ghost use Rattle.std.specs.Prelude.{slice_set, slice_index};
+ghost use Rattle.flow_key.specs.Key.{set_number};
 ghost use Rattle.flow_parts.specs.declared.fragment.Fragment.{Fragment};
 ghost use Rattle.flow_parts.specs.Parts.{part_words};
 ghost use Rattle.cache_face.specs.Choice as choice;
@@ -11,7 +12,7 @@ ghost use Rattle.turn_cache.specs.Hands.{number_of, idle, reading, writing};
 ghost use Rattle.turn_cache.specs.Moves as moves;
 
 use crate::cache::TurnCache;
-use crate::rule::{Commits, Gives, IsMove, IsTaken, Known, Loads, Stores, Takes};
+use crate::rule::{Commits, Gives, IsMove, Known, Loads, Stores, Takes};
 use atomic_table::Seat;
 use cache_face::How;
 use flow_parts::Fragment;
@@ -19,7 +20,7 @@ use std::marker::Brand;
 
 impl TurnCache {
     /// Tries to take the turn of a set, in the table's rule that `M` and `K` name. It answers what the turn word had.
-    fn take_as<M: IsMove, K: IsTaken>(
+    fn take_as<M: IsMove>(
         &self,
         seat: &mut Seat<(), Known>,
         number: u64,
@@ -27,15 +28,15 @@ impl TurnCache {
         _own: &Fragment,
         _last: bool,
     ) -> u64
-        requires about { M.about ≡ moves.move_of_try self.now.seats set K.packets _own.now _last }
+        requires about { M.about ≡ moves.move_of_try self.now.seats set _own.now _last }
         requires at { seat.old.table_id ≡ self.now.table.shared.table_id }
         requires idle { (seat.old.me.0.turn ≡ idle) × (0 < length seat.old.me.0.numbers)
             × (number_of seat.old.me.0.numbers ≡ number) }
         requires set { set < self.now.sets }
         requires number { number < 64 }
-        requires own { moves.IsOwn self.now.timeouts seat.old.me.0.note K.packets _own.now }
+        requires own { moves.IsOwn seat.old.me.0.note _own.now }
         ensures at { seat.new.table_id ≡ seat.old.table_id }
-        ensures tells { moves.Tells (moves.move_of_try self.now.seats set K.packets _own.now _last) seat.old.me result
+        ensures tells { moves.Tells (moves.move_of_try self.now.seats set _own.now _last) seat.old.me result
             seat.new.me }
     {
         let word = 64 * set as usize;
@@ -46,7 +47,7 @@ impl TurnCache {
 
     /// Tries to take the turn of a set. Where another seat has it the try is lost, and where it is the last, the own
     /// fragment is handed out.
-    pub(crate) fn take<K: IsTaken>(
+    pub(crate) fn take(
         &self,
         seat: &mut Seat<(), Known>,
         number: u64,
@@ -59,18 +60,18 @@ impl TurnCache {
             × (number_of seat.old.me.0.numbers ≡ number) }
         requires set { set < self.now.sets }
         requires number { number < 64 }
-        requires own { moves.IsOwn self.now.timeouts seat.old.me.0.note K.packets own.now }
+        requires own { moves.IsOwn seat.old.me.0.note own.now }
         ensures at { seat.new.table_id ≡ seat.old.table_id }
         ensures taken { IsTrue result → seat.new.me ≡ (moves.hand_taking set seat.old.me.0, seat.old.me.1) }
         ensures lost { result ≡ false
             → (seat.new.me
             ≡ (
-              moves.hand_losing (moves.move_of_try self.now.seats set K.packets own.now last) seat.old.me.0,
+              moves.hand_losing (moves.move_of_try self.now.seats set own.now last) seat.old.me.0,
               seat.old.me.1,
             ))
             × (self.now.seats ≢ 1) }
     {
-        self.take_as::<Brand, K>(seat, number, set, own, last) == 0
+        self.take_as::<Brand>(seat, number, set, own, last) == 0
     }
 
     /// Loads the next content word of the set.
@@ -87,7 +88,7 @@ impl TurnCache {
 
     /// Stores the number of packets of an entry, the step by which its packet counts as metered, in the table's rule
     /// that `M` and `K` name.
-    fn commit_as<M: IsMove, K: IsTaken>(
+    fn commit_as<M: IsMove>(
         &self,
         seat: &mut Seat<(), Known>,
         set: u64,
@@ -97,19 +98,20 @@ impl TurnCache {
         _own: &Fragment,
         _how: How,
     )
-        requires about { M.about ≡ moves.writes_to set place K.packets
+        requires about { M.about ≡ moves.writes_to set place _own.now
             (out_of _how (entry_of _old.now)) _old.now new.now }
         requires at { seat.old.table_id ≡ self.now.table.shared.table_id }
         requires reading { seat.old.me.0.turn ≡ reading set }
         requires below { (set < self.now.sets) × (place < 4) }
         requires read { (before after : List ℕ) × (seat.old.me.0.read ≡ before ++ (_old.now ++ after))
             × (length before ≡ 10 * place) }
-        requires own { moves.IsOwn self.now.timeouts seat.old.me.0.note K.packets _own.now }
+        requires own { moves.IsOwn seat.old.me.0.note _own.now }
+        requires of_set { set_number _own.now.key self.now.sets ≡ set }
         requires kept { (kept : Fragment) × (part_words kept ≡ new.now)
             × choice.Takes self.now.timeouts _own.now (entry_of _old.now) (out_of _how (entry_of _old.now)) kept }
         ensures at { seat.new.table_id ≡ seat.old.table_id }
         ensures commits { moves.Commits
-            (moves.writes_to set place K.packets (out_of _how (entry_of _old.now)) _old.now new.now) seat.old.me
+            (moves.writes_to set place _own.now (out_of _how (entry_of _old.now)) _old.now new.now) seat.old.me
             seat.new.me }
     {
         let word = 64 * set as usize + 16 + (10 * place + 5);
@@ -117,7 +119,7 @@ impl TurnCache {
     }
 
     /// Stores the first word of an entry, its number of packets. From here on the set has its new entry.
-    pub(crate) fn commit<K: IsTaken>(
+    pub(crate) fn commit(
         &self,
         seat: &mut Seat<(), Known>,
         set: u64,
@@ -132,15 +134,16 @@ impl TurnCache {
         requires below { (set < self.now.sets) × (place < 4) }
         requires read { (before after : List ℕ) × (seat.old.me.0.read ≡ before ++ (old.now ++ after))
             × (length before ≡ 10 * place) }
-        requires own { moves.IsOwn self.now.timeouts seat.old.me.0.note K.packets own.now }
+        requires own { moves.IsOwn seat.old.me.0.note own.now }
+        requires of_set { set_number own.now.key self.now.sets ≡ set }
         requires kept { (kept : Fragment) × (part_words kept ≡ new.now)
             × choice.Takes self.now.timeouts own.now (entry_of old.now) (out_of how (entry_of old.now)) kept }
         ensures at { seat.new.table_id ≡ seat.old.table_id }
         ensures commits { moves.Commits
-            (moves.writes_to set place K.packets (out_of how (entry_of old.now)) old.now new.now) seat.old.me
+            (moves.writes_to set place own.now (out_of how (entry_of old.now)) old.now new.now) seat.old.me
             seat.new.me }
     {
-        self.commit_as::<Brand, K>(seat, set, place, old, new, own, how);
+        self.commit_as::<Brand>(seat, set, place, old, new, own, how);
     }
 
     /// Stores a further word of the entry.

@@ -1,6 +1,7 @@
 //! Tables of packets, for any cache: one set and one seat, and one set and two seats.
 
-ghost use Rattle.std.specs.Prelude.{◌≡◌, ◌+◌, ◌<◌, ◌^◌, ◌++◌, All, OnOk, option_to_list};
+ghost use Rattle.std.specs.Prelude.{◌≡◌, ◌+◌, ◌<◌, ◌≤◌, ◌^◌, ◌++◌, OnOk, option_to_list};
+ghost use Rattle.cache_face.specs.Keeping.{packet_count};
 
 use crate::TurnCaches;
 use cache_face::{Caches, FlowCache, How, Metered};
@@ -34,10 +35,10 @@ fn meter<C: FlowCache>(
 ) -> Metered
     requires own { C.is_of cache.now pass.old }
     requires single { (C.shown pass.old).note.seats ≡ 1 }
-    requires rises { All (λ p. p.number < number) (C.shown pass.old).note.packets }
+    requires few { packet_count (C.shown pass.old).note.taken ≤ number }
     ensures own { C.is_of cache.now pass.new }
     ensures single { (C.shown pass.new).note.seats ≡ 1 }
-    ensures rises { All (λ p. p.number < number + 1) (C.shown pass.new).note.packets }
+    ensures few { packet_count (C.shown pass.new).note.taken ≤ number + 1 }
     ensures handed { (C.shown pass.new).note.handed ≡ (C.shown pass.old).note.handed ++ option_to_list result.out }
 {
     cache.meter(pass, &packet(number, flow, second))
@@ -54,11 +55,11 @@ fn keep<C: FlowCache>(
 ) -> Result<How, Fail>
     requires own { C.is_of cache.now pass.old }
     requires single { (C.shown pass.old).note.seats ≡ 1 }
-    requires rises { All (λ p. p.number < number) (C.shown pass.old).note.packets }
+    requires few { packet_count (C.shown pass.old).note.taken ≤ number }
     requires handed { handed.old.items ≡ (C.shown pass.old).note.handed }
     ensures own { C.is_of cache.now pass.new }
     ensures single { (C.shown pass.new).note.seats ≡ 1 }
-    ensures rises { All (λ p. p.number < number + 1) (C.shown pass.new).note.packets }
+    ensures few { packet_count (C.shown pass.new).note.taken ≤ number + 1 }
     ensures handed { OnOk result (handed.new.items ≡ (C.shown pass.new).note.handed) }
 {
     let metered = meter(cache, pass, number, flow, second);

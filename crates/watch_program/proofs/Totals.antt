@@ -1,13 +1,14 @@
 -- The total of what a cache gave of a capture.
 use Rattle.std.proofs.Common.{◌≡◌, ℕ, List, ◌++◌, length, sum_by, Option, Some, None, sym, ap, ◌∙◌, subst, append-nil}
 use Rattle.std.specs.Prelude.{IsPermutation, IsSomeAnd}
-use Rattle.std.proofs.lemmas.List.Sorted.{IsPermutation-sym, IsPermutation-refl}
+use Rattle.std.proofs.lemmas.List.Sorted.{IsPermutation-refl}
 use Rattle.pcap_reader.specs.File.{CaptureFile, IsCaptureOf, capture_file}
 use Rattle.pcap_reader.proofs.OneKind.{and-so}
 use Rattle.packet_accept.specs.Packets.{answers_of, packets_of}
+use Rattle.packet_accept.specs.declared.packet.Packet.{Packet}
 use Rattle.flow_parts.specs.declared.fragment.Fragment.{Fragment}
 use Rattle.flow_parts.specs.declared.timeouts.Timeouts.{Timeouts}
-use Rattle.flow_parts.specs.Laws.{StandsPermuted, CountsAll}
+use Rattle.flow_parts.specs.Laws.{CountsAll}
 use Rattle.flow_parts.specs.Sharing.{SharesOut}
 use Rattle.capture_tally.specs.declared.tally.Tally.{Tally}
 use Rattle.capture_tally.specs.Tallies.{IsTallyOf, octets_of}
@@ -30,22 +31,20 @@ handed-same parts one other both united none are =
     ∙ append-nil one.note.handed in
     subst (IsPermutation parts) (are ∙ sym same) (IsPermutation-refl parts)
 
--- what the cache gave has the packets and the octets of the capture whose packets were metered
+-- what the cache gave has the packets and the octets of the capture whose packets were shared out by what was put in
 pub counted : (bytes : List ℕ) (limits : Timeouts) (one other both : PassMeans) (metered parts : List Fragment)
-    → StandsPermuted → CountsAll
-    → IsUnited one other both → other.note ≡ first_note
-    → IsCaptureOf (λ file. IsPermutation (packets_of file) one.note.packets) bytes
-    → SharesOut limits both.note.packets metered → parts ≡ metered → IsCaptureOf (HasCounts parts) bytes
-counted bytes limits one other both metered parts permuted counts united none all shared are =
-    let same : both.note.packets ≡ one.note.packets =
-    ap (λ (n : Note). n.packets) united.0 ∙ ap (λ (n : Note). one.note.packets ++ n.packets) none
-    ∙ append-nil one.note.packets in
-    and-so (capture_file bytes) (λ file. IsPermutation (packets_of file) one.note.packets) (HasCounts parts) all
+    → CountsAll → IsUnited one other both → other.note ≡ first_note
+    → IsCaptureOf (λ file. SharesOut limits (packets_of file) one.note.taken) bytes
+    → ((packets : List Packet) → SharesOut limits packets both.note.taken → SharesOut limits packets metered)
+    → parts ≡ metered → IsCaptureOf (HasCounts parts) bytes
+counted bytes limits one other both metered parts counts united none all shared are =
+    let same : both.note.taken ≡ one.note.taken =
+    ap (λ (n : Note). n.taken) united.0 ∙ ap (λ (n : Note). one.note.taken ++ n.taken) none
+    ∙ append-nil one.note.taken in
+    and-so (capture_file bytes) (λ file. SharesOut limits (packets_of file) one.note.taken) (HasCounts parts) all
     (λ file is. counts limits (packets_of file) parts
-    (permuted limits both.note.packets (packets_of file) parts parts
-    (subst (λ l. IsPermutation l (packets_of file)) (sym same)
-    (IsPermutation-sym (packets_of file) one.note.packets is)) (IsPermutation-refl parts)
-    (subst (SharesOut limits both.note.packets) (sym are) shared)))
+    (subst (SharesOut limits (packets_of file)) (sym are)
+    (shared (packets_of file) (subst (SharesOut limits (packets_of file)) (sym same) is))))
 
 tallied-at : (o : Option CaptureFile) (parts : List Fragment) (tally : Tally) → IsSomeAnd o (HasCounts parts)
     → IsSomeAnd o (λ file. IsTallyOf tally (answers_of file))

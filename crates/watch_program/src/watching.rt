@@ -1,11 +1,12 @@
 //! Workers that meter a capture through a cache, beside one who asks for its open flows.
 
-ghost use Rattle.std.specs.Prelude.{◌≡◌, ◌+◌, ◌^◌, ◌<◌, ◌≤◌, length, Some, All, IfOk, IsPermutation};
+ghost use Rattle.std.specs.Prelude.{◌≡◌, ◌+◌, ◌^◌, ◌<◌, ◌≤◌, length, Some, All, IfOk};
 ghost use Rattle.pcap_reader.specs.File.{IsCaptureOf, capture_file, IsKnownLink};
 ghost use Rattle.pcap_reader.specs.Index.{IsIndexOf};
 ghost use Rattle.pcap_reader.specs.Views.{file_of};
 ghost use Rattle.packet_accept.specs.Packets.{answers_of, packets_of};
 ghost use Rattle.capture_tally.specs.Tallies.{IsTallyOf, octets_of};
+ghost use Rattle.flow_parts.specs.Sharing.{SharesOut};
 ghost use Rattle.cache_face.specs.Meaning.{IsFresh};
 ghost use Rattle.cache_face.specs.Notes.{first_note};
 ghost use Rattle.flow_cache.specs.Shown.{IsOf, means_of, shown_of};
@@ -20,7 +21,7 @@ use cache_face::{Caches, FlowCache};
 use flow_cache::{PebrCache, PebrCaches, PebrPass};
 use flow_key::FlowKey;
 use flow_parts::Timeouts;
-use flow_parts::laws::{sharing_out_counts, sharing_out_stands};
+use flow_parts::laws::sharing_out_counts;
 use meter_workers::{Gate, Gathered, meter_all};
 use no_memory::NoMemory;
 use pcap_reader::{Capture, RecordIndex};
@@ -63,7 +64,8 @@ fn meter_bytes<R: Threads + Sync, G: Gate>(
         × All (λ p. IsOf cache.now p × IsFresh (shown_of p)) passes.items }
     ensures seats { IfOk result (λ r. IsOf cache.now r.pass × ((shown_of r.pass).note.seats ≡ length passes.items)) }
     ensures packets { IfOk result
-        (λ r. IsCaptureOf (λ file. IsPermutation (packets_of file) (shown_of r.pass).note.packets) bytes.now) }
+        (λ r. IsCaptureOf (λ file. SharesOut (means_of cache.now).limits (packets_of file) (shown_of r.pass).note.taken)
+        bytes.now) }
     ensures parts { IfOk result (λ r. r.parts.items ≡ (shown_of r.pass).note.handed) }
     ensures tally { IfOk result (λ r. IsCaptureOf (λ file. IsTallyOf r.tally (answers_of file)) bytes.now) }
 {
@@ -98,7 +100,8 @@ fn at_once<R: Threads + Sync, G: Gate>(
     ensures in_turn { IfOk result.0.answers (λ answers. AreInTurn keys.now answers.items) }
     ensures seats { IfOk result.1 (λ r. IsOf cache.now r.pass × ((shown_of r.pass).note.seats ≡ length passes.items)) }
     ensures packets { IfOk result.1
-        (λ r. IsCaptureOf (λ file. IsPermutation (packets_of file) (shown_of r.pass).note.packets) bytes.now) }
+        (λ r. IsCaptureOf (λ file. SharesOut (means_of cache.now).limits (packets_of file) (shown_of r.pass).note.taken)
+        bytes.now) }
     ensures parts { IfOk result.1 (λ r. r.parts.items ≡ (shown_of r.pass).note.handed) }
     ensures tally { IfOk result.1 (λ r. IsCaptureOf (λ file. IsTallyOf r.tally (answers_of file)) bytes.now) }
 {
@@ -120,8 +123,8 @@ fn at_once<R: Threads + Sync, G: Gate>(
             ensures seats { IfOk result (λ r. IsOf cache.entry.now r.pass
                 × ((shown_of r.pass).note.seats ≡ length passes.items)) }
             ensures packets { IfOk result
-                (λ r. IsCaptureOf (λ file. IsPermutation (packets_of file) (shown_of r.pass).note.packets)
-                bytes.entry.now) }
+                (λ r. IsCaptureOf (λ file. SharesOut (means_of cache.entry.now).limits (packets_of file)
+                (shown_of r.pass).note.taken) bytes.entry.now) }
             ensures parts { IfOk result (λ r. r.parts.items ≡ (shown_of r.pass).note.handed) }
             ensures tally { IfOk result
                 (λ r. IsCaptureOf (λ file. IsTallyOf r.tally (answers_of file)) bytes.entry.now) }
@@ -141,15 +144,14 @@ fn total_behind(
     requires pass { IsOf cache pass × ((shown_of pass).note ≡ first_note) }
     requires own { IsOf cache gathered.pass }
     requires seats { (shown_of gathered.pass).note.seats + 1 ≡ (means_of cache).seats }
-    requires packets { IsCaptureOf (λ file. IsPermutation (packets_of file) (shown_of gathered.pass).note.packets)
-        bytes.now }
+    requires packets { IsCaptureOf (λ file. SharesOut (means_of cache).limits (packets_of file)
+        (shown_of gathered.pass).note.taken) bytes.now }
     requires parts { gathered.parts.items ≡ (shown_of gathered.pass).note.handed }
     requires tally { IsCaptureOf (λ file. IsTallyOf gathered.tally (answers_of file)) bytes.now }
     ensures { IfOk result
         (λ total. IsCaptureOf (λ file. (total.0 ≡ length (packets_of file)) × (total.1 ≡ octets_of (packets_of file)))
         bytes.now) }
 {
-    sharing_out_stands();
     sharing_out_counts();
     let _ = bytes;
     let Gathered {

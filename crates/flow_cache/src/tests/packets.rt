@@ -1,6 +1,7 @@
 //! Flows 1 to 5 through one pass, in one set.
 
-ghost use Rattle.std.specs.Prelude.{◌≡◌, ◌+◌, ◌<◌, ◌^◌, [], length, All, IfSome};
+ghost use Rattle.std.specs.Prelude.{◌≡◌, ◌+◌, ◌<◌, ◌≤◌, ◌^◌, length, All, IfSome};
+ghost use Rattle.cache_face.specs.Keeping.{packet_count};
 ghost use Rattle.cache_face.specs.Meaning.{IsFresh};
 ghost use Rattle.flow_cache.specs.Shown.{shown_of, IsOf};
 
@@ -42,11 +43,11 @@ pub fn meter_next(
 ) -> Metered
     requires own { IsOf cache.now pass.old }
     requires single { (shown_of pass.old).note.seats ≡ 1 }
-    requires few { number < 2 ^ 32 }
-    requires rises { All (λ p. p.number < number) (shown_of pass.old).note.packets }
+    requires below { number < 2 ^ 32 }
+    requires few { packet_count (shown_of pass.old).note.taken ≤ number }
     ensures own { IsOf cache.now pass.new }
     ensures single { (shown_of pass.new).note.seats ≡ 1 }
-    ensures rises { All (λ p. p.number < number + 1) (shown_of pass.new).note.packets }
+    ensures few { packet_count (shown_of pass.new).note.taken ≤ number + 1 }
 {
     cache.meter(pass, &packet(number, flow, second))
 }
@@ -66,7 +67,7 @@ fn flow_out(metered: &Metered) -> u16 {
 fn count_right(cache: &PebrCache, pass: &mut PebrPass, rows: &[Row]) -> u64
     requires own { IsOf cache.now pass.old }
     requires single { (shown_of pass.old).note.seats ≡ 1 }
-    requires fresh { (shown_of pass.old).note.packets ≡ [] }
+    requires none { packet_count (shown_of pass.old).note.taken ≡ 0 }
     requires few { length rows.now < 2 ^ 16 }
     ensures own { IsOf cache.now pass.new }
     ensures single { (shown_of pass.new).note.seats ≡ 1 }

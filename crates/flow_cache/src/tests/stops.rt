@@ -1,6 +1,7 @@
 //! One pass is stopped at each point of its try, while another meters 200 packets of 200 other flows into its set.
 
-ghost use Rattle.std.specs.Prelude.{◌≡◌, [], Option, Some, None, IfOk, false};
+ghost use Rattle.std.specs.Prelude.{◌≡◌, Option, Some, None, IfOk, false};
+ghost use Rattle.cache_face.specs.Keeping.{packet_count};
 ghost use Rattle.cache_face.specs.Meaning.{IsFresh};
 ghost use Rattle.flow_cache.specs.Shown.{means_of, shown_of, IsOf};
 
@@ -38,7 +39,7 @@ struct Crowd<'a, K: IsInto> {
     ghost into: { K.cache ≡ Some cache.now },
     ghost of: { IsOf cache.now pass },
     ghost single: { (shown_of pass).note.seats ≡ 1 },
-    ghost waits: { came ≡ false → (shown_of pass).note.packets ≡ [] },
+    ghost waits: { came ≡ false → packet_count (shown_of pass).note.taken ≡ 0 },
 }
 
 /// The packets of the fragment that was handed out.
@@ -62,7 +63,7 @@ fn packets_in(parts: &[Fragment]) -> u64 {
 fn meter_crowd(cache: &PebrCache, pass: &mut PebrPass) -> (u64, usize)
     requires own { IsOf cache.now pass.old }
     requires single { (shown_of pass.old).note.seats ≡ 1 }
-    requires fresh { (shown_of pass.old).note.packets ≡ [] }
+    requires none { packet_count (shown_of pass.old).note.taken ≡ 0 }
     ensures own { IsOf cache.now pass.new }
     ensures single { (shown_of pass.new).note.seats ≡ 1 }
 {
@@ -120,7 +121,8 @@ fn meter_stopped<K: IsInto>(
         most: 0,
         marker: PhantomData,
     };
-    let metered = cache.meter_stopping(&mut first, &packet(0, 1, 1), &mut crowd);
+    let own = Fragment::of(&packet(0, 1, 1));
+    let metered = cache.meter_stopping(&mut first, &own, &mut crowd);
     let Crowd {
         pass,
         handed,

@@ -5,5 +5,6 @@ use Rattle.flow_watch.proofs.Stays.{can_stay}
 use Rattle.flow_watch.proofs.hold.leave.Goals as goal
 
 pub leave-requires-clause-keeps : goal.leave-requires-clause-keeps
-leave-requires-clause-keeps c = can_stay (Keeps (fixed_at c.roots-2.result.now)) (number_by c.if-not-holds.seat)
-    (note_by first_note c.if-not-holds.seat)
+leave-requires-clause-keeps c =
+    can_stay (Keeps (fixed_at c.roots-2.result.now).timeouts (fixed_at c.roots-2.result.now).sets)
+    (number_by c.if-not-holds.seat) (note_by first_note c.if-not-holds.seat)

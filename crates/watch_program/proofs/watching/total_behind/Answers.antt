@@ -18,7 +18,7 @@ pub total_of-requires-clause-packets : goal.total_of-requires-clause-packets
 total_of-requires-clause-packets c =
     let counts = counted c.args.bytes.now (means_of c.args.cache).limits (shown_of c.args.gathered.pass)
     (shown_of c.args.pass) (shown_of c.unite-pass.result)
-    (metered_by c.close.new.self) c.metered.result.now c.sharing_out_stands.ensures.permuted
+    (metered_by c.close.new.self) c.metered.result.now
     c.sharing_out_counts.ensures.counts c.unite-pass.ensures.united
     c.requires.pass.1 c.requires.packets c.in_ok-close.ensures.shared c.metered.ensures in
     let fits = (tallied c.args.bytes.now c.metered.result.now c.args.gathered.tally counts c.requires.tally).0 in
@@ -28,7 +28,7 @@ pub total_of-requires-clause-octets : goal.total_of-requires-clause-octets
 total_of-requires-clause-octets c =
     let counts = counted c.args.bytes.now (means_of c.args.cache).limits (shown_of c.args.gathered.pass)
     (shown_of c.args.pass) (shown_of c.unite-pass.result)
-    (metered_by c.close.new.self) c.metered.result.now c.sharing_out_stands.ensures.permuted
+    (metered_by c.close.new.self) c.metered.result.now
     c.sharing_out_counts.ensures.counts c.unite-pass.ensures.united
     c.requires.pass.1 c.requires.packets c.in_ok-close.ensures.shared c.metered.ensures in
     let fits = (tallied c.args.bytes.now c.metered.result.now c.args.gathered.tally counts c.requires.tally).1 in
@@ -38,7 +38,7 @@ pub returns : goal.returns
 returns c =
     let counts = counted c.args.bytes.now (means_of c.args.cache).limits (shown_of c.args.gathered.pass)
     (shown_of c.args.pass) (shown_of c.unite-pass.result)
-    (metered_by c.close.new.self) c.metered.result.now c.sharing_out_stands.ensures.permuted
+    (metered_by c.close.new.self) c.metered.result.now
     c.sharing_out_counts.ensures.counts c.unite-pass.ensures.united
     c.requires.pass.1 c.requires.packets c.in_ok-close.ensures.shared c.metered.ensures in
     and-so (capture_file c.args.bytes.now) (HasCounts c.metered.result.now)

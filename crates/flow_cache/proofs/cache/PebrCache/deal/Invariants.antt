@@ -1,8 +1,8 @@
-use Rattle.std.proofs.Common.{◌≡◌, ◌+◌, ◌<◌, ℕ, length, get_or, All}
+use Rattle.std.proofs.Common.{◌≡◌, ◌+◌, ◌<◌, ℕ, [], length, get_or, All}
 use Rattle.cache_face.specs.Meaning.{IsFresh}
 use Rattle.cache_face.specs.Notes.{first_note}
 use Rattle.pebr_roots.specs.Passes.{shape_at, IsOpenedPass}
-use Rattle.flow_cache.specs.Shown.{shown_of, IsOf}
+use Rattle.flow_cache.specs.Shown.{shown_of, tries_of, IsOf}
 use Rattle.flow_cache.proofs.cache.PebrCache.deal.Given as goal
 
 abbrev pub invariant-loop-turn : goal.invariant-loop-turn
@@ -12,4 +12,5 @@ invariant-loop-turn l = record {
   ahead : (i : ℕ) (d : _) → i < length l.inner.items
       → IsOpenedPass l.self.roots first_note i (get_or l.inner.items i d);
   each : All (λ pass. IsOf l.self pass × IsFresh (shown_of pass)) l.passes.items;
+  unlost : All (λ pass. tries_of pass ≡ []) l.passes.items;
 }

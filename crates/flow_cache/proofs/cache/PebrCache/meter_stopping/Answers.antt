@@ -1,22 +1,32 @@
-use Rattle.std.proofs.Common.{◌≡◌, ◌++◌, List, map, sym, ap, ◌∙◌, subst, refl}
+use Rattle.std.proofs.Common.{◌≡◌, ◌++◌, List, sym, ap, ◌∙◌, subst, refl}
 use Rattle.std.specs.List.{flat_map}
 use lib.ListN.{get_elem?}
+use Rattle.cache_face.specs.Laws.{CanTake}
+use Rattle.cache_face.proofs.Keeping.{taken_is_small}
 use Rattle.cache_face.specs.Meaning.{PassMeans}
 use Rattle.cache_face.specs.Notes.{Note, first_note}
 use Rattle.pebr_words.specs.Pasts.{Lost}
 use Rattle.pebr_roots.specs.Passes.{note_by, past_by, lost_by}
-use Rattle.flow_cache.specs.Reading.{entries_read, set_read}
-use Rattle.flow_cache.specs.Shown.{means_of, shown_of, try_of}
+use Rattle.flow_cache.specs.Reading.{entries_read, set_read, written_in}
+use Rattle.flow_cache.specs.Shown.{means_of}
 use Rattle.flow_cache.specs.Trying.{IsOwn}
-use Rattle.flow_cache.proofs.Answering.{own_of, lost_on, answered}
+use Rattle.flow_cache.proofs.Spared.{collects_on}
+use Rattle.flow_cache.proofs.Answering.{lost_on, lost_at, answered}
 use Rattle.flow_cache.proofs.cache.PebrCache.meter_stopping.Goals as goal
 
 pub put_in-lost-requires-clause-own : goal.put_in-lost-requires-clause-own
 put_in-lost-requires-clause-own g c =
-    let limits = c.args.self.now.timeouts in
-    subst (λ (note : Note). IsOwn limits note c.args.packet.now c.of-own.result) (sym c.make_room.ensures.note)
-    (own_of limits (note_by first_note c.args.pass.now.inner) c.args.packet.now c.of-own.result c.requires.single
-    c.requires.number c.requires.octets c.requires.rises c.of-own.ensures.alone (c.of-own.ensures.heap limits))
+    let can : CanTake (note_by first_note c.args.pass.now.inner) c.args.part.now = record {
+      single = c.requires.single;
+      bounded = c.requires.octets;
+      room = c.requires.room;
+    } in
+    subst (λ (note : Note). IsOwn c.args.self.now.sets c.set_of-set.result note c.args.part.now)
+    (sym c.make_room.ensures.note) (record {
+      can = can;
+      of_set = sym c.set_of-set.ensures.number;
+      small = taken_is_small (note_by first_note c.args.pass.now.inner) c.args.part.now can;
+    })
 
 pub returns-clause-own : goal.returns-clause-own
 returns-clause-own g c =
@@ -31,24 +41,34 @@ returns-clause-own g c =
 
 pub returns-clause-answer : goal.returns-clause-answer
 returns-clause-answer g c =
+    let past = past_by c.put_in-lost.new.pass in
+    let now : PassMeans = record {
+      note = note_by first_note c.put_in-lost.new.pass;
+      set = set_read past.loads;
+      entries = entries_read past (set_read past.loads);
+      written = written_in past.put;
+    } in
+    answered (means_of c.args.self.now) now past c.args.part.now c.put_in-lost.new.metered.out
+    c.set_of-set.result c.put_in-lost.result c.set_of-set.ensures.number refl refl refl
+    c.put_in-lost.new.metered.how c.put_in-lost.ensures.outcome
+
+pub returns-clause-lost : goal.returns-clause-lost
+returns-clause-lost g c =
     let old = c.args.pass.now in
     let room = c.make_room.ensures.same.still in
     let put = c.put_in-lost.ensures.same.still in
     let tries = c.put_in-lost.ensures.lost in
     let past = past_by c.put_in-lost.new.pass in
-    let now : PassMeans = record {
-      note = note_by first_note c.put_in-lost.new.pass;
-      lost = map try_of (lost_by c.put_in-lost.new.pass);
-      set = set_read past.loads;
-      entries = entries_read past (set_read past.loads);
-    } in
+    let cache = means_of c.args.self.now in
     let listed : past.lost ≡ tries.tries ++ (past_by old.inner).lost =
     tries.listed ∙ ap (λ (l : List Lost). tries.tries ++ l) c.make_room.ensures.lost in
-    let more = ap (λ (l : List _). flat_map (λ held. held.past.lost) l) (put.4 ∙ room.4) in (
-      c.of-own.result,
-      c.of-own.ensures.alone,
-      answered (means_of c.args.self.now) (shown_of old) now past c.of-own.result c.put_in-lost.new.metered.out
-          c.set_of-set.result c.put_in-lost.result tries.tries
-          c.set_of-set.ensures.number refl refl (lost_on tries.tries (past_by old.inner).lost past.lost _ _ listed more)
-          tries.many tries.each c.put_in-lost.new.metered.how c.put_in-lost.ensures.outcome,
-    )
+    let more = ap (λ (l : List _). flat_map (λ held. held.past.lost) l) (put.4 ∙ room.4) in
+    lost_at cache.limits cache.seats c.set_of-set.result _ past c.args.part.now c.put_in-lost.result
+    c.put_in-lost.new.metered.how c.put_in-lost.new.metered.out _ _ (lost_by old.inner)
+    (lost_by c.put_in-lost.new.pass) tries c.put_in-lost.ensures.outcome c.set_of-set.ensures.number
+    (lost_on tries.tries (past_by old.inner).lost past.lost _ _ listed more)
+
+pub returns-clause-collects : goal.returns-clause-collects
+returns-clause-collects g c =
+    collects_on _ (past_by c.args.pass.now.inner) (past_by c.make_room.new.pass) (past_by c.put_in-lost.new.pass)
+    c.make_room.ensures.collects c.put_in-lost.ensures.spared

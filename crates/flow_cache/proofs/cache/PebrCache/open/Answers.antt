@@ -1,6 +1,7 @@
 use Rattle.std.proofs.Common.{◌≡◌, ◌*◌, ◌+◌, ◌∙◌, ◌∷◌, [], ℕ, zero, suc, List, map, replicate, get_or, sum_by, refl}
-use Rattle.std.proofs.Common.{sym, subst, arith, inl, All}
+use Rattle.std.proofs.Common.{length, sym, subst, arith, inl, All}
 use Rattle.std.specs.List.{range_with_len}
+use Rattle.std.proofs.lemmas.List.FromFn.{length-map-range_with_len}
 use Rattle.std.proofs.lemmas.List.Elements.{All-nil, All-cons, All-weaker}
 use Rattle.std.proofs.lemmas.List.Sums.{sum_by-cons}
 use Rattle.cache_face.specs.Keeping.{Keeps, IsWhole, IsEmptyContent}
@@ -24,6 +25,9 @@ empty_rows sets seats n (slot ∷ slots) =
     (map (slot_of (cache_shape sets seats) (replicate n 0)) slots) (zero_at n (slot * 10 + 5))
     (empty_rows sets seats n slots)
 
+so_long : (sets seats : ℕ) (ws : List ℕ) → length (rows_of (cache_shape sets seats) ws) ≡ 4 * sets
+so_long sets seats ws = length-map-range_with_len _ 0 (4 * sets)
+
 unused_notes : (n : ℕ) → All IsUnused (replicate n first_note)
 unused_notes zero = All-nil IsUnused
 unused_notes (suc n) = All-cons IsUnused first_note (replicate n first_note) (refl, refl) (unused_notes n)
@@ -37,10 +41,11 @@ pub open-requires-clause-keeps : goal.open-requires-clause-keeps
 open-requires-clause-keeps c =
     let sets = c.args.sets in let seats = c.args.seats in
     let is : c.as_slice.result.now ≡ replicate (40 * sets) 0 = c.as_slice.ensures.value ∙ c.in_ok-words.ensures in
-    subst (λ (ws : List ℕ). Keeps c.args.timeouts (rows_of (cache_shape sets seats) ws) (replicate seats first_note))
+    subst (λ (ws : List ℕ). Keeps c.args.timeouts sets (rows_of (cache_shape sets seats) ws) (replicate seats first_note))
     (sym is)
-    (keeps_opening c.args.timeouts (rows_of (cache_shape sets seats) (replicate (40 * sets) 0))
+    (keeps_opening c.args.timeouts sets (rows_of (cache_shape sets seats) (replicate (40 * sets) 0))
     (replicate seats first_note)
+    (so_long sets seats (replicate (40 * sets) 0))
     (empty_rows sets seats (40 * sets) (range_with_len 0 (4 * sets))) (unused_notes seats)
     (let m = so_many seats in omega (arith, m, c.requires.seats.1)))
 

@@ -1,4 +1,4 @@
-use Rattle.std.proofs.Common.{rules, ◌≡◌, ◌<◌, ◌∙◌, ◌∷◌, [], ℕ, false, List, map, Option, Some, inr, refl, sym, ap}
+use Rattle.std.proofs.Common.{rules, ◌≡◌, ◌<◌, ◌∙◌, ◌∷◌, ℕ, false, List, map, Option, Some, inr, refl, sym, ap}
 use Rattle.std.proofs.Common.{subst}
 use Rattle.std.specs.Prelude.{slice_index}
 use Rattle.std.proofs.lemmas.List.{length-map}
@@ -20,13 +20,14 @@ use Rattle.pebr_words.specs.Pasts.{Load, Read, History, found_other, past_after,
 use Rattle.pebr_words.specs.Ruled.{CanReplace}
 use Rattle.pebr_roots.specs.Ends.{answer_to, replaced_note, replaced_seat}
 use Rattle.pebr_roots.specs.Under.{slot_at}
-use Rattle.pebr_roots.specs.Passes.{shape_at, number_by, known_by, note_by, past_by}
+use Rattle.pebr_roots.specs.Passes.{shape_at, fixed_at, number_by, known_by, note_by, past_by}
 use Rattle.flow_cache.specs.Places.{root_of}
-use Rattle.flow_cache.specs.Reading.{words_read, set_read}
+use Rattle.flow_cache.specs.Reading.{words_read, set_read, written_in}
 use Rattle.flow_cache.specs.Trying.{HasTen, HasChosen}
 use Rattle.flow_cache.proofs.Choosing.{choice_is}
 use Rattle.flow_cache.proofs.Histories.{chosen_of, lost_here}
-use Rattle.flow_cache.proofs.Sets.{can_replace, at_place}
+use Rattle.flow_cache.proofs.Sets.{can_replace, at_place, written_is}
+use Rattle.flow_cache.proofs.Spared.{spared_put}
 use Rattle.flow_cache.proofs.cache.PebrCache.put.Goals as goal
 
 pub replace-requires-clause-keeps : goal.replace-requires-clause-keeps
@@ -71,15 +72,18 @@ replace-requires-clause-keeps g c =
     (sym c.read_contents.ensures.known) ∙ c.fill.ensures.written word lt
     ∙ ap (λ ws. Some (slice_index ws word)) (sym chosen.1) in
     let can : Timeouts → Seat → Note → Type 0 =
-    λ limits known note. CanReplace (Keeps limits) IsWhole shape (past_by end) (number_by end) root
-    (slot_at known place) (least_in known.fresh) note (note_with note (c.args.packet.now ∷ []) out) in
-    subst (λ limits. can limits (known_by end) (note_by first_note end)) (sym cache.fixed)
+    λ limits known note. CanReplace (Keeps limits cache.sets) IsWhole shape (past_by end) (number_by end) root
+    (slot_at known place) (least_in known.fresh) note (note_with note c.args.own.now out) in
+    subst (λ (sets : ℕ). CanReplace (Keeps (fixed_at cache.roots).timeouts sets) IsWhole shape (past_by end) (number_by end)
+    root (slot_at (known_by end) place) (least_in (known_by end).fresh) (note_by first_note end)
+    (note_with (note_by first_note end) c.args.own.now out)) (sym cache.fixed.1)
+    (subst (λ limits. can limits (known_by end) (note_by first_note end)) (sym cache.fixed.0)
     (subst (λ known. can cache.timeouts known (note_by first_note end)) (sym known_is)
     (subst (λ n. can cache.timeouts (known_by start) n) (sym note_is)
-    (can_replace cache.timeouts shape (past_by end) (number_by end) root slot
-    (least_in (known_by start).fresh) note c.args.packet.now c.args.own.now kept out
+    (can_replace cache.timeouts cache.sets c.args.set place shape (past_by end) (number_by end) slot
+    (least_in (known_by start).fresh) note c.args.own.now kept out low
     (ap (λ (s : Shape). s.width) cache.shaped)
-    (subst (λ rs. HasTen rs slot) (sym reads) (c.read_contents.ensures.ten place low)) filled c.requires.own takes)))
+    (subst (λ rs. HasTen rs slot) (sym reads) (c.read_contents.ensures.ten place low)) filled c.requires.own takes))))
 
 pub returns-in-Replaced-clause-done : goal.returns-in-Replaced-clause-done
 returns-in-Replaced-clause-done g c done =
@@ -100,7 +104,7 @@ returns-in-Replaced-clause-done g c done =
     (search rules) c.put_out-out.ensures chosen in
     let note_is : note_by first_note end ≡ note_by first_note start =
     c.fill.ensures.note ∙ c.read_contents.ensures.note in
-    let packets : Note → Note = λ n. note_with n (c.args.packet.now ∷ []) out in
+    let packets : Note → Note = λ n. note_with n c.args.own.now out in
     let past : past_by new ≡ past_after (step.Replace (number_by end) (root_of c.args.set place) slot fresh)
     answer.Replaced (known_by end) (past_by end)
     = subst (λ r. past_by new ≡ past_after (step.Replace (number_by end) (root_of c.args.set place) slot fresh)
@@ -109,6 +113,13 @@ returns-in-Replaced-clause-done g c done =
     ap (λ (p : History). p.loads) past ∙ ap (λ (p : History). p.loads) c.fill.ensures.past in
     let reads : (past_by new).reads ≡ (past_by mid).reads =
     ap (λ (p : History). p.reads) past ∙ ap (λ (p : History). p.reads) c.fill.ensures.past in
+    let filled : (word : ℕ) → word < 10 → written_at (past_by end).written fresh word
+    ≡ Some (slice_index (part_words chosen.0) word)
+    = λ word lt. ap (λ (s : Seat). written_at (past_by end).written (least_in s.fresh) word) c.fill.ensures.known
+    ∙ c.fill.ensures.written word lt ∙ ap (λ ws. Some (slice_index ws word)) (sym chosen.1) in
+    let wrote : written_in (past_by new).put ≡ Some (record { place = place; kept = chosen.0 }) =
+    ap (λ (p : History). written_in p.put) past
+    ∙ written_is (past_by end).written c.args.set place fresh chosen.0 (search rules) filled in
     let said : Metered = c.tell.new.metered in
     let how_is : said.how ≡ how = c.tell.ensures.how in
     let out_is : said.out ≡ out = c.tell.ensures.out in
@@ -117,10 +128,10 @@ returns-in-Replaced-clause-done g c done =
     (map entry_of contents)
     (ap (λ (p : History). set_read p.loads) c.read_contents.ensures.past ∙ c.requires.protected.last)
     (length-map contents entry_of ∙ (search rules))
-    (c.read_contents.ensures.entries c.args.set c.requires.protected) choice loads reads in (
+    (c.read_contents.ensures.entries c.args.set c.requires.protected) choice loads reads wrote in (
       subst (λ r. note_by first_note new ≡ replaced_note r (packets (note_by first_note end)) (note_by first_note end))
           c.in-Replaced.is c.replace.ensures.note ∙ ap packets note_is
-          ∙ ap (λ o. note_with (note_by first_note start) (c.args.packet.now ∷ []) o) (sym out_is),
+          ∙ ap (λ o. note_with (note_by first_note start) c.args.own.now o) (sym out_is),
       ap (λ (p : History). p.lost) past ∙ ap (λ (p : History). p.lost) c.fill.ensures.past
           ∙ ap (λ (p : History). p.lost) c.read_contents.ensures.past,
       subst (λ h. HasChosen limits c.args.set (past_by new) c.args.own.now h said.out) (sym how_is)
@@ -138,7 +149,7 @@ returns-in-Other-clause-undone g c undone =
     let root : ℕ = root_of c.args.set place in
     let slot : ℕ = slot_at (known_by end) place in
     let fresh : ℕ = least_in (known_by end).fresh in
-    let packets : Note → Note = λ n. note_with n (c.args.packet.now ∷ []) c.put_out-out.result in
+    let packets : Note → Note = λ n. note_with n c.args.own.now c.put_out-out.result in
     let note_is : note_by first_note end ≡ note_by first_note start =
     c.fill.ensures.note ∙ c.read_contents.ensures.note in
     let known_is : known_by end ≡ known_by start = c.fill.ensures.known ∙ c.read_contents.ensures.known in
@@ -168,3 +179,25 @@ returns-in-Other-clause-undone g c undone =
         inr (place, low, refl),
       ),
     )
+
+pub returns-in-Replaced-clause-spared : goal.returns-in-Replaced-clause-spared
+returns-in-Replaced-clause-spared g c =
+    spared_put (past_by c.args.pass.now) (past_by c.read_contents.new.pass) (past_by c.fill.new.pass)
+    (past_by c.replace.new.pass) (number_by c.fill.new.pass)
+    (root_of c.args.set c.choose_by_words-choice.result.place)
+    (slot_at (known_by c.fill.new.pass) c.choose_by_words-choice.result.place)
+    (least_in (known_by c.fill.new.pass).fresh) (answer_to c.replace.result) (known_by c.fill.new.pass)
+    (ap (λ (p : History). p.notes) c.read_contents.ensures.past) (ap (λ (p : History). p.pins) c.read_contents.ensures.past)
+    (ap (λ (p : History). p.notes) c.fill.ensures.past) (ap (λ (p : History). p.pins) c.fill.ensures.past)
+    c.replace.ensures.step.past
+
+pub returns-in-Other-clause-spared : goal.returns-in-Other-clause-spared
+returns-in-Other-clause-spared g c =
+    spared_put (past_by c.args.pass.now) (past_by c.read_contents.new.pass) (past_by c.fill.new.pass)
+    (past_by c.replace.new.pass) (number_by c.fill.new.pass)
+    (root_of c.args.set c.choose_by_words-choice.result.place)
+    (slot_at (known_by c.fill.new.pass) c.choose_by_words-choice.result.place)
+    (least_in (known_by c.fill.new.pass).fresh) (answer_to c.replace.result) (known_by c.fill.new.pass)
+    (ap (λ (p : History). p.notes) c.read_contents.ensures.past) (ap (λ (p : History). p.pins) c.read_contents.ensures.past)
+    (ap (λ (p : History). p.notes) c.fill.ensures.past) (ap (λ (p : History). p.pins) c.fill.ensures.past)
+    c.replace.ensures.step.past

@@ -1,11 +1,12 @@
-use Rattle.std.proofs.Common.{◌≡◌, ◌<◌, ◌+◌, ◌∷◌, [], ◌∙◌, ℕ, Bool, true, false, Some, List, ap, subst, arith}
+use Rattle.std.proofs.Common.{◌≡◌, ◌<◌, ◌+◌, ◌∷◌, ◌∙◌, ℕ, Bool, true, false, Some, List, ap, subst, arith}
 use Rattle.std.specs.Prelude.{◌==◌, if◌then◌else◌}
 use Rattle.std.proofs.lemmas.Grind.{common_steps}
 use Rattle.std.proofs.lemmas.List.Elements.{All-cons}
 use Rattle.cache_face.specs.Notes.{Note, first_note, note_with}
 use Rattle.pebr_words.specs.Pasts.{Lost}
-use Rattle.pebr_roots.specs.Passes.{note_by}
-use Rattle.flow_cache.specs.Shown.{try_of, IsTryOf}
+use Rattle.pebr_roots.specs.Passes.{note_by, past_by}
+use Rattle.flow_cache.specs.Shown.{IsTryOf}
+use Rattle.flow_cache.proofs.Spared.{collected_on}
 use Rattle.flow_cache.proofs.Tries.{go_on}
 use Rattle.flow_cache.proofs.cache.PebrCache.put_in.Goals as goal
 
@@ -24,7 +25,7 @@ loop-lost-preserved g c =
     let n : ℕ = c.loop-lost.lost in
     let low = c.loop-lost-test.true in
     let h = c.attempt.ensures.undone c.if-attempt.false in
-    let passed : Note → Note = λ note. note_with note (c.args.packet.now ∷ []) (Some c.args.own.now) in
+    let passed : Note → Note = λ note. note_with note c.args.own.now (Some c.args.own.now) in
     let ended : Bool → Type 0 = λ b. note_by first_note new
     ≡ (if b then passed (note_by first_note old) else note_by first_note old) in
     record {
@@ -37,10 +38,11 @@ loop-lost-preserved g c =
       none = c.attempt.ensures.untouched c.if-attempt.false;
       note = λ lt. subst ended (not_last n lt) h.0 ∙ before.note low;
       passed = λ is. (subst ended (is_last n is) h.0 ∙ ap passed (before.note low), h.2);
+      spared = collected_on 0 0 (past_by start) (past_by old) (past_by new) before.spared c.attempt.ensures.spared;
       tries = record {
         tries = h.3.0 ∷ before.tries.tries;
         listed = h.3.1 ∙ ap (λ (l : List Lost). h.3.0 ∷ l) before.tries.listed;
         many = (let m = before.tries.many in omega (arith, m));
-        each = All-cons (λ try. IsTryOf c.args.set (try_of try)) h.3.0 before.tries.tries h.3.2 before.tries.each;
+        each = All-cons (IsTryOf c.args.set) h.3.0 before.tries.tries h.3.2 before.tries.each;
       };
     }

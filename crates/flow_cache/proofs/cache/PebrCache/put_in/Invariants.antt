@@ -1,9 +1,10 @@
-use Rattle.std.proofs.Common.{◌≡◌, ◌≢◌, ◌<◌, ◌≤◌, ◌∷◌, [], Some, None}
+use Rattle.std.proofs.Common.{◌≡◌, ◌≢◌, ◌<◌, ◌≤◌, Some, None}
 use Rattle.std.specs.Prelude.{IsTrue}
 use Rattle.std.specs.List.{list_all}
 use Rattle.cache_face.specs.Notes.{first_note, note_with}
 use Rattle.pebr_core.specs.State.{is_out, is_down}
 use Rattle.pebr_roots.specs.Passes.{shape_at, known_by, note_by, past_by, IsSame}
+use Rattle.flow_cache.specs.Collecting.{HasCollected}
 use Rattle.flow_cache.specs.Outcome.{HaveLost}
 use Rattle.flow_cache.proofs.cache.PebrCache.put_in.Given as goal
 
@@ -18,7 +19,8 @@ invariant-loop-lost g l = record {
   none : l.metered.out ≡ None;
   note : l.lost < 3 → note_by first_note l.pass ≡ note_by first_note l.initial.pass;
   passed : l.lost ≡ 3
-      → (note_by first_note l.pass ≡ note_with (note_by first_note l.initial.pass) (l.packet ∷ []) (Some l.own))
+      → (note_by first_note l.pass ≡ note_with (note_by first_note l.initial.pass) l.own (Some l.own))
       × ((shape_at l.self.roots).seats ≢ 1);
+  spared : HasCollected 0 (past_by l.initial.pass) (past_by l.pass);
   tries : HaveLost l.set l.lost (past_by l.initial.pass) (past_by l.pass);
 }

@@ -1,4 +1,4 @@
-use Rattle.std.proofs.Common.{◌≡◌, ◌∷◌, ℕ, Bool, true, false, refl, ap, ◌∙◌, subst}
+use Rattle.std.proofs.Common.{◌≡◌, ◌∷◌, ℕ, Bool, true, false, refl, sym, ap, ◌∙◌, subst}
 use Rattle.std.specs.Prelude.{if◌then◌else◌}
 use Rattle.pebr_core.specs.State.{Seat}
 use Rattle.pebr_core.specs.declared.kinds.Answer.{Answer}
@@ -8,6 +8,8 @@ use Rattle.pebr_shields.specs.Found.{answer_to}
 use Rattle.pebr_words.specs.Pasts.{History, past_after, is_ejected, with_lost, was_ejected}
 use Rattle.pebr_roots.specs.Passes.{known_by, number_by, past_by}
 use Rattle.flow_cache.proofs.Tries.{checked_set}
+use Rattle.flow_cache.specs.Collecting.{HasCollected}
+use Rattle.flow_cache.proofs.Spared.{collected_on, spared_one, enter_spares, check_spares}
 use Rattle.flow_cache.proofs.cache.PebrCache.reach.Goals as goal
 
 -- a check makes no pin
@@ -44,3 +46,18 @@ returns-clause-valid g c valid =
             ∙ ap (λ (p : History). p.has_lost) c.enter.ensures.past,
       ),
     )
+
+pub returns-clause-spared : goal.returns-clause-spared
+returns-clause-spared g c =
+    let start = past_by c.args.pass.now in
+    let first = past_by c.enter.new.pass in
+    let mid = past_by c.load_set.new.pass in
+    let end = past_by c.check.new.pass in
+    collected_on 0 0 start first end
+    (subst (HasCollected 0 start) (sym c.enter.ensures.past) (enter_spares (number_by c.args.pass.now)
+    (known_by c.enter.new.pass).noted (known_by c.args.pass.now) start))
+    (collected_on 0 0 first mid end
+    (spared_one first mid (ap (λ (p : History). p.notes) c.load_set.ensures.past)
+    (ap (λ (p : History). p.pins) c.load_set.ensures.past))
+    (subst (HasCollected 0 mid) (sym c.check.ensures.step.past)
+    (check_spares (number_by c.load_set.new.pass) (answer_to c.check.result) (known_by c.load_set.new.pass) mid)))

@@ -1,4 +1,5 @@
-use Rattle.std.proofs.Common.{◌≡◌, ◌<◌, ◌≤◌, All}
+use Rattle.std.proofs.Common.{◌≡◌, ◌≤◌}
+use Rattle.cache_face.specs.Keeping.{packet_count}
 use Rattle.flow_cache.specs.Shown.{shown_of, IsOf}
 use Rattle.flow_cache.proofs.tests.packets.count_right.Given as goal
 
@@ -7,5 +8,5 @@ invariant-loop-number l = record {
   own : IsOf l.cache l.pass;
   single : (shown_of l.pass).note.seats ≡ 1;
   few : l.right ≤ l.number;
-  rises : All (λ p. p.number < l.number) (shown_of l.pass).note.packets;
+  counted : packet_count (shown_of l.pass).note.taken ≤ l.number;
 }

@@ -1,10 +1,11 @@
-use Rattle.std.proofs.Common.{rules, slice_index, ◌+◌, ◌*◌, sym, subst, arith, refl}
+use Rattle.flow_key.specs.Key.{set_number}
+use Rattle.std.proofs.Common.{◌≡◌, rules, slice_index, ◌+◌, ◌*◌, sym, subst, arith, refl}
 use Rattle.atomic_table.specs.Table.{Allows}
 use Rattle.cache_face.specs.Choice.{Takes}
 use Rattle.cache_face.specs.Keeping.{entry_of}
 use Rattle.set_choice.specs.Chosen.{out_of}
 use Rattle.turn_cache.specs.Ruled.{Ruled}
-use Rattle.turn_cache.specs.Moves.{Move, Commits, IsOwn}
+use Rattle.turn_cache.specs.Moves.{Move, Commits}
 use Rattle.turn_cache.proofs.CommitStep.{commits}
 use Rattle.turn_cache.proofs.cache.TurnCache.commit_as.Goals as goal
 
@@ -18,13 +19,13 @@ store-requires g c =
           (64 * c.args.set + 16 + (10 * c.args.place + 5)) (λ _. slice_index c.args.new.now 5) (λ _. Commits m me))
           (sym c.requires.about)
           (commits cache.table.shared.key _ _ c.args.set c.args.place
-          (slice_index c.args.new.now 5) g.K.IsTaken.packets c.args._own.now c.requires.kept.0
+          (slice_index c.args.new.now 5) c.args._own.now c.requires.kept.0
           (out_of c.args._how (entry_of c.args._old.now)) c.requires.read.0 c.args._old.now c.requires.read.1
           c.args.new.now me c.requires.reading
           (let t = cache.told.0 in let s = c.requires.below.0 in omega (arith, t, s)) c.requires.below.1
           c.requires.read.2 c.requires.read.3 (search rules) (search rules) refl
-          (subst (λ limits. IsOwn limits me.0.note g.K.IsTaken.packets c.args._own.now)
-          (sym cache.told.2) c.requires.own) c.requires.kept.1
+          c.requires.own (subst (λ n. set_number c.args._own.now.key n ≡ c.args.set) (sym cache.told.0) c.requires.of_set)
+          c.requires.kept.1
           (subst (λ limits. Takes limits c.args._own.now (entry_of c.args._old.now)
           (out_of c.args._how (entry_of c.args._old.now)) c.requires.kept.0) (sym cache.told.2) c.requires.kept.2)),
     )

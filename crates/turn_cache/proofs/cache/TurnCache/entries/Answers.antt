@@ -2,7 +2,7 @@ use Rattle.std.proofs.Common.{◌++◌, ◌∙◌, List, ℕ, sym, subst}
 use Rattle.std.specs.Slots.{slots_items}
 use Rattle.flow_parts.specs.declared.fragment.Fragment.{Fragment}
 use Rattle.flow_parts.specs.declared.timeouts.Timeouts.{Timeouts}
-use Rattle.flow_parts.specs.Sharing.{SharesOut}
+use Rattle.flow_parts.specs.Reaching.{Reaches}
 use Rattle.cache_face.specs.Keeping.{parts_in}
 use Rattle.turn_cache.specs.Closing.{contents_at}
 use Rattle.turn_cache.proofs.Closing.{closes, if_ok}
@@ -16,13 +16,15 @@ returns c =
     let words : List ℕ = slots_items c.close_with-closed.result.words in
     let kept = closes cache.table.shared.key final.0 final.1.0 c.args.pass.seat.id c.args.pass.seat.me.0 final.1.1
     c.args.pass.no_turn (c.requires.all ∙ sym cache.told.1) in
-    let kept' : SharesOut cache.timeouts note.packets (parts_in (contents_at words cache.sets) ++ note.handed)
-    = subst (λ (t : Timeouts). SharesOut t note.packets (parts_in (contents_at words cache.sets) ++ note.handed))
+    let kept' : Reaches cache.timeouts note.taken (parts_in (contents_at words cache.sets) ++ note.handed)
+    = subst (λ (t : Timeouts). Reaches t note.taken (parts_in (contents_at words cache.sets) ++ note.handed))
     cache.told.2
-    (subst (λ (n : ℕ). SharesOut cache.table.shared.key.timeouts note.packets
+    (subst (λ (n : ℕ). Reaches cache.table.shared.key.timeouts note.taken
     (parts_in (contents_at words n) ++ note.handed)) cache.told.0
-    (subst (λ (ws : List ℕ). SharesOut cache.table.shared.key.timeouts note.packets
+    (subst (λ (ws : List ℕ). Reaches cache.table.shared.key.timeouts note.taken
     (parts_in (contents_at ws cache.table.shared.key.sets) ++ note.handed)) final.2 kept)) in
-    if_ok c.gather-entries.result _ _
-    (λ parts is. subst (λ (ps : List Fragment). SharesOut cache.timeouts note.packets (ps ++ note.handed))
-    (sym is) kept') c.gather-entries.ensures
+    record {
+      reached = if_ok c.gather-entries.result _ _
+          (λ parts is. subst (λ (ps : List Fragment). Reaches cache.timeouts note.taken (ps ++ note.handed))
+          (sym is) kept') c.gather-entries.ensures;
+    }

@@ -52,7 +52,7 @@ same_choice limits entries entries' own kept how how' place out out' p q r chose
     (subst (λ (o : Option Fragment). IsChoice limits entries own how place o kept) r chosen))
 
 pub choose_by_words-choice-requires-clause-whole : goal.choose_by_words-choice-requires-clause-whole
-choose_by_words-choice-requires-clause-whole g c =
+choose_by_words-choice-requires-clause-whole c =
     let a = c.read_entry in let b = c.read_entry-2 in let e = c.read_entry-3 in let d = c.read_entry-4 in
     subst (All IsWhole)
     (sym (four_set c.args.contents.now a.new.words b.new.words e.new.words d.new.words c.told-contents))
@@ -60,7 +60,7 @@ choose_by_words-choice-requires-clause-whole g c =
     d.ensures.whole)
 
 pub write-requires-clause-read : goal.write-requires-clause-read
-write-requires-clause-read g c =
+write-requires-clause-read c =
     let a : List ℕ = c.read_entry.new.words in let b : List ℕ = c.read_entry-2.new.words in
     let e : List ℕ = c.read_entry-3.new.words in let d : List ℕ = c.read_entry-4.new.words in
     let place : ℕ = c.choose_by_words-choice.result.place in
@@ -79,7 +79,7 @@ write-requires-clause-read g c =
     )
 
 pub write-requires-clause-kept : goal.write-requires-clause-kept
-write-requires-clause-kept g c =
+write-requires-clause-kept c =
     let a : List ℕ = c.read_entry.new.words in let b : List ℕ = c.read_entry-2.new.words in
     let e : List ℕ = c.read_entry-3.new.words in let d : List ℕ = c.read_entry-4.new.words in
     let choice = c.choose_by_words-choice in
@@ -91,7 +91,7 @@ write-requires-clause-kept g c =
     )
 
 pub returns-clause-filled : goal.returns-clause-filled
-returns-clause-filled g c =
+returns-clause-filled c =
     let a : List ℕ = c.read_entry.new.words in let b : List ℕ = c.read_entry-2.new.words in
     let e : List ℕ = c.read_entry-3.new.words in let d : List ℕ = c.read_entry-4.new.words in
     let choice = c.choose_by_words-choice in
@@ -109,15 +109,17 @@ returns-clause-filled g c =
       words,
       forty a b e d c.read_entry.ensures.long c.read_entry-2.ensures.long c.read_entry-3.ensures.long
           c.read_entry-4.ensures.long,
-      c.write.ensures.filled
-          ∙ (ap (λ (out : Option Fragment). (
-            filled_hand c.read_entry-4.new.seat.me.0.read g.K.IsTaken.packets out c.read_entry-4.new.seat.me.0,
-            c.read_entry-4.new.seat.me.1,
-          )) (sym c.answer.ensures.out)
-          ∙ ap (λ (m : Sat). (filled_hand m.0.read g.K.IsTaken.packets metered.out m.0, m.1)) all),
       (
         choice.result.place,
         chosen.0,
+        c.write.ensures.filled
+            ∙ (ap (λ (out : Option Fragment). (
+              filled_hand c.read_entry-4.new.seat.me.0.read choice.result.place choice.result.words c.args.own.now out
+                  c.read_entry-4.new.seat.me.0,
+              c.read_entry-4.new.seat.me.1,
+            )) (sym c.answer.ensures.out)
+            ∙ (ap (λ (m : Sat). (filled_hand m.0.read choice.result.place choice.result.words c.args.own.now metered.out m.0, m.1)) all
+            ∙ ap (λ (new : List ℕ). (filled_hand words choice.result.place new c.args.own.now metered.out c.args.seat.now.me.0, c.args.seat.now.me.1)) (sym chosen.1))),
         same_choice c.args.self.now.timeouts _ (entries_of words) c.args.own.now chosen.0 choice.result.how metered.how
             choice.result.place _ metered.out entries (sym c.answer.ensures.how)
             (ap (out_of choice.result.how) (there _ a b e d choice.result.place four choice.ensures.place)

@@ -3,7 +3,7 @@ use mathlib.Core.Option.{none}
 use Rattle.atomic_table.specs.Table.{step, Allows}
 use prog.Atomic.{either}
 use Rattle.turn_cache.specs.Ruled.{Ruled}
-use Rattle.turn_cache.specs.Moves.{Move, Takes, IsOwn}
+use Rattle.turn_cache.specs.Moves.{Move, Takes}
 use Rattle.turn_cache.proofs.TakeStep.{takes}
 use Rattle.turn_cache.proofs.cache.TurnCache.take_as.Goals as goal
 
@@ -16,9 +16,8 @@ compare_exchange-requires g c =
           c.args.seat.now.me (64 * c.args.set) (λ n. either (eqb n 0) (c.args.number + 1) n)
           (Takes m (step cache.table.shared.table_id.slots (64 * c.args.set) 0 (c.args.number + 1) none)
           c.args.seat.now.me)) (sym c.requires.about)
-          (takes cache.table.shared.key _ _ c.args.number c.args.set cache.seats g.K.IsTaken.packets c.args._own.now
+          (takes cache.table.shared.key _ _ c.args.number c.args.set cache.seats c.args._own.now
           c.args._last c.args.seat.now.me (sym cache.told.1) c.requires.idle.0 c.requires.idle.1 c.requires.idle.2
           (let t = cache.told.0 in let s = c.requires.set in omega (arith, t, s))
-          (subst (λ limits. IsOwn limits c.args.seat.now.me.0.note g.K.IsTaken.packets c.args._own.now)
-          (sym cache.told.2) c.requires.own)),
+          c.requires.own),
     )

@@ -4,14 +4,14 @@ use Rattle.turn_cache.specs.Moves.{Sat, at_turn}
 use Rattle.turn_cache.proofs.cache.TurnCache.write.Goals as goal
 
 pub write_rest-requires-clause-writing : goal.write_rest-requires-clause-writing
-write_rest-requires-clause-writing g c = ap (λ (m : Sat). m.0.turn) c.commit.ensures.commits
+write_rest-requires-clause-writing c = ap (λ (m : Sat). m.0.turn) c.commit.ensures.commits
 
 pub give-requires-clause-written : goal.give-requires-clause-written
-give-requires-clause-written g c =
+give-requires-clause-written c =
     (c.args.place, c.args.new.now, ap (λ (m : Sat). m.0.turn) c.write_rest.ensures.written)
 
 pub returns-clause-filled : goal.returns-clause-filled
-returns-clause-filled g c = c.give.ensures.gives
+returns-clause-filled c = c.give.ensures.gives
     ∙ (ap (λ (m : Sat). (at_turn idle m.0, m.1)) c.write_rest.ensures.written
     ∙ ap (λ (m : Sat).
     (at_turn idle (at_turn (writing c.args.set c.args.place c.args.new.now c.args.new.now) m.0), m.1))

@@ -1,5 +1,4 @@
 //! The fragments of the last cache that was closed, as whoever opens and closes caches keeps them.
-#![tactic(auto)]
 
 ghost use Rattle.std.specs.Prelude.{◌≡◌, [], ◌++◌, IfOk, OnOk, OnErr};
 

@@ -1,0 +1,18 @@
+use Rattle.std.proofs.Common.{◌≡◌, ℕ, ap, arith}
+use Rattle.pebr_core.specs.Frames.{fresh_count, retired_count}
+use Rattle.pebr_core.specs.State.{slots_per_seat}
+use Rattle.pebr_roots.specs.Passes.{known_by, past_by}
+use Rattle.flow_cache.proofs.Spared.{collects_from}
+use Rattle.flow_cache.proofs.cache.PebrCache.make_room.Goals as goal
+
+pub returns-clause-collects : goal.returns-clause-collects
+returns-clause-collects c =
+    let old = c.args.pass.now in
+    let mid = c.collect_batch.new.pass in
+    let slots = ap slots_per_seat c.args.self.now.shaped in
+    let held = c.requires.of.held in
+    let more = c.collect_batch.ensures.fresh in
+    collects_from (retired_count (known_by old)) (fresh_count (known_by mid)) (past_by old) (past_by mid)
+    (past_by c.collect_if_none.new.pass)
+    c.collect_batch.ensures.many c.collect_batch.ensures.few c.collect_if_none.ensures.none
+    c.collect_if_none.ensures.some (λ low. omega (arith, low, slots, held, more))
