@@ -1,7 +1,7 @@
 -- Operations that are made one after another.
-use Rattle.std.proofs.Common.{◌≡◌, ◌≢◌, ℕ, ◌+◌, ◌*◌, ◌<◌, ◌≤◌, Bool, true, false, List, [], ◌∷◌, ◌++◌, length, refl, sym, ap}
-use Rattle.std.proofs.Common.{◌∙◌, subst, arith, Some, unwrap_or, cond}
-use Rattle.std.specs.Prelude.{IsTrue, if◌then◌else◌, nat_lt}
+use Rattle.std.proofs.Common.{◌≡◌, ◌≢◌, ℕ, ◌+◌, ◌*◌, ◌≤◌, Bool, true, false, List, [], ◌∷◌, ◌++◌, length, refl, sym, ap}
+use Rattle.std.proofs.Common.{◌∙◌, subst, arith, Some, unwrap_or}
+use Rattle.std.specs.Prelude.{if◌then◌else◌, nat_lt}
 use Rattle.std.specs.List.{range_with_len}
 use Rattle.std.proofs.lemmas.Bool.{false≢true}
 use Rattle.std.proofs.lemmas.List.{map-id}
@@ -17,7 +17,7 @@ use Rattle.pebr_words.specs.Places.{index, epoch_word, status_word}
 use Rattle.pebr_words.specs.Making.{stance_from}
 use Rattle.pebr_words.specs.Pasts.{History, past_after}
 use Rattle.pebr_roots.specs.Collecting.{IsScanning, IsCounted}
-use Rattle.pebr_roots.specs.Orders.{AreMade, ButFor, opened_operations, is_passable, HasPassed, ArePassedBelow}
+use Rattle.pebr_roots.specs.Orders.{AreMade, ButFor, opened_operations, is_passable, HasPassed}
 use Rattle.pebr_roots.specs.Orders.{AreScannedBelow, HasPassedAll, HasEndedAt, HasMadeCollection}
 
 pub made_more : (makes : ℕ → List Op → List Op → Type 0) (js : List ℕ) (j : ℕ) (old mid new : List Op)

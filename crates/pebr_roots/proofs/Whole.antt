@@ -1,10 +1,9 @@
 -- What a whole collection comes to.
-use Rattle.std.proofs.Common.{◌≡◌, ℕ, zero, suc, ◌+◌, ◌-◌, ◌*◌, ◌<◌, ◌≤◌, inl, inr, ⊎_elim, Bool, true, false, List, []}
+use Rattle.std.proofs.Common.{◌≡◌, ℕ, zero, suc, ◌+◌, ◌-◌, ◌*◌, ◌<◌, ◌≤◌, ⊎_elim, Bool, true, false, List, []}
 use Rattle.std.proofs.Common.{◌∷◌, get_or, map, replicate, cond, refl, sym, ap, ◌∙◌, subst, arith, count_by, add-mul}
 use Rattle.std.proofs.Common.{one-mul}
 use Rattle.std.specs.Prelude.{IsTrue}
 use Rattle.std.proofs.lemmas.Bool.{false≢true}
-use Rattle.std.proofs.lemmas.List.{get_or-set_same}
 use Rattle.std.proofs.lemmas.List.Sums.{sum_by-cons}
 use Rattle.pebr_core.specs.declared.kinds.Shape.{Shape}
 use Rattle.pebr_core.specs.declared.kinds.Stance.{Stance}
@@ -14,10 +13,9 @@ use Rattle.pebr_core.specs.declared.kinds.Retired.TheVariants as retire
 use Rattle.pebr_core.specs.declared.kinds.Step.TheVariants as step
 use Rattle.pebr_core.specs.declared.kinds.Answer.{Answer}
 use Rattle.pebr_core.specs.declared.kinds.Answer.TheVariants as answer
-use Rattle.pebr_core.specs.State.{State, Seat, nobody, has, scan_of, has_scanned, seat_at, is_out, is_retired}
+use Rattle.pebr_core.specs.State.{State, Seat, has, scan_of, has_scanned, seat_at, is_out, is_retired}
 use Rattle.pebr_core.specs.State.{slots_per_seat}
-use Rattle.pebr_core.specs.Steps.{is_scanning, is_enabled, after, after_note, after_give, given_slots, tag_with}
-use Rattle.pebr_core.specs.Steps.{last_epoch}
+use Rattle.pebr_core.specs.Steps.{is_scanning, is_enabled, after_note, after_give, given_slots, tag_with}
 use Rattle.pebr_core.specs.Kept.{IsSound, held_count}
 use Rattle.pebr_core.specs.Frames.{kept_count, fresh_count, retired_count}
 use Rattle.pebr_words.specs.Making.{IsStepOf, IsAsKnown}

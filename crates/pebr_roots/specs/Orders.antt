@@ -4,7 +4,7 @@ use Rattle.std.specs.List.{range_with_len}
 use Rattle.pebr_table.specs.Operations.{Op, load, store, exchange}
 use Rattle.pebr_core.specs.declared.kinds.Shape.{Shape}
 use Rattle.pebr_core.specs.State.{Seat, scan_of}
-use Rattle.pebr_core.specs.Steps.{can_pass, epoch_of, is_scanning, after_note, last_epoch}
+use Rattle.pebr_core.specs.Steps.{can_pass, epoch_of, after_note, last_epoch}
 use Rattle.pebr_words.specs.Places.{index, epoch_word, status_word, shield_word, root_word}
 use Rattle.pebr_words.specs.Making.{stance_from}
 use Rattle.pebr_words.specs.Pasts.{History}

@@ -11,8 +11,8 @@ use pebr_shields::{NoMemory, RootProtocol};
 use std::alloc::Global;
 
 impl<P: RootProtocol> Roots<P> {
-    /// One pass with all numbers of both and the merged note. It acts as the first. The second's slots are given up, and
-    /// a shield of it that is up stays up.
+    /// One pass with all numbers of both and the merged note. It acts as the first. The second's slots are given up,
+    /// and a shield of it that is up stays up.
     pub fn unite(&self, first: RootPass<P>, second: RootPass<P>) -> RootPass<P>
         requires of { IsOf self.now first × IsOf self.now second }
         requires out { IsTrue (is_out (known_by first).status) × IsTrue (is_out (known_by second).status) }

@@ -28,9 +28,10 @@
 //! # What the clauses say
 //!
 //! A pass is seen by what it knows of its part of the core, by its note, by its history (loads, reads, tries lost,
-//! ejections made), and by the operations on words that it made (`specs/Passes.antt`). Each call says which operations it
-//! made, in which order (`specs/Orders.antt`), and what these are afterwards. A [`RootProtocol`] says what the layer above keeps of the contents of all roots and of all notes:
-//! `replace` and `leave` ask that it still keeps, and [`Roots::close`] gives contents with which it keeps.
+//! ejections made), and by the operations on words that it made (`specs/Passes.antt`). Each call says which
+//! operations it made, in which order (`specs/Orders.antt`), and what these are afterwards. A [`RootProtocol`] says
+//! what the layer above keeps of the contents of all roots and of all notes: `replace` and `leave` ask that it still
+//! keeps, and [`Roots::close`] gives contents with which it keeps.
 //!
 //! No call but `open` and `close` takes memory, and none but these goes over all slots.
 #![tactic(auto)]

@@ -1,16 +1,16 @@
 -- A step that the layer above may make keeps the log true.
-use Rattle.std.proofs.Common.{◌≡◌, ◌≢◌, ℕ, zero, suc, ◌<◌, Bool, true, false, List, [], ◌∷◌, ◌++◌, length, get_or, set, map, eqb, sym}
+use Rattle.std.proofs.Common.{◌≡◌, ℕ, zero, suc, Bool, true, false, List, [], ◌∷◌, ◌++◌, get_or, set, map, eqb, sym}
 use Rattle.std.proofs.Common.{refl, ap, ◌∙◌, subst}
 use Rattle.std.proofs.lemmas.List.{map-set, map-append, set-get_or}
 use Rattle.std.specs.Prelude.{if◌then◌else◌}
 use mathlib.Core.Option.{some, some-injective, some-ne-none}
 use lib.ListN.{get_elem?}
 use prog.Atomic.{either}
-use Rattle.atomic_table.specs.Table.{State, Me, Act, Valid, Allows, Splits, Joins, Seen, Final, stepped, carried_after}
-use Rattle.atomic_table.proofs.Lists.{at_map, set_again, set_else}
+use Rattle.atomic_table.specs.Table.{State, Me, Allows, Splits, Joins, Seen, Final, stepped}
+use Rattle.atomic_table.proofs.Lists.{at_map, set_again}
 use Rattle.pebr_table.specs.declared.recorded.Recorded.{Recorded}
 use Rattle.pebr_table.specs.Operations.{Op, load, store, exchange, IsTrueOf, words_after}
-use Rattle.pebr_table.specs.Recorded.{Event, made, came, went, bare_state, bare, Records, lists_of, words_of}
+use Rattle.pebr_table.specs.Recorded.{Event, made, came, went, bare_state, bare, Records, lists_of}
 
 -- what is there is read
 read_at : {A : Type 0} (l : List A) (i : ℕ) (a d : A) → get_elem? l i ≡ some a → get_or l i d ≡ a

@@ -57,7 +57,9 @@ impl<V, K, P: TableRule<(), V, K>> Table<V, K, P> {
             × M.then (step (table_of self.now).slots word new 0 none) (me_of seat.old) new (me_of seat.new) }
         ensures recorded { operations_of seat.new ≡ store word new ∷ operations_of seat.old }
     {
-        self.inner.shared.store::<Stores<M>>(&mut seat.inner, word, new);
+        self.inner
+            .shared
+            .store::<Stores<M>>(&mut seat.inner, word, new);
     }
 
     /// Stores `new` to a word where it has `old`. It answers what the word had.

@@ -46,17 +46,19 @@ impl<P: RootProtocol> Words<P> {
         requires at { (table_at seat.old ≡ table_of self.now.table) × (0 < length (me_of seat.old).0)
             × (number_in (me_of seat.old).0 ≡ seat_of _step) }
         requires place { IsPlace self.now.shape (place_of _step) × (index self.now.shape (place_of _step) ≡ word) }
-        requires own { IsOwn self.now.shape _step (known_in (me_of seat.old).0) (op.load (index self.now.shape (place_of _step))) }
+        requires own { IsOwn self.now.shape _step (known_in (me_of seat.old).0)
+            (op.load (index self.now.shape (place_of _step))) }
         requires made { IsMadeBy self.now.shape _step (seat_of _step) (known_in (me_of seat.old).0) (λ found. found) }
         requires kept { IsKeptBy (P.keeps (key_of self.now.table).fixed) P.whole P.after self.now.shape _step _act
-            (seat_of _step) (known_in (me_of seat.old).0) (past_in (me_of seat.old).0) (note_in P.first (me_of seat.old).0)
-            (λ found. found) }
+            (seat_of _step) (known_in (me_of seat.old).0) (past_in (me_of seat.old).0)
+            (note_in P.first (me_of seat.old).0) (λ found. found) }
         requires recalled { IsRecalledBy self.now.shape _step (seat_of _step) (known_in (me_of seat.old).0)
             (past_in (me_of seat.old).0) (λ found. found) }
         ensures at { table_at seat.new ≡ table_at seat.old }
-        ensures told { IsTold P.after P.whole P.first self.now.shape _step _act result (me_of seat.old) (me_of seat.new) }
-        ensures recorded { operations_of seat.new ≡ operation_of self.now.shape _step (known_in (me_of seat.old).0) result
-            ∷ operations_of seat.old }
+        ensures told { IsTold P.after P.whole P.first self.now.shape _step _act result (me_of seat.old)
+            (me_of seat.new) }
+        ensures recorded { operations_of seat.new
+            ≡ operation_of self.now.shape _step (known_in (me_of seat.old).0) result ∷ operations_of seat.old }
     {
         safe_steps();
         self.table.load::<Makes<P, K>>(seat, word)
@@ -73,17 +75,19 @@ impl<P: RootProtocol> Words<P> {
         requires at { (table_at seat.old ≡ table_of self.now.table) × (0 < length (me_of seat.old).0)
             × (number_in (me_of seat.old).0 ≡ seat_of step) }
         requires place { IsPlace self.now.shape (place_of step) × (index self.now.shape (place_of step) ≡ word) }
-        requires own { IsOwn self.now.shape step (known_in (me_of seat.old).0) (op.load (index self.now.shape (place_of step))) }
+        requires own { IsOwn self.now.shape step (known_in (me_of seat.old).0)
+            (op.load (index self.now.shape (place_of step))) }
         requires made { IsMadeBy self.now.shape step (seat_of step) (known_in (me_of seat.old).0) (λ found. found) }
         requires kept { IsKeptBy (P.keeps (key_of self.now.table).fixed) P.whole P.after self.now.shape step act
-            (seat_of step) (known_in (me_of seat.old).0) (past_in (me_of seat.old).0) (note_in P.first (me_of seat.old).0)
-            (λ found. found) }
+            (seat_of step) (known_in (me_of seat.old).0) (past_in (me_of seat.old).0)
+            (note_in P.first (me_of seat.old).0) (λ found. found) }
         requires recalled { IsRecalledBy self.now.shape step (seat_of step) (known_in (me_of seat.old).0)
             (past_in (me_of seat.old).0) (λ found. found) }
         ensures at { table_at seat.new ≡ table_at seat.old }
-        ensures told { IsTold P.after P.whole P.first self.now.shape step act result (me_of seat.old) (me_of seat.new) }
-        ensures recorded { operations_of seat.new ≡ operation_of self.now.shape step (known_in (me_of seat.old).0) result
-            ∷ operations_of seat.old }
+        ensures told { IsTold P.after P.whole P.first self.now.shape step act result (me_of seat.old)
+            (me_of seat.new) }
+        ensures recorded { operations_of seat.new
+            ≡ operation_of self.now.shape step (known_in (me_of seat.old).0) result ∷ operations_of seat.old }
     {
         self.load_as::<Brand>(seat, word, step, act)
     }
@@ -105,15 +109,15 @@ impl<P: RootProtocol> Words<P> {
             (λ _. op.store (index self.now.shape (place_of _step)) new) }
         requires made { IsMadeBy self.now.shape _step (seat_of _step) (known_in (me_of seat.old).0) (λ _. new) }
         requires kept { IsKeptBy (P.keeps (key_of self.now.table).fixed) P.whole P.after self.now.shape _step _act
-            (seat_of _step) (known_in (me_of seat.old).0) (past_in (me_of seat.old).0) (note_in P.first (me_of seat.old).0)
-            (λ _. new) }
+            (seat_of _step) (known_in (me_of seat.old).0) (past_in (me_of seat.old).0)
+            (note_in P.first (me_of seat.old).0) (λ _. new) }
         requires recalled { IsRecalledBy self.now.shape _step (seat_of _step) (known_in (me_of seat.old).0)
             (past_in (me_of seat.old).0) (λ _. new) }
         ensures at { table_at seat.new ≡ table_at seat.old }
         ensures told { (found : ℕ) × IsTold P.after P.whole P.first self.now.shape _step _act found (me_of seat.old)
             (me_of seat.new) }
-        ensures recorded { operations_of seat.new ≡ operation_of self.now.shape _step (known_in (me_of seat.old).0) 0
-            ∷ operations_of seat.old }
+        ensures recorded { operations_of seat.new
+            ≡ operation_of self.now.shape _step (known_in (me_of seat.old).0) 0 ∷ operations_of seat.old }
     {
         safe_steps();
         self.table.store::<Stores<P, K>>(seat, word, new);
@@ -135,14 +139,15 @@ impl<P: RootProtocol> Words<P> {
             (λ _. op.store (index self.now.shape (place_of step)) new) }
         requires made { IsMadeBy self.now.shape step (seat_of step) (known_in (me_of seat.old).0) (λ _. new) }
         requires kept { IsKeptBy (P.keeps (key_of self.now.table).fixed) P.whole P.after self.now.shape step act
-            (seat_of step) (known_in (me_of seat.old).0) (past_in (me_of seat.old).0) (note_in P.first (me_of seat.old).0) (λ _. new) }
+            (seat_of step) (known_in (me_of seat.old).0) (past_in (me_of seat.old).0)
+            (note_in P.first (me_of seat.old).0) (λ _. new) }
         requires recalled { IsRecalledBy self.now.shape step (seat_of step) (known_in (me_of seat.old).0)
             (past_in (me_of seat.old).0) (λ _. new) }
         ensures at { table_at seat.new ≡ table_at seat.old }
         ensures told { (found : ℕ) × IsTold P.after P.whole P.first self.now.shape step act found (me_of seat.old)
             (me_of seat.new) }
-        ensures recorded { operations_of seat.new ≡ operation_of self.now.shape step (known_in (me_of seat.old).0) 0
-            ∷ operations_of seat.old }
+        ensures recorded { operations_of seat.new
+            ≡ operation_of self.now.shape step (known_in (me_of seat.old).0) 0 ∷ operations_of seat.old }
     {
         self.store_as::<Brand>(seat, word, new, step, act);
     }
@@ -167,18 +172,19 @@ impl<P: RootProtocol> Words<P> {
         requires made { IsMadeBy self.now.shape _step (seat_of _step) (known_in (me_of seat.old).0)
             (λ found. either (found == old) new found) }
         requires kept { IsKeptBy (P.keeps (key_of self.now.table).fixed) P.whole P.after self.now.shape _step _act
-            (seat_of _step) (known_in (me_of seat.old).0) (past_in (me_of seat.old).0) (note_in P.first (me_of seat.old).0)
+            (seat_of _step) (known_in (me_of seat.old).0) (past_in (me_of seat.old).0)
+            (note_in P.first (me_of seat.old).0)
             (λ found. either (found == old) new found) }
         requires recalled { IsRecalledBy self.now.shape _step (seat_of _step) (known_in (me_of seat.old).0)
             (past_in (me_of seat.old).0) (λ found. either (found == old) new found) }
         ensures at { table_at seat.new ≡ table_at seat.old }
-        ensures told { IsTold P.after P.whole P.first self.now.shape _step _act result (me_of seat.old) (me_of seat.new) }
-        ensures recorded { operations_of seat.new ≡ operation_of self.now.shape _step (known_in (me_of seat.old).0) result
-            ∷ operations_of seat.old }
+        ensures told { IsTold P.after P.whole P.first self.now.shape _step _act result (me_of seat.old)
+            (me_of seat.new) }
+        ensures recorded { operations_of seat.new
+            ≡ operation_of self.now.shape _step (known_in (me_of seat.old).0) result ∷ operations_of seat.old }
     {
         safe_steps();
-        self.table
-            .exchange::<Makes<P, K>>(seat, word, old, new)
+        self.table.exchange::<Makes<P, K>>(seat, word, old, new)
     }
 
     /// A core step that is made by a compare and exchange. The word as it was comes back.
@@ -199,14 +205,16 @@ impl<P: RootProtocol> Words<P> {
         requires made { IsMadeBy self.now.shape step (seat_of step) (known_in (me_of seat.old).0)
             (λ found. either (found == old) new found) }
         requires kept { IsKeptBy (P.keeps (key_of self.now.table).fixed) P.whole P.after self.now.shape step act
-            (seat_of step) (known_in (me_of seat.old).0) (past_in (me_of seat.old).0) (note_in P.first (me_of seat.old).0)
+            (seat_of step) (known_in (me_of seat.old).0) (past_in (me_of seat.old).0)
+            (note_in P.first (me_of seat.old).0)
             (λ found. either (found == old) new found) }
         requires recalled { IsRecalledBy self.now.shape step (seat_of step) (known_in (me_of seat.old).0)
             (past_in (me_of seat.old).0) (λ found. either (found == old) new found) }
         ensures at { table_at seat.new ≡ table_at seat.old }
-        ensures told { IsTold P.after P.whole P.first self.now.shape step act result (me_of seat.old) (me_of seat.new) }
-        ensures recorded { operations_of seat.new ≡ operation_of self.now.shape step (known_in (me_of seat.old).0) result
-            ∷ operations_of seat.old }
+        ensures told { IsTold P.after P.whole P.first self.now.shape step act result (me_of seat.old)
+            (me_of seat.new) }
+        ensures recorded { operations_of seat.new
+            ≡ operation_of self.now.shape step (known_in (me_of seat.old).0) result ∷ operations_of seat.old }
     {
         self.exchange_as::<Brand>(seat, word, old, new, step, act)
     }

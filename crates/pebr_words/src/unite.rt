@@ -12,8 +12,8 @@ use crate::words::{Seat, Words};
 impl<P: RootProtocol> Words<P> {
     /// One seat with all numbers of both and the merged note. It acts as the first.
     ///
-    /// Nobody acts as the second afterwards, so its slots are given up, an open scan of it with them. A shield of it that
-    /// is up stays up: the slot under it is never given, which is safe, and within the bound of a collection.
+    /// Nobody acts as the second afterwards, so its slots are given up, an open scan of it with them. A shield of it
+    /// that is up stays up: the slot under it is never given, which is safe, and within the bound of a collection.
     pub fn unite(&self, first: Seat<P>, second: Seat<P>) -> Seat<P>
         requires at { IsAt self.now first × IsAt self.now second }
         requires out { IsTrue (is_out (known_of first).status) × IsTrue (is_out (known_of second).status) }

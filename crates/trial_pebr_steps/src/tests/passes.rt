@@ -140,8 +140,8 @@ fn contents_at_end(
 #[test]
 fn a_shield_keeps_the_slot_of_its_own_root(rt: HostRuntime) {
     let alloc = rt.alloc();
-    // The root that the second pass reads, the one that the first pass replaces, what a collection gives and leaves, and
-    // both contents at the end.
+    // The root that the second pass reads, the one that the first pass replaces, what a collection gives and
+    // leaves, and both contents at the end.
     let rows = [
         (0, 0, 0, 1, (7, 6)),
         (0, 1, 1, 0, (5, 7)),
@@ -153,7 +153,10 @@ fn a_shield_keeps_the_slot_of_its_own_root(rt: HostRuntime) {
             panic!(rt; "no memory");
         };
         let found = replaced_under(&roots, &mut first, &mut second, read, replaced);
-        assert!(rt; found == (Some(ReplaceEnd::Replaced), given, left), "{read} is read, {replaced} replaced");
+        assert!(rt;
+            found == (Some(ReplaceEnd::Replaced), given, left),
+            "{read} is read, {replaced} replaced"
+        );
         let Ok(found) = contents_at_end(roots, alloc, first, second) else {
             panic!(rt; "no memory");
         };

@@ -13,7 +13,8 @@ use pebr_core::{LAST_EPOCH, valid_shields_protect};
 use pebr_words::{Looked, Seat, Shape, Words};
 use std::alloc::Global;
 
-/// Puts slot 2 with the content 7 into the second root. `false` where the seat is ejected, or the root has another slot.
+/// Puts slot 2 with the content 7 into the second root. `false` where the seat is ejected, or the root has another
+/// slot.
 fn replace(words: &Words<Free>, seat: &mut Seat<Free>) -> bool
     requires at { IsAt words.now seat.old }
     requires out { IsTrue (is_out (known_of seat.old).status) }
