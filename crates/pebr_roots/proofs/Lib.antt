@@ -1,4 +1,5 @@
 pub mod Passing
 pub mod Scans
+pub mod Orders
 pub mod Whole
 pub mod Dealing

@@ -24,11 +24,11 @@ use Rattle.pebr_roots.specs.Collecting.{others_below}
 -- scans and histories one after another
 
 pub scanning_still : (known : Seat) → is_scanning known ≡ true → IsScanning known known
-scanning_still known h = record { scanning = h; rest = refl }
+scanning_still known h = record { scanning = h; candidates = refl; rest = refl }
 
 pub scanning_on : (a b c : Seat) → IsScanning a b → IsScanning b c → IsScanning a c
 scanning_on a b c h k =
-    record { scanning = k.scanning; rest = k.rest ∙ ap (λ (s : Seat). record s { scan = c.scan }) h.rest }
+    record { scanning = k.scanning; candidates = k.candidates ∙ h.candidates; rest = k.rest ∙ ap (λ (s : Seat). record s { scan = c.scan }) h.rest }
 
 pub looked_on : (a b c : History) (m n : ℕ) → HasLooked a b m → HasLooked b c n → HasLooked a c (m + n)
 looked_on a b c m n h k = record {
@@ -51,7 +51,7 @@ module _ (shape : Shape) (me other : ℕ) (known : Seat) (fits : IsSeatOfShape s
 
   pub passing_look : IsPassing me other true known (after_pass other known)
   passing_look = record {
-    scan = record { scanning = refl; rest = refl };
+    scan = record { scanning = refl; candidates = refl; rest = refl };
     passed = λ _ _. get_or-set_same (scan_of known).passed other true false passed_inside;
     others = λ j ne. get_or-set_other (scan_of known).passed other j true false ne;
     unread = λ j place. refl;
@@ -62,7 +62,7 @@ module _ (shape : Shape) (me other : ℕ) (known : Seat) (fits : IsSeatOfShape s
   pub passing_held : (epoch : ℕ) → has (scan_of known).passed other ≡ false
       → IsPassing me other false known (with_scan known (with_look (scan_of known) other epoch))
   passing_held epoch unpassed = record {
-    scan = record { scanning = refl; rest = refl };
+    scan = record { scanning = refl; candidates = refl; rest = refl };
     passed = λ e. absurd (false≢true e);
     others = λ j ne. refl;
     unread = λ j place. refl;
@@ -74,7 +74,7 @@ module _ (shape : Shape) (me other : ℕ) (known : Seat) (fits : IsSeatOfShape s
   pub passing_eject : (epoch : ℕ) → IsPassing me other true known
       (after_pass other (with_scan known (with_look (scan_of known) other epoch)))
   passing_eject epoch = record {
-    scan = record { scanning = refl; rest = refl };
+    scan = record { scanning = refl; candidates = refl; rest = refl };
     passed = λ _ _. get_or-set_same (scan_of known).passed other true false passed_inside;
     others = λ j ne. get_or-set_other (scan_of known).passed other j true false ne;
     unread = λ j place. refl;
@@ -177,6 +177,14 @@ kept_passed scan (Some slot) = pick (has scan.candidates slot)
     pick true = refl
     pick false = refl
 
+kept_candidates : (scan : Scan) (slot : Option ℕ) → (with_kept scan slot).candidates ≡ scan.candidates
+kept_candidates scan None = refl
+kept_candidates scan (Some slot) = pick (has scan.candidates slot)
+  where
+    pick : (b : Bool) → (cond b (record scan { kept = set scan.kept slot true }) scan).candidates ≡ scan.candidates
+    pick true = refl
+    pick false = refl
+
 kept_scanned : (scan : Scan) (slot : Option ℕ) → (with_kept scan slot).scanned ≡ scan.scanned
 kept_scanned scan None = refl
 kept_scanned scan (Some slot) = pick (has scan.candidates slot)
@@ -216,7 +224,11 @@ module _ (shape : Shape) (other place : ℕ) (slot : Option ℕ) (old cur : Seat
   pub reading_more : kept_count read_seat ≤ kept_count cur + 1 → IsReading other place old cur
       → IsReading other (place + 1) old read_seat
   reading_more more h = record {
-    scan = record { scanning = refl; rest = ap (λ (s : Seat). record s { scan = read_seat.scan }) h.scan.rest };
+    scan = record {
+      scanning = refl;
+      candidates = kept_candidates (with_scanned (scan_of cur) other place) slot ∙ h.scan.candidates;
+      rest = ap (λ (s : Seat). record s { scan = read_seat.scan }) h.scan.rest;
+    };
     passed = λ j. ap (λ l. has l j) (kept_passed (with_scanned (scan_of cur) other place) slot) ∙ h.passed j;
     read = λ p lt. dite (ℕ_discrete p place)
         (λ (same : p ≡ place). is_row h.scan.scanning p

@@ -1,10 +1,9 @@
 -- What a whole collection comes to.
-use Rattle.std.proofs.Common.{◌≡◌, ℕ, zero, suc, ◌+◌, ◌-◌, ◌*◌, ◌<◌, ◌≤◌, inl, inr, ⊎_elim, Bool, true, false, List, []}
+use Rattle.std.proofs.Common.{◌≡◌, ℕ, zero, suc, ◌+◌, ◌-◌, ◌*◌, ◌<◌, ◌≤◌, ⊎_elim, Bool, true, false, List, []}
 use Rattle.std.proofs.Common.{◌∷◌, get_or, map, replicate, cond, refl, sym, ap, ◌∙◌, subst, arith, count_by, add-mul}
 use Rattle.std.proofs.Common.{one-mul}
 use Rattle.std.specs.Prelude.{IsTrue}
 use Rattle.std.proofs.lemmas.Bool.{false≢true}
-use Rattle.std.proofs.lemmas.List.{get_or-set_same}
 use Rattle.std.proofs.lemmas.List.Sums.{sum_by-cons}
 use Rattle.pebr_core.specs.declared.kinds.Shape.{Shape}
 use Rattle.pebr_core.specs.declared.kinds.Stance.{Stance}
@@ -14,10 +13,9 @@ use Rattle.pebr_core.specs.declared.kinds.Retired.TheVariants as retire
 use Rattle.pebr_core.specs.declared.kinds.Step.TheVariants as step
 use Rattle.pebr_core.specs.declared.kinds.Answer.{Answer}
 use Rattle.pebr_core.specs.declared.kinds.Answer.TheVariants as answer
-use Rattle.pebr_core.specs.State.{State, Seat, nobody, has, scan_of, has_scanned, seat_at, is_out, is_retired}
+use Rattle.pebr_core.specs.State.{State, Seat, has, scan_of, has_scanned, seat_at, is_out, is_retired}
 use Rattle.pebr_core.specs.State.{slots_per_seat}
-use Rattle.pebr_core.specs.Steps.{is_scanning, is_enabled, after, after_note, after_give, given_slots, tag_with}
-use Rattle.pebr_core.specs.Steps.{last_epoch}
+use Rattle.pebr_core.specs.Steps.{is_scanning, is_enabled, after_note, after_give, given_slots, tag_with}
 use Rattle.pebr_core.specs.Kept.{IsSound, held_count}
 use Rattle.pebr_core.specs.Frames.{kept_count, fresh_count, retired_count}
 use Rattle.pebr_words.specs.Making.{IsStepOf, IsAsKnown}
@@ -147,22 +145,6 @@ module _ (laws : GiveLaws) (shape : Shape) (me many left : ℕ) (scanned new : S
       let a = many_raw in
       omega (arith, f, k, s, t, a)
 
-  noted_is : new.noted ≡ made.core.epoch
-  noted_is = sym (same_noted new (seat_at (after made.core (step.Give me)) me) made.later)
-      ∙ ap (λ (s : Seat). s.noted)
-      (get_or-set_same made.core.seats me (after_give made.core.epoch (seat_at made.core me)) nobody
-      (let e = made.sound.shape.seats in let f = ap (λ (sh : Shape). sh.seats) made.shape_is in
-      omega (arith, e, f, inside)))
-
-  -- the noted epoch is the last, where it was
-  pub noted_last : scanned.noted ≡ last_epoch → new.noted ≡ last_epoch
-  noted_last last =
-      let up : (seat_at made.core me).noted ≤ made.core.epoch = made.sound.kept.epochs.noted me in
-      let low : made.core.epoch ≤ last_epoch = made.sound.kept.epochs.epoch in
-      let k = ap (λ (s : Seat). s.noted) is_known in
-      let n = noted_is in
-      omega (arith, up, low, k, n, last)
-
   pub collected : (force : Bool) (epoch : ℕ) (old opened passed : Seat) → opened ≡ after_note shape epoch old
       → kept_count opened ≡ 0 → IsScanning opened passed → kept_count passed ≡ kept_count opened
       → IsScanning passed scanned
@@ -188,10 +170,9 @@ pub collected_past : (shape : Shape) (force : Bool) (me : ℕ) (a : Answer) (old
     → HasOpened old opened noted → HasLooked opened passed (2 * (shape.seats - 1))
     → (force ≡ false → passed.ejections ≡ opened.ejections)
     → HasLooked passed scanned ((shape.seats - 1) * shape.shields) → scanned.ejections ≡ passed.ejections
-    → new ≡ past_after (step.Give me) a known scanned → is_scanning known' ≡ false
-    → (noted ≡ last_epoch → known'.noted ≡ last_epoch) → HasCollected shape force old new known'
+    → new ≡ past_after (step.Give me) a known scanned → is_scanning known' ≡ false → HasCollected shape force old new known'
 collected_past shape force me a old opened passed scanned new noted known known' open' looked mild scans unejected
-    new_is ended last =
+    new_is ended =
     let through = looked_on opened passed scanned (2 * (shape.seats - 1))
     ((shape.seats - 1) * shape.shields) looked scans in
     let is : scanned ≡ record old {
@@ -217,11 +198,6 @@ collected_past shape force me a old opened passed scanned new noted known known'
             gives = y.gives;
             ejections = y.ejections;
           }) (sym whole) refl;
-      advances = ⊎_elim
-          (λ (e : opened.advances ≡ old.advances + 1). inl (ap (λ (p : History). p.advances) whole ∙ e))
-          (λ (e : (opened.advances ≡ old.advances) × (noted ≡ last_epoch)). inr
-          (ap (λ (p : History). p.advances) whole ∙ e.0, last e.1))
-          open'.advances;
       gives = ap (λ (p : History). p.gives) whole ∙ ap (λ b. old.gives + cond b 0 1) (sym ended);
       few = (let n = ap (λ (p : History). p.steps) new_is in let t = through.few in let o = open'.few in
           omega (arith, n, t, o));

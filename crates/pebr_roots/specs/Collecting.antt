@@ -1,9 +1,11 @@
 -- How far a collection is: what it makes of the seat and of what the seat remembers.
-use Rattle.std.specs.Prelude.{◌≡◌, ◌≢◌, ◌⊎◌, ℕ, ◌+◌, ◌-◌, ◌*◌, ◌<◌, ◌≤◌, Bool, true, false, Some, if◌then◌else◌, nat_lt}
+use Rattle.std.specs.Prelude.{◌≡◌, ◌≢◌, ℕ, ◌+◌, ◌-◌, ◌*◌, ◌<◌, ◌≤◌, Bool, true, false, Some, if◌then◌else◌, nat_lt}
+use Rattle.std.specs.Prelude.{List, length}
 use Rattle.pebr_core.specs.State.{Seat, has, scan_of, found_at, has_scanned}
 use Rattle.pebr_core.specs.Steps.{is_scanning, last_epoch}
 use Rattle.pebr_core.specs.Frames.{kept_count, fresh_count, retired_count}
 use Rattle.pebr_core.specs.declared.kinds.Shape.{Shape}
+use Rattle.pebr_table.specs.Operations.{Op}
 use Rattle.pebr_words.specs.Pasts.{History}
 
 -- A seat was found in and isn't passed.
@@ -11,16 +13,21 @@ abbrev pub IsHeldUp : Seat → Type 0
 IsHeldUp known = (other : ℕ) × (epoch : ℕ) × (found_at (scan_of known) other ≡ Some epoch)
     × (has (scan_of known).passed other ≡ false)
 
--- The scan is open, and nothing but it has changed.
+-- The seat has made so many operations more as its history has steps more.
+abbrev pub IsCounted : History → History → List Op → List Op → Type 0
+IsCounted old new before after = new.steps + length before ≡ old.steps + length after
+
+-- The scan is open, with its candidates, and nothing but it has changed.
 pub record IsScanning (old new : Seat) : Type 0 where
   pub scanning : is_scanning new ≡ true
+  pub candidates : (scan_of new).candidates ≡ (scan_of old).candidates
   pub rest : new ≡ record old { scan = new.scan }
 
--- The scan has opened: Note, and Advance unless the epoch is the last.
+-- The scan has opened: Note, and Advance unless the epoch that it found is the last.
 pub record HasOpened (old new : History) (noted : ℕ) : Type 0 where
   pub rest : new ≡ record old { last = new.last; steps = new.steps; notes = old.notes + 1; advances = new.advances }
   pub few : new.steps ≤ old.steps + 2
-  pub advances : (new.advances ≡ old.advances + 1) ⊎ ((new.advances ≡ old.advances) × (noted ≡ last_epoch))
+  pub advances : new.advances ≡ old.advances + (if nat_lt noted last_epoch then 1 else 0)
 
 -- Looks, ejections and scans were made, at most so many.
 pub record HasLooked (old new : History) (most : ℕ) : Type 0 where
@@ -75,8 +82,8 @@ pub record IsCollected (shape : Shape) (force : Bool) (given left : ℕ) (old ne
   pub few : is_scanning new ≡ false → left ≤ (shape.seats - 1) * shape.shields
   pub held_up : is_scanning new ≡ true → (force ≡ false) × (given ≡ 0) × IsHeldUp new
 
--- What a collection adds to what the seat remembers: a Note, an Advance unless the epoch is the last, a Give unless a
--- seat holds the scan up, and without force no ejection.
+-- What a collection adds to what the seat remembers: a Note, a Give unless a seat holds the scan up, and without force no
+-- ejection. Which operations it makes, and so whether an Advance, `Orders` says.
 pub record HasCollected (shape : Shape) (force : Bool) (old new : History) (known : Seat) : Type 0 where
   pub rest : new ≡ record old {
     last = new.last;
@@ -87,7 +94,6 @@ pub record HasCollected (shape : Shape) (force : Bool) (old new : History) (know
     gives = new.gives;
     ejections = new.ejections;
   }
-  pub advances : (new.advances ≡ old.advances + 1) ⊎ ((new.advances ≡ old.advances) × (known.noted ≡ last_epoch))
   pub gives : new.gives ≡ old.gives + (if is_scanning known then 0 else 1)
   pub few : new.steps ≤ old.steps + (2 * (shape.seats - 1) + (shape.seats - 1) * shape.shields + 4)
   pub mild : force ≡ false → new.ejections ≡ old.ejections

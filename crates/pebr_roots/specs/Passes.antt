@@ -6,9 +6,10 @@ use Rattle.pebr_core.specs.declared.kinds.Answer.{Answer}
 use Rattle.pebr_core.specs.State as core
 use Rattle.pebr_core.specs.State.{slots_per_seat}
 use Rattle.pebr_core.specs.Kept.{held_count}
+use Rattle.pebr_table.specs.Operations.{Op}
 use Rattle.pebr_words.specs.Pasts.{History, Lost, Ejection, no_history}
 use Rattle.pebr_words.specs.Seats.{shape_of, fixed_of, known_of, number_of, numbers_of, note_of, past_of, lost_of}
-use Rattle.pebr_words.specs.Seats.{ejections_of, count_of, IsUnited, IsAt, IsStill, IsStep}
+use Rattle.pebr_words.specs.Seats.{ejections_of, operations_of, count_of, IsUnited, IsAt, IsStill, IsStep}
 use Rattle.pebr_roots.specs.declared.pass.RootPass.{RootPass}
 use Rattle.pebr_roots.specs.declared.pass.Roots.{Roots}
 
@@ -40,6 +41,10 @@ module _ {P N A F : Type 0} where
   -- what its steps were
   abbrev pub past_by : {g : _} → RootPass P N A F g → History
   past_by pass = past_of pass.seat
+
+  -- the operations that it made, the newest first
+  abbrev pub operations_by : {g : _} → RootPass P N A F g → List Op
+  operations_by pass = operations_of pass.seat
 
   -- the tries that it lost and the ejections that it made, of all numbers that it stands for
   abbrev pub lost_by : {g : _} → RootPass P N A F g → List Lost
@@ -75,6 +80,7 @@ module _ {P N A F : Type 0} where
     pub known : known_of pass.seat ≡ core.first_seat (shape_of roots.words) i
     pub note : note_of first pass.seat ≡ first
     pub past : past_of pass.seat ≡ no_history
+    pub operations : operations_of pass.seat ≡ []
     pub numbers : numbers_of pass.seat ≡ i ∷ []
     pub count : count_of pass.seat ≡ 1
     pub united : (empty : N) → IsUnited empty pass.seat

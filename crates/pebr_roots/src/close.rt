@@ -4,14 +4,15 @@ ghost use Rattle.std.specs.Prelude.{◌≡◌, ◌++◌, ◌+◌, ◌*◌, IsTru
 ghost use Rattle.pebr_core.specs.State.{is_out};
 ghost use Rattle.pebr_words.specs.Opening.{rows_of};
 ghost use Rattle.pebr_roots.specs.Passes.{shape_at, fixed_at, known_by, number_by, numbers_by, count_by_pass, note_by};
-ghost use Rattle.pebr_roots.specs.Passes.{past_by, lost_by, ejections_by, IsUnitedPass, IsOf};
+ghost use Rattle.pebr_roots.specs.Passes.{past_by, lost_by, ejections_by, operations_by, IsUnitedPass, IsOf};
 
 use crate::pass::{RootPass, Roots};
 use pebr_shields::{NoMemory, RootProtocol};
 use std::alloc::Global;
 
 impl<P: RootProtocol> Roots<P> {
-    /// One pass with all numbers of both and the merged note. It acts as the first.
+    /// One pass with all numbers of both and the merged note. It acts as the first. The second's slots are given up,
+    /// and a shield of it that is up stays up.
     pub fn unite(&self, first: RootPass<P>, second: RootPass<P>) -> RootPass<P>
         requires of { IsOf self.now first × IsOf self.now second }
         requires out { IsTrue (is_out (known_by first).status) × IsTrue (is_out (known_by second).status) }
@@ -22,6 +23,7 @@ impl<P: RootProtocol> Roots<P> {
         ensures known { known_by result ≡ known_by first }
         ensures note { note_by P.first result ≡ P.merged (note_by P.first first) (note_by P.first second) }
         ensures past { past_by result ≡ past_by first }
+        ensures operations { operations_by result ≡ operations_by first }
         ensures lost { lost_by result ≡ lost_by first ++ lost_by second }
         ensures ejections { ejections_by result ≡ ejections_by first ++ ejections_by second }
         ensures united { IsUnitedPass P.empty first → IsUnitedPass P.empty second → IsUnitedPass P.empty result }

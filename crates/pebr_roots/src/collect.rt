@@ -1,12 +1,14 @@
 //! Collecting: retired slots that nobody uses are made fresh.
 
-ghost use Rattle.std.specs.Prelude.{◌≡◌, ◌+◌, ◌-◌, ◌*◌, ◌≤◌, ℕ, IsTrue};
+ghost use Rattle.std.specs.Prelude.{◌≡◌, ◌+◌, ◌-◌, ◌*◌, ◌≤◌, ℕ, IsTrue, length, not};
 ghost use Rattle.std.specs.List.{list_all};
 ghost use Rattle.pebr_core.specs.State.{is_out, is_down};
+ghost use Rattle.pebr_core.specs.Steps.{is_scanning};
 ghost use Rattle.pebr_core.specs.Frames.{fresh_count};
 ghost use Rattle.pebr_words.specs.Ruled.{IsSure};
 ghost use Rattle.pebr_roots.specs.Collecting.{IsCollected, HasCollected};
-ghost use Rattle.pebr_roots.specs.Passes.{shape_at, known_by, note_by, past_by, IsOf, IsSame};
+ghost use Rattle.pebr_roots.specs.Orders.{HasMadeCollection};
+ghost use Rattle.pebr_roots.specs.Passes.{shape_at, known_by, number_by, note_by, past_by, operations_by, IsOf, IsSame};
 
 use crate::ends::Collected;
 use crate::pass::{RootPass, Roots};
@@ -15,8 +17,8 @@ use pebr_core::{kept_slots_are_counted, steps_are_safe, steps_leave_the_rest};
 use pebr_shields::RootProtocol;
 
 impl<P: RootProtocol> Roots<P> {
-    /// Makes retired slots fresh: Note; Advance, unless the epoch is the last; a Look at each other seat in
-    /// rising order; a Scan of each of their shields; Give.
+    /// Makes retired slots fresh: Note; Advance, from the epoch that Note found, unless it is the last; a Look at each
+    /// other seat in rising order; a Scan of each of their shields; Give. Each is one operation on a word.
     ///
     /// A seat that is in with an epoch at most a tag holds the scan up. Without force the collection ends
     /// there, gives nothing, and leaves the scan open for the next `enter` or `collect` to end. With force it
@@ -32,6 +34,12 @@ impl<P: RootProtocol> Roots<P> {
             (known_by pass.new) }
         ensures past { HasCollected (shape_at self.now) force (past_by pass.old) (past_by pass.new)
             (known_by pass.new) }
+        ensures operations { HasMadeCollection (shape_at self.now) force (number_by pass.old) (known_by pass.old)
+            (not (is_scanning (known_by pass.new))) (past_by pass.old) (past_by pass.new) (operations_by pass.old)
+            (operations_by pass.new) }
+        ensures few { length (operations_by pass.new) ≤ length (operations_by pass.old)
+            + (2 * ((shape_at self.now).seats - 1) + ((shape_at self.now).seats - 1) * (shape_at self.now).shields
+            + 4) }
         ensures sure { IsSure P.whole (shape_at self.now) (known_by pass.new) (past_by pass.new) }
         ensures left { IsTrue force → result.left ≤ ((shape_at self.now).seats - 1) * (shape_at self.now).shields }
         ensures fresh { IsTrue force → (shape_at self.now).batch + (shape_at self.now).shields

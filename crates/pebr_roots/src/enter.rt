@@ -9,7 +9,8 @@ ghost use Rattle.pebr_words.specs.Making.{act_on};
 ghost use Rattle.pebr_words.specs.Ruled.{CanNote, IsSure};
 ghost use Rattle.pebr_roots.specs.Ends.{entered_seat, entered_past};
 ghost use Rattle.pebr_roots.specs.Passes.{shape_at, fixed_at, known_by, number_by, note_by, past_by, IsOf, IsSame};
-ghost use Rattle.pebr_roots.specs.Passes.{IsOneStep};
+ghost use Rattle.pebr_roots.specs.Passes.{IsOneStep, operations_by};
+ghost use Rattle.pebr_roots.specs.Orders.{entered_operations};
 
 use crate::pass::{RootPass, Roots};
 use pebr_core::steps_are_safe;
@@ -27,6 +28,8 @@ impl<P: RootProtocol> Roots<P> {
             (known_by pass.old) }
         ensures past { past_by pass.new ≡ entered_past (number_by pass.old) (known_by pass.new).noted
             (known_by pass.old) (past_by pass.old) }
+        ensures operations { operations_by pass.new ≡ entered_operations (shape_at self.now) (number_by pass.old)
+            (known_by pass.new).noted (operations_by pass.old) }
         ensures sure { IsSure P.whole (shape_at self.now) (known_by pass.new) (past_by pass.new) }
     {
         steps_are_safe();

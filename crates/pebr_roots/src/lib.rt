@@ -23,14 +23,15 @@
 //! and looks at each other seat. One that is in with an old epoch holds the scan up. Without force the collection ends
 //! there. With force it ejects that seat, goes on, and reads the shields of all the others: a retired slot under a
 //! shield stays retired, the rest is fresh. So at most `(seats - 1) * shields` slots are left, whatever the other
-//! passes do, and the steps that it makes have a bound.
+//! passes do, and the operations that it makes have a bound.
 //!
 //! # What the clauses say
 //!
-//! A pass is seen by what it knows of its part of the core, by its note, and by its history: loads, reads, tries lost,
-//! ejections made, counts of steps (`specs/Passes.antt`). Each call says which steps it made and what these are
-//! afterwards. A [`RootProtocol`] says what the layer above keeps of the contents of all roots and of all notes:
-//! `replace` and `leave` ask that it still keeps, and [`Roots::close`] gives contents with which it keeps.
+//! A pass is seen by what it knows of its part of the core, by its note, by its history (loads, reads, tries lost,
+//! ejections made), and by the operations on words that it made (`specs/Passes.antt`). Each call says which
+//! operations it made, in which order (`specs/Orders.antt`), and what these are afterwards. A [`RootProtocol`] says
+//! what the layer above keeps of the contents of all roots and of all notes: `replace` and `leave` ask that it still
+//! keeps, and [`Roots::close`] gives contents with which it keeps.
 //!
 //! No call but `open` and `close` takes memory, and none but these goes over all slots.
 #![tactic(auto)]

@@ -12,7 +12,9 @@ ghost use Rattle.pebr_shields.specs.declared.checked.Checked.TheVariants as chec
 ghost use Rattle.pebr_shields.specs.Found.{answer_to, checked_seat};
 ghost use Rattle.pebr_roots.specs.Under.{slot_at, is_valid_at};
 ghost use Rattle.pebr_roots.specs.Ends.{loaded_seat, loaded_past, cleared_seat, cleared_past};
+ghost use Rattle.pebr_roots.specs.Orders.{loaded_operations, HasCleared};
 ghost use Rattle.pebr_roots.specs.Passes.{shape_at, known_by, number_by, note_by, past_by, IsOf, IsSame, IsOneStep};
+ghost use Rattle.pebr_roots.specs.Passes.{operations_by};
 
 use crate::pass::{RootPass, Roots};
 use pebr_core::valid_shields_protect;
@@ -29,6 +31,8 @@ impl<P: RootProtocol> Roots<P> {
         ensures known { known_by pass.new ≡ loaded_seat place result (known_by pass.old) }
         ensures past { past_by pass.new ≡ loaded_past (number_by pass.old) root place result (known_by pass.old)
             (past_by pass.old) }
+        ensures operations { operations_by pass.new ≡ loaded_operations (shape_at self.now) (number_by pass.old) root
+            place result (operations_by pass.old) }
         ensures sure { IsSure P.whole (shape_at self.now) (known_by pass.new) (past_by pass.new) }
         ensures slot { result < slot_count (shape_at self.now) }
         ensures seen { has (known_by pass.new).seen result ≡ true }
@@ -86,6 +90,8 @@ impl<P: RootProtocol> Roots<P> {
         ensures known { known_by pass.new ≡ cleared_seat (shape_at self.now) (known_by pass.old) }
         ensures down { IsTrue (list_all is_down (known_by pass.new).shields) }
         ensures past { past_by pass.new ≡ cleared_past (shape_at self.now) (past_by pass.old) }
+        ensures operations { HasCleared (shape_at self.now) (number_by pass.old) (operations_by pass.old)
+            (operations_by pass.new) }
         ensures sure { IsSure P.whole (shape_at self.now) (known_by pass.new) (past_by pass.new) }
     {
         let shields = self.words.shape().shields;

@@ -5,9 +5,11 @@ ghost use Rattle.pebr_core.specs.State.{has, is_out, scan_of, has_scanned};
 ghost use Rattle.pebr_core.specs.Steps.{is_scanning, after_note};
 ghost use Rattle.pebr_core.specs.Frames.{kept_count};
 ghost use Rattle.pebr_words.specs.Ruled.{IsSure};
-ghost use Rattle.pebr_words.specs.Seats.{IsAt, IsStill, shape_of, known_of, number_of, note_of, past_of};
+ghost use Rattle.pebr_words.specs.Seats.{IsAt, IsStill, shape_of, known_of, number_of, note_of, past_of, operations_of};
 ghost use Rattle.pebr_roots.specs.Collecting.{HasOpened, HasLooked, IsPassing, ArePassing, IsReading, AreReading};
-ghost use Rattle.pebr_roots.specs.Collecting.{others_below};
+ghost use Rattle.pebr_roots.specs.Collecting.{others_below, IsCounted};
+ghost use Rattle.pebr_roots.specs.Orders.{opened_operations, ButFor, HasPassed, HasPassedAll, HasEndedAt};
+ghost use Rattle.pebr_roots.specs.Orders.{HasScannedSome, AreScannedBelow};
 
 use pebr_core::{LAST_EPOCH, kept_slots_are_counted};
 use pebr_shields::{RootProtocol, Seat, Words, scan};
@@ -21,6 +23,10 @@ pub fn open_scan<P: RootProtocol>(words: &Words<P>, seat: &mut Seat<P>)
     ensures note { note_of P.first seat.new ≡ note_of P.first seat.old }
     ensures known { known_of seat.new ≡ after_note (shape_of words.now) (known_of seat.new).noted (known_of seat.old) }
     ensures past { HasOpened (past_of seat.old) (past_of seat.new) (known_of seat.new).noted }
+    ensures operations { (found : ℕ) × (operations_of seat.new ≡ opened_operations (shape_of words.now)
+        (known_of seat.new).noted found (operations_of seat.old)) }
+    ensures counted { IsCounted (past_of seat.old) (past_of seat.new) (operations_of seat.old)
+        (operations_of seat.new) }
 {
     let epoch = words.note(seat);
     if epoch < LAST_EPOCH {
@@ -44,6 +50,12 @@ pub fn pass<P: RootProtocol>(
     ensures note { note_of P.first seat.new ≡ note_of P.first seat.old }
     ensures known { IsPassing (number_of seat.old) other result (known_of seat.old) (known_of seat.new) }
     ensures past { HasLooked (past_of seat.old) (past_of seat.new) (if other == number_of seat.old then 0 else 2) }
+    ensures operations { ButFor (number_of seat.old)
+        (λ j. HasPassed (shape_of words.now) (known_of seat.old) force j result) other (operations_of seat.old)
+        (operations_of seat.new) }
+    ensures own { other ≡ number_of seat.old → IsTrue result }
+    ensures counted { IsCounted (past_of seat.old) (past_of seat.new) (operations_of seat.old)
+        (operations_of seat.new) }
     ensures forced { IsTrue force → IsTrue result }
     ensures mild { force ≡ false → (past_of seat.new).ejections ≡ (past_of seat.old).ejections }
     ensures sure { result ≡ false → IsSure P.whole (shape_of words.now) (known_of seat.new) (past_of seat.new) }
@@ -74,6 +86,12 @@ pub fn pass_all<P: RootProtocol>(words: &Words<P>, seat: &mut Seat<P>, force: bo
     ensures known { ArePassing (number_of seat.old) (shape_of words.now).seats result (known_of seat.old)
         (known_of seat.new) }
     ensures past { HasLooked (past_of seat.old) (past_of seat.new) (2 * ((shape_of words.now).seats - 1)) }
+    ensures operations { IsTrue result → HasPassedAll (shape_of words.now) (known_of seat.old) force
+        (number_of seat.old) (operations_of seat.old) (operations_of seat.new) }
+    ensures ended { result ≡ false → HasEndedAt (shape_of words.now) (known_of seat.old) force (number_of seat.old)
+        (operations_of seat.old) (operations_of seat.new) }
+    ensures counted { IsCounted (past_of seat.old) (past_of seat.new) (operations_of seat.old)
+        (operations_of seat.new) }
     ensures forced { IsTrue force → IsTrue result }
     ensures mild { force ≡ false → (past_of seat.new).ejections ≡ (past_of seat.old).ejections }
     ensures sure { result ≡ false → IsSure P.whole (shape_of words.now) (known_of seat.new) (past_of seat.new) }
@@ -97,6 +115,10 @@ fn scan_seat<P: RootProtocol>(words: &Words<P>, seat: &mut Seat<P>, other: usize
     ensures note { note_of P.first seat.new ≡ note_of P.first seat.old }
     ensures known { IsReading other (shape_of words.now).shields (known_of seat.old) (known_of seat.new) }
     ensures past { HasLooked (past_of seat.old) (past_of seat.new) (shape_of words.now).shields }
+    ensures operations { HasScannedSome (shape_of words.now) other (shape_of words.now).shields
+        (operations_of seat.old) (operations_of seat.new) }
+    ensures counted { IsCounted (past_of seat.old) (past_of seat.new) (operations_of seat.old)
+        (operations_of seat.new) }
     ensures ejections { (past_of seat.new).ejections ≡ (past_of seat.old).ejections }
 {
     kept_slots_are_counted();
@@ -118,6 +140,11 @@ fn scan_other<P: RootProtocol>(words: &Words<P>, seat: &mut Seat<P>, other: usiz
         (known_of seat.old) (known_of seat.new) }
     ensures past { HasLooked (past_of seat.old) (past_of seat.new)
         (if other == number_of seat.old then 0 else (shape_of words.now).shields) }
+    ensures operations { ButFor (number_of seat.old)
+        (λ j. HasScannedSome (shape_of words.now) j (shape_of words.now).shields) other (operations_of seat.old)
+        (operations_of seat.new) }
+    ensures counted { IsCounted (past_of seat.old) (past_of seat.new) (operations_of seat.old)
+        (operations_of seat.new) }
     ensures ejections { (past_of seat.new).ejections ≡ (past_of seat.old).ejections }
 {
     if other != seat.number() {
@@ -140,6 +167,10 @@ pub fn scan_all<P: RootProtocol>(words: &Words<P>, seat: &mut Seat<P>)
         ≤ kept_count (known_of seat.old) + ((shape_of words.now).seats - 1) * (shape_of words.now).shields }
     ensures past { HasLooked (past_of seat.old) (past_of seat.new)
         (((shape_of words.now).seats - 1) * (shape_of words.now).shields) }
+    ensures operations { AreScannedBelow (shape_of words.now) (number_of seat.old) (shape_of words.now).seats
+        (operations_of seat.old) (operations_of seat.new) }
+    ensures counted { IsCounted (past_of seat.old) (past_of seat.new) (operations_of seat.old)
+        (operations_of seat.new) }
     ensures ejections { (past_of seat.new).ejections ≡ (past_of seat.old).ejections }
 {
     for other in 0..words.shape().seats {

@@ -14,9 +14,9 @@ ghost use Rattle.pebr_words.specs.Seats.{IsAt, IsUnited, shape_of, fixed_of, kno
 use crate::open::{put, roots_from};
 use crate::protocol::RootProtocol;
 use crate::words::{Seat, Words};
-use atomic_table::Closed;
 use no_memory::NoMemory;
 use pebr_core::Shape;
+use pebr_table::Closed;
 use std::alloc::Global;
 
 /// So many words from one on, behind the others.
@@ -115,7 +115,7 @@ impl<P: RootProtocol> Words<P> {
         } = seat;
         drop(slots);
         drop(found);
-        let closed = table.close_with(inner);
+        let closed = table.close(inner);
         let contents = gather(alloc, &closed, shape);
         closed.free();
         contents

@@ -28,15 +28,17 @@
 //!
 //! `pebr_core` is this scheme as a pure machine of fifteen kinds of step. Here no core exists at run
 //! time. One table holds the epoch, a status word and shield words for each seat, a word for each root,
-//! and the slots' words; each call makes one step of the core by one load, store, or compare and exchange
-//! of one word. What a seat knows of itself besides (what it noted and has seen, which shields are valid,
-//! its slots, its scan) stands in its view, which only its own steps change.
+//! and the slots' words; each call makes one step of the core by one load, store, or compare and
+//! exchange of one word, which is recorded (`pebr_table`). What a seat knows of itself besides (what it
+//! noted and has seen, which shields are valid, its slots, its scan) stands in its view, which only its
+//! own steps change.
 //!
 //! The table's rule says that words and views show a core which is sound, between any two steps and
 //! whatever the seats do in turn: see `specs/Ruled.antt`. Each call's clauses say which step of such a
-//! core it was, what the seat knows afterwards, and how its history goes on. The history is what a layer
-//! above may rely on although other seats step in between: two reads of one word under a valid shield are
-//! equal, a content that was read in full is whole, and with one seat no try is lost.
+//! core it was, by which operation and of what that found (`specs/Operating.antt`), what the seat knows
+//! afterwards, and how its history goes on. The history is what a layer above may rely on although
+//! other seats step in between: two reads of one word under a valid shield are equal, a content that
+//! was read in full is whole, and with one seat no try is lost.
 //!
 //! A [`RootProtocol`] says what the layer above keeps of the roots' contents and of the seats' notes.
 #![tactic(auto)]

@@ -4,6 +4,7 @@ ghost use Rattle.std.specs.Prelude.{◌≡◌, ℕ, ◌*◌, ◌+◌, ◌-◌, �
 ghost use Rattle.std.specs.Prelude.{◌++◌};
 ghost use Rattle.std.specs.List.{range_with_len};
 ghost use Rattle.pebr_core.specs.Kept.{IsWithinLimits};
+ghost use Rattle.pebr_table.specs.Tables.{table_at, table_of, me_of, operations_of};
 ghost use Rattle.pebr_words.specs.Places.{roots_from, slots_from};
 ghost use Rattle.pebr_words.specs.Opening.{opening_words, rows_of, spare_slots};
 ghost use Rattle.pebr_words.specs.Mirrors.{IsFirst};
@@ -14,9 +15,9 @@ use crate::protocol::RootProtocol;
 use crate::rule::Parts;
 use crate::views::{TableSeat, Told};
 use crate::words::{Seat, Words};
-use atomic_table::Table;
 use no_memory::NoMemory;
 use pebr_core::{Shape, other_words_are_sound, start_is_sound};
+use pebr_table::Table;
 use seat_slots::SeatSlots;
 use std::alloc::Global;
 
@@ -123,8 +124,9 @@ impl<P: RootProtocol> Words<P> {
     ) -> Seat<P>
         requires slots { IsFirst self.now.shape number slots }
         requires found { found.items ≡ replicate self.now.shape.seats 0 }
-        requires at { (inner.table_id ≡ self.now.table.shared.table_id) × (number < self.now.shape.seats) }
-        requires view { inner.me ≡ (view_from self.now.shape P.first number 1, []) }
+        requires at { (table_at inner ≡ table_of self.now.table) × (number < self.now.shape.seats) }
+        requires view { me_of inner ≡ (view_from self.now.shape P.first number 1, []) }
+        requires idle { operations_of inner ≡ [] }
         ensures { IsOpenedSeat self.now P.first number result }
     {
         start_is_sound();
@@ -147,21 +149,24 @@ impl<P: RootProtocol> Words<P> {
     ) -> Seat<P>
         requires slots { IsFirst self.now.shape number slots }
         requires found { found.items ≡ replicate self.now.shape.seats 0 }
-        requires at { (seat.old.table_id ≡ self.now.table.shared.table_id) × (number < self.now.shape.seats) }
-        requires view { seat.old.me ≡ (view_from self.now.shape P.first number (self.now.shape.seats - number), []) }
-        ensures at { seat.new.table_id ≡ seat.old.table_id }
-        ensures view { seat.new.me
+        requires at { (table_at seat.old ≡ table_of self.now.table) × (number < self.now.shape.seats) }
+        requires idle { operations_of seat.old ≡ [] }
+        requires view { me_of seat.old ≡ (view_from self.now.shape P.first number (self.now.shape.seats - number), []) }
+        ensures at { table_at seat.new ≡ table_at seat.old }
+        ensures idle { operations_of seat.new ≡ [] }
+        ensures view { me_of seat.new
             ≡ (view_from self.now.shape P.first (number + 1) (self.now.shape.seats - (number + 1)), []) }
         ensures opened { IsOpenedSeat self.now P.first number result }
     {
-        let inner = self.table.shared.split_seat::<Parts>(seat);
+        let inner = self.table.split::<Parts>(seat);
         self.open_seat(inner, number, slots, found)
     }
 
     /// A seat for each number. Each further one is split off.
     fn deal(&self, alloc: Global, mut seat: TableSeat<P::Note>) -> Result<Vec<Seat<P>>, NoMemory>
-        requires at { seat.table_id ≡ self.now.table.shared.table_id }
-        requires view { seat.me ≡ (first_view self.now.shape P.first, []) }
+        requires at { table_at seat ≡ table_of self.now.table }
+        requires view { me_of seat ≡ (first_view self.now.shape P.first, []) }
+        requires idle { operations_of seat ≡ [] }
         ensures { IfOk result (λ seats. AreOpened self.now P.first self.now.shape.seats seats.items) }
     {
         let last = self.shape.seats - 1;
@@ -204,9 +209,7 @@ impl<P: RootProtocol> Words<P> {
         other_words_are_sound();
         let words = first_words(alloc, shape, contents)?;
         let told = Told { shape, fixed };
-        let Ok((table, seat)) = Table::of_words(alloc, words.as_slice(), &told) else {
-            return Err(NoMemory);
-        };
+        let (table, seat) = Table::open(alloc, words.as_slice(), &told)?;
         let contents = slots_from(shape);
         let words = Words {
             table,

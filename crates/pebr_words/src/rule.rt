@@ -7,7 +7,7 @@ ghost use Rattle.pebr_core.specs.declared.kinds.Step.TheVariants as step;
 
 use crate::protocol::RootProtocol;
 use crate::views::{Told, View};
-use atomic_table::{Join, Play, Split, TableRule};
+use pebr_table::{Join, Play, Split, TableRule};
 use std::marker::{Brand, PhantomData};
 
 /// Words and views show a sound core, and the protocol keeps.

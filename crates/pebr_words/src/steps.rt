@@ -1,13 +1,16 @@
 //! The three ways in which a core step is made: a load, a store, and a compare and exchange.
 //!
 //! Each takes the core step and the act beside the word. They are for the proof alone, which is to
-//! show that the step is made so, and that the protocol keeps.
+//! show that the step is made so, that the operation is the step's own, and that the protocol keeps.
 
-ghost use Rattle.std.specs.Prelude.{◌≡◌, ◌<◌, ℕ, length, ◌==◌};
+ghost use Rattle.std.specs.Prelude.{◌≡◌, ◌<◌, ◌∷◌, ℕ, length, ◌==◌};
 ghost use prog.Atomic.{either};
+ghost use Rattle.pebr_table.specs.Operations as op;
+ghost use Rattle.pebr_table.specs.Tables.{table_at, table_of, key_of, me_of, operations_of};
 ghost use Rattle.pebr_words.specs.Places.{IsPlace, index, word_count};
 ghost use Rattle.pebr_core.specs.Frames.{seat_of};
 ghost use Rattle.pebr_words.specs.Making.{place_of, number_in, known_in, note_in, past_in};
+ghost use Rattle.pebr_words.specs.Operating.{operation_of, IsOwn};
 ghost use Rattle.pebr_words.specs.Ruled.{IsPicked, IsTold};
 ghost use Rattle.pebr_words.specs.Facts.{IsMadeBy, IsKeptBy, IsRecalledBy, StepsAreSafe};
 
@@ -40,20 +43,25 @@ impl<P: RootProtocol> Words<P> {
         _act: Option<P::Act>,
     ) -> u64
         requires picked { IsPicked K.shape K.step K.act self.now.shape _step _act }
-        requires at { (seat.old.table_id ≡ self.now.table.shared.table_id) × (0 < length seat.old.me.0)
-            × (number_in seat.old.me.0 ≡ seat_of _step) }
+        requires at { (table_at seat.old ≡ table_of self.now.table) × (0 < length (me_of seat.old).0)
+            × (number_in (me_of seat.old).0 ≡ seat_of _step) }
         requires place { IsPlace self.now.shape (place_of _step) × (index self.now.shape (place_of _step) ≡ word) }
-        requires made { IsMadeBy self.now.shape _step (seat_of _step) (known_in seat.old.me.0) (λ found. found) }
-        requires kept { IsKeptBy (P.keeps self.now.table.shared.key.fixed) P.whole P.after self.now.shape _step _act
-            (seat_of _step) (known_in seat.old.me.0) (past_in seat.old.me.0) (note_in P.first seat.old.me.0)
-            (λ found. found) }
-        requires recalled { IsRecalledBy self.now.shape _step (seat_of _step) (known_in seat.old.me.0)
-            (past_in seat.old.me.0) (λ found. found) }
-        ensures at { seat.new.table_id ≡ seat.old.table_id }
-        ensures told { IsTold P.after P.whole P.first self.now.shape _step _act result seat.old.me seat.new.me }
+        requires own { IsOwn self.now.shape _step (known_in (me_of seat.old).0)
+            (op.load (index self.now.shape (place_of _step))) }
+        requires made { IsMadeBy self.now.shape _step (seat_of _step) (known_in (me_of seat.old).0) (λ found. found) }
+        requires kept { IsKeptBy (P.keeps (key_of self.now.table).fixed) P.whole P.after self.now.shape _step _act
+            (seat_of _step) (known_in (me_of seat.old).0) (past_in (me_of seat.old).0)
+            (note_in P.first (me_of seat.old).0) (λ found. found) }
+        requires recalled { IsRecalledBy self.now.shape _step (seat_of _step) (known_in (me_of seat.old).0)
+            (past_in (me_of seat.old).0) (λ found. found) }
+        ensures at { table_at seat.new ≡ table_at seat.old }
+        ensures told { IsTold P.after P.whole P.first self.now.shape _step _act result (me_of seat.old)
+            (me_of seat.new) }
+        ensures recorded { operations_of seat.new
+            ≡ operation_of self.now.shape _step (known_in (me_of seat.old).0) result ∷ operations_of seat.old }
     {
         safe_steps();
-        self.table.shared.load::<Makes<P, K>>(seat, word)
+        self.table.load::<Makes<P, K>>(seat, word)
     }
 
     /// A core step that is made by a load.
@@ -64,17 +72,22 @@ impl<P: RootProtocol> Words<P> {
         step: Step,
         act: Option<P::Act>,
     ) -> u64
-        requires at { (seat.old.table_id ≡ self.now.table.shared.table_id) × (0 < length seat.old.me.0)
-            × (number_in seat.old.me.0 ≡ seat_of step) }
+        requires at { (table_at seat.old ≡ table_of self.now.table) × (0 < length (me_of seat.old).0)
+            × (number_in (me_of seat.old).0 ≡ seat_of step) }
         requires place { IsPlace self.now.shape (place_of step) × (index self.now.shape (place_of step) ≡ word) }
-        requires made { IsMadeBy self.now.shape step (seat_of step) (known_in seat.old.me.0) (λ found. found) }
-        requires kept { IsKeptBy (P.keeps self.now.table.shared.key.fixed) P.whole P.after self.now.shape step act
-            (seat_of step) (known_in seat.old.me.0) (past_in seat.old.me.0) (note_in P.first seat.old.me.0)
-            (λ found. found) }
-        requires recalled { IsRecalledBy self.now.shape step (seat_of step) (known_in seat.old.me.0)
-            (past_in seat.old.me.0) (λ found. found) }
-        ensures at { seat.new.table_id ≡ seat.old.table_id }
-        ensures told { IsTold P.after P.whole P.first self.now.shape step act result seat.old.me seat.new.me }
+        requires own { IsOwn self.now.shape step (known_in (me_of seat.old).0)
+            (op.load (index self.now.shape (place_of step))) }
+        requires made { IsMadeBy self.now.shape step (seat_of step) (known_in (me_of seat.old).0) (λ found. found) }
+        requires kept { IsKeptBy (P.keeps (key_of self.now.table).fixed) P.whole P.after self.now.shape step act
+            (seat_of step) (known_in (me_of seat.old).0) (past_in (me_of seat.old).0)
+            (note_in P.first (me_of seat.old).0) (λ found. found) }
+        requires recalled { IsRecalledBy self.now.shape step (seat_of step) (known_in (me_of seat.old).0)
+            (past_in (me_of seat.old).0) (λ found. found) }
+        ensures at { table_at seat.new ≡ table_at seat.old }
+        ensures told { IsTold P.after P.whole P.first self.now.shape step act result (me_of seat.old)
+            (me_of seat.new) }
+        ensures recorded { operations_of seat.new
+            ≡ operation_of self.now.shape step (known_in (me_of seat.old).0) result ∷ operations_of seat.old }
     {
         self.load_as::<Brand>(seat, word, step, act)
     }
@@ -89,21 +102,25 @@ impl<P: RootProtocol> Words<P> {
         _act: Option<P::Act>,
     )
         requires picked { IsPicked K.shape K.step K.act self.now.shape _step _act }
-        requires at { (seat.old.table_id ≡ self.now.table.shared.table_id) × (0 < length seat.old.me.0)
-            × (number_in seat.old.me.0 ≡ seat_of _step) }
+        requires at { (table_at seat.old ≡ table_of self.now.table) × (0 < length (me_of seat.old).0)
+            × (number_in (me_of seat.old).0 ≡ seat_of _step) }
         requires place { IsPlace self.now.shape (place_of _step) × (index self.now.shape (place_of _step) ≡ word) }
-        requires made { IsMadeBy self.now.shape _step (seat_of _step) (known_in seat.old.me.0) (λ _. new) }
-        requires kept { IsKeptBy (P.keeps self.now.table.shared.key.fixed) P.whole P.after self.now.shape _step _act
-            (seat_of _step) (known_in seat.old.me.0) (past_in seat.old.me.0) (note_in P.first seat.old.me.0)
-            (λ _. new) }
-        requires recalled { IsRecalledBy self.now.shape _step (seat_of _step) (known_in seat.old.me.0)
-            (past_in seat.old.me.0) (λ _. new) }
-        ensures at { seat.new.table_id ≡ seat.old.table_id }
-        ensures told { (found : ℕ) × IsTold P.after P.whole P.first self.now.shape _step _act found seat.old.me
-            seat.new.me }
+        requires own { IsOwn self.now.shape _step (known_in (me_of seat.old).0)
+            (λ _. op.store (index self.now.shape (place_of _step)) new) }
+        requires made { IsMadeBy self.now.shape _step (seat_of _step) (known_in (me_of seat.old).0) (λ _. new) }
+        requires kept { IsKeptBy (P.keeps (key_of self.now.table).fixed) P.whole P.after self.now.shape _step _act
+            (seat_of _step) (known_in (me_of seat.old).0) (past_in (me_of seat.old).0)
+            (note_in P.first (me_of seat.old).0) (λ _. new) }
+        requires recalled { IsRecalledBy self.now.shape _step (seat_of _step) (known_in (me_of seat.old).0)
+            (past_in (me_of seat.old).0) (λ _. new) }
+        ensures at { table_at seat.new ≡ table_at seat.old }
+        ensures told { (found : ℕ) × IsTold P.after P.whole P.first self.now.shape _step _act found (me_of seat.old)
+            (me_of seat.new) }
+        ensures recorded { operations_of seat.new
+            ≡ operation_of self.now.shape _step (known_in (me_of seat.old).0) 0 ∷ operations_of seat.old }
     {
         safe_steps();
-        self.table.shared.store::<Stores<P, K>>(seat, word, new);
+        self.table.store::<Stores<P, K>>(seat, word, new);
     }
 
     /// A core step that is made by a store.
@@ -115,17 +132,22 @@ impl<P: RootProtocol> Words<P> {
         step: Step,
         act: Option<P::Act>,
     )
-        requires at { (seat.old.table_id ≡ self.now.table.shared.table_id) × (0 < length seat.old.me.0)
-            × (number_in seat.old.me.0 ≡ seat_of step) }
+        requires at { (table_at seat.old ≡ table_of self.now.table) × (0 < length (me_of seat.old).0)
+            × (number_in (me_of seat.old).0 ≡ seat_of step) }
         requires place { IsPlace self.now.shape (place_of step) × (index self.now.shape (place_of step) ≡ word) }
-        requires made { IsMadeBy self.now.shape step (seat_of step) (known_in seat.old.me.0) (λ _. new) }
-        requires kept { IsKeptBy (P.keeps self.now.table.shared.key.fixed) P.whole P.after self.now.shape step act
-            (seat_of step) (known_in seat.old.me.0) (past_in seat.old.me.0) (note_in P.first seat.old.me.0) (λ _. new) }
-        requires recalled { IsRecalledBy self.now.shape step (seat_of step) (known_in seat.old.me.0)
-            (past_in seat.old.me.0) (λ _. new) }
-        ensures at { seat.new.table_id ≡ seat.old.table_id }
-        ensures told { (found : ℕ) × IsTold P.after P.whole P.first self.now.shape step act found seat.old.me
-            seat.new.me }
+        requires own { IsOwn self.now.shape step (known_in (me_of seat.old).0)
+            (λ _. op.store (index self.now.shape (place_of step)) new) }
+        requires made { IsMadeBy self.now.shape step (seat_of step) (known_in (me_of seat.old).0) (λ _. new) }
+        requires kept { IsKeptBy (P.keeps (key_of self.now.table).fixed) P.whole P.after self.now.shape step act
+            (seat_of step) (known_in (me_of seat.old).0) (past_in (me_of seat.old).0)
+            (note_in P.first (me_of seat.old).0) (λ _. new) }
+        requires recalled { IsRecalledBy self.now.shape step (seat_of step) (known_in (me_of seat.old).0)
+            (past_in (me_of seat.old).0) (λ _. new) }
+        ensures at { table_at seat.new ≡ table_at seat.old }
+        ensures told { (found : ℕ) × IsTold P.after P.whole P.first self.now.shape step act found (me_of seat.old)
+            (me_of seat.new) }
+        ensures recorded { operations_of seat.new
+            ≡ operation_of self.now.shape step (known_in (me_of seat.old).0) 0 ∷ operations_of seat.old }
     {
         self.store_as::<Brand>(seat, word, new, step, act);
     }
@@ -142,23 +164,27 @@ impl<P: RootProtocol> Words<P> {
         _act: Option<P::Act>,
     ) -> u64
         requires picked { IsPicked K.shape K.step K.act self.now.shape _step _act }
-        requires at { (seat.old.table_id ≡ self.now.table.shared.table_id) × (0 < length seat.old.me.0)
-            × (number_in seat.old.me.0 ≡ seat_of _step) }
+        requires at { (table_at seat.old ≡ table_of self.now.table) × (0 < length (me_of seat.old).0)
+            × (number_in (me_of seat.old).0 ≡ seat_of _step) }
         requires place { IsPlace self.now.shape (place_of _step) × (index self.now.shape (place_of _step) ≡ word) }
-        requires made { IsMadeBy self.now.shape _step (seat_of _step) (known_in seat.old.me.0)
+        requires own { IsOwn self.now.shape _step (known_in (me_of seat.old).0)
+            (op.exchange (index self.now.shape (place_of _step)) old new) }
+        requires made { IsMadeBy self.now.shape _step (seat_of _step) (known_in (me_of seat.old).0)
             (λ found. either (found == old) new found) }
-        requires kept { IsKeptBy (P.keeps self.now.table.shared.key.fixed) P.whole P.after self.now.shape _step _act
-            (seat_of _step) (known_in seat.old.me.0) (past_in seat.old.me.0) (note_in P.first seat.old.me.0)
+        requires kept { IsKeptBy (P.keeps (key_of self.now.table).fixed) P.whole P.after self.now.shape _step _act
+            (seat_of _step) (known_in (me_of seat.old).0) (past_in (me_of seat.old).0)
+            (note_in P.first (me_of seat.old).0)
             (λ found. either (found == old) new found) }
-        requires recalled { IsRecalledBy self.now.shape _step (seat_of _step) (known_in seat.old.me.0)
-            (past_in seat.old.me.0) (λ found. either (found == old) new found) }
-        ensures at { seat.new.table_id ≡ seat.old.table_id }
-        ensures told { IsTold P.after P.whole P.first self.now.shape _step _act result seat.old.me seat.new.me }
+        requires recalled { IsRecalledBy self.now.shape _step (seat_of _step) (known_in (me_of seat.old).0)
+            (past_in (me_of seat.old).0) (λ found. either (found == old) new found) }
+        ensures at { table_at seat.new ≡ table_at seat.old }
+        ensures told { IsTold P.after P.whole P.first self.now.shape _step _act result (me_of seat.old)
+            (me_of seat.new) }
+        ensures recorded { operations_of seat.new
+            ≡ operation_of self.now.shape _step (known_in (me_of seat.old).0) result ∷ operations_of seat.old }
     {
         safe_steps();
-        self.table
-            .shared
-            .compare_exchange::<Makes<P, K>>(seat, word, old, new)
+        self.table.exchange::<Makes<P, K>>(seat, word, old, new)
     }
 
     /// A core step that is made by a compare and exchange. The word as it was comes back.
@@ -171,18 +197,24 @@ impl<P: RootProtocol> Words<P> {
         step: Step,
         act: Option<P::Act>,
     ) -> u64
-        requires at { (seat.old.table_id ≡ self.now.table.shared.table_id) × (0 < length seat.old.me.0)
-            × (number_in seat.old.me.0 ≡ seat_of step) }
+        requires at { (table_at seat.old ≡ table_of self.now.table) × (0 < length (me_of seat.old).0)
+            × (number_in (me_of seat.old).0 ≡ seat_of step) }
         requires place { IsPlace self.now.shape (place_of step) × (index self.now.shape (place_of step) ≡ word) }
-        requires made { IsMadeBy self.now.shape step (seat_of step) (known_in seat.old.me.0)
+        requires own { IsOwn self.now.shape step (known_in (me_of seat.old).0)
+            (op.exchange (index self.now.shape (place_of step)) old new) }
+        requires made { IsMadeBy self.now.shape step (seat_of step) (known_in (me_of seat.old).0)
             (λ found. either (found == old) new found) }
-        requires kept { IsKeptBy (P.keeps self.now.table.shared.key.fixed) P.whole P.after self.now.shape step act
-            (seat_of step) (known_in seat.old.me.0) (past_in seat.old.me.0) (note_in P.first seat.old.me.0)
+        requires kept { IsKeptBy (P.keeps (key_of self.now.table).fixed) P.whole P.after self.now.shape step act
+            (seat_of step) (known_in (me_of seat.old).0) (past_in (me_of seat.old).0)
+            (note_in P.first (me_of seat.old).0)
             (λ found. either (found == old) new found) }
-        requires recalled { IsRecalledBy self.now.shape step (seat_of step) (known_in seat.old.me.0)
-            (past_in seat.old.me.0) (λ found. either (found == old) new found) }
-        ensures at { seat.new.table_id ≡ seat.old.table_id }
-        ensures told { IsTold P.after P.whole P.first self.now.shape step act result seat.old.me seat.new.me }
+        requires recalled { IsRecalledBy self.now.shape step (seat_of step) (known_in (me_of seat.old).0)
+            (past_in (me_of seat.old).0) (λ found. either (found == old) new found) }
+        ensures at { table_at seat.new ≡ table_at seat.old }
+        ensures told { IsTold P.after P.whole P.first self.now.shape step act result (me_of seat.old)
+            (me_of seat.new) }
+        ensures recorded { operations_of seat.new
+            ≡ operation_of self.now.shape step (known_in (me_of seat.old).0) result ∷ operations_of seat.old }
     {
         self.exchange_as::<Brand>(seat, word, old, new, step, act)
     }

@@ -1,8 +1,10 @@
 use Rattle.std.proofs.Common.{◌*◌, ◌<◌, ◌∙◌, cond, eqb, subst, arith}
 use Rattle.pebr_core.specs.declared.kinds.Shape.{Shape}
-use Rattle.pebr_words.specs.Seats.{shape_of, known_of, number_of, past_of}
+use Rattle.pebr_words.specs.Seats.{shape_of, known_of, number_of, past_of, operations_of}
+use Rattle.pebr_roots.specs.Orders.{ButFor, HasScannedSome}
 use Rattle.pebr_roots.specs.Collecting.{HasLooked, IsReading, others_below}
 use Rattle.pebr_roots.proofs.Scans.{reading_next, looked_on, others_times}
+use Rattle.pebr_roots.proofs.Orders.{below_more, counted_on}
 use Rattle.pebr_roots.proofs.scanning.scan_all.Goals as goal
 
 pub loop-other-preserved : goal.loop-other-preserved
@@ -38,5 +40,11 @@ loop-other-preserved g c =
       past = subst (HasLooked (past_of first) (past_of new)) times
           (looked_on (past_of first) (past_of cur) (past_of new) (others_below me other * shape.shields)
           (cond (eqb other me) 0 shape.shields) before.past looked);
+      operations = below_more (ButFor me (λ j. HasScannedSome shape j shape.shields)) other (operations_of first)
+          (operations_of cur) (operations_of new) before.operations
+          (subst (λ n. ButFor n (λ j. HasScannedSome shape j shape.shields) other (operations_of cur)
+          (operations_of new)) before.still.1 c.scan_other.ensures.operations);
+      counted = counted_on (past_of first) (past_of cur) (past_of new) (operations_of first) (operations_of cur)
+          (operations_of new) before.counted c.scan_other.ensures.counted;
       ejections = c.scan_other.ensures.ejections ∙ before.ejections;
     }

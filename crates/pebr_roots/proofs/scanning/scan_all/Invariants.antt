@@ -1,7 +1,8 @@
 use Rattle.std.proofs.Common.{◌≡◌, ◌≤◌, ◌+◌, ◌*◌}
 use Rattle.pebr_core.specs.Frames.{kept_count}
-use Rattle.pebr_words.specs.Seats.{IsStill, shape_of, known_of, number_of, note_of, past_of}
-use Rattle.pebr_roots.specs.Collecting.{HasLooked, AreReading, others_below}
+use Rattle.pebr_words.specs.Seats.{IsStill, shape_of, known_of, number_of, note_of, past_of, operations_of}
+use Rattle.pebr_roots.specs.Orders.{AreScannedBelow}
+use Rattle.pebr_roots.specs.Collecting.{HasLooked, IsCounted, AreReading, others_below}
 use Rattle.pebr_roots.proofs.scanning.scan_all.Given as goal
 
 abbrev pub invariant-loop-other : goal.invariant-loop-other
@@ -15,5 +16,8 @@ invariant-loop-other g l = record {
       + others_below (number_of l.initial.seat) l.other * (shape_of l.words).shields;
   past : HasLooked (past_of l.initial.seat) (past_of l.seat)
       (others_below (number_of l.initial.seat) l.other * (shape_of l.words).shields);
+  operations : AreScannedBelow (shape_of l.words) (number_of l.initial.seat) l.other (operations_of l.initial.seat)
+      (operations_of l.seat);
+  counted : IsCounted (past_of l.initial.seat) (past_of l.seat) (operations_of l.initial.seat) (operations_of l.seat);
   ejections : (past_of l.seat).ejections ≡ (past_of l.initial.seat).ejections;
 }

@@ -3,7 +3,9 @@ use Rattle.pebr_core.specs.declared.kinds.ShieldAt.TheVariants as shield
 use Rattle.pebr_core.specs.declared.kinds.Answer.TheVariants as answer
 use Rattle.pebr_core.specs.State.{shield_at}
 use Rattle.pebr_words.specs.Ruled.{IsSure}
-use Rattle.pebr_roots.specs.Passes.{shape_at, known_by, note_by, past_by, IsSame}
+use Rattle.pebr_roots.specs.Passes.{shape_at, known_by, number_by, note_by, past_by, operations_by, IsSame}
+use Rattle.std.specs.List.{range_with_len}
+use Rattle.pebr_roots.specs.Orders.{AreMade, HasClearedOne}
 use Rattle.pebr_roots.proofs.pass.Roots.clear.Given as goal
 
 abbrev pub invariant-loop-place : goal.invariant-loop-place
@@ -19,6 +21,8 @@ invariant-loop-place g l = record {
     steps =
         (past_by l.initial.pass).steps + l.place;
   };
+  operations : AreMade (HasClearedOne (shape_at l.self) (number_by l.initial.pass)) (range_with_len 0 l.place)
+      (operations_by l.initial.pass) (operations_by l.pass);
   last : 0 < l.place → (past_by l.pass).last ≡ answer.Cleared;
   sure : 0 < l.place → IsSure g.P.RootProtocol.whole (shape_at l.self) (known_by l.pass) (past_by l.pass);
 }

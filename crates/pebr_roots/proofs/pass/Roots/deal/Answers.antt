@@ -63,3 +63,14 @@ returns g c =
       each = λ i d lt. subst (λ l. IsOpenedPass roots first i (get_or l i d)) (sym c.reverse.ensures.items)
           (turned (λ k p. IsOpenedPass roots first k p) (shape_at roots).seats passes all before.done i d lt);
     }
+
+pub loop-turn-init : goal.loop-turn-init
+loop-turn-init g c =
+    let none = ap length c.new-passes.ensures.items in
+    let all = c.requires.0 in
+    record {
+      count = omega (arith, none, all);
+      turns = omega (arith, none);
+      ahead = λ i d lt. c.requires.1 i d (subst (λ n. i < n) all lt);
+      done = λ k x lt. absurd (omega (arith, none, lt));
+    }

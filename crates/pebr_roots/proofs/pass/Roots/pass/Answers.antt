@@ -19,7 +19,8 @@ returns g c =
       known = opened.2;
       note = opened.3;
       past = opened.4;
-      numbers = opened.5;
-      count = opened.6;
-      united = opened.7;
+      operations = opened.5;
+      numbers = opened.6;
+      count = opened.7;
+      united = opened.8;
     }

@@ -1,6 +1,7 @@
 use Rattle.std.proofs.Common.{length, replicate, sym, ap, ◌∙◌, subst}
 use Rattle.std.specs.Prelude.{slice_set}
 use Rattle.std.specs.Slots.{slots_items}
+use Rattle.pebr_table.specs.Tables.{key_of, id_of, me_of}
 use Rattle.pebr_words.specs.Making.{note_in}
 use Rattle.pebr_words.specs.Opening.{rows_of}
 use Rattle.pebr_words.specs.Closing.{contents_of_roots}
@@ -10,31 +11,31 @@ use Rattle.pebr_words.proofs.words.Words.close.Goals as goal
 pub gather-contents-requires-clause-below : goal.gather-contents-requires-clause-below
 gather-contents-requires-clause-below g c =
     let words = c.args.self in
-    let final = c.close_with-closed.ensures.values.2 in
-    roots_below (g.P.RootProtocol.keeps words.table.shared.key.fixed) g.P.RootProtocol.whole words.shape
-    words.table.shared.key.shape words.told (slots_items c.close_with-closed.result.words) final.0 final.1.0 final.2
+    let final = c.close-closed.ensures.values.2 in
+    roots_below (g.P.RootProtocol.keeps (key_of words.table).fixed) g.P.RootProtocol.whole words.shape
+    (key_of words.table).shape words.told (slots_items c.close-closed.result.words) final.0 final.1.0 final.2
 
 pub returns-clause-length : goal.returns-clause-length
 returns-clause-length g c =
     if_ok c.gather-contents.result (λ contents is. ap length is
-    ∙ gathered_length c.args.self.shape (slots_items c.close_with-closed.result.words)) c.gather-contents.ensures
+    ∙ gathered_length c.args.self.shape (slots_items c.close-closed.result.words)) c.gather-contents.ensures
 
 pub returns-clause-keeps : goal.returns-clause-keeps
 returns-clause-keeps g c =
     let words = c.args.self in
     let seat = c.args.seat in
-    let keeps = g.P.RootProtocol.keeps words.table.shared.key.fixed in
+    let keeps = g.P.RootProtocol.keeps (key_of words.table).fixed in
     let empty = g.P.RootProtocol.empty in
     let first = g.P.RootProtocol.first in
-    let final = c.close_with-closed.ensures.values.2 in
-    let kept = closes_at keeps g.P.RootProtocol.whole words.shape words.table.shared.key.shape empty first words.told
-    seat.inner.id seat.inner.me.0 (slots_items c.close_with-closed.result.words)
+    let final = c.close-closed.ensures.values.2 in
+    let kept = closes_at keeps g.P.RootProtocol.whole words.shape (key_of words.table).shape empty first words.told
+    (id_of seat.inner) (me_of seat.inner).0 (slots_items c.close-closed.result.words)
     c.requires.at.2 c.requires.whole c.requires.united final.0 final.1 final.2 in
     if_ok c.gather-contents.result
     (λ contents is. subst
     (λ items. keeps (rows_of words.shape items)
-    (slice_set (replicate words.shape.seats empty) seat.number (note_in first seat.inner.me.0))) (sym is)
+    (slice_set (replicate words.shape.seats empty) seat.number (note_in first (me_of seat.inner).0))) (sym is)
     (subst (λ n. keeps (rows_of words.shape
-    (contents_of_roots words.shape (slots_items c.close_with-closed.result.words)))
-    (slice_set (replicate words.shape.seats empty) n (note_in first seat.inner.me.0))) seat.acts kept))
+    (contents_of_roots words.shape (slots_items c.close-closed.result.words)))
+    (slice_set (replicate words.shape.seats empty) n (note_in first (me_of seat.inner).0))) seat.acts kept))
     c.gather-contents.ensures

@@ -1,7 +1,9 @@
-use Rattle.std.proofs.Common.{◌<◌, sym, subst}
+use Rattle.std.proofs.Common.{◌<◌, ◌∷◌, ap, ◌∙◌, sym, subst}
+use Rattle.pebr_table.specs.Tables.{operations_of, key_of, me_of}
 use Rattle.pebr_words.specs.Places.{word_count}
 use Rattle.pebr_words.proofs.Places.{place_in}
 use Rattle.pebr_words.proofs.Makes.{makes_at, picked_told}
+use Rattle.pebr_table.specs.Operations as op
 use Rattle.pebr_words.proofs.words.Words.load_as.Goals as goal
 
 pub load-requires : goal.load-requires
@@ -11,13 +13,19 @@ load-requires g c =
       c.requires.at.0,
       subst (λ n. c.args.word < n) (sym words.counted)
           (subst (λ n. n < word_count words.shape) place.1 (place_in words.shape words.limits.shields _ place.0)),
-      makes_at (g.P.RootProtocol.keeps words.table.shared.key.fixed) g.P.RootProtocol.whole g.P.RootProtocol.after
+      makes_at (g.P.RootProtocol.keeps (key_of words.table).fixed) g.P.RootProtocol.whole g.P.RootProtocol.after
           g.P.RootProtocol.first _ c.safe_steps.ensures words.told words.limits
-          c.requires.picked c.args.seat.now.me c.requires.at.1 c.requires.at.2 place.0 place.1 c.requires.made
+          c.requires.picked (me_of c.args.seat.now) c.requires.at.1 c.requires.at.2 place.0 place.1 c.requires.made
           c.requires.kept c.requires.recalled,
     )
 
 pub returns-clause-told : goal.returns-clause-told
 returns-clause-told g c =
     picked_told g.P.RootProtocol.after g.P.RootProtocol.whole g.P.RootProtocol.first c.requires.picked c.load.result
-    c.args.seat.now.me c.load.new.seat.me c.requires.at.1 c.load.ensures.2
+    (me_of c.args.seat.now) (me_of c.load.new.seat) c.requires.at.1 c.load.ensures.told.2
+
+pub returns-clause-recorded : goal.returns-clause-recorded
+returns-clause-recorded g c =
+    c.load.ensures.recorded
+    ∙ ap (λ o. o ∷ operations_of c.args.seat.now)
+    (sym (c.requires.own c.load.result ∙ ap (λ w. op.load w c.load.result) c.requires.place.1))

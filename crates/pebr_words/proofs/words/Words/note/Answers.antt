@@ -1,4 +1,5 @@
-use Rattle.std.proofs.Common.{sym, ◌∙◌, subst}
+use Rattle.std.proofs.Common.{refl, sym, ◌∙◌, subst}
+use Rattle.pebr_table.specs.Tables.{key_of, me_of}
 use Rattle.pebr_words.specs.Making.{known_in}
 use Rattle.pebr_words.specs.Mirrors.{Mirrors}
 use Rattle.pebr_words.proofs.NoteStep.{note_by, noted_low, retired_long, note_kept, note_recalled}
@@ -10,7 +11,7 @@ load-epoch-requires-clause-made g c = note_by c.args.self.now.shape c.args.seat.
 
 pub load-epoch-requires-clause-kept : goal.load-epoch-requires-clause-kept
 load-epoch-requires-clause-kept g c = note_kept
-    (g.P.RootProtocol.keeps c.args.self.now.table.shared.key.fixed) g.P.RootProtocol.whole g.P.RootProtocol.after
+    (g.P.RootProtocol.keeps (key_of c.args.self.now.table).fixed) g.P.RootProtocol.whole g.P.RootProtocol.after
     c.args.seat.now.number _ _
 
 pub load-epoch-requires-clause-recalled : goal.load-epoch-requires-clause-recalled
@@ -19,7 +20,7 @@ load-epoch-requires-clause-recalled g c = note_recalled c.args.seat.now.number _
 pub invariant_of-seat : goal.invariant_of-seat
 invariant_of-seat g c =
     let seat = c.args.seat.now in
-    let known = known_in seat.inner.me.0 in
+    let known = known_in (me_of seat.inner).0 in
     let told = c.load-epoch.ensures.told in
     let epoch = c.load-epoch.result in
     let slots = c.note.ensures in
@@ -30,3 +31,11 @@ invariant_of-seat g c =
           c.note.new.self (noted_low told.made) (retired_long told.made c.requires.at.3) slots.fresh slots.retired
           slots.kept);
     }
+
+pub returns-clause-step : goal.returns-clause-step
+returns-clause-step g c = record {
+  core = c.load-epoch.ensures.told.made;
+  past = c.load-epoch.ensures.told.past;
+  made = (c.load-epoch.result, refl, c.load-epoch.ensures.recorded);
+  sure = c.load-epoch.ensures.told.sure;
+}

@@ -7,8 +7,8 @@ use Rattle.pebr_words.proofs.OpeningCore.{opening_wide}
 use Rattle.pebr_words.proofs.OpeningViews.{opens}
 use Rattle.pebr_words.proofs.words.Words.open.Goals as goal
 
-pub of_words-requires : goal.of_words-requires
-of_words-requires g c =
+pub open-requires : goal.open-requires
+open-requires g c =
     let keeps = g.P.RootProtocol.keeps c.args.fixed in
     let shape = c.args.shape in
     subst (λ words. Ruled keeps g.P.RootProtocol.whole shape
@@ -20,12 +20,11 @@ of_words-requires g c =
 
 pub invariant_of-words : goal.invariant_of-words
 invariant_of-words g c = record {
-  told = ap (λ (told : Told _). told.shape) c.in-Ok.ensures.5;
+  told = ap (λ (told : Told _). told.shape) c.in_ok-table.ensures.table.1;
   counted =
-      c.in-Ok.ensures.0
+      c.in_ok-table.ensures.table.0
       ∙ (ap length (c.as_slice.ensures.value ∙ c.in_ok-words.ensures)
       ∙ opening_wide c.args.shape c.args.contents.now c.requires.long);
-  slotless = c.in-Ok.ensures.1;
   limits = c.requires.limits;
   placed = c.slots_from-contents.ensures;
 }

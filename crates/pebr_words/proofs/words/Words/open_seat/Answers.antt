@@ -1,5 +1,6 @@
 use Rattle.std.proofs.Common.{List, replicate, sym, ap, subst}
 use Rattle.atomic_table.specs.Table.{Me}
+use Rattle.pebr_table.specs.Tables.{me_of}
 use Rattle.pebr_words.specs.declared.views.Held.{Held}
 use Rattle.pebr_words.specs.Making.{number_in, known_in}
 use Rattle.pebr_words.specs.Mirrors.{Mirrors}
@@ -11,7 +12,7 @@ invariant_of-result g c =
     let view = ap (λ (m : Me (Unit {0}) (List (Held _))). m.0) c.requires.view in
     record {
       acts = ap number_in view;
-      mirrors = subst (λ l. Mirrors 0 c.args.slots l (known_in c.args.inner.me.0)) (sym c.requires.found)
+      mirrors = subst (λ l. Mirrors 0 c.args.slots l (known_in (me_of c.args.inner).0)) (sym c.requires.found)
           (subst (Mirrors 0 c.args.slots (replicate c.args.self.now.shape.seats 0)) (sym (ap known_in view))
           (first_mirrors c.args.self.now.shape c.args.number c.args.self.now.shape.seats c.args.slots
           c.requires.slots));

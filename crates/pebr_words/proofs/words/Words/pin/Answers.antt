@@ -1,8 +1,11 @@
-use Rattle.std.proofs.Common.{sym, ◌∙◌, subst}
+use Rattle.std.proofs.Common.{◌*◌, ◌+◌, ap, refl, sym, ◌∙◌, subst}
+use Rattle.pebr_table.specs.Tables.{key_of, me_of}
 use Rattle.pebr_words.specs.Making.{known_in}
 use Rattle.pebr_words.specs.Mirrors.{Mirrors}
 use Rattle.pebr_words.proofs.PinStep.{pin_by, pin_kept, pin_recalled}
 use Rattle.pebr_words.proofs.Mirroring.{pin_mirrors}
+use Rattle.pebr_table.specs.Operations as op
+use Rattle.pebr_words.specs.Places.{status_word, index}
 use Rattle.pebr_words.proofs.words.Words.pin.Goals as goal
 
 pub store-requires-clause-made : goal.store-requires-clause-made
@@ -11,7 +14,7 @@ store-requires-clause-made g c = pin_by c.args.self.now.shape c.args.seat.now.nu
 
 pub store-requires-clause-kept : goal.store-requires-clause-kept
 store-requires-clause-kept g c = pin_kept
-    (g.P.RootProtocol.keeps c.args.self.now.table.shared.key.fixed) g.P.RootProtocol.whole g.P.RootProtocol.after
+    (g.P.RootProtocol.keeps (key_of c.args.self.now.table).fixed) g.P.RootProtocol.whole g.P.RootProtocol.after
     c.args.seat.now.number _ _
 
 pub store-requires-clause-recalled : goal.store-requires-clause-recalled
@@ -20,10 +23,23 @@ store-requires-clause-recalled g c = pin_recalled c.args.seat.now.number _
 pub invariant_of-seat : goal.invariant_of-seat
 invariant_of-seat g c =
     let seat = c.args.seat.now in
-    let known = known_in seat.inner.me.0 in
+    let known = known_in (me_of seat.inner).0 in
     let told = c.store.ensures.told.1 in
     record {
       acts = told.number ∙ seat.acts;
       mirrors = subst (Mirrors seat.noted seat.slots seat.found.items) (sym told.known)
           (pin_mirrors seat.noted seat.slots seat.found.items known seat.mirrors);
     }
+
+pub returns-clause-step : goal.returns-clause-step
+returns-clause-step g c = record {
+  core = c.store.ensures.told.1.made;
+  past = c.store.ensures.told.1.past;
+  made = (0, refl, c.store.ensures.recorded);
+  sure = c.store.ensures.told.1.sure;
+}
+
+pub store-requires-clause-own : goal.store-requires-clause-own
+store-requires-clause-own g c found =
+    ap (λ n. op.store (index c.args.self.now.shape (status_word c.args.seat.now.number)) (4 * n + 1))
+    c.args.seat.now.mirrors.noted_is

@@ -1,4 +1,5 @@
 use Rattle.std.proofs.Common.{refl, sym, ◌∙◌, subst}
+use Rattle.pebr_table.specs.Tables.{key_of, me_of}
 use Rattle.pebr_words.specs.Making.{known_in}
 use Rattle.pebr_words.specs.Mirrors.{Mirrors}
 use Rattle.pebr_words.proofs.ReadStep.{read_by, read_kept, read_recalled}
@@ -11,7 +12,7 @@ load-requires-clause-made g c = read_by c.args.self.now.shape c.args.seat.now.nu
 
 pub load-requires-clause-kept : goal.load-requires-clause-kept
 load-requires-clause-kept g c = read_kept
-    (g.P.RootProtocol.keeps c.args.self.now.table.shared.key.fixed) g.P.RootProtocol.whole g.P.RootProtocol.after
+    (g.P.RootProtocol.keeps (key_of c.args.self.now.table).fixed) g.P.RootProtocol.whole g.P.RootProtocol.after
     c.args.seat.now.number c.args.slot c.args.word _ _
 
 pub load-requires-clause-recalled : goal.load-requires-clause-recalled
@@ -20,10 +21,18 @@ load-requires-clause-recalled g c = read_recalled c.args.seat.now.number c.args.
 pub invariant_of-seat : goal.invariant_of-seat
 invariant_of-seat g c =
     let seat = c.args.seat.now in
-    let known = known_in seat.inner.me.0 in
+    let known = known_in (me_of seat.inner).0 in
     let told = c.load.ensures.told in
     record {
       acts = told.number ∙ seat.acts;
       mirrors = subst (Mirrors seat.noted seat.slots seat.found.items) (sym told.known)
           (same_mirrors seat.noted seat.slots seat.found.items known _ seat.mirrors refl refl refl refl);
     }
+
+pub returns-clause-step : goal.returns-clause-step
+returns-clause-step g c = record {
+  core = c.load.ensures.told.made;
+  past = c.load.ensures.told.past;
+  made = (c.load.result, refl, c.load.ensures.recorded);
+  sure = c.load.ensures.told.sure;
+}

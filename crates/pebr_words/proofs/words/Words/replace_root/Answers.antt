@@ -1,5 +1,6 @@
-use Rattle.std.proofs.Common.{◌∙◌, sym, subst}
+use Rattle.std.proofs.Common.{refl, ◌∙◌, sym, subst}
 use Rattle.std.specs.Prelude.{◌==◌}
+use Rattle.pebr_table.specs.Tables.{key_of, me_of}
 use Rattle.pebr_words.specs.Making.{known_in}
 use Rattle.pebr_words.specs.Mirrors.{Mirrors}
 use Rattle.pebr_words.proofs.Mirroring.{can_take, replace_mirrors}
@@ -13,7 +14,7 @@ exchange-found-requires-clause-made g c =
 
 pub exchange-found-requires-clause-kept : goal.exchange-found-requires-clause-kept
 exchange-found-requires-clause-kept g c =
-    replace_kept (g.P.RootProtocol.keeps c.args.self.now.table.shared.key.fixed) g.P.RootProtocol.whole
+    replace_kept (g.P.RootProtocol.keeps (key_of c.args.self.now.table).fixed) g.P.RootProtocol.whole
     g.P.RootProtocol.after c.args.act c.args.seat.now.number c.args.root c.args.old c.args.new _ _
     c.requires.root c.requires.slots.0 c.requires.slots.1 c.requires.shielded c.requires.keeps
 
@@ -32,7 +33,7 @@ take-requires g c hit =
 pub invariant_of-seat : goal.invariant_of-seat
 invariant_of-seat g c =
     let seat = c.args.seat.now in
-    let known = known_in seat.inner.me.0 in
+    let known = known_in (me_of seat.inner).0 in
     let told = c.exchange-found.ensures.told in
     let slots = c.take.ensures in
     record {
@@ -41,3 +42,11 @@ invariant_of-seat g c =
           (replace_mirrors (c.exchange-found.result == c.args.old) c.args.old c.args.new seat.noted seat.slots
           c.take.new.slots seat.found.items known seat.mirrors slots.fresh slots.retired slots.kept);
     }
+
+pub returns-clause-step : goal.returns-clause-step
+returns-clause-step g c = record {
+  core = c.exchange-found.ensures.told.made;
+  past = c.exchange-found.ensures.told.past;
+  made = (c.exchange-found.result, refl, c.exchange-found.ensures.recorded);
+  sure = c.exchange-found.ensures.told.sure;
+}

@@ -1,4 +1,5 @@
 use Rattle.std.proofs.Common.{refl, sym, ◌∙◌, subst}
+use Rattle.pebr_table.specs.Tables.{key_of, me_of}
 use Rattle.pebr_words.specs.Making.{known_in}
 use Rattle.pebr_words.specs.Mirrors.{Mirrors}
 use Rattle.pebr_words.proofs.WriteStep.{write_by, write_kept, write_recalled}
@@ -11,7 +12,7 @@ store-requires-clause-made g c = write_by c.args.self.now.shape c.args.seat.now.
 
 pub store-requires-clause-kept : goal.store-requires-clause-kept
 store-requires-clause-kept g c = write_kept
-    (g.P.RootProtocol.keeps c.args.self.now.table.shared.key.fixed) g.P.RootProtocol.whole g.P.RootProtocol.after
+    (g.P.RootProtocol.keeps (key_of c.args.self.now.table).fixed) g.P.RootProtocol.whole g.P.RootProtocol.after
     c.args.seat.now.number c.args.slot c.args.word c.args.value _ _ c.requires.range.0 c.requires.fresh
 
 pub store-requires-clause-recalled : goal.store-requires-clause-recalled
@@ -21,10 +22,18 @@ store-requires-clause-recalled g c = write_recalled c.args.seat.now.number c.arg
 pub invariant_of-seat : goal.invariant_of-seat
 invariant_of-seat g c =
     let seat = c.args.seat.now in
-    let known = known_in seat.inner.me.0 in
+    let known = known_in (me_of seat.inner).0 in
     let told = c.store.ensures.told.1 in
     record {
       acts = told.number ∙ seat.acts;
       mirrors = subst (Mirrors seat.noted seat.slots seat.found.items) (sym told.known)
           (same_mirrors seat.noted seat.slots seat.found.items known _ seat.mirrors refl refl refl refl);
     }
+
+pub returns-clause-step : goal.returns-clause-step
+returns-clause-step g c = record {
+  core = c.store.ensures.told.1.made;
+  past = c.store.ensures.told.1.past;
+  made = (0, refl, c.store.ensures.recorded);
+  sure = c.store.ensures.told.1.sure;
+}

@@ -1,0 +1,5 @@
+//! Two roots, two seats.
+
+mod free;
+mod passes;
+mod seats;
