@@ -34,13 +34,15 @@ use Rattle.packet_accept.specs.Clock.{IsClock}
 use Rattle.record_ledger.specs.Lawful.{of_key, first_part, EachWithNext, StandsApart, HasReason, reason_of}
 use Rattle.record_ledger.specs.Lawful.{IsLawfulAt, IsLawfulBy}
 use Rattle.record_ledger.specs.Laws.{HasNoTies, OwnClockIsGiven, LawfulTogether}
-use Rattle.record_ledger.specs.Steps.{Reaches, Rises, NotAfter, NoneJoinable, next_of_key}
+use Rattle.flow_parts.specs.Reaching.{Reaches}
+use Rattle.record_ledger.specs.Steps.{Rises, NotAfter, NoneJoinable, next_of_key}
 use Rattle.record_ledger.proofs.Keyed.{part_of, first_not_less, second_less, first_less, both_tie, tie_from_test}
 use Rattle.record_ledger.proofs.Keyed.{less_numbers, less_from_greater, less_than_rest, less_otherwise, less_no_tie}
 use Rattle.record_ledger.proofs.Keyed.{tie_flips, rises_distinct, distinct_from_rises, rises_more, filter_contains}
 use Rattle.record_ledger.proofs.Keyed.{contains_filter, rises_filter, same_rising, pairs_from_rises, All-unmap}
 use Rattle.record_ledger.proofs.Keyed.{rises_unmap, rises_weaker, contains_head}
-use Rattle.record_ledger.proofs.Reaching.{grouped, grouped_start, shared}
+use Rattle.flow_parts.proofs.Reaching.{shared}
+use Rattle.record_ledger.proofs.Reaching.{grouped, grouped_start}
 use Rattle.record_ledger.proofs.Rising.{gathering_total, written_total, written_weak, keys_tie, rises_from_sorted}
 
 -- R holds of each record and the next one, where that has its key

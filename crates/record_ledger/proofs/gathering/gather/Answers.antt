@@ -7,12 +7,13 @@ use Rattle.flow_parts.specs.declared.fragment.Fragment.{Fragment}
 use Rattle.flow_parts.specs.declared.timeouts.Timeouts.{Timeouts}
 use Rattle.record_ledger.specs.declared.record.FlowRecord.{FlowRecord}
 use Rattle.record_ledger.specs.Lawful.{parts_of, reason_of}
-use Rattle.record_ledger.specs.Steps.{Reaches, Rises, NotAfter, NoneJoinable, next_of_key}
-use Rattle.record_ledger.specs.Steps.Reaches.{moved, onward}
+use Rattle.flow_parts.specs.Reaching.{Reaches}
+use Rattle.record_ledger.specs.Steps.{Rises, NotAfter, NoneJoinable, next_of_key}
+use Rattle.flow_parts.specs.Reaching.Reaches.{moved, onward}
 use Rattle.record_ledger.proofs.Gathered.{regrouped, lawful_by, by_own_clock}
 use Rattle.record_ledger.proofs.Keyed.{part_of, rises_of_map}
 use Rattle.record_ledger.proofs.Matched.{lawful_are_sessions}
-use Rattle.record_ledger.proofs.Reaching.{same_packets, same_octets}
+use Rattle.flow_parts.proofs.Reaching.{same_packets, same_octets}
 use Rattle.record_ledger.proofs.Rising.{by_key_weak, rises_from_sorted}
 use Rattle.record_ledger.proofs.gathering.gather.Goals as goal
 
