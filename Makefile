@@ -14,13 +14,14 @@ CAPTURE := examples/web-exchange.pcap
 # All that a proof or a build reads: code, definitions, and proofs in folders of any depth.
 SOURCES := $(shell find crates -name out -prune -o \( -name '*.rt' -o -name '*.antt' \) -print)
 
-.PHONY: help demo build test take check install clean
+.PHONY: help demo build test take check edits install clean
 
 help:
 	@echo "make demo                 build the program, which proves it, and show the records of a sample capture"
 	@echo "make test                 the gate: prove every crate from nothing, run all tests, then the checks of checks/"
 	@echo "make build                leave the programs as $(PROGRAM), $(PIPE), $(PCAPNG), $(PAIR) and $(WATCH)"
 	@echo "make check                compare the program with other readers and meters (checks/)"
+	@echo "make edits                try all edits that the checker must refuse, those that the gate leaves out too (hours)"
 	@echo "make install PREFIX=DIR   install programs, pages and completions below DIR, $(PREFIX) by default"
 
 demo: build
@@ -124,6 +125,10 @@ check: build $(THREADS) $(LISTS)
 	python3 checks/second_reader.py 20000
 	python3 checks/second_pairer.py 2000
 	python3 checks/second_maker.py
+
+# No part of the gate, nor of `make check`.
+edits:
+	checks/edits.sh
 
 install: build
 	install -d $(DESTDIR)$(PREFIX)/bin
