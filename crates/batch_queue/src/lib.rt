@@ -14,8 +14,6 @@ mod batch;
 mod queue;
 mod rule;
 mod seen;
-#[cfg(test)]
-mod tests;
 
 pub use batch::Batch;
 pub use no_memory::NoMemory;

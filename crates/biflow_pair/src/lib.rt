@@ -14,8 +14,6 @@ mod running;
 mod settings;
 mod status;
 mod stream;
-#[cfg(test)]
-mod tests;
 mod words;
 
 pub use biflow::Biflow;

@@ -16,9 +16,6 @@ use ipfix_reader::STREAM_LIMIT;
 use meter_io::{Failed, ReadError, Sink, Source, read_all, write_all};
 use std::alloc::Global;
 
-#[cfg(test)]
-mod tests;
-
 /// Reads a stream of flow records from the input to its end, and writes the stream of their biflows to the output.
 fn pair_input<S: Source, K: Sink>(
     alloc: Global,

@@ -15,8 +15,6 @@ mod caches;
 mod choice;
 pub mod laws;
 mod metered;
-#[cfg(test)]
-mod tests;
 
 pub use caches::{Caches, FlowCache};
 pub use choice::{Choice, choose};

@@ -9,9 +9,6 @@ use std::env;
 use std::io::ErrorKind;
 use std::process::ExitCode;
 
-#[cfg(test)]
-mod tests;
-
 /// The words behind the program's name. A word that isn't UTF-8 is a faulty command line.
 fn words_of(rt: &HostRuntime) -> Result<Vec<String>, PngStatus> {
     match env::args(rt) {
