@@ -5,8 +5,8 @@
 
 The flow records of examples/web-exchange.pcap, of a capture that is made here and of none, with their biflows and without, go
 through examples/report.sh. Each table of the page is compared with what this program makes of the lines of `show`, and the
-heights of the bars in both figures with the table of steps. Headless chromium opens each page, dark and light, at the width of a
-phone and of a desktop: what it shows must be the same, and no wider than its window. PICTURES=FOLDER keeps pictures of the pages.
+heights of the bars in both figures with the table of steps. Headless chromium opens each page, dark at the width of a phone and
+light at that of a desktop: what it shows must be the same, and no wider than its window. PICTURES=FOLDER keeps pictures of the pages.
 Skipped with one line where a package is missing (python3-ipfix, miller, gnuplot-nox; chromium). The status is 1 where anything
 differs. ROMTYALIG and ROMTYALIG_PAIR are the programs' paths (bin/romtyalig and bin/romtyalig-pair unless set).
 """
@@ -260,17 +260,16 @@ def browser_fault(path: Path, flows: list[Flow], biflows: list[Flow] | None, fol
     """What is wrong with a page as the browser has it."""
     wide = folder / "wide.html"
     wide.write_text(path.read_text() + "<script>document.title = document.documentElement.scrollWidth + ' ' + innerWidth</script>")
-    for width in (390, 1280):
-        for scheme in (0, 1):
-            words = [f"--window-size={width},2400", f"--blink-settings=preferredColorScheme={scheme}"]
-            text = browser([*words, "--dump-dom", wide.as_uri()], folder).decode()
-            fault = fault_of(text, flows, biflows)
-            told = re.search(r"<title>(\d+) (\d+)</title>", text)
-            if fault or told is None or int(told[1]) > int(told[2]):
-                return f"in the browser, {width} wide: {fault or 'wider than its window'}"
-            if os.environ.get("PICTURES"):
-                name = f"{path.stem}-{width}-{('dark', 'light')[scheme]}.png"
-                browser([*words, f"--screenshot={Path(os.environ['PICTURES']).resolve() / name}", path.as_uri()], folder)
+    for width, scheme in ((390, "dark"), (1280, "light")):
+        words = [f"--window-size={width},2400", f"--blink-settings=preferredColorScheme={('dark', 'light').index(scheme)}"]
+        text = browser([*words, "--dump-dom", wide.as_uri()], folder).decode()
+        fault = fault_of(text, flows, biflows)
+        told = re.search(r"<title>(\d+) (\d+)</title>", text)
+        if fault or told is None or int(told[1]) > int(told[2]):
+            return f"in the browser, {width} wide: {fault or 'wider than its window'}"
+        if os.environ.get("PICTURES"):
+            picture = Path(os.environ["PICTURES"]).resolve() / f"{path.stem}-{width}-{scheme}.png"
+            browser([*words, f"--screenshot={picture}", path.as_uri()], folder)
     return ""
 
 

@@ -102,7 +102,7 @@ step_for() {
 }
 
 # Octets and packets of each step of time, by protocol. The octets of a record are spread evenly from its first to its last
-# packet. Lines: the time of the step in seconds, then for each protocol octets and packets, rounded to hundredths.
+# packet. Lines: the time of the step in seconds, then for each protocol octets and packets.
 steps() {
     mlr --icsv --ocsv --headerless-csv-output cut -o -f first,last,name,octets,packets "$work/flows.csv" |
         awk -F, -v step="$step" -v start="$start" -v names="$names" '
@@ -126,8 +126,10 @@ steps() {
                     printf "%.3f", (start + at * step) / 1000
                     for (kind = 1; kind <= count; kind++) for (what = 1; what <= 2; what++) {
                         level[kind, what] += rate[at, kind, what]
-                        here = int(100 * (sum[at, kind, what] + level[kind, what]) + 0.5) / 100
-                        printf here == int(here) ? " %.0f" : " %.2f", here
+                        here = sum[at, kind, what] + level[kind, what]
+                        parts = here < 10 ? 10000 : 100
+                        here = int(parts * here + 0.5) / parts
+                        printf here == int(here) ? " %.0f" : here < 10 ? " %.4f" : " %.2f", here
                     }
                     print ""
                 }
