@@ -14,7 +14,7 @@ CAPTURE := examples/web-exchange.pcap
 # All that a proof or a build reads: code, definitions, and proofs in folders of any depth.
 SOURCES := $(shell find crates -name out -prune -o \( -name '*.rt' -o -name '*.antt' \) -print)
 
-.PHONY: help demo build test take check install clean
+.PHONY: help demo build test take check install deb clean
 
 help:
 	@echo "make demo                 build the program, which proves it, and show the records of a sample capture"
@@ -22,6 +22,7 @@ help:
 	@echo "make build                leave the programs as $(PROGRAM), $(PIPE), $(PCAPNG), $(PAIR) and $(WATCH)"
 	@echo "make check                compare the program with other readers and meters (checks/)"
 	@echo "make install PREFIX=DIR   install programs, pages and completions below DIR, $(PREFIX) by default"
+	@echo "make deb                  write a Debian package of the programs into bin/"
 
 demo: build
 	@echo "The records of $(CAPTURE): an ARP request, a DNS query and its reply, and a TCP exchange."
@@ -110,7 +111,13 @@ take:
 check: build $(THREADS) $(LISTS)
 	checks/shell.sh
 	checks/page.sh
+	checks/readme.sh
 	checks/operators.sh
+	python3 checks/element_names.py
+	python3 checks/named.py
+	python3 checks/report.py
+	checks/rotate.sh
+	checks/deb.sh
 	checks/foreign_readers.sh
 	checks/pcapng.sh
 	checks/biflows.sh
@@ -123,6 +130,7 @@ check: build $(THREADS) $(LISTS)
 	python3 checks/second_meter.py 20000
 	python3 checks/second_reader.py 20000
 	python3 checks/second_pairer.py 2000
+	python3 checks/second_pcapng.py 2000
 	python3 checks/second_maker.py
 
 install: build
@@ -142,6 +150,9 @@ install: build
 	install -d $(DESTDIR)$(PREFIX)/share/zsh/vendor-completions
 	install -m 644 completions/_romtyalig completions/_romtyalig-pipe completions/_romtyalig-pair completions/_romtyalig-watch \
 	    $(DESTDIR)$(PREFIX)/share/zsh/vendor-completions
+
+deb: build
+	@packaging/deb.sh
 
 clean:
 	rm -rf bin crates/*/out

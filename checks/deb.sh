@@ -68,7 +68,7 @@ completions() {
     options=$(find root/usr/share/zsh/vendor-completions root/usr/share/bash-completion/completions -type f | wc -l)
     [ "$options" -eq "$(find "$top/completions" -type f | wc -l)" ]
 }
-clean() { lintian --allow-root --fail-on error,warning --tag-display-limit 0 "$package"; }
+clean() { timeout 300 lintian --allow-root --fail-on error,warning --tag-display-limit 0 "$package"; }
 
 row "the package is built" built
 if [ "$differ" -eq 0 ]; then
