@@ -45,7 +45,10 @@ sample() {
     root/usr/bin/romtyalig meter <"$capture" >flows.ipfix && "$top/bin/romtyalig" meter <"$capture" | cmp - flows.ipfix &&
         root/usr/bin/romtyalig-pair pair <flows.ipfix >biflows.ipfix && [ -s biflows.ipfix ]
 }
-named() { root/usr/bin/romtyalig show <flows.ipfix | root/usr/share/doc/romtyalig/examples/named.py | grep -q '^sourceIPv4Address='; }
+named() {
+    root/usr/bin/romtyalig show <flows.ipfix >lines && root/usr/share/doc/romtyalig/examples/named.py <lines >names &&
+        [ "$(grep -c '^sourceIPv4Address=' names)" -eq 4 ]
+}
 report() { root/usr/share/doc/romtyalig/examples/report.sh flows.ipfix biflows.ipfix | grep -q '</html>'; }
 pages() {
     local version program

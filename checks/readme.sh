@@ -24,7 +24,10 @@ differ=0
 
 # The block behind a mark.
 block() {
-    awk -v mark="<!-- $1 -->" '$0 == mark { found = 1; next } found && /^```/ { if (inside) exit; inside = 1; next } inside' "$top/README.md"
+    awk -v mark="<!-- $1 -->" '
+        $0 == mark { found = 1; next }
+        found && /^```/ { if (inside) exit; inside = 1; next }
+        inside' "$top/README.md"
 }
 
 block "run: sample" >commands

@@ -273,7 +273,8 @@ def made_by_programs(folder: Path) -> None:
     commands = [["mergecap", "-F", "pcapng", "-w", folder / "merged.pcapng", *captures],
                 ["text2pcap", "-q", "-l", "101", folder / "hex", folder / "text.pcapng"]]
     for capture in captures:
-        for name, words in (("plain", []), ("commented", ["-a", "1:a comment"]), ("cut", ["-s", "30"]), ("moved", ["-t", "-9"])):
+        options = {"plain": [], "commented": ["-a", "1:a comment"], "cut": ["-s", "30"], "moved": ["-t", "-9"]}
+        for name, words in options.items():
             commands.append(["editcap", "-F", "pcapng", *words, capture, folder / f"{capture.stem}_{name}.pcapng"])
     for words in commands:
         if shutil.which(words[0]):
