@@ -221,7 +221,8 @@ class Maker:
         frame = {1: generate.ethernet, 113: generate.cooked}.get(link, lambda _, payload: payload)(kind_of_ip, ip)
         if chance.random() < 0.1:
             frame = frame[:chance.randrange(len(frame) + 1)]
-        time = chance.choice((0, 1_700_000_000_000_000, 2**32 * 10**6 - 1, 2**32 * 10**6, 2**62, chance.randrange(2**64)))
+        usual = 1_700_000_000_000_000 + chance.randrange(10**9)
+        time = chance.choice((usual, usual, usual, usual, 0, 2**32 * 10**6 - 1, 2**32 * 10**6, 2**62, chance.randrange(2**64)))
         original = max(0, len(frame) + chance.choice((0, 0, 100, -30)))
         captured = self.odd(len(frame), (len(frame) + 5, 262_145, 0))
         body = struct.pack(self.order + "IIIII", number, time >> 32, time % 2**32, captured, original) + frame
