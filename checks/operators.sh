@@ -6,8 +6,8 @@
 # Each block there that is marked `run: NAME, with PROGRAM` is taken as it stands and run in a folder with the files that it
 # names. One line for each; a block whose program is missing is skipped with one line. The status is not 0 where any differs.
 #
-# ROMTYALIG, ROMTYALIG_PIPE, ROMTYALIG_PCAPNG and ROMTYALIG_PAIR are the programs' paths (bin/romtyalig, bin/romtyalig-pipe,
-# bin/romtyalig-pcapng and bin/romtyalig-pair unless set).
+# ROMTYALIG, ROMTYALIG_PIPE, ROMTYALIG_PCAPNG, ROMTYALIG_PAIR and ROMTYALIG_WATCH are the programs' paths (bin/romtyalig,
+# bin/romtyalig-pipe, bin/romtyalig-pcapng, bin/romtyalig-pair and bin/romtyalig-watch unless set).
 set -u
 
 here=$(cd "$(dirname "$0")" && pwd)
@@ -16,9 +16,10 @@ program=${ROMTYALIG:-$top/bin/romtyalig}
 pipe=${ROMTYALIG_PIPE:-$top/bin/romtyalig-pipe}
 filter=${ROMTYALIG_PCAPNG:-$top/bin/romtyalig-pcapng}
 pair=${ROMTYALIG_PAIR:-$top/bin/romtyalig-pair}
+watch=${ROMTYALIG_WATCH:-$top/bin/romtyalig-watch}
 export LC_ALL=C TZ=UTC
 
-for needed in "$program" "$pipe" "$filter" "$pair"; do
+for needed in "$program" "$pipe" "$filter" "$pair" "$watch"; do
     if [ ! -x "$needed" ]; then
         echo "no program at $needed" >&2
         exit 2
@@ -33,6 +34,7 @@ ln -s "$program" "$work/bin/romtyalig"
 ln -s "$pipe" "$work/bin/romtyalig-pipe"
 ln -s "$filter" "$work/bin/romtyalig-pcapng"
 ln -s "$pair" "$work/bin/romtyalig-pair"
+ln -s "$watch" "$work/bin/romtyalig-watch"
 ln -s "$top/examples" "$work/examples"
 PATH="$work/bin:$PATH"
 cd "$work" || exit 2
@@ -126,6 +128,11 @@ print(*[json.loads(line)["octetDeltaCount"] for line in open("flows.jsonl")], se
 # checks/report.py compares every figure and number.
 reported() { grep -q '</html>' report.html && grep -q "<b id=\"flows\">$(wc -l <lines)<" report.html; }
 same_rest() { cmp captures/capture.ipfix wanted.ipfix; }
+# A line for each of the 1000 asks, and the packets and octets of all records.
+same_total() {
+    [ "$(wc -l <out)" -eq 1001 ] &&
+        [ "$(tail -n 1 out)" = "total $(values 2 1 | awk '{ packets += $1; octets += $2 } END { print packets, octets }')" ]
+}
 same_collected() {
     awk '{ gsub(/:/, " "); print $1, $2, $3, $4, $5, $6, $7 }' out | sort >got
     values 4 8 7 12 11 2 1 | sort | cmp - got
@@ -155,6 +162,7 @@ compare named python3 same_named
 compare report "gnuplot mlr ipfix2csv" reported
 cp capture.pcap captures
 compare rest romtyalig same_rest
+compare watch romtyalig-watch same_total
 compare collector nfcapd same_collected
 echo "$same the same, $differ that differ"
 [ "$differ" -eq 0 ]
