@@ -10,7 +10,7 @@ SOURCES := $(shell find crates -name out -prune -o \( -name '*.rt' -o -name '*.a
 
 crate = $(subst -,_,$(1))
 
-.PHONY: help demo build test take check edits install clean
+.PHONY: help demo build test take check edits install deb clean
 
 help:
 	@echo "make demo                 meter a sample capture and show its records: the program as it is before any proof,"
@@ -20,6 +20,7 @@ help:
 	@echo "make check                compare the program with other readers and meters (checks/)"
 	@echo "make edits                try all edits that the checker must refuse, those that the gate leaves out too (hours)"
 	@echo "make install PREFIX=DIR   install programs, pages and completions below DIR, $(PREFIX) by default"
+	@echo "make deb                  write a Debian package of the programs into bin/"
 
 demo:
 	@tools/demo.sh
@@ -56,7 +57,13 @@ take:
 check: build $(CHECKS:%=bin/%)
 	checks/shell.sh
 	checks/page.sh
+	checks/readme.sh
 	checks/operators.sh
+	python3 checks/element_names.py
+	python3 checks/named.py
+	python3 checks/report.py
+	checks/rotate.sh
+	checks/deb.sh
 	checks/foreign_readers.sh
 	checks/pcapng.sh
 	checks/biflows.sh
@@ -70,6 +77,7 @@ check: build $(CHECKS:%=bin/%)
 	python3 checks/second_meter.py 20000
 	python3 checks/second_reader.py 20000
 	python3 checks/second_pairer.py 2000
+	python3 checks/second_pcapng.py 2000
 	python3 checks/second_maker.py
 
 # No part of the gate, nor of `make check`.
@@ -88,6 +96,9 @@ install: build
 	done
 	install -d $(DESTDIR)$(PREFIX)/share/zsh/site-functions
 	install -m 644 completions/_* $(DESTDIR)$(PREFIX)/share/zsh/site-functions
+
+deb: build
+	@packaging/deb.sh
 
 clean:
 	rm -rf bin crates/*/out

@@ -6,7 +6,7 @@
 The flow records of examples/web-exchange.pcap, of a capture that is made here and of none, with their biflows and without, go
 through examples/report.sh. Each table of the page is compared with what this program makes of the lines of `show`, and the
 heights of the bars in both figures with the table of steps. Headless chromium opens each page, dark at the width of a phone and
-light at that of a desktop: what it shows must be the same, and no wider than its window. PICTURES=FOLDER keeps pictures of the pages.
+light at that of a desktop: what it shows must be the same, and no wider than its window. PICTURES=FOLDER keeps pictures.
 Skipped with one line where a package is missing (python3-ipfix, miller, gnuplot-nox; chromium). The status is 1 where anything
 differs. ROMTYALIG and ROMTYALIG_PAIR are the programs' paths (bin/romtyalig and bin/romtyalig-pair unless set).
 """
@@ -71,7 +71,8 @@ class Flow:
         self.source, self.destination = addresses
         self.ports = int(fields["7"]), int(fields["11"])
         self.name = PROTOCOLS.get(int(fields["4"]), f"protocol {fields['4']}")
-        self.packets, self.octets, self.first, self.last, self.reason = (int(fields[n]) for n in ("2", "1", "152", "153", "136"))
+        numbers = [int(fields[number]) for number in ("2", "1", "152", "153", "136")]
+        self.packets, self.octets, self.first, self.last, self.reason = numbers
         self.back = {n: int(fields[f"29305.{n}"], 16) for n in (2, 1, 152) if f"29305.{n}" in fields}
 
 
@@ -259,7 +260,8 @@ def browser(words: list[str], folder: Path) -> bytes:
 def browser_fault(path: Path, flows: list[Flow], biflows: list[Flow] | None, folder: Path) -> str:
     """What is wrong with a page as the browser has it."""
     wide = folder / "wide.html"
-    wide.write_text(path.read_text() + "<script>document.title = document.documentElement.scrollWidth + ' ' + innerWidth</script>")
+    script = "<script>document.title = document.documentElement.scrollWidth + ' ' + innerWidth</script>"
+    wide.write_text(path.read_text() + script)
     for width, scheme in ((390, "dark"), (1280, "light")):
         words = [f"--window-size={width},2400", f"--blink-settings=preferredColorScheme={('dark', 'light').index(scheme)}"]
         text = browser([*words, "--dump-dom", wide.as_uri()], folder).decode()

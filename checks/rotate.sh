@@ -88,7 +88,8 @@ limited_streams() {
 dumped() {
     mkdir "$work/dumped"
     chmod 777 "$work" "$work/dumped"
-    tcpdump -Z root -i lo -n -s 128 -G 1 -w "$work/dumped/%s.pcap" -z "$script" 'udp and port 47475' >"$work/lines" 2>"$work/said" &
+    tcpdump -Z root -i lo -n -s 128 -G 1 -w "$work/dumped/%s.pcap" -z "$script" 'udp and port 47475' \
+        >"$work/lines" 2>"$work/said" &
     dumping=$!
     python3 - <<'PYTHON'
 import socket
@@ -108,12 +109,9 @@ PYTHON
 
 # The unit is one that systemd takes, with its programs where they are here.
 unit() {
-    sed -e "s,/usr/share/doc/romtyalig/examples/rotate.sh,$script,g" -e "s,/usr/bin/tcpdump,$(command -v tcpdump || echo /bin/true)," \
-        -e '/^Documentation/d' "$top/examples/romtyalig-rotate.service" >"$work/romtyalig-rotate.service"
-    systemd-analyze verify "$work/romtyalig-rotate.service" >"$work/said" 2>&1
-    status=$?
-    grep -v 'romtyalig-rotate' "$work/said" >/dev/null
-    [ "$status" -eq 0 ] && ! grep -q 'romtyalig-rotate.service' "$work/said"
+    sed -e "s,/usr/share/doc/romtyalig/examples/rotate.sh,$script,g" \
+        -e "s,/usr/bin/tcpdump,$(command -v tcpdump || echo /bin/true)," -e '/^Documentation/d' "$top/examples/romtyalig-rotate.service" >"$work/romtyalig-rotate.service"
+    systemd-analyze verify "$work/romtyalig-rotate.service" >"$work/said" 2>&1 && ! grep -q 'romtyalig-rotate' "$work/said"
 }
 
 row "captures are metered" metered

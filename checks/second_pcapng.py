@@ -221,7 +221,8 @@ class Maker:
         frame = {1: generate.ethernet, 113: generate.cooked}.get(link, lambda _, payload: payload)(kind_of_ip, ip)
         if chance.random() < 0.1:
             frame = frame[:chance.randrange(len(frame) + 1)]
-        time = chance.choice((0, 1_700_000_000_000_000, 2**32 * 10**6 - 1, 2**32 * 10**6, 2**62, chance.randrange(2**64)))
+        usual = 1_700_000_000_000_000 + chance.randrange(10**9)
+        time = chance.choice((usual, usual, usual, usual, 0, 2**32 * 10**6 - 1, 2**32 * 10**6, 2**62, chance.randrange(2**64)))
         original = max(0, len(frame) + chance.choice((0, 0, 100, -30)))
         captured = self.odd(len(frame), (len(frame) + 5, 262_145, 0))
         body = struct.pack(self.order + "IIIII", number, time >> 32, time % 2**32, captured, original) + frame
@@ -273,7 +274,8 @@ def made_by_programs(folder: Path) -> None:
     commands = [["mergecap", "-F", "pcapng", "-w", folder / "merged.pcapng", *captures],
                 ["text2pcap", "-q", "-l", "101", folder / "hex", folder / "text.pcapng"]]
     for capture in captures:
-        for name, words in (("plain", []), ("commented", ["-a", "1:a comment"]), ("cut", ["-s", "30"]), ("moved", ["-t", "-9"])):
+        options = {"plain": [], "commented": ["-a", "1:a comment"], "cut": ["-s", "30"], "moved": ["-t", "-9"]}
+        for name, words in options.items():
             commands.append(["editcap", "-F", "pcapng", *words, capture, folder / f"{capture.stem}_{name}.pcapng"])
     for words in commands:
         if shutil.which(words[0]):

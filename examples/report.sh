@@ -242,7 +242,9 @@ legend() {
 over_time() {
     local each
     each=$(awk -v step="$step" 'BEGIN {
-        print step < 1000 ? step " ms" : step < 60000 ? step / 1000 " s" : step < 3600000 ? step / 60000 " min" : step / 3600000 " h"
+        if (step < 1000) print step " ms"
+        else if (step < 60000) print step / 1000 " s"
+        else print step < 3600000 ? step / 60000 " min" : step / 3600000 " h"
     }')
     { legend; figure octets 2; } | section "Octets over time" \
         "In steps of $each. The octets of a flow are spread evenly from its first packet to its last."
