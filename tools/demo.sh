@@ -22,12 +22,11 @@ run_proved() {
         bin/romtyalig show <"$stream" >"$work/records" 2>"$work/count" && cat "$work/count" >>"$work/records"
 }
 
-# The same by one that isn't: `rt try` runs it on each file of a folder, compares what it writes with that file's .stdout, and else
-# writes it behind a line with the file's name. Its own lines begin with case= and cases=.
+# The same by one that isn't: `rt try` runs it on each file of a folder, and puts a line with the file's name before what it writes,
+# and a line of its own, which begins with case=, behind what it notes.
 run_unproved() {
     mkdir "$work/cases"
     cp "$capture" "$work/cases/meter"
-    cp "$stream" "$work/cases/meter.stdout"
     cp "$stream" "$work/cases/show"
     echo meter >"$work/cases/meter.args"
     echo show >"$work/cases/show.args"
@@ -35,9 +34,12 @@ run_unproved() {
         cat "$work/notes" >&2
         return 1
     fi
+    { echo "== meter" && cat "$stream"; } >"$work/begins"
+    size=$(wc -c <"$work/begins")
+    head -c "$size" "$work/output" | cmp - "$work/begins" || return
     sed '/^case=meter /,$d' "$work/notes" >"$work/summary"
-    sed 1d "$work/output" >"$work/records"
-    sed -e '1,/^case=meter /d' -e '/^case/d' "$work/notes" >>"$work/records"
+    tail -c "+$((size + 1))" "$work/output" | awk 'shown { print } /^== show$/ { shown = 1 }' >"$work/records"
+    awk '/^case=/ { done++ } done == 1 && !/^case=/' "$work/notes" >>"$work/records"
 }
 
 if [ -x bin/romtyalig ]; then
