@@ -14,7 +14,7 @@ crate = $(subst -,_,$(1))
 
 help:
 	@echo "make demo                 meter a sample capture and show its records: the program as it is before any proof,"
-	@echo "                          in a minute or two, or the proved one where it is built"
+	@echo "                          in a minute or so, or the proved one where it is built"
 	@echo "make build                prove and build the programs, bin/romtyalig and those beside it"
 	@echo "make test                 the gate: prove every crate from nothing, run all tests, then the checks of checks/"
 	@echo "make check                compare the program with other readers and meters (checks/)"
@@ -55,6 +55,7 @@ take:
 	    if [ -x $$made ]; then cp $$made bin/$(name); fi;)
 
 check: build $(CHECKS:%=bin/%)
+	tools/demo.sh
 	checks/shell.sh
 	checks/page.sh
 	checks/readme.sh
