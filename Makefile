@@ -116,6 +116,7 @@ check: build $(THREADS) $(LISTS)
 	checks/biflows.sh
 	checks/two_threads.sh
 	checks/refused_memory.sh
+	checks/no_memory.sh
 	python3 checks/workers.py
 	checks/one_set.sh
 	checks/watch.sh
