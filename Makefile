@@ -71,6 +71,7 @@ check: build $(CHECKS:%=bin/%)
 	checks/bench_words.sh
 	checks/two_threads.sh
 	checks/refused_memory.sh
+	checks/no_memory.sh
 	python3 checks/workers.py
 	checks/one_set.sh
 	checks/watch.sh
