@@ -11,6 +11,7 @@ use std::test::Fail;
 use std::thread::Threads;
 
 mod captures;
+mod extremes;
 mod faults;
 mod options;
 mod pipe;

@@ -46,10 +46,10 @@ fn words_of(alloc: Global, line: &str) -> Result<Vec<String>, Fail> {
 
 /// How a run over some input ended, what it wrote, and what it noted.
 #[derive(PartialEq, Eq, Drop)]
-struct Ran {
-    status: Status,
-    output: Vec<u8>,
-    notes: Vec<u8>,
+pub(super) struct Ran {
+    pub(super) status: Status,
+    pub(super) output: Vec<u8>,
+    pub(super) notes: Vec<u8>,
 }
 
 /// A sink with room for what these runs write.
@@ -58,7 +58,7 @@ fn sink<'a>(alloc: Global) -> Result<MemSink<'a>, Fail> {
 }
 
 /// A run of the pipelined meter over this input, which is told to this gate.
-fn run_piped<R: Threads + Wait + Sync, G: Gate>(
+pub(super) fn run_piped<R: Threads + Wait + Sync, G: Gate>(
     rt: &R,
     alloc: Global,
     line: &str,

@@ -33,15 +33,14 @@ static EXCHANGE: [&str; 20] = [
 ];
 
 /// The records of the exchange: the query, the reply, the server's side, and the client's, which ends with a reset.
-static RECORDS: [&str; 5] = [
-    "000a00d4 6553f100 00000000 00000001 0100 00c4",
+pub(super) static RECORDS: [&str; 4] = [
     "0a000005 0a000001 c350 0035 11 0000 0000000000000001 000000000000003c 0000018bcfe5680a 0000018bcfe5680a 04",
     "0a000001 0a000005 0035 c350 11 0000 0000000000000001 000000000000004c 0000018bcfe56819 0000018bcfe56819 04",
     "c6336407 0a000005 0050 9c40 06 001a 0000000000000003 000000000000064c 0000018bcfe56832 0000018bcfe56850 04",
     "0a000005 c6336407 9c40 0050 06 001e 0000000000000004 0000000000000130 0000018bcfe5681e 0000018bcfe5685a 03",
 ];
 
-static SUMMARY: &str =
+pub(super) static SUMMARY: &str =
     "captured 10\naccepted 9\nnot-ip 1\nshort 0\nbad-header 0\nshort-transport 0\nbad-time 0\noctets 2052\nflows 4\nmessages 2\ntail 0\n";
 
 static SETTINGS: [&str; 6] = [
@@ -60,17 +59,23 @@ fn behind(alloc: Global, first: &str, pieces: &[&str]) -> Result<Vec<u8>, Fail> 
     Ok(octets)
 }
 
-/// The stream of the exchange.
-fn exchange_stream(alloc: Global) -> Result<Vec<u8>, Fail> {
+/// The capture of the exchange.
+pub(super) fn exchange_capture(alloc: Global) -> Result<Vec<u8>, Fail> {
+    behind(alloc, HEADER, EXCHANGE.as_slice())
+}
+
+/// The stream of the exchange, its records in one message.
+pub(super) fn exchange_stream(alloc: Global) -> Result<Vec<u8>, Fail> {
     let mut stream = octets_of(alloc, &["000a0074 6553f100", TEMPLATES])?;
-    stream.extend_from_slice(octets_of(alloc, RECORDS.as_slice())?.as_slice())?;
+    let header = "000a00d4 6553f100 00000000 00000001 0100 00c4";
+    stream.extend_from_slice(behind(alloc, header, RECORDS.as_slice())?.as_slice())?;
     Ok(stream)
 }
 
 #[test]
 fn an_exchange_is_the_same_by_all_settings(rt: HostRuntime) -> Result<(), Fail> {
     let alloc = rt.alloc();
-    let capture = behind(alloc, HEADER, EXCHANGE.as_slice())?;
+    let capture = exchange_capture(alloc)?;
     let wanted = exchange_stream(alloc)?;
     for line in SETTINGS {
         for _turn in 0..100 {
