@@ -92,9 +92,26 @@ fn messages_are_filled(rt: HostRuntime) -> Result<(), Fail> {
 #[test]
 fn a_failed_write_leaves_a_beginning(rt: HostRuntime) -> Result<(), Fail> {
     let records = [udp_flow(4000, 1, 28, 1_000_000)];
-    for (fails, held) in [([2], 100), ([3], 116), ([1], 0)] {
+    for (fails, held) in [([1], 0), ([2], 60), ([3], 120), ([4], 180)] {
         let emitter = Emitter::open(rt.alloc(), 1400, 1000)?;
-        let mut sink = MemSink::open(rt.alloc(), 4096, 100, fails.as_slice())?;
+        let mut sink = MemSink::open(rt.alloc(), 4096, 60, fails.as_slice())?;
+        let end = emit_all(emitter, records.as_slice(), &mut sink);
+        assert!(rt; end == Err(Failed) && sink.held().len() == held);
+    }
+    Ok(())
+}
+
+/// The message with the templates has 116 octets, and one of 28 records 1,364: 192 of these go out with it in one call
+/// of at most 262,144.
+#[test]
+fn a_stream_goes_out_in_whole_messages(rt: HostRuntime) -> Result<(), Fail> {
+    let mut records = Vec::new(rt.alloc());
+    for place in 0..6000u16 {
+        records.push(udp_flow(place, 1, 28, 1_000_000))?;
+    }
+    for (fails, held) in [([1], 0), ([2], 116 + 192 * 1364)] {
+        let emitter = Emitter::open(rt.alloc(), 1400, 1000)?;
+        let mut sink = MemSink::open(rt.alloc(), 1 << 19, 1 << 19, fails.as_slice())?;
         let end = emit_all(emitter, records.as_slice(), &mut sink);
         assert!(rt; end == Err(Failed) && sink.held().len() == held);
     }
