@@ -217,7 +217,7 @@ each-uncut limits (session ∷ sessions) long all =
     All-cons (IsUncut limits) session sessions (uncut limits session long (append-first IsSoon session rest all))
     (each-uncut limits sessions long (append-second IsSoon session rest all))
 
-some-same : (one other : CaptureFile) → Some one ≡ Some other → one ≡ other
+pub some-same : (one other : CaptureFile) → Some one ≡ Some other → one ≡ other
 some-same one other same = cc
 
 pub nothing-cuts : AnswersOnce → (seed packets keys : ℕ) (file : CaptureFile) (limits : Timeouts)

@@ -103,7 +103,13 @@ fn both_meters_run_at_the_ends_of_their_ranges(rt: HostRuntime) -> Result<(), Fa
     }
     let stream = small_stream(alloc)?;
     for line in SMALL {
-        check_line(&rt, line, capture.as_slice(), stream.as_slice(), SMALL_SUMMARY)?;
+        check_line(
+            &rt,
+            line,
+            capture.as_slice(),
+            stream.as_slice(),
+            SMALL_SUMMARY,
+        )?;
     }
     Ok(())
 }
@@ -113,7 +119,8 @@ fn one_flow_over_ipv6_has_its_message(rt: HostRuntime) -> Result<(), Fail> {
     let alloc = rt.alloc();
     let capture = octets_of(alloc, IPV6_PACKET.as_slice())?;
     let stream = octets_of(alloc, &["000a0074 000003e8", TEMPLATES, IPV6_MESSAGE])?;
-    let summary = "captured 1\naccepted 1\nnot-ip 0\nshort 0\nbad-header 0\nshort-transport 0\nbad-time 0\n\
+    let summary =
+        "captured 1\naccepted 1\nnot-ip 0\nshort 0\nbad-header 0\nshort-transport 0\nbad-time 0\n\
         octets 48\nflows 1\nmessages 2\ntail 0\n";
     for line in ["meter", "meter --size 116", "pipe", "pipe --size 116"] {
         check_line(&rt, line, capture.as_slice(), stream.as_slice(), summary)?;
