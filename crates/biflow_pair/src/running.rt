@@ -53,7 +53,15 @@ fn pair_input<S: Source, K: Sink>(
         return PairStatus::NoMemory;
     };
     let pairs = paired.pairs.as_slice();
-    match write_messages(room, out, first.as_slice(), pairs, size, paired.seconds, output) {
+    match write_messages(
+        room,
+        out,
+        first.as_slice(),
+        pairs,
+        size,
+        paired.seconds,
+        output,
+    ) {
         Ok(()) => PairStatus::Done,
         Err(Failed) => PairStatus::WriteFault,
     }
