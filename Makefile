@@ -2,7 +2,7 @@
 
 PREFIX ?= /usr/local
 # The program of crates/romtyalig_pipe is romtyalig-pipe, and so on.
-PROGRAMS := romtyalig romtyalig-pipe romtyalig-pcapng romtyalig-pair romtyalig-watch
+PROGRAMS := romtyalig romtyalig-pipe romtyalig-pcapng romtyalig-pair romtyalig-join romtyalig-watch
 # A program for the scripts of checks/ and bench/, which isn't installed.
 CHECKS := bench_checks
 # All that a proof or a build reads: code, definitions, and proofs in folders of any depth.
