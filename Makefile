@@ -81,6 +81,7 @@ check: build $(CHECKS:%=bin/%)
 	python3 checks/second_pairer.py 2000
 	python3 checks/second_pcapng.py 2000
 	python3 checks/second_maker.py
+	python3 checks/second_joiner.py 300
 
 # No part of the gate, nor of `make check`.
 edits:

@@ -6,8 +6,8 @@
 # Each block there that is marked `run: NAME, with PROGRAM` is taken as it stands and run in a folder with the files that it
 # names. One line for each; a block whose program is missing is skipped with one line. The status is not 0 where any differs.
 #
-# ROMTYALIG, ROMTYALIG_PIPE, ROMTYALIG_PCAPNG, ROMTYALIG_PAIR and ROMTYALIG_WATCH are the programs' paths (bin/romtyalig,
-# bin/romtyalig-pipe, bin/romtyalig-pcapng, bin/romtyalig-pair and bin/romtyalig-watch unless set).
+# ROMTYALIG, ROMTYALIG_PIPE, ROMTYALIG_PCAPNG, ROMTYALIG_PAIR, ROMTYALIG_JOIN and ROMTYALIG_WATCH are the programs' paths
+# (bin/romtyalig, bin/romtyalig-pipe, bin/romtyalig-pcapng, bin/romtyalig-pair, bin/romtyalig-join and bin/romtyalig-watch unless set).
 set -u
 
 here=$(cd "$(dirname "$0")" && pwd)
@@ -16,10 +16,11 @@ program=${ROMTYALIG:-$top/bin/romtyalig}
 pipe=${ROMTYALIG_PIPE:-$top/bin/romtyalig-pipe}
 filter=${ROMTYALIG_PCAPNG:-$top/bin/romtyalig-pcapng}
 pair=${ROMTYALIG_PAIR:-$top/bin/romtyalig-pair}
+join=${ROMTYALIG_JOIN:-$top/bin/romtyalig-join}
 watch=${ROMTYALIG_WATCH:-$top/bin/romtyalig-watch}
 export LC_ALL=C TZ=UTC
 
-for needed in "$program" "$pipe" "$filter" "$pair" "$watch"; do
+for needed in "$program" "$pipe" "$filter" "$pair" "$join" "$watch"; do
     if [ ! -x "$needed" ]; then
         echo "no program at $needed" >&2
         exit 2
@@ -34,6 +35,7 @@ ln -s "$program" "$work/bin/romtyalig"
 ln -s "$pipe" "$work/bin/romtyalig-pipe"
 ln -s "$filter" "$work/bin/romtyalig-pcapng"
 ln -s "$pair" "$work/bin/romtyalig-pair"
+ln -s "$join" "$work/bin/romtyalig-join"
 ln -s "$watch" "$work/bin/romtyalig-watch"
 ln -s "$top/examples" "$work/examples"
 PATH="$work/bin:$PATH"
@@ -142,6 +144,7 @@ compare progress pv same_stream
 compare compressed zcat same_stream
 compare pipelined zcat same_stream
 compare several mergecap same_stream
+compare join romtyalig-join same_stream
 if [ -e capture.pcapng ]; then
     compare pcapng romtyalig-pcapng same_stream
 else

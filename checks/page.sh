@@ -35,7 +35,7 @@ differs() {
 # The name of the program that has a command, and its path.
 name_of() {
     case $1 in
-    pipe | pair | watch) echo "romtyalig-$1" ;;
+    pipe | pair | join | watch) echo "romtyalig-$1" ;;
     *) echo romtyalig ;;
     esac
 }
@@ -94,6 +94,12 @@ for command in meter show make schedule selftest pipe pair watch; do
             is_taken "$command" ${given[@]+"${given[@]}"} "$wrong" && differs "$command takes $wrong"
         done
     done
+done
+
+# The options of join, whose words end with files, and of which two stand together or not at all.
+wanted=$(in_page join)
+for place in operators bash zsh; do
+    [ "$wanted" = "$("in_$place" join)" ] || differs "options of join in $place"
 done
 
 if command -v mandoc >/dev/null; then
