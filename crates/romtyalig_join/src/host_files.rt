@@ -1,10 +1,8 @@
 //! The files of the machine, and standard input.
 
-ghost use Rattle.std.specs.Prelude.{◌≡◌, ◌<◌, ◌≤◌, List, ℕ, length, None};
-ghost use Rattle.std.specs.declared.option.Option.{Option};
+ghost use Rattle.std.specs.Prelude.{◌≡◌, ◌≤◌, None};
 ghost use Rattle.std.specs.Io.{ReadsAtMost};
-ghost use Rattle.std.specs.Io.KnownBytes.{ReadConsumes};
-ghost use Rattle.meter_io.specs.Causes.{HasCause, Rose};
+ghost use Rattle.meter_io.specs.Causes.{one_more};
 
 use join_program::Opener;
 use meter_io::{Failed, Source};
@@ -26,13 +24,22 @@ pub struct OpenFile {
     faults: u64,
 }
 
-impl OpenFile {
-    /// Reads some bytes.
-    fn read_some(&mut self, buf: &mut [u8]) -> io::Result<usize> {
-        match &mut self.input {
-            Input::Named(file) => file.read(buf),
-            Input::Standard(stdin) => stdin.read(buf),
-        }
+/// Counts a failed call, where the count isn't at its last value.
+fn count_fault(faults: &mut u64) -> Failed
+    ensures counted { faults.new ≡ one_more faults.old }
+    ensures later { faults.old ≤ faults.new }
+{
+    *faults = faults.saturating_add(1);
+    Failed
+}
+
+/// Reads some bytes.
+fn read_some(input: &mut Input, buf: &mut [u8]) -> io::Result<usize>
+    ensures { ReadsAtMost result buf.new }
+{
+    match input {
+        Input::Named(file) => file.read(buf),
+        Input::Standard(stdin) => stdin.read(buf),
     }
 }
 
@@ -42,12 +49,9 @@ impl Source for OpenFile {
     ghost faults = { λ file. file.faults };
 
     fn read(&mut self, buf: &mut [u8]) -> Result<usize, Failed> {
-        match self.read_some(buf) {
+        match read_some(&mut self.input, buf) {
             Ok(count) => Ok(count),
-            Err(_) => {
-                self.faults = self.faults.saturating_add(1);
-                Err(Failed)
-            }
+            Err(_) => Err(count_fault(&mut self.faults)),
         }
     }
 }
@@ -85,10 +89,7 @@ impl<'a> Opener for HostFiles<'a> {
     fn open(&mut self, name: &str) -> Result<OpenFile, Failed> {
         match self.input(name) {
             Ok(input) => Ok(OpenFile { input, faults: 0 }),
-            Err(_) => {
-                self.faults = self.faults.saturating_add(1);
-                Err(Failed)
-            }
+            Err(_) => Err(count_fault(&mut self.faults)),
         }
     }
 
