@@ -1,7 +1,7 @@
 /*
  * How long the caches of `sets.h` and `slots.h` take for a packet. The packets of the capture of standard input are read into
  * memory; then threads meter them all at once, each every so manieth piece of 256 packets, through one cache, as the program
- * `cache_pace` does.
+ * `bench_checks pace` does.
  *
  *     caches turn|pebr THREADS SETS < CAPTURE
  *
@@ -26,7 +26,7 @@ static inline void keep_part(struct parts *parts, const uint64_t *words)
 }
 
 /*
- * A packet in memory as `cache_pace` holds it: the fields of the public type of packets, in as many bytes and at the same
+ * A packet in memory as `bench_checks pace` holds it: the fields of the public type of packets, in as many bytes and at the same
  * places. A fragment's words are made of them for each packet, as there.
  */
 struct held {

@@ -8,11 +8,11 @@
 # seed 1. Both programs run in turn on it, ROUNDS times (7 unless set), with 4,096 sets and with 65,536. Written are medians of
 # nanoseconds and of the ratios within a round, and how much faster the threads are together than one, by the medians.
 #
-# PACE is the program's path (bin/cache_pace unless set). Debian packages: gcc, python3, time.
+# BENCH_CHECKS is the path of the program of crates/bench_checks (bin/bench_checks unless set). Debian packages: gcc, python3, time.
 set -eu
 
 here=$(cd "$(dirname "$0")" && pwd)
-program=${PACE:-$(dirname "$here")/bin/cache_pace}
+program=${BENCH_CHECKS:-$(dirname "$here")/bin/bench_checks}
 rounds=${ROUNDS:-7}
 packets=${PACKETS:-2000000}
 compiler=${CC:-cc}
@@ -36,7 +36,7 @@ for cache in "$@"; do
         set --
         for threads in 1 2 4; do
             words="$cache $threads $sets"
-            set -- "$@" "c-$threads=exec $work/caches $words" "own-$threads:c-$threads=exec $program $words"
+            set -- "$@" "c-$threads=exec $work/caches $words" "own-$threads:c-$threads=exec $program pace $words"
         done
         python3 "$here/rounds.py" "$rounds" "$work/capture" "$@" | awk -F '\t' -v what="| $cache | $sets |" '
             { split($1, name, "-") }

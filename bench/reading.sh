@@ -5,16 +5,16 @@
 #     bench/reading.sh [MEGABYTES]..
 #
 # Without words: 100 1000. For each size it makes two captures, one of ARP requests alone, so that only windows, index, pieces
-# and the first look at each record are left, and one of the packets of 1,000 keys. `metering_alone` and `windows.c` meter them in
-# turn, ROUNDS times (5 unless set), with one worker and with four, in windows of 4 MiB and through 4,096 sets. Both must find
+# and the first look at each record are left, and one of the packets of 1,000 keys. `bench_checks windows` and `windows.c` meter them
+# in turn, ROUNDS times (5 unless set), with one worker and with four, in windows of 4 MiB and through 4,096 sets. Both must find
 # the same packets. Written is a table: seconds from start to end and of the processor, peak memory in MiB, and the medians of
 # the ratios within a round.
 #
-# METERING is the program's path (bin/metering_alone unless set). Debian packages: gcc, python3, time.
+# BENCH_CHECKS is the path of the program of crates/bench_checks (bin/bench_checks unless set). Debian packages: gcc, python3, time.
 set -eu
 
 here=$(cd "$(dirname "$0")" && pwd)
-program=${METERING:-$(dirname "$here")/bin/metering_alone}
+program=${BENCH_CHECKS:-$(dirname "$here")/bin/bench_checks}
 rounds=${ROUNDS:-5}
 compiler=${CC:-cc}
 window=4194304
@@ -42,11 +42,11 @@ for megabytes in "$@"; do
         for workers in 1 4; do
             words="$workers $window $sets"
             # shellcheck disable=SC2086 # three words
-            "$program" $words <"$work/capture" >"$work/own"
+            "$program" windows $words <"$work/capture" >"$work/own"
             # shellcheck disable=SC2086
             "$work/windows" $words <"$work/capture" >"$work/other"
             cmp "$work/own" "$work/other"
-            python3 "$here/rounds.py" "$rounds" "$work/capture" "c=exec $work/windows $words" "own=exec $program $words" |
+            python3 "$here/rounds.py" "$rounds" "$work/capture" "c=exec $work/windows $words" "own=exec $program windows $words" |
                 awk -F '\t' -v what="| $kind | $megabytes | $workers |" '
                     $1 == "c" { wall = $2; time = $3; room = $4 }
                     $1 == "own" { print what, $2 ", " wall, "|", $3 ", " time, "|", $4 ", " room, "|", $5, "|", $6, "|" }'

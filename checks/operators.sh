@@ -6,8 +6,8 @@
 # Each block there that is marked `run: NAME, with PROGRAM` is taken as it stands and run in a folder with the files that it
 # names. One line for each; a block whose program is missing is skipped with one line. The status is not 0 where any differs.
 #
-# ROMTYALIG, ROMTYALIG_PIPE and ROMTYALIG_PCAPNG are the programs' paths (bin/romtyalig, bin/romtyalig-pipe and
-# bin/romtyalig-pcapng unless set).
+# ROMTYALIG, ROMTYALIG_PIPE, ROMTYALIG_PCAPNG, ROMTYALIG_PAIR, ROMTYALIG_JOIN and ROMTYALIG_WATCH are the programs' paths
+# (bin/romtyalig, bin/romtyalig-pipe, bin/romtyalig-pcapng, bin/romtyalig-pair, bin/romtyalig-join and bin/romtyalig-watch unless set).
 set -u
 
 here=$(cd "$(dirname "$0")" && pwd)
@@ -15,9 +15,12 @@ top=$(dirname "$here")
 program=${ROMTYALIG:-$top/bin/romtyalig}
 pipe=${ROMTYALIG_PIPE:-$top/bin/romtyalig-pipe}
 filter=${ROMTYALIG_PCAPNG:-$top/bin/romtyalig-pcapng}
+pair=${ROMTYALIG_PAIR:-$top/bin/romtyalig-pair}
+join=${ROMTYALIG_JOIN:-$top/bin/romtyalig-join}
+watch=${ROMTYALIG_WATCH:-$top/bin/romtyalig-watch}
 export LC_ALL=C TZ=UTC
 
-for needed in "$program" "$pipe" "$filter"; do
+for needed in "$program" "$pipe" "$filter" "$pair" "$join" "$watch"; do
     if [ ! -x "$needed" ]; then
         echo "no program at $needed" >&2
         exit 2
@@ -27,10 +30,13 @@ done
 work=$(mktemp -d) || exit 2
 trap 'rm -rf "$work"' EXIT
 trap 'exit 2' HUP INT TERM
-mkdir "$work/bin" "$work/collected"
+mkdir "$work/bin" "$work/collected" "$work/captures"
 ln -s "$program" "$work/bin/romtyalig"
 ln -s "$pipe" "$work/bin/romtyalig-pipe"
 ln -s "$filter" "$work/bin/romtyalig-pcapng"
+ln -s "$pair" "$work/bin/romtyalig-pair"
+ln -s "$join" "$work/bin/romtyalig-join"
+ln -s "$watch" "$work/bin/romtyalig-watch"
 ln -s "$top/examples" "$work/examples"
 PATH="$work/bin:$PATH"
 cd "$work" || exit 2
@@ -74,12 +80,14 @@ block() {
 same=0
 differ=0
 
-# Runs a block and then its comparison: compare NAME PROGRAM COMPARISON
+# Runs a block and then its comparison: compare NAME PROGRAM COMPARISON, with several programs in one word
 compare() {
-    if ! command -v "$2" >/dev/null; then
-        echo "skipped: $1, no $2"
-        return
-    fi
+    for needed in $2; do
+        if ! command -v "$needed" >/dev/null; then
+            echo "skipped: $1, no $needed"
+            return
+        fi
+    done
     block "$1" >commands
     if [ -s commands ] && bash -eu commands >out 2>said && "$3"; then
         echo "same: $1"
@@ -110,6 +118,23 @@ same_talkers() {
     values 8 1 | awk '{ sum[$1] += $2 } END { for (a in sum) print a, sum[a] }' | sort -k2,2nr | cmp - got
 }
 drawn() { grep -q '</svg>' octets.svg; }
+# Each record's octets in each of the three forms; checks/named.py compares every field.
+same_named() {
+    grep -o ' octetDeltaCount=[0-9]*' flows.txt | cut -d= -f2 >got
+    values 1 | cmp - got || return 1
+    python3 -c 'import csv, json, sys
+print(*[row["octetDeltaCount"] for row in csv.DictReader(open("named.csv"))], sep="\n")
+print(*[json.loads(line)["octetDeltaCount"] for line in open("flows.jsonl")], sep="\n")' >got
+    { values 1; values 1; } | cmp - got
+}
+# checks/report.py compares every figure and number.
+reported() { grep -q '</html>' report.html && grep -q "<b id=\"flows\">$(wc -l <lines)<" report.html; }
+same_rest() { cmp captures/capture.ipfix wanted.ipfix; }
+# A line for each of the 1000 asks, and the packets and octets of all records.
+same_total() {
+    [ "$(wc -l <out)" -eq 1001 ] &&
+        [ "$(tail -n 1 out)" = "total $(values 2 1 | awk '{ packets += $1; octets += $2 } END { print packets, octets }')" ]
+}
 same_collected() {
     awk '{ gsub(/:/, " "); print $1, $2, $3, $4, $5, $6, $7 }' out | sort >got
     values 4 8 7 12 11 2 1 | sort | cmp - got
@@ -119,6 +144,7 @@ compare progress pv same_stream
 compare compressed zcat same_stream
 compare pipelined zcat same_stream
 compare several mergecap same_stream
+compare join romtyalig-join same_stream
 if [ -e capture.pcapng ]; then
     compare pcapng romtyalig-pcapng same_stream
 else
@@ -135,6 +161,11 @@ if [ -e flows.csv ]; then
 else
     echo "skipped: talkers and picture, no CSV"
 fi
+compare named python3 same_named
+compare report "gnuplot mlr ipfix2csv" reported
+cp capture.pcap captures
+compare rest romtyalig same_rest
+compare watch romtyalig-watch same_total
 compare collector nfcapd same_collected
 echo "$same the same, $differ that differ"
 [ "$differ" -eq 0 ]

@@ -1,9 +1,9 @@
 #!/bin/bash
-# The manual pages, the completions, README.md and the programs know the same options.
+# The manual pages, the completions, docs/OPERATORS.md and the programs know the same options.
 #
 #     checks/page.sh
 #
-# For each command its options are taken from its program's page, README.md and both completions, and must be the same in all;
+# For each command its options are taken from its program's page, docs/OPERATORS.md and both completions, and must be the same in all;
 # the program must take each of them, and refuse each name that is one letter longer or shorter. `mandoc` (Debian package
 # mandoc) must find nothing to say of the pages; where it is missing that is skipped with one line. The status is not 0 where
 # anything differs. ROMTYALIG, ROMTYALIG_PIPE, ROMTYALIG_PAIR and ROMTYALIG_WATCH are the programs' paths (bin/romtyalig,
@@ -35,7 +35,7 @@ differs() {
 # The name of the program that has a command, and its path.
 name_of() {
     case $1 in
-    pipe | pair | watch) echo "romtyalig-$1" ;;
+    pipe | pair | join | watch) echo "romtyalig-$1" ;;
     *) echo romtyalig ;;
     esac
 }
@@ -53,7 +53,7 @@ in_page() {
     awk -v command="$1" '/^\.Cm / { found = ($2 == command) } /^\.Sh DESCRIPTION/ { exit } found && /Fl -/' "man/$(name_of "$1").1" |
         grep -o 'Fl -[a-z]*' | sed 's/Fl /-/' | sort
 }
-in_readme() { awk -F'|' -v command="\`$1\`" 'index($3, command) && $2 ~ /--/ { gsub(/[` ]/, "", $2); print $2 }' README.md | sort; }
+in_operators() { awk -F'|' -v command="\`$1\`" 'index($3, command) && $2 ~ /--/ { gsub(/[` ]/, "", $2); print $2 }' docs/OPERATORS.md | sort; }
 in_bash() { grep "^    $1) options=" "completions/$(name_of "$1").bash" | grep -o -e '--[a-z]*' | sort; }
 in_zsh() {
     awk -v command="$1" '$1 == command ")" { found = 1 } found && /;;/ { exit } found' "completions/_$(name_of "$1")" |
@@ -77,7 +77,7 @@ is_taken() {
 
 for command in meter show make schedule selftest pipe pair watch; do
     wanted=$(in_page "$command")
-    for place in readme bash zsh; do
+    for place in operators bash zsh; do
         [ "$wanted" = "$("in_$place" "$command")" ] || differs "options of $command in $place"
     done
     given=()
@@ -96,6 +96,12 @@ for command in meter show make schedule selftest pipe pair watch; do
     done
 done
 
+# The options of join, whose words end with files, and of which two stand together or not at all.
+wanted=$(in_page join)
+for place in operators bash zsh; do
+    [ "$wanted" = "$("in_$place" join)" ] || differs "options of join in $place"
+done
+
 if command -v mandoc >/dev/null; then
     for page in man/*.1; do
         mandoc -Tlint -Wwarning "$page" || differs "$page"
@@ -103,5 +109,5 @@ if command -v mandoc >/dev/null; then
 else
     echo "skipped: no mandoc"
 fi
-[ "$differ" -eq 0 ] && echo "pages, completions, README.md and programs have the same options"
+[ "$differ" -eq 0 ] && echo "pages, completions, docs/OPERATORS.md and programs have the same options"
 [ "$differ" -eq 0 ]

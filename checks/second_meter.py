@@ -111,21 +111,26 @@ def over_ipv6(ip: bytes, original: int, time: int) -> Packet:
     return Packet((6, ip[8:24], ip[24:40], kind, *ports[:2]), time, octets, ports[2])
 
 
+def network_of(link: int, frame: bytes) -> tuple[int, int]:
+    """Where the IP header stands, and the type of what stands there."""
+    if link == 101:
+        need(len(frame) >= 1)
+        return 0, {4: 0x0800, 6: 0x86DD}.get(frame[0] >> 4, 0)
+    start = 14 if link == 1 else 16
+    need(len(frame) >= start)
+    kind = number(frame[start - 2:start])
+    tags = 0
+    while kind in (0x8100, 0x88A8) and tags < 2:
+        start, tags = start + 4, tags + 1
+        need(len(frame) >= start)
+        kind = number(frame[start - 2:start])
+    return start, kind
+
+
 def packet_of(link: int, unit: int, seconds: int, fraction: int, original: int, frame: bytes) -> Packet:
     need(fraction < 1000 * unit)
     time = 1000 * seconds + fraction // unit
-    if link == 101:
-        need(len(frame) >= 1)
-        start, kind = 0, {4: 0x0800, 6: 0x86DD}.get(frame[0] >> 4)
-    else:
-        start = 14 if link == 1 else 16
-        need(len(frame) >= start)
-        kind = number(frame[start - 2:start])
-        tags = 0
-        while kind in (0x8100, 0x88A8) and tags < 2:
-            start, tags = start + 4, tags + 1
-            need(len(frame) >= start)
-            kind = number(frame[start - 2:start])
+    start, kind = network_of(link, frame)
     need(kind in (0x0800, 0x86DD))
     over = over_ipv4 if kind == 0x0800 else over_ipv6
     return over(frame[start:], max(0, original - start), time)

@@ -5,8 +5,11 @@
     romtyalig show < STREAM | python3 checks/second_pairer.py lines [SECONDS]
 
 Each of the streams (300 unless given) has some tens of flow records of few keys, most of them with their reverse, in no order.
-`romtyalig-pair` of the program, at ROMTYALIG_PAIR or bin/romtyalig-pair, must write the very bytes that this one writes. The
-first difference ends the run with status 1 and leaves the stream in the current folder.
+`romtyalig-pair` of the program, at ROMTYALIG_PAIR or bin/romtyalig-pair, must write the very bytes that this one writes. As many
+streams more have their records under templates of any number and domain, some of them with a record that is no flow record: a
+field that is left out, added, moved, of an enterprise or of another length, no packet, a first time behind the last; and some
+have a fault. There it must have the status that this program finds, and write nothing unless that is 0. The first difference ends the
+run with status 1 and leaves the stream in the current folder.
 
 The second form reads the lines of flow records, pairs them with an idle time-out in seconds, and writes a line for each biflow:
 the template's number, then NUMBER=VALUE for each field, with 29305. in front of the number of a reverse element.
@@ -20,6 +23,10 @@ import sys
 from dataclasses import dataclass
 from ipaddress import IPv4Address
 from pathlib import Path
+
+sys.dont_write_bytecode = True
+
+import second_reader  # noqa: E402
 
 TOP = Path(__file__).resolve().parent.parent
 COUNTS = [(6, 2), (2, 8), (1, 8), (152, 8), (153, 8), (136, 1)]
@@ -165,6 +172,114 @@ def random_flow(chance: random.Random, idle: int) -> Flow:
     return Flow(version, *ends, chance.choice((6, 6, 17)), ports, counts)
 
 
+def judged(values: list[tuple[int | None, int, bytes]]) -> Flow | None:
+    """The flow record that a data record is."""
+    for version, template in ((4, 256), (6, 257)):
+        if [(enterprise, element, len(octets)) for enterprise, element, octets in values] == [
+            (None, element, length) for element, length in TEMPLATES[template]
+        ]:
+            source, destination = (octets for _, _, octets in values[:2])
+            numbers = [int.from_bytes(octets, "big") for _, _, octets in values[2:]]
+            flow = Flow(version, source, destination, numbers[2], (numbers[0], numbers[1]), tuple(numbers[3:]))
+            return flow if flow.counts[1] > 0 and flow.span()[0] <= flow.span()[1] else None
+    return None
+
+
+def answer_to(stream: bytes, idle: int, size: int) -> tuple[int, bytes, str]:
+    """The status and the output for any stream, and what kind of stream it is."""
+    reader = second_reader.Reader()
+    try:
+        reader.stream(stream)
+    except second_reader.Fault as fault:
+        return 9, b"", str(fault.args[0])
+    flows = [judged(values) for values in reader.records]
+    if None in flows:
+        return 12, b"", "no flow record"
+    return 0, paired(flows, idle, size), "flow records"
+
+
+def odd_fields(chance: random.Random, flow: Flow) -> list[list]:
+    """A flow record's fields, one of them odd, or its numbers: enterprise, element, told length and octets."""
+    counts = list(flow.counts)
+    kind = chance.randrange(9)
+    if kind == 0:
+        counts[1] = 0
+    elif kind == 1:
+        counts[3], counts[4] = counts[4] + 1, counts[3]
+    flow = Flow(flow.version, flow.source, flow.destination, flow.protocol, flow.ports, tuple(counts))
+    fields = fields_of(flow)
+    place = chance.randrange(len(fields))
+    if kind == 2:
+        fields[place][0] = chance.choice((0, REVERSE, 2**32 - 1))
+    elif kind == 3:
+        del fields[place]
+    elif kind == 4:
+        fields.insert(place, [None, chance.choice((210, 12, fields[place][1])), 2, bytes(2)])
+    elif kind == 5:
+        other = chance.randrange(len(fields))
+        fields[place], fields[other] = fields[other], fields[place]
+    elif kind == 6:
+        fields[place][2:] = [len(fields[place][3]) + 1, b"\0" + fields[place][3]]
+    elif kind == 7 and len(fields[place][3]) > 1:
+        fields[place][2:] = [len(fields[place][3]) - 1, fields[place][3][1:]]
+    elif kind == 8:
+        fields[place][1] = chance.choice((1, 2, 27, 152, 153, 61))
+    return fields
+
+
+def fields_of(flow: Flow) -> list[list]:
+    fields, octets, at = [], flow.octets(), 0
+    for element, length in TEMPLATES[256 if flow.version == 4 else 257]:
+        fields.append([None, element, length, octets[at:at + length]])
+        at += length
+    return fields
+
+
+def odd_message(chance: random.Random, fields: list[list], domain: int, sequence: int) -> bytes:
+    """A message with a template of these fields and their record; some values have a variable length."""
+    number, options = chance.choice((256, 257, 258, 300, 65535)), chance.random() < 0.1
+    known, record = b"", b""
+    for enterprise, element, length, octets in fields:
+        variable = chance.random() < 0.1
+        known += struct.pack(">HH", element | (0 if enterprise is None else 0x8000), 65535 if variable else length)
+        known += b"" if enterprise is None else struct.pack(">I", enterprise)
+        record += (bytes([length]) if variable else b"") + octets
+    head = struct.pack(">HH", number, len(fields)) + (struct.pack(">H", 1) if options else b"")
+    sets = set_of(3 if options else 2, head + known) + set_of(number, record)
+    return struct.pack(">HHIII", 10, 16 + len(sets), chance.randrange(2**32), sequence, domain) + sets
+
+
+def odd_stream(chance: random.Random, flows: list[Flow]) -> bytes:
+    """A message for each record, of one of two domains; few records are none of a flow, and few streams have a fault."""
+    rate, out, sequences = chance.choice((0, 0, 0.05, 0.3)), bytearray(), {1: 0, 4_000_000_000: 2**32 - 1}
+    for flow in flows:
+        domain = chance.choice(list(sequences))
+        fields = odd_fields(chance, flow) if chance.random() < rate else fields_of(flow)
+        out += odd_message(chance, fields, domain, sequences[domain])
+        sequences[domain] = (sequences[domain] + 1) % 2**32
+    if out and chance.random() < 0.2:
+        out[chance.randrange(len(out))] = chance.choice((0, 1, 255))
+    if out and chance.random() < 0.1:
+        del out[chance.randrange(len(out)):]
+    return bytes(out)
+
+
+def compare_odd(wanted: int, seed: int) -> None:
+    program = os.environ.get("ROMTYALIG_PAIR", str(TOP / "bin" / "romtyalig-pair"))
+    chance = random.Random(seed)
+    found: dict[str, int] = {}
+    for place in range(wanted):
+        stream = odd_stream(chance, [random_flow(chance, 300) for _ in range(chance.choice((0, 1, 2, 10, 20)))])
+        status, output, kind = answer_to(stream, 300_000, 1400)
+        ran = subprocess.run([program, "pair"], input=stream, capture_output=True)
+        if (ran.returncode, ran.stdout, ran.stderr) != (status, output, b""):
+            Path("different.ipfix").write_bytes(stream)
+            sys.exit(f"different: odd stream {place} of seed {seed}, left in different.ipfix: {ran.returncode}, not {status}")
+        found[kind] = found.get(kind, 0) + 1
+    listed = ", ".join(f"{kind} {count}" for kind, count in sorted(found.items()))
+    print(f"same: {wanted} odd streams of seed {seed}: {listed}")
+
+
 def compare(wanted: int, seed: int) -> None:
     program = os.environ.get("ROMTYALIG_PAIR", str(TOP / "bin" / "romtyalig-pair"))
     chance = random.Random(seed)
@@ -190,7 +305,9 @@ def main() -> None:
         for forward, reverse in pairs_of([flow_of(line) for line in sys.stdin], 1000 * idle):
             print(line_of(forward, reverse))
     else:
-        compare(int(sys.argv[1]) if len(sys.argv) > 1 else 300, int(sys.argv[2]) if len(sys.argv) > 2 else 1)
+        wanted, seed = (int(sys.argv[1]) if len(sys.argv) > 1 else 300), (int(sys.argv[2]) if len(sys.argv) > 2 else 1)
+        compare(wanted, seed)
+        compare_odd(wanted, seed)
 
 
 if __name__ == "__main__":

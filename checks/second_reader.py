@@ -44,6 +44,7 @@ class Reader:
     def __init__(self) -> None:
         self.templates: dict[tuple[int, int], list[tuple[int | None, int, int]]] = {}
         self.expected: dict[int, int] = {}
+        self.records: list[list[tuple[int | None, int, bytes]]] = []
         self.lines: list[str] = []
 
     def stream(self, octets: bytes) -> None:
@@ -118,7 +119,7 @@ class Reader:
         fields = self.templates[domain, template]
         at = 0
         while len(body) - at >= self.least(fields):
-            first, line = at, str(template)
+            first, values = at, []
             for enterprise, element, length in fields:
                 if length == VARIABLE:
                     length, at = number(body[at:at + 1]), at + 1
@@ -126,9 +127,10 @@ class Reader:
                         length, at = number(body[at:at + 2]), at + 2
                 if at + length > len(body):
                     raise Fault("length", start + first)
-                line += " " + value_of(enterprise, element, body[at:at + length])
+                values.append((enterprise, element, body[at:at + length]))
                 at += length
-            self.lines.append(line)
+            self.records.append(values)
+            self.lines.append(" ".join([str(template)] + [value_of(*value) for value in values]))
         return body[at:]
 
 

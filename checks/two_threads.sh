@@ -7,11 +7,11 @@
 # program ends with 0 where the fragments that were handed out and the entries at the end together have all packets and
 # octets of the capture. The last line counts; the status is not 0 where a run differs.
 #
-# TWO_THREADS is the program's path (bin/two_threads unless set, which `make check` builds).
+# BENCH_CHECKS is the path of the program of crates/bench_checks (bin/bench_checks unless set, which `make check` builds).
 set -u
 
 top=$(dirname "$(cd "$(dirname "$0")" && pwd)")
-program=${TWO_THREADS:-$top/bin/two_threads}
+program=${BENCH_CHECKS:-$top/bin/bench_checks}
 runs=${1:-20}
 seed=${2:-1}
 
@@ -28,7 +28,7 @@ whole=0
 differ=0
 for run in $(seq "$runs"); do
     python3 "$top/checks/hundred_keys.py" "$seed" "$run" >"$work/capture" || exit 2
-    if "$program" <"$work/capture" >/dev/null; then
+    if "$program" threads <"$work/capture" >/dev/null; then
         whole=$((whole + 1))
     else
         echo "DIFFERS: run $run of seed $seed"

@@ -6,20 +6,20 @@
 # Each run has a capture of its own, 200,000 packets of 8 keys, which `make` writes by the seed and the run's number (20 runs,
 # 63 workers and seed 1 unless given). `romtyalig-watch` meters it through one set of four entries and asks 1,000 times. It must
 # write a line for each ask, `held` with four numbers, of which the first is 1 at least and the third at most the fourth, `absent`
-# or `lost`, and behind them the total that the summary of `meter` has of the same capture. Then `watch_lists` does the same and
-# looks behind each call at the list of slots that the pass has retired: it must have the same total, and no list may ever have
+# or `lost`, and behind them the total that the summary of `meter` has of the same capture. Then `bench_checks lists` does the same
+# and looks behind each call at the list of slots that the pass has retired: it must have the same total, and no list may ever have
 # been above 32 + 4 * seats, with a seat for each worker and one for the watcher. At the end an input one byte above the limit must
 # have exit status 7, and a full device 3. The last line counts the runs and the lines, and says the longest list; the status is
 # not 0 where a run differs.
 #
-# ROMTYALIG, ROMTYALIG_WATCH and WATCH_LISTS are the programs' paths (bin/romtyalig, bin/romtyalig-watch and bin/watch_lists
+# ROMTYALIG, ROMTYALIG_WATCH and BENCH_CHECKS are the programs' paths (bin/romtyalig, bin/romtyalig-watch and bin/bench_checks
 # unless set; `make check` builds the last).
 set -u
 
 top=$(dirname "$(cd "$(dirname "$0")" && pwd)")
 program=${ROMTYALIG:-$top/bin/romtyalig}
 watcher=${ROMTYALIG_WATCH:-$top/bin/romtyalig-watch}
-lists=${WATCH_LISTS:-$top/bin/watch_lists}
+lists=${BENCH_CHECKS:-$top/bin/bench_checks}
 runs=${1:-20}
 workers=${2:-63}
 seed=${3:-1}
@@ -50,7 +50,7 @@ told() {
         END { printf "%d %d %d %s%s\n", held, absent, lost, total, wrong }'
 }
 
-# What `watch_lists` says: the longest list, how many asks held a flow, and the total, with "wrong" where it isn't one line of this
+# What `bench_checks lists` says: the longest list, how many asks held a flow, and the total, with "wrong" where it isn't one line of this
 # form and with this bound.
 looked() {
     awk -v bound="$bound" '
@@ -87,7 +87,7 @@ for run in $(seq "$runs"); do
         echo "DIFFERS: run $run of seed $seed: $(cat "$work/told"), and not $wanted"
         differ=$((differ + 1))
     fi
-    "$lists" "$workers" "$asks" <"$work/capture" >"$work/line" || exit 2
+    "$lists" lists "$workers" "$asks" <"$work/capture" >"$work/line" || exit 2
     looked <"$work/line" >"$work/looked"
     read -r longest beside total <"$work/looked"
     all_beside=$((all_beside + beside))

@@ -5,6 +5,8 @@
 
 udp-flows.pcap     five packets of three UDP flows over IPv4, one of them idle for longer than five minutes
 web-exchange.pcap  an ARP request, a DNS query and its reply, and a TCP exchange of seven packets
+
+web-exchange.ipfix beside it is what `meter` writes of it; `make check` compares them.
 """
 
 import ipaddress

@@ -16,8 +16,6 @@ mod part;
 mod queue;
 mod rule;
 mod seen;
-#[cfg(test)]
-mod tests;
 
 pub use batch::Batch;
 pub use no_memory::NoMemory;

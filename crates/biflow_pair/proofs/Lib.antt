@@ -9,3 +9,4 @@ pub mod Valid
 pub mod Once
 pub mod Whole
 pub mod Complete
+pub mod Written

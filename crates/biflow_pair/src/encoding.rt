@@ -80,6 +80,18 @@ fn append_templates(buffer: &mut Vec<u8>, export_time: u32)
     append_template(buffer, V6_BI_TEMPLATE, &V6_BI_FIELDS);
 }
 
+/// The message with the templates of flows and of biflows, with this export time in seconds: the first one of a stream of
+/// biflows.
+///
+/// `NoMemory` where the room for it can't be had.
+pub(crate) fn first_message(alloc: Global, export_time: u32) -> Result<Vec<u8>, NoMemory>
+    ensures { IfOk result (λ first. first.items ≡ bi_template_message export_time) }
+{
+    let mut first = Vec::with_capacity(alloc, TEMPLATE_MESSAGE_LENGTH as usize)?;
+    append_templates(&mut first, export_time);
+    Ok(first)
+}
+
 /// The stream of these biflows: the message with the templates of flows and of biflows, then data messages of at most
 /// `size` octets, from 308 to 65,535, with this export time in seconds.
 ///
@@ -93,8 +105,7 @@ pub fn bi_layout(
     requires { (308 ≤ size) × (size < 2 ^ 16) }
     ensures { IfOk result (λ bytes. IsBiLayout size export_time pairs.now bytes.items) }
 {
-    let mut stream = Vec::with_capacity(alloc, TEMPLATE_MESSAGE_LENGTH as usize)?;
-    append_templates(&mut stream, export_time);
+    let mut stream = first_message(alloc, export_time)?;
     append_messages(alloc, &mut stream, pairs, size, export_time)?;
     Ok(stream)
 }

@@ -14,8 +14,6 @@ mod running;
 mod settings;
 mod status;
 mod stream;
-#[cfg(test)]
-mod tests;
 mod words;
 
 pub use biflow::Biflow;
@@ -23,4 +21,4 @@ pub use encoding::bi_layout;
 pub use pairing::pair;
 pub use running::run_pair;
 pub use status::PairStatus;
-pub use stream::{PairError, pair_stream};
+pub use stream::{PairError, Paired, pair_stream, pairs_of};

@@ -7,17 +7,17 @@ ghost use Rattle.meter_io.specs.Sides.{side};
 ghost use Rattle.biflow_pair.specs.Outcome.{Ends, RunMeans, IsComplete};
 ghost use Rattle.biflow_pair.specs.Words.{asked_of, asked_by};
 
+use crate::encoding::first_message;
 use crate::settings::PairSettings;
 use crate::status::PairStatus;
-use crate::stream::{PairError, pair_stream};
+use crate::stream::{PairError, pairs_of};
 use crate::words::settings_of;
 use command_words::OptionsError;
 use ipfix_reader::STREAM_LIMIT;
-use meter_io::{Failed, ReadError, Sink, Source, read_all, write_all};
+use ipfix_writer::write_messages;
+use meter_io::{Failed, ReadError, Sink, Source, read_all};
+use sink_buffer::SinkBuffer;
 use std::alloc::Global;
-
-#[cfg(test)]
-mod tests;
 
 /// Reads a stream of flow records from the input to its end, and writes the stream of their biflows to the output.
 fn pair_input<S: Source, K: Sink>(
@@ -36,13 +36,32 @@ fn pair_input<S: Source, K: Sink>(
         Err(ReadError::NoMemory) => return PairStatus::NoMemory,
     };
     let idle = 1000 * settings.idle as u64;
-    let written = match pair_stream(alloc, stream.as_slice(), idle, settings.size as usize) {
-        Ok(written) => written,
+    let paired = match pairs_of(alloc, stream.as_slice(), idle) {
+        Ok(paired) => paired,
         Err(PairError::NotStream(fault)) => return PairStatus::NotStream(fault),
         Err(PairError::NotFlows(place)) => return PairStatus::NotFlows(place),
         Err(PairError::NoMemory) => return PairStatus::NoMemory,
     };
-    match write_all(output, written.as_slice()) {
+    let size = settings.size as usize;
+    let Ok(first) = first_message(alloc, paired.seconds) else {
+        return PairStatus::NoMemory;
+    };
+    let Ok(room) = Vec::with_capacity(alloc, size) else {
+        return PairStatus::NoMemory;
+    };
+    let Ok(out) = SinkBuffer::open(alloc) else {
+        return PairStatus::NoMemory;
+    };
+    let pairs = paired.pairs.as_slice();
+    match write_messages(
+        room,
+        out,
+        first.as_slice(),
+        pairs,
+        size,
+        paired.seconds,
+        output,
+    ) {
         Ok(()) => PairStatus::Done,
         Err(Failed) => PairStatus::WriteFault,
     }

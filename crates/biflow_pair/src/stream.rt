@@ -1,10 +1,12 @@
 //! A stream of flow records as a stream of biflows.
 
-ghost use Rattle.std.specs.Prelude.{◌≡◌, ◌≤◌, ◌<◌, ◌^◌, ◌++◌, [], ◌∷◌, Some, OnOk, IfOk, IfErr};
+ghost use Rattle.std.specs.Prelude.{◌≡◌, ◌≤◌, ◌<◌, ◌^◌, ◌++◌, [], ◌∷◌, ℕ, List, Some, OnOk, IfOk, IfErr};
 ghost use Rattle.ipfix_reader.specs.Flows.{flows_in};
+ghost use Rattle.biflow_pair.specs.BiLayout.{IsBiLayout};
 ghost use Rattle.biflow_pair.specs.declared.stream.PairError.TheVariants.{NoMemory as OutOfMemory};
 ghost use Rattle.biflow_pair.specs.Pairing.{greatest_last, IsPaired, IsFirstOther, IsOtherError, PairingFails};
 
+use crate::biflow::Biflow;
 use crate::encoding::bi_layout;
 use crate::pairing::pair;
 use ipfix_model::DataRecord;
@@ -68,21 +70,22 @@ fn greatest_last(flows: &[FlowRecord]) -> u64
     greatest
 }
 
-/// The stream of the biflows of the flow records that a stream has: they are paired with this idle time-out, in
-/// milliseconds up to 86,400,000, and laid out in messages of at most `size` octets, from 308 to 65,535. The export
-/// time is the greatest last time, in whole seconds and 32 bits.
+/// The biflows of the flow records of a stream, and the export time of their stream in seconds.
+#[derive(Drop)]
+pub struct Paired {
+    pub pairs: Vec<Biflow>,
+    pub seconds: u32,
+}
+
+/// The biflows of the flow records that a stream has, paired with this idle time-out, in milliseconds up to 86,400,000.
+/// The export time is the greatest last time, in whole seconds and 32 bits.
 ///
 /// `NotStream` has the stream's first fault. `NotFlows` has the place of the first data record that is no flow record,
 /// where the stream has no fault.
-pub fn pair_stream(
-    alloc: Global,
-    stream: &[u8],
-    idle: u64,
-    size: usize,
-) -> Result<Vec<u8>, PairError>
-    requires idle { idle ≤ 86400000 }
-    requires size { (308 ≤ size) × (size < 2 ^ 16) }
-    ensures paired { IfOk result (λ written. IsPaired idle size stream.now written.items) }
+pub fn pairs_of(alloc: Global, stream: &[u8], idle: u64) -> Result<Paired, PairError>
+    requires { idle ≤ 86400000 }
+    ensures paired { IfOk result (λ p. (size : ℕ) (written : List ℕ) → size ≤ 65535
+        → IsBiLayout size p.seconds p.pairs.items written → IsPaired idle size stream.now written) }
     ensures cause { IfErr result (PairingFails stream.now) }
 {
     let records = match read_stream(alloc, stream) {
@@ -97,8 +100,30 @@ pub fn pair_stream(
     let Ok(pairs) = pair(alloc, flows.as_slice(), idle) else {
         return Err(PairError::NoMemory);
     };
-    let seconds = greatest_last(flows.as_slice()) / 1000 % (1 << 32);
-    match bi_layout(alloc, pairs.as_slice(), size, seconds as u32) {
+    let seconds = (greatest_last(flows.as_slice()) / 1000 % (1 << 32)) as u32;
+    Ok(Paired { pairs, seconds })
+}
+
+/// The stream of the biflows of the flow records that a stream has: they are paired by [`pairs_of`], and laid out in
+/// messages of at most `size` octets, from 308 to 65,535.
+///
+/// The errors are those of [`pairs_of`].
+pub fn pair_stream(
+    alloc: Global,
+    stream: &[u8],
+    idle: u64,
+    size: usize,
+) -> Result<Vec<u8>, PairError>
+    requires idle { idle ≤ 86400000 }
+    requires size { (308 ≤ size) × (size < 2 ^ 16) }
+    ensures paired { IfOk result (λ written. IsPaired idle size stream.now written.items) }
+    ensures cause { IfErr result (PairingFails stream.now) }
+{
+    let paired = match pairs_of(alloc, stream, idle) {
+        Ok(paired) => paired,
+        Err(error) => return Err(error),
+    };
+    match bi_layout(alloc, paired.pairs.as_slice(), size, paired.seconds) {
         Ok(written) => Ok(written),
         Err(NoMemory) => Err(PairError::NoMemory),
     }

@@ -19,8 +19,6 @@ mod choice;
 pub mod laws;
 mod metered;
 mod metered_list;
-#[cfg(test)]
-mod tests;
 
 pub use caches::{Caches, FlowCache};
 pub use choice::{Choice, choose};

@@ -7,8 +7,6 @@
 
 mod draws;
 mod making;
-#[cfg(test)]
-mod tests;
 
 pub use making::capture;
 pub use no_memory::NoMemory;

@@ -8,8 +8,6 @@
 mod calls;
 mod laws;
 mod tally;
-#[cfg(test)]
-mod tests;
 
 pub use laws::{order_law, room_law};
 pub use tally::Tally;

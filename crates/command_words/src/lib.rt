@@ -12,8 +12,6 @@
 mod number;
 mod reading;
 mod rule;
-#[cfg(test)]
-mod tests;
 
 pub use no_memory::NoMemory;
 pub use reading::{OptionsError, values_of};

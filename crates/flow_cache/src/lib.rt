@@ -49,8 +49,6 @@ mod reading;
 mod seats;
 mod stop;
 mod tells;
-#[cfg(test)]
-mod tests;
 
 pub use cache::{PebrCache, PebrPass};
 pub use cache_face::NoMemory;

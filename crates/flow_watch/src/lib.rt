@@ -19,8 +19,6 @@
 
 mod calls;
 mod hold;
-#[cfg(test)]
-mod tests;
 mod watcher;
 
 pub use watcher::{Watch, Watcher};

@@ -11,7 +11,7 @@ use crate::fault::{StreamError, StreamFault};
 use crate::known::{SequenceTable, TemplateTable};
 use crate::sets::read_sets;
 use ipfix_model::{DataRecord, MESSAGE_HEADER, VERSION};
-use std::alloc::Global;
+use std::alloc::{AllocError, Global};
 
 /// The most octets of a stream that a program reads: 64 MiB.
 pub const STREAM_LIMIT: u64 = 1 << 26;
@@ -91,7 +91,7 @@ fn read_message<'a>(
     let number = next_number(part.u32_at(8), records.len() - before);
     match sequences.insert(domain, number) {
         Ok(()) => Ok(part.behind(size)),
-        Err(_) => Err(StreamError::NoMemory),
+        Err(AllocError) => Err(StreamError::NoMemory),
     }
 }
 

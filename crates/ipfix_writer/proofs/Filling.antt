@@ -79,6 +79,21 @@ tail_from encode size parts first flows (flow ∷ rest) alone filled =
           })
     ]
 
+-- some records in filled messages
+pub record InMessages {A : Type 0} (encode : A → RecordSet) (size : ℕ) (xs : List A) : Type 0 where
+  pub parts : List (List A)
+  pub whole : together parts ≡ xs
+  pub filled : AreFilledBy encode size parts
+
+-- any records can be laid out
+pub in_messages : {A : Type 0} (encode : A → RecordSet) (size : ℕ) (xs : List A)
+    → ((x : A) → length_in encode (x ∷ []) ≤ size) → InMessages encode size xs
+unfolding AreFilledBy
+in_messages encode size [] alone = record { parts = []; whole = refl; filled = tt }
+in_messages encode size (x ∷ xs) alone =
+    let laid = tail_from encode size [] x [] xs alone (omega arith, alone x) in
+    record { parts = laid.tail; whole = laid.whole; filled = laid.filled }
+
 -- the data messages of some parts, and of those behind them
 pub data_messages-append : {A : Type 0} (encode : A → RecordSet) (export_time before : ℕ) (parts others : List (List A))
     → messages_in encode export_time before (parts ++ others) ≡ messages_in encode export_time before parts

@@ -6,3 +6,4 @@ pub mod Templates
 pub mod UnderWay
 pub mod OneLayout
 pub mod Rests
+pub mod Through

@@ -29,7 +29,7 @@ not_fresh e = cc
 
 -- an emitter that was just made keeps what it must
 pub keeps-fresh : (size bytes records : ℕ) → 116 ≤ size → size < 2 ^ 16 → size ≤ bytes → size / 48 ≤ records
-    → EmitterKeeps size Fresh [] 0 0 16 None bytes records
+    → EmitterKeeps size Fresh [] 0 0 16 None bytes records []
 keeps-fresh size bytes records least most room places = record {
   least = least;
   most = most;
@@ -38,57 +38,67 @@ keeps-fresh size bytes records least most room places = record {
   last = refl;
   bytes = room;
   records = places;
-  fresh = λ _. (refl, refl, refl);
+  fresh = λ _. (refl, refl, refl, refl);
 }
 
-under_way-empty : (size export_time : ℕ)
-    → IsUnderWay
-    (record { size = size; export_time = export_time; phase = Started; waiting = []; sequence = 0; messages = 1 }) []
-    (template_message export_time)
+under_way-empty : (size export_time : ℕ) (held bytes : List ℕ) → bytes ++ held ≡ template_message export_time
+    → IsUnderWay (record {
+      size = size;
+      export_time = export_time;
+      phase = Started;
+      waiting = [];
+      sequence = 0;
+      messages = 1;
+      held = held;
+    }) [] bytes
 unfolding AreFilledBy messages_in
-under_way-empty size export_time = record {
+under_way-empty size export_time held bytes is = record {
   parts = [];
   started = refl;
   whole = refl;
   begun = λ _. refl;
   filled = tt;
-  bytes = sym (append-nil (template_message export_time));
+  bytes = is ∙ sym (append-nil (template_message export_time));
   sequence = refl;
   messages = refl;
 }
 
--- behind the template message
-pub under_way-start : (size export_time : ℕ) (waiting : List FlowRecord) (sequence : ℕ) → waiting ≡ [] → sequence ≡ 0
+-- behind the template message: the sink took the first of it, and the others are held
+pub under_way-start : (size export_time : ℕ) (waiting : List FlowRecord) (sequence : ℕ)
+    (held_before held bytes piece : List ℕ) → waiting ≡ [] → sequence ≡ 0 → held_before ≡ []
+    → bytes ++ held ≡ held_before ++ piece → piece ≡ template_message export_time
     → IsUnderWay
     (record {
       size = size;
       export_time = export_time;
       phase = Started;
       waiting = waiting;
-      sequence =
-          sequence;
+      sequence = sequence;
       messages = 1;
-    }) [] (template_message export_time)
-under_way-start size export_time waiting sequence none zero =
+      held = held;
+    }) [] bytes
+under_way-start size export_time waiting sequence held_before held bytes piece none zero empty passed is =
     let E : List FlowRecord → ℕ → EmitterState =
     λ flows n. record {
       size = size;
       export_time = export_time;
       phase = Started;
       waiting = flows;
-      sequence =
-          n;
+      sequence = n;
       messages = 1;
+      held = held;
     } in
-    subst (λ flows. IsUnderWay (E flows sequence) [] (template_message export_time)) (sym none)
-    (subst (λ n. IsUnderWay (E [] n) [] (template_message export_time)) (sym zero) (under_way-empty size export_time))
+    let whole : bytes ++ held ≡ template_message export_time = passed ∙ ap (λ bs. bs ++ piece) empty ∙ is in
+    subst (λ flows. IsUnderWay (E flows sequence) [] bytes) (sym none)
+    (subst (λ n. IsUnderWay (E [] n) [] bytes) (sym zero) (under_way-empty size export_time held bytes whole))
 
 -- a part of the template message begins every layout
-pub begins-template : (size export_time : ℕ) (flows : List FlowRecord) (piece : List ℕ) (count : ℕ) → 116 ≤ size
-    → piece ≡ template_message export_time → BeginsLayout size export_time flows (take count piece)
-begins-template size export_time flows piece count room is =
-    begins-start size export_time flows (take count piece) (drop count piece) (omega arith)
-    (sym is ∙ sym (take-append-drop count piece))
+pub begins-template : (size export_time : ℕ) (flows : List FlowRecord) (held_before bytes left piece : List ℕ)
+    → 116 ≤ size → held_before ≡ [] → bytes ++ left ≡ held_before ++ piece → piece ≡ template_message export_time
+    → BeginsLayout size export_time flows bytes
+begins-template size export_time flows held_before bytes left piece room empty passed is =
+    begins-start size export_time flows bytes left (omega arith)
+    (sym is ∙ sym (ap (λ bs. bs ++ piece) empty) ∙ sym passed)
 
 -- the length of the message with one more record
 pub length-with : (length_now header size : ℕ) (waiting : List FlowRecord) (last : Option ℕ) (flow : FlowRecord)
@@ -112,13 +122,13 @@ places-left size places length_now waiting flow exact fits room =
 
 -- one more record is kept
 pub keeps-more : (size : ℕ) (phase : Phase) (waiting all : List FlowRecord) (sequence messages old new template : ℕ)
-    (last : Option ℕ) (bytes places room : ℕ) (flow : FlowRecord)
-    → EmitterKeeps size phase waiting sequence messages old last bytes places → phase ≡ Started
+    (last : Option ℕ) (bytes places room : ℕ) (held : List ℕ) (flow : FlowRecord)
+    → EmitterKeeps size phase waiting sequence messages old last bytes places held → phase ≡ Started
     → all ≡ waiting ++ flow ∷ [] → new ≡ message_length (waiting ++ flow ∷ []) → new ≤ size
     → template ≡ template_of flow → places ≤ room
-    → EmitterKeeps size phase all sequence messages new (Some template) bytes room
-keeps-more size phase waiting all sequence messages old new template last bytes places room flow keeps started all_is
-    exact fits kind more = record {
+    → EmitterKeeps size phase all sequence messages new (Some template) bytes room held
+keeps-more size phase waiting all sequence messages old new template last bytes places room held flow keeps started
+    all_is exact fits kind more = record {
       least = keeps.least;
       most = keeps.most;
       exact = exact ∙ ap message_length (sym all_is);
@@ -133,11 +143,12 @@ keeps-more size phase waiting all sequence messages old new template last bytes 
 -- the message was written
 pub keeps-flushed : (size : ℕ) (phase : Phase) (waiting none : List FlowRecord)
     (sequence messages old sequence_now messages_now : ℕ) (last : Option ℕ) (bytes places room_of_bytes room : ℕ)
-    → EmitterKeeps size phase waiting sequence messages old last bytes places → phase ≡ Started → none ≡ []
+    (held held_now : List ℕ)
+    → EmitterKeeps size phase waiting sequence messages old last bytes places held → phase ≡ Started → none ≡ []
     → bytes ≤ room_of_bytes → places ≤ room
-    → EmitterKeeps size phase none sequence_now messages_now 16 None room_of_bytes room
+    → EmitterKeeps size phase none sequence_now messages_now 16 None room_of_bytes room held_now
 keeps-flushed size phase waiting none sequence messages old sequence_now messages_now last bytes places room_of_bytes
-    room keeps started none_is more_bytes more = record {
+    room held held_now keeps started none_is more_bytes more = record {
       least = keeps.least;
       most = keeps.most;
       exact = sym (ap message_length none_is ∙ length_in-nil encode_flow);
@@ -146,19 +157,6 @@ keeps-flushed size phase waiting none sequence messages old sequence_now message
       bytes = omega (arith, keeps.bytes);
       records = omega (arith, keeps.records);
       fresh = λ e. absurd (not_fresh (sym e ∙ started));
-    }
-
--- an emitter of these fields
-abbrev state_of : ℕ → ℕ → List FlowRecord → ℕ → ℕ → EmitterState
-state_of size export_time waiting sequence messages =
-    record {
-      size = size;
-      export_time = export_time;
-      phase = Started;
-      waiting = waiting;
-      sequence = sequence;
-      messages =
-          messages;
     }
 
 not_empty : (flows : List FlowRecord) (flow : FlowRecord) → flows ++ flow ∷ [] ≡ [] → ⊥
@@ -184,7 +182,7 @@ under_way-more emitter flows written flow way fits = record {
   whole = sym (append_assoc (together way.parts) emitter.waiting (flow ∷ [])) ∙ ap (λ fs. fs ++ flow ∷ []) way.whole;
   begun = λ e. absurd (not_empty emitter.waiting flow e);
   filled = filled_after emitter.size way.parts emitter.waiting flow way.filled way.begun fits;
-  bytes = append-nil written ∙ way.bytes;
+  bytes = ap (λ bs. bs ++ emitter.held) (append-nil written) ∙ way.bytes;
   sequence = way.sequence;
   messages = way.messages;
 }
@@ -193,7 +191,7 @@ under_way-more emitter flows written flow way fits = record {
 pub record IsClosed (emitter : EmitterState) (flows : List FlowRecord) (written : List ℕ)
     (parts : List (List FlowRecord)) : Type 0 where
   pub whole : together (parts ++ emitter.waiting ∷ []) ≡ flows
-  pub bytes : written ++ message emitter.export_time emitter.sequence (body_of emitter.waiting)
+  pub bytes : (written ++ emitter.held) ++ message emitter.export_time emitter.sequence (body_of emitter.waiting)
       ≡ template_message emitter.export_time ++ data_messages emitter.export_time 0 (parts ++ emitter.waiting ∷ [])
 
 pub closed : (emitter : EmitterState) (flows : List FlowRecord) (written : List ℕ)
@@ -230,25 +228,30 @@ mod_sum n k m is =
     let e : m + k ≡ n + k + m / 4294967296 * 4294967296 = omega (arith, mod-add-div' m 4294967296, is) in
     sym (ap (λ x. x % 4294967296) e ∙ add-mul-mod_self_right (n + k) (m / 4294967296) 4294967296)
 
+-- what the sink took, what is held now and the message before them
+passed-whole : (written held held_now taken piece whole : List ℕ) → taken ++ held_now ≡ held ++ piece
+    → (written ++ held) ++ piece ≡ whole → (written ++ taken) ++ held_now ≡ whole
+passed-whole written held held_now taken piece whole passed is =
+    append_assoc written taken held_now ∙ ap (λ bs. written ++ bs) passed ∙ sym (append_assoc written held piece) ∙ is
+
 -- one more record behind a message that was written
-pub under_way-next : (emitter after : EmitterState) (flows : List FlowRecord) (written : List ℕ) (flow : FlowRecord)
-    → 116 ≤ emitter.size
+pub under_way-next : (emitter after : EmitterState) (flows : List FlowRecord) (written taken held : List ℕ)
+    (flow : FlowRecord) → 116 ≤ emitter.size
     → IsUnderWay emitter flows written → emitter.size < message_length (emitter.waiting ++ flow ∷ [])
+    → taken ++ held ≡ emitter.held ++ message emitter.export_time emitter.sequence (body_of emitter.waiting)
     → after ≡ record emitter {
       waiting = flow ∷ [];
-      sequence =
-          (emitter.sequence + length emitter.waiting) % 2 ^ 32;
+      sequence = (emitter.sequence + length emitter.waiting) % 2 ^ 32;
       messages = min (emitter.messages + 1) (2 ^ 64 - 1);
+      held = held;
     }
-    → IsUnderWay after (flows ++ flow ∷ []) (written
-    ++ message emitter.export_time emitter.sequence (body_of emitter.waiting))
-under_way-next emitter after flows written flow room way full is =
+    → IsUnderWay after (flows ++ flow ∷ []) (written ++ taken)
+under_way-next emitter after flows written taken held flow room way full passed is =
     let shut = closed emitter flows written way in
     let some = some-wait emitter.size emitter.waiting flow (omega arith) full in
     let parts = way.parts ++ emitter.waiting ∷ [] in
     let count = length-append (together way.parts) emitter.waiting in
-    subst (λ e. IsUnderWay e (flows ++ flow ∷ [])
-    (written ++ message emitter.export_time emitter.sequence (body_of emitter.waiting))) (sym is)
+    subst (λ e. IsUnderWay e (flows ++ flow ∷ []) (written ++ taken)) (sym is)
     (record {
       parts = parts;
       started = way.started;
@@ -257,85 +260,93 @@ under_way-next emitter after flows written flow room way full is =
       filled = filled-next encode_flow emitter.size way.parts emitter.waiting flow
           (waiting-filled emitter.size way.parts emitter.waiting some way.filled) full
           (alone-fits emitter.size flow (omega arith));
-      bytes = shut.bytes;
+      bytes = passed-whole written emitter.held held taken
+          (message emitter.export_time emitter.sequence (body_of emitter.waiting)) _ passed shut.bytes;
       sequence = mod_sum emitter.sequence (length emitter.waiting) (length (together way.parts)) way.sequence
           ∙ ap (λ n. n % 4294967296) (sym count ∙ ap length (sym (together-last way.parts emitter.waiting)));
       messages = omega (arith, way.messages, length-append way.parts (emitter.waiting ∷ []));
     })
 
--- a part of the message that was to be written begins every layout that goes on with the record
-pub begins-next : (emitter : EmitterState) (flows : List FlowRecord) (written : List ℕ) (flow : FlowRecord)
-    (rest : List FlowRecord) (count : ℕ) → 116 ≤ emitter.size
+-- what the sink took of the messages begins every layout that goes on with the record
+pub begins-next : (emitter : EmitterState) (flows : List FlowRecord) (written taken left : List ℕ) (flow : FlowRecord)
+    (rest : List FlowRecord) → 116 ≤ emitter.size
     → IsUnderWay emitter flows written → emitter.size < message_length (emitter.waiting ++ flow ∷ [])
-    → BeginsLayout emitter.size emitter.export_time (flows ++ flow ∷ rest)
-    (written ++ take count (message emitter.export_time emitter.sequence (body_of emitter.waiting)))
-begins-next emitter flows written flow rest count room way full =
+    → taken ++ left ≡ emitter.held ++ message emitter.export_time emitter.sequence (body_of emitter.waiting)
+    → BeginsLayout emitter.size emitter.export_time (flows ++ flow ∷ rest) (written ++ taken)
+begins-next emitter flows written taken left flow rest room way full passed =
     let shut = closed emitter flows written way in
     let some = some-wait emitter.size emitter.waiting flow (omega arith) full in
-    let last = message emitter.export_time emitter.sequence (body_of emitter.waiting) in
-    subst (λ fs. BeginsLayout emitter.size emitter.export_time (fs ++ flow ∷ rest) (written ++ take count last))
+    subst (λ fs. BeginsLayout emitter.size emitter.export_time (fs ++ flow ∷ rest) (written ++ taken))
     shut.whole
     (begins-parts emitter.size emitter.export_time (way.parts ++ emitter.waiting ∷ []) flow [] rest
-    (written ++ take count last) (drop count last) (omega arith)
+    (written ++ taken) left (omega arith)
     (filled-next encode_flow emitter.size way.parts emitter.waiting flow
     (waiting-filled emitter.size way.parts emitter.waiting some way.filled) full
     (alone-fits emitter.size flow (omega arith)))
-    (sym shut.bytes ∙ ap (λ bs. written ++ bs) (sym (take-append-drop count last))
-    ∙ sym (append_assoc written (take count last) (drop count last))))
+    (sym (passed-whole written emitter.held left taken
+    (message emitter.export_time emitter.sequence (body_of emitter.waiting)) _ passed shut.bytes)))
 
 -- the layout where no record waits
 pub finished-empty : (emitter : EmitterState) (flows : List FlowRecord) (written : List ℕ) → emitter.waiting ≡ []
     → IsUnderWay emitter flows written
-    → IsLayoutOf emitter.size emitter.export_time flows (written ++ []) emitter.messages
+    → IsLayoutOf emitter.size emitter.export_time flows (written ++ emitter.held) emitter.messages
 finished-empty emitter flows written none way = record {
   layout = record {
     parts = way.parts;
     whole = sym (append-nil (together way.parts)) ∙ ap (λ fs. together way.parts ++ fs) (sym none) ∙ way.whole;
     filled = subst (AreFilled emitter.size) (ap (λ fs. way.parts ++ waiting_part fs) none ∙ append-nil way.parts)
         way.filled;
-    written = append-nil written ∙ way.bytes;
+    written = way.bytes;
   };
   count = way.messages;
 }
 
 -- the layout behind the last message
-pub finished-last : (emitter : EmitterState) (flows : List FlowRecord) (written : List ℕ) (messages : ℕ)
+pub finished-last : (emitter : EmitterState) (flows : List FlowRecord) (written taken held : List ℕ) (messages : ℕ)
     → 0 < length emitter.waiting → IsUnderWay emitter flows written
+    → taken ++ held ≡ emitter.held ++ message emitter.export_time emitter.sequence (body_of emitter.waiting)
     → messages ≡ min (emitter.messages + 1) (2 ^ 64 - 1)
-    → IsLayoutOf emitter.size emitter.export_time flows
-    (written ++ message emitter.export_time emitter.sequence (body_of emitter.waiting)) messages
-finished-last emitter flows written messages some way counted =
+    → IsLayoutOf emitter.size emitter.export_time flows (written ++ (taken ++ held)) messages
+finished-last emitter flows written taken held messages some way passed counted =
     let shut = closed emitter flows written way in
     record {
       layout = record {
         parts = way.parts ++ emitter.waiting ∷ [];
         whole = shut.whole;
         filled = waiting-filled emitter.size way.parts emitter.waiting some way.filled;
-        written = shut.bytes;
+        written = sym (append_assoc written taken held)
+            ∙ passed-whole written emitter.held held taken
+            (message emitter.export_time emitter.sequence (body_of emitter.waiting)) _ passed shut.bytes;
       };
       count = omega (arith, counted, way.messages, length-append way.parts (emitter.waiting ∷ []));
     }
 
--- a part of the last message begins the layout
-pub begins-last : (emitter : EmitterState) (flows : List FlowRecord) (written : List ℕ) (count : ℕ)
-    → 0 < length emitter.waiting → IsUnderWay emitter flows written
-    → BeginsLayout emitter.size emitter.export_time flows
-    (written ++ take count (message emitter.export_time emitter.sequence (body_of emitter.waiting)))
-begins-last emitter flows written count some way =
-    let shut = closed emitter flows written way in
-    let last = message emitter.export_time emitter.sequence (body_of emitter.waiting) in
-    record {
-      all = written ++ last;
-      more = drop count last;
-      layout = record {
-        parts = way.parts ++ emitter.waiting ∷ [];
-        whole = shut.whole;
-        filled = waiting-filled emitter.size way.parts emitter.waiting some way.filled;
-        written = shut.bytes;
-      };
-      begins = ap (λ bs. written ++ bs) (sym (take-append-drop count last))
-          ∙ sym (append_assoc written (take count last) (drop count last));
-    }
+-- what the sink took before a write failed begins the layout
+pub begins-of : (size export_time : ℕ) (flows : List FlowRecord) (bytes more all : List ℕ) (messages : ℕ)
+    → IsLayoutOf size export_time flows all messages → all ≡ bytes ++ more
+    → BeginsLayout size export_time flows bytes
+begins-of size export_time flows bytes more all messages whole is =
+    record { all = all; more = more; layout = whole.layout; begins = is }
+
+-- of what is held
+pub begins-held : (size export_time : ℕ) (flows : List FlowRecord) (written held : List ℕ) (messages count : ℕ)
+    → IsLayoutOf size export_time flows (written ++ held) messages
+    → BeginsLayout size export_time flows (written ++ take count held)
+begins-held size export_time flows written held messages count whole =
+    begins-of size export_time flows (written ++ take count held) (drop count held) (written ++ held) messages whole
+    (ap (λ bs. written ++ bs) (sym (take-append-drop count held))
+    ∙ sym (append_assoc written (take count held) (drop count held)))
+
+-- of what is held behind what was taken
+pub begins-drained : (size export_time : ℕ) (flows : List FlowRecord) (written taken held : List ℕ) (messages count : ℕ)
+    → IsLayoutOf size export_time flows (written ++ (taken ++ held)) messages
+    → BeginsLayout size export_time flows (written ++ (taken ++ take count held))
+begins-drained size export_time flows written taken held messages count whole =
+    begins-of size export_time flows (written ++ (taken ++ take count held)) (drop count held)
+    (written ++ (taken ++ held)) messages whole
+    (ap (λ bs. written ++ (taken ++ bs)) (sym (take-append-drop count held))
+    ∙ ap (λ bs. written ++ bs) (sym (append_assoc taken (take count held) (drop count held)))
+    ∙ sym (append_assoc written (taken ++ take count held) (drop count held)))
 
 -- a list whose length tests as 0 is empty
 pub is_nil : (flows : List FlowRecord) (count : ℕ) → length flows ≡ count → (count == 0) ≡ true → flows ≡ []

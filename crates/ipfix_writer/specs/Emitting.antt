@@ -1,14 +1,16 @@
 -- What contracts see of an emitter between its calls; and, the code's own, what it keeps of its fields.
 use Rattle.std.specs.Prelude.{◌≡◌, ℕ, ◌<◌, ◌≤◌, ◌/◌, ◌+◌, ◌-◌, ◌%◌, ◌^◌, ◌==◌, if◌then◌else◌, min, List, [], ◌∷◌, ◌++◌}
-use Rattle.std.specs.Prelude.{length, Option, Some, None}
+use Rattle.std.specs.Prelude.{length, take, Option, Some, None}
 use Rattle.record_ledger.specs.declared.record.FlowRecord.{FlowRecord}
 use Rattle.ipfix_writer.specs.declared.emitter.Phase.{Phase}
 use Rattle.ipfix_writer.specs.declared.emitter.Phase.TheVariants.{Fresh, Started}
 use Rattle.ipfix_writer.specs.Encoding.{template_message}
 use Rattle.ipfix_writer.specs.Layout.{RecordSet, encode_flow, AreFilled, data_messages, together, message_length}
+use Rattle.ipfix_writer.specs.Layout.{length_in}
 
 -- What contracts see of an emitter: the message size, the export time, how far it came, the records that wait for
--- their message to be full, the sequence number of that message, and how many messages were written.
+-- their message to be full, the sequence number of that message, how many messages were written, and the bytes of
+-- those that the sink has not taken yet.
 pub record EmitterState : Type 0 where
   pub size : ℕ
   pub export_time : ℕ
@@ -16,6 +18,7 @@ pub record EmitterState : Type 0 where
   pub waiting : List FlowRecord
   pub sequence : ℕ
   pub messages : ℕ
+  pub held : List ℕ
 
 -- The records that wait as a list of messages: none before the first record.
 abbrev pub waiting_part : List FlowRecord → List (List FlowRecord)
@@ -34,14 +37,14 @@ abbrev pub header_before : Option ℕ → ℕ → ℕ
 header_before None template = 4
 header_before (Some last) template = if last == template then 0 else 4
 
--- The emitter was given these records and has written these bytes.
+-- The emitter was given these records, and the sink has taken these bytes; those that are held come behind them.
 pub record IsUnderWay (emitter : EmitterState) (flows : List FlowRecord) (written : List ℕ) : Type 0 where
   pub parts : List (List FlowRecord)
   pub started : emitter.phase ≡ Started
   pub whole : together parts ++ emitter.waiting ≡ flows
   pub begun : emitter.waiting ≡ [] → parts ≡ []
   pub filled : AreFilled emitter.size (parts ++ waiting_part emitter.waiting)
-  pub bytes : written ≡ template_message emitter.export_time ++ data_messages emitter.export_time 0 parts
+  pub bytes : written ++ emitter.held ≡ template_message emitter.export_time ++ data_messages emitter.export_time 0 parts
   pub sequence : emitter.sequence ≡ length (together parts) % 2 ^ 32
   pub messages : emitter.messages ≡ min (1 + length parts) (2 ^ 64 - 1)
 
@@ -49,7 +52,7 @@ pub record IsUnderWay (emitter : EmitterState) (flows : List FlowRecord) (writte
 -- message that waits, and the template of its last record.
 pub record EmitterKeeps (size : ℕ) (phase : Phase) (waiting : List FlowRecord) (sequence messages length_of_message : ℕ)
     (template : Option ℕ)
-    (room_of_bytes room_of_records : ℕ) : Type 0 where
+    (room_of_bytes room_of_records : ℕ) (held : List ℕ) : Type 0 where
   pub least : 116 ≤ size
   pub most : size < 2 ^ 16
   pub exact : length_of_message ≡ message_length waiting
@@ -57,4 +60,12 @@ pub record EmitterKeeps (size : ℕ) (phase : Phase) (waiting : List FlowRecord)
   pub last : template ≡ last_template encode_flow waiting
   pub bytes : size ≤ room_of_bytes
   pub records : size / 48 ≤ room_of_records
-  pub fresh : phase ≡ Fresh → (waiting ≡ []) × (sequence ≡ 0) × (messages ≡ 0)
+  pub fresh : phase ≡ Fresh → (waiting ≡ []) × (sequence ≡ 0) × (messages ≡ 0) × (held ≡ [])
+
+-- The code's own: so many of the first records fill a message: it has one or more and is at most `size` bytes long, and
+-- with one more it would be longer.
+pub record FillsMessage {A : Type 0} (encode : A → RecordSet) (size : ℕ) (records : List A) (count : ℕ) : Type 0 where
+  pub some : 0 < count
+  pub within : count ≤ length records
+  pub fits : length_in encode (take count records) ≤ size
+  pub full : count < length records → size < length_in encode (take (count + 1) records)

@@ -5,14 +5,16 @@ ghost use Rattle.std.specs.Prelude.{length, take, IfOk, OnOk, OnErr};
 ghost use Rattle.std.specs.Io.KnownBytes.{Appends};
 ghost use Rattle.std.specs.Vec.{vec_capacity};
 ghost use Rattle.meter_io.specs.Causes.{HasCause};
+ghost use Rattle.sink_buffer.specs.Passing.{IsPassed};
 ghost use Rattle.ipfix_writer.specs.Emitting.{header_before};
 
 use crate::encode::Encode;
 use crate::message::{encode_message, encode_template_message};
 use ipfix_model::{MESSAGE_HEADER, SET_HEADER};
-use meter_io::{Failed, Sink, write_all};
+use meter_io::{Failed, Sink};
 use no_memory::NoMemory;
 use record_ledger::FlowRecord;
+use sink_buffer::SinkBuffer;
 use std::alloc::Global;
 use std::marker::Model;
 
@@ -34,7 +36,7 @@ pub fn header_length(last: Option<u16>, template: u16) -> usize
 pub enum Phase {
     /// Nothing was written yet.
     Fresh,
-    /// The template message was written.
+    /// The message with the templates was written.
     Started,
     /// A write failed: the emitter can only be dropped.
     Broken,
@@ -42,8 +44,9 @@ pub enum Phase {
 
 /// Writes records of flows to a sink as a stream of IPFIX messages.
 ///
-/// It keeps the records of one message, and writes them when the next record doesn't fit. All its memory is taken when
-/// it is made.
+/// It keeps the records of one message, and puts their message into a buffer when the next record doesn't fit. The
+/// buffer goes out, in whole messages and by one call of [`write_all`](meter_io::write_all), when it has no room for the
+/// next message, and in the end. All memory is taken when the emitter is made.
 #[derive(Drop)]
 pub struct Emitter {
     size: usize,
@@ -54,6 +57,8 @@ pub struct Emitter {
     messages: u64,
     // The bytes of the last message, and room for one of the message size.
     buffer: Vec<u8>,
+    // The messages that the sink has not taken yet.
+    out: SinkBuffer,
     // The length of the message of the records that wait, and the template of the last of them.
     length: usize,
     template: Option<u16>,
@@ -72,10 +77,11 @@ impl Model for Emitter {
       waiting = e.waiting.items;
       sequence = e.sequence;
       messages = e.messages;
+      held = e.out;
     } };
 
     ghost invariant = { λ e. EmitterKeeps e.size e.phase e.waiting.items e.sequence e.messages e.length e.template
-        (vec_capacity e.buffer) (vec_capacity e.waiting) };
+        (vec_capacity e.buffer) (vec_capacity e.waiting) e.out };
 }
 
 impl Emitter {
@@ -86,7 +92,7 @@ impl Emitter {
 
     /// An emitter of messages of at most `size` octets, from 116 to 65,535, with this export time in seconds.
     ///
-    /// `NoMemory` where the room for one message can't be had.
+    /// `NoMemory` where the room for one message, its records and the messages in front of the sink can't be had.
     pub fn open(alloc: Global, size: usize, export_time: u32) -> Result<Emitter, NoMemory>
         requires { (116 ≤ size) × (size < 2 ^ 16) }
         ensures { IfOk result (λ emitter. emitter ≡ record {
@@ -96,10 +102,12 @@ impl Emitter {
           waiting = [];
           sequence = 0;
           messages = 0;
+          held = [];
         }) }
     {
         let buffer = Vec::with_capacity(alloc, size)?;
         let waiting = Vec::with_capacity(alloc, size / LEAST_RECORD)?;
+        let out = SinkBuffer::open(alloc)?;
         Ok(Emitter {
             size,
             export_time,
@@ -108,6 +116,7 @@ impl Emitter {
             sequence: 0,
             messages: 0,
             buffer,
+            out,
             length: MESSAGE_HEADER,
             template: None,
         })
@@ -125,7 +134,7 @@ impl Emitter {
         ensures cause { HasCause (K.faults sink.old) (K.faults sink.new) result }
     {
         encode_template_message(&mut self.buffer, self.export_time);
-        match write_all(sink, self.buffer.as_slice()) {
+        match self.out.put(sink, self.buffer.as_slice()) {
             Ok(()) => {
                 self.phase = Phase::Started;
                 self.messages = 1;
@@ -157,19 +166,20 @@ impl Emitter {
         self.template = Some(flow.template());
     }
 
-    /// Writes the message of the records that wait.
+    /// Writes the message of the records that wait, behind the messages that the sink has not taken yet.
     fn flush<K: Sink>(&mut self, sink: &mut K) -> Result<(), Failed>
         requires { self.old.phase ≡ Phase.Started }
-        ensures written { OnOk result
-            (Appends (K.held sink.old) (K.held sink.new)
+        ensures written { OnOk result (IsPassed (K.held sink.old) (K.held sink.new) self.old.held self.new.held
             (message self.old.export_time self.old.sequence (body_of self.old.waiting))) }
         ensures after { OnOk result (self.new ≡ record self.old {
           waiting = [];
           sequence = (self.old.sequence + length self.old.waiting) % 2 ^ 32;
           messages = min (self.old.messages + 1) (2 ^ 64 - 1);
+          held = self.new.held;
         }) }
-        ensures prefix { OnErr result ((count : ℕ) × Appends (K.held sink.old) (K.held sink.new)
-            (take count (message self.old.export_time self.old.sequence (body_of self.old.waiting)))) }
+        ensures cut { OnErr result ((left : List ℕ)
+            × IsPassed (K.held sink.old) (K.held sink.new) self.old.held left
+            (message self.old.export_time self.old.sequence (body_of self.old.waiting))) }
         ensures broken { OnErr result (self.new ≡ record self.old { phase = Phase.Broken }) }
         ensures cause { HasCause (K.faults sink.old) (K.faults sink.new) result }
     {
@@ -181,7 +191,7 @@ impl Emitter {
             self.export_time,
             self.sequence,
         );
-        match write_all(sink, self.buffer.as_slice()) {
+        match self.out.put(sink, self.buffer.as_slice()) {
             Ok(()) => {
                 self.sequence = self.sequence.wrapping_add(count);
                 self.messages = self.messages.saturating_add(1);
@@ -197,7 +207,7 @@ impl Emitter {
         }
     }
 
-    /// Takes in one more record. The message before it is written where the record doesn't fit it.
+    /// Takes in one more record. The message before it is done where the record doesn't fit it.
     pub fn record<K: Sink>(&mut self, flow: &FlowRecord, sink: &mut K) -> Result<(), Failed>
         requires { self.old.phase ≡ Phase.Started }
         ensures taken { OnOk result ((flows : List FlowRecord) (written : List ℕ) → IsUnderWay self.old flows written
@@ -227,7 +237,22 @@ impl Emitter {
         }
     }
 
-    /// Writes the records that wait, and tells how many messages were written, the one with the templates among them.
+    /// Writes the messages that the sink has not taken yet, and tells how many there were in all.
+    fn drain<K: Sink>(&mut self, sink: &mut K) -> Result<u64, Failed>
+        ensures whole { IfOk result (λ messages. Appends (K.held sink.old) (K.held sink.new) self.old.held
+            × (messages ≡ self.old.messages)) }
+        ensures prefix { OnErr result ((count : ℕ) × Appends (K.held sink.old) (K.held sink.new)
+            (take count self.old.held)) }
+        ensures cause { HasCause (K.faults sink.old) (K.faults sink.new) result }
+    {
+        match self.out.write_out(sink) {
+            Ok(()) => Ok(self.messages),
+            Err(Failed) => Err(Failed),
+        }
+    }
+
+    /// Writes the records that wait and all that the sink has not taken yet, and tells how many messages were written,
+    /// the one with the templates among them.
     pub fn finish<K: Sink>(mut self, sink: &mut K) -> Result<u64, Failed>
         requires { self.phase ≡ Phase.Started }
         ensures finished { IfOk result (λ messages. (flows : List FlowRecord) (written : List ℕ)
@@ -240,10 +265,10 @@ impl Emitter {
         ensures cause { HasCause (K.faults sink.old) (K.faults sink.new) result }
     {
         if self.waiting.is_empty() {
-            return Ok(self.messages);
+            return self.drain(sink);
         }
         match self.flush(sink) {
-            Ok(()) => Ok(self.messages),
+            Ok(()) => self.drain(sink),
             Err(Failed) => Err(Failed),
         }
     }

@@ -3,9 +3,10 @@
 //! The stream begins with a message that has the two templates. Data messages follow, each with the longest prefix of
 //! the records still left that fits the message size; neighbours of one template share a set. [`layout`] gives the
 //! whole stream of a list of records. An [`Emitter`] keeps the records of one message and writes the same bytes to a
-//! sink as the records come, and [`emit_all`] is a whole run of it; all its memory is taken when it is made. [`Encode`]
-//! is what anything has that is written as data records; what is said of the layout holds for all of them. The
-//! functions of [`laws`] do nothing: their contracts are the laws of the layout.
+//! sink as the records come, in whole messages through a buffer; [`emit_all`] is a whole run of it, and all its memory
+//! is taken when it is made. [`Encode`] is what anything has that is written as data records; what is said of the
+//! layout holds for all of them, and [`write_messages`] writes a whole list of them. The functions of [`laws`] do
+//! nothing: their contracts are the laws of the layout.
 #![tactic(auto)]
 
 mod body;
@@ -20,5 +21,5 @@ pub use body::append_message_header;
 pub use emitter::{Emitter, Phase};
 pub use encode::{Encode, append_counts};
 pub use message::append_template;
-pub use messages::append_messages;
+pub use messages::{append_messages, write_messages};
 pub use stream::{emit_all, layout};

@@ -16,7 +16,7 @@ use octets::{append_u16, append_u32};
 /// The length of the set of templates in the first message, and of that message.
 const TEMPLATE_SET_LENGTH: u16 = 100;
 
-const TEMPLATE_MESSAGE_LENGTH: u16 = 116;
+pub const TEMPLATE_MESSAGE_LENGTH: u16 = 116;
 
 /// Puts the message of these records, of this length, into the buffer.
 #[tactic(auto, unfolding(crate::specs::Encoding::message, crate::specs::Layout::length_in))]

@@ -1,15 +1,21 @@
 //! Messages of a whole list, each filled with as many records as it takes.
 
-ghost use Rattle.std.specs.Prelude.{◌≡◌, ◌+◌, ◌≤◌, ◌<◌, ◌^◌, ◌++◌, [], ◌∷◌, IfOk, OnOk, length, take};
+ghost use Rattle.std.specs.Prelude.{◌≡◌, ◌+◌, ◌≤◌, ◌<◌, ◌^◌, ◌++◌, [], ◌∷◌, ℕ, List, IfOk, OnOk, OnErr, length, take};
+ghost use Rattle.std.specs.Io.KnownBytes.{Appends};
 ghost use Rattle.std.specs.Vec.{vec_capacity};
+ghost use Rattle.meter_io.specs.Causes.{HasCause};
+ghost use Rattle.sink_buffer.specs.Passing.{IsPassed};
 ghost use Rattle.ipfix_writer.specs.Encoding.{message};
 ghost use Rattle.ipfix_writer.specs.Layout.{IsStream, body_in, length_in};
+ghost use Rattle.ipfix_writer.specs.Emitting.{FillsMessage};
 
 use crate::emitter::header_length;
 use crate::encode::Encode;
 use crate::message::encode_message;
 use ipfix_model::MESSAGE_HEADER;
+use meter_io::{Failed, Sink};
 use no_memory::NoMemory;
+use sink_buffer::SinkBuffer;
 use std::alloc::Global;
 
 /// The longest beginning of some records whose message is at most `size` octets long: how many records it has, and the
@@ -96,4 +102,79 @@ pub fn append_messages<R: Encode>(
         )?;
     }
     Ok(())
+}
+
+/// Puts one message of the first records into a buffer in front of a sink, and tells how many records it has.
+fn put_message<R: Encode, K: Sink>(
+    room: &mut Vec<u8>,
+    out: &mut SinkBuffer,
+    records: &[R],
+    size: usize,
+    export_time: u32,
+    sequence: u32,
+    sink: &mut K,
+) -> Result<usize, Failed>
+    requires some { 0 < length records.now }
+    requires small { size < 2 ^ 16 }
+    requires room { size ≤ vec_capacity room.old }
+    requires alone { (one : R) → length_in R.encode (one ∷ []) ≤ size }
+    ensures passed { IfOk result (λ count. FillsMessage R.encode size records.now count
+        × IsPassed (K.held sink.old) (K.held sink.new) out.old out.new
+        (message export_time sequence (body_in R.encode (take count records.now)))) }
+    ensures cut { OnErr result ((count : ℕ) × (left : List ℕ) × FillsMessage R.encode size records.now count
+        × IsPassed (K.held sink.old) (K.held sink.new) out.old left
+        (message export_time sequence (body_in R.encode (take count records.now)))) }
+    ensures room { vec_capacity room.old ≤ vec_capacity room.new }
+    ensures cause { HasCause (K.faults sink.old) (K.faults sink.new) result }
+{
+    let (count, filled) = first_message(records, size);
+    encode_message(room, &records[..count], filled, export_time, sequence);
+    match out.put(sink, room.as_slice()) {
+        Ok(()) => Ok(count),
+        Err(Failed) => Err(Failed),
+    }
+}
+
+/// Writes a stream to a sink: its first message, and then the data messages of some records, of at most `size` octets
+/// and with this export time in seconds. A message of any one record is no longer than that. It goes out through `out`,
+/// which is empty, in whole messages; `room` has room for one.
+///
+/// `Failed` comes only where the sink's count of faults rose; the sink then took a beginning of the stream.
+pub fn write_messages<R: Encode, K: Sink>(
+    room: Vec<u8>,
+    out: SinkBuffer,
+    first: &[u8],
+    records: &[R],
+    size: usize,
+    export_time: u32,
+    sink: &mut K,
+) -> Result<(), Failed>
+    requires empty { out ≡ [] }
+    requires room { size ≤ vec_capacity room }
+    requires short { length first.now < 2 ^ 16 }
+    requires small { size < 2 ^ 16 }
+    requires alone { (one : R) → length_in R.encode (one ∷ []) ≤ size }
+    ensures written { OnOk result ((bytes : List ℕ) × Appends (K.held sink.old) (K.held sink.new) bytes
+        × IsStream R.encode size export_time first.now records.now bytes) }
+    ensures begun { OnErr result ((bytes : List ℕ) × (count : ℕ)
+        × Appends (K.held sink.old) (K.held sink.new) (take count bytes)
+        × IsStream R.encode size export_time first.now records.now bytes) }
+    ensures cause { HasCause (K.faults sink.old) (K.faults sink.new) result }
+{
+    let mut room = room;
+    let mut out = out;
+    match out.put(sink, first) {
+        Ok(()) => {}
+        Err(Failed) => return Err(Failed),
+    }
+    let mut done = 0;
+    while done < records.len() {
+        let (_, rest) = records.split_at(done);
+        let sequence = (done as u64 % (1 << 32)) as u32;
+        match put_message(&mut room, &mut out, rest, size, export_time, sequence, sink) {
+            Ok(count) => done += count,
+            Err(Failed) => return Err(Failed),
+        }
+    }
+    out.write_out(sink)
 }

@@ -1,12 +1,13 @@
 //! Whole streams.
 
-ghost use Rattle.std.specs.Prelude.{◌≡◌, ◌≤◌, ◌<◌, ◌^◌, List, ℕ, IfOk, OnErr, Some};
-ghost use Rattle.std.specs.declared.option.Option.{Option};
+ghost use Rattle.std.specs.Prelude.{◌≡◌, ◌≤◌, ◌<◌, ◌^◌, List, ℕ, IfOk, OnErr};
 ghost use Rattle.std.specs.Io.KnownBytes.{Appends};
 ghost use Rattle.meter_io.specs.Causes.{HasCause};
 ghost use Rattle.ipfix_writer.specs.Layout.{IsLayout, IsLayoutOf, BeginsLayout};
 
 use crate::emitter::{Emitter, Phase};
+use crate::message::{TEMPLATE_MESSAGE_LENGTH, encode_template_message};
+use crate::messages::append_messages;
 use meter_io::{Failed, Sink};
 use no_memory::NoMemory;
 use record_ledger::FlowRecord;
@@ -42,29 +43,6 @@ pub fn emit_all<K: Sink>(
     emitter.finish(sink)
 }
 
-/// A sink that grows as it needs; a write fails where memory runs out.
-#[derive(Drop)]
-struct Growing {
-    bytes: Vec<u8>,
-    faults: u64,
-}
-
-impl Sink for Growing {
-    ghost held = { λ s. Some s.bytes.items };
-
-    ghost faults = { λ s. s.faults };
-
-    fn write(&mut self, piece: &[u8]) -> Result<usize, Failed> {
-        match self.bytes.extend_from_slice(piece) {
-            Ok(()) => Ok(piece.len()),
-            Err(_) => {
-                self.faults = self.faults.saturating_add(1);
-                Err(Failed)
-            }
-        }
-    }
-}
-
 /// The stream of these records: messages of at most `size` octets, from 116 to 65,535, with this export time in
 /// seconds.
 ///
@@ -78,13 +56,8 @@ pub fn layout(
     requires { (116 ≤ size) × (size < 2 ^ 16) }
     ensures { IfOk result (λ bytes. IsLayout size export_time records.now bytes.items) }
 {
-    let emitter = Emitter::open(alloc, size, export_time)?;
-    let mut stream = Growing {
-        bytes: Vec::new(alloc),
-        faults: 0,
-    };
-    match emit_all(emitter, records, &mut stream) {
-        Ok(_) => Ok(stream.bytes),
-        Err(Failed) => Err(NoMemory),
-    }
+    let mut stream = Vec::with_capacity(alloc, TEMPLATE_MESSAGE_LENGTH as usize)?;
+    encode_template_message(&mut stream, export_time);
+    append_messages(alloc, &mut stream, records, size, export_time)?;
+    Ok(stream)
 }

@@ -1,10 +1,12 @@
 -- What is written of records, and noted behind it.
-use Rattle.std.proofs.Common.{◌≡◌, ◌≤◌, ◌++◌, ℕ, List, [], length, take, Some, subst, sym, ap, ◌∙◌, inl, inr}
+use Rattle.std.proofs.Common.{◌≡◌, ◌≤◌, ◌+◌, ◌-◌, ◌^◌, min, ℕ, List, length, take, Some, subst, sym, ap, ◌∙◌, inl, inr}
+use Rattle.std.proofs.Common.{refl}
+use Rattle.std.proofs.Math.Seq.{take-append_seam}
 use Rattle.std.specs.Io.KnownBytes.{Appends}
 use Rattle.std.proofs.KnownBytes.{Appends-nil}
 use Rattle.record_ledger.specs.declared.record.FlowRecord.{FlowRecord}
 use Rattle.capture_tally.specs.declared.tally.Tally.{Tally}
-use Rattle.ipfix_writer.specs.Layout.{IsLayout, IsLayoutOf}
+use Rattle.ipfix_writer.specs.Layout.{IsLayout, IsLayoutOf, BeginsLayout}
 use Rattle.ipfix_reader.specs.Flows.{flows_of}
 use Rattle.meter_program.specs.Gathering.{export_time}
 use Rattle.meter_program.specs.Summary.{summary}
@@ -33,59 +35,70 @@ written-of size size' time flows flows' tally bytes messages law most size_is ti
     (subst (λ (fs : List FlowRecord). IsLayoutOf size time fs bytes messages) flows_is written)) in
     record { layout = layout; decoded = law flows' bytes size' (export_time tally.clock) most layout.layout }
 
--- the same of what a sink in memory took, which held nothing before
-pub laid-out : (size size' time : ℕ) (flows flows' : List FlowRecord) (tally : Tally) (before after bytes : List ℕ)
-    (messages : ℕ)
+-- What a sink took of the layout of some records before a write failed: a beginning of it.
+pub record IsBegun (size : ℕ) (flows : List FlowRecord) (tally : Tally) (object : Side) : Type 0 where
+  pub bytes : List ℕ
+  pub messages : ℕ
+  pub begun : HasBegun object bytes
+  pub is_written : IsWritten size flows tally bytes messages
+
+pub begun-of : (size time : ℕ) (flows flows' : List FlowRecord) (tally : Tally) (taken : List ℕ) (object : Side)
     → ((fs : List FlowRecord) (bs : List ℕ) (n t : ℕ) → n ≤ 65535 → IsLayout n t fs bs → flows_of bs ≡ Some fs)
-    → size' ≤ 65535 → size ≡ size' → time ≡ export_time tally.clock → flows ≡ flows' → before ≡ []
-    → Appends (Some before) (Some after) bytes
-    → IsLayoutOf size time flows bytes messages → IsWritten size' flows' tally after messages
-laid-out size size' time flows flows' tally before after bytes messages law most size_is time_is flows_is empty taken
-    layout =
-    let all : after ≡ bytes = taken ∙ ap (λ l. l ++ bytes) empty in
-    subst (λ b. IsWritten size' flows' tally b messages) (sym all)
-    (written-of size size' time flows flows' tally bytes messages law most size_is time_is flows_is layout)
+    → size ≤ 65535 → time ≡ export_time tally.clock → flows ≡ flows'
+    → BeginsLayout size time flows taken → HasTaken object taken → IsBegun size flows' tally object
+begun-of size time flows flows' tally taken object law most time_is flows_is begins took =
+    let front : taken ≡ take (length taken) begins.all =
+    sym (ap (take (length taken)) begins.begins ∙ take-append_seam taken begins.more) in
+    record {
+      bytes = begins.all;
+      messages = min (1 + length begins.layout.parts) (2 ^ 64 - 1);
+      begun = record { count = length taken; taken = subst (HasTaken object) front took };
+      is_written = written-of size size time flows flows' tally begins.all _ law most refl time_is flows_is
+          (record { layout = begins.layout; count = refl });
+    }
 
-pub wrote-both : (size : ℕ) (records : List FlowRecord) (tally : Tally) (tail flows messages : ℕ) (bytes piece : List ℕ)
-    (output notes : Side) → flows ≡ length records
-    → piece ≡ bytes → IsWritten size records tally bytes messages → HasTaken output piece
+pub wrote-both : (size size' : ℕ) (records : List FlowRecord) (tally : Tally) (tail flows messages : ℕ)
+    (bytes : List ℕ) (output notes : Side) → flows ≡ length records → size ≡ size'
+    → IsWritten size records tally bytes messages → HasTaken output bytes
     → HasTaken notes (summary tally flows messages tail)
-    → WroteBoth size records tally tail output notes
-wrote-both size records tally tail flows messages bytes piece output notes flows_is same written taken noted = record {
-  bytes = bytes;
-  messages = messages;
-  is_written = written;
-  taken = subst (HasTaken output) same taken;
-  noted = subst (λ n. HasTaken notes (summary tally n messages tail)) flows_is noted;
-}
-
--- the write of the notes failed
-pub wrote-first : (size : ℕ) (records : List FlowRecord) (tally : Tally) (tail flows messages : ℕ)
-    (bytes piece : List ℕ) (output notes : Side) → flows ≡ length records
-    → piece ≡ bytes → IsWritten size records tally bytes messages → HasTaken output piece
-    → HasBegun notes (summary tally flows messages tail) → HasFailed notes
-    → WroteSome size records tally tail output notes
-wrote-first size records tally tail flows messages bytes piece output notes flows_is same written taken noted failed =
+    → WroteBoth size' records tally tail output notes
+wrote-both size size' records tally tail flows messages bytes output notes flows_is size_is written taken noted =
     record {
       bytes = bytes;
       messages = messages;
-      is_written = written;
-      taken = inl (subst (HasTaken output) same taken);
+      is_written = subst (λ n. IsWritten n records tally bytes messages) size_is written;
+      taken = taken;
+      noted = subst (λ n. HasTaken notes (summary tally n messages tail)) flows_is noted;
+    }
+
+-- the write of the notes failed
+pub wrote-first : (size size' : ℕ) (records : List FlowRecord) (tally : Tally) (tail flows messages : ℕ)
+    (bytes : List ℕ) (output notes : Side) → flows ≡ length records → size ≡ size'
+    → IsWritten size records tally bytes messages → HasTaken output bytes
+    → HasBegun notes (summary tally flows messages tail) → HasFailed notes
+    → WroteSome size' records tally tail output notes
+wrote-first size size' records tally tail flows messages bytes output notes flows_is size_is written taken noted
+    failed =
+    record {
+      bytes = bytes;
+      messages = messages;
+      is_written = subst (λ n. IsWritten n records tally bytes messages) size_is written;
+      taken = inl taken;
       noted = subst (λ n. HasBegun notes (summary tally n messages tail)) flows_is noted;
       cause = inr failed;
     }
 
 -- the write of the output failed
-pub wrote-some : (size : ℕ) (records : List FlowRecord) (tally : Tally) (tail messages count : ℕ) (bytes piece : List ℕ)
-    (output notes : Side)
-    → piece ≡ bytes → IsWritten size records tally bytes messages → HasTaken output (take count piece)
+pub wrote-some : (size size' : ℕ) (records : List FlowRecord) (tally : Tally) (tail messages : ℕ) (bytes : List ℕ)
+    (output notes : Side) → size ≡ size'
+    → IsWritten size records tally bytes messages → HasBegun output bytes
     → HasFailed output → notes.after ≡ notes.before
-    → WroteSome size records tally tail output notes
-wrote-some size records tally tail messages count bytes piece output notes same written taken failed untold = record {
+    → WroteSome size' records tally tail output notes
+wrote-some size size' records tally tail messages bytes output notes size_is written begun failed untold = record {
   bytes = bytes;
   messages = messages;
-  is_written = written;
-  taken = inr (record { count = count; taken = subst (λ b. HasTaken output (take count b)) same taken }, failed);
+  is_written = subst (λ n. IsWritten n records tally bytes messages) size_is written;
+  taken = inr (begun, failed);
   noted = none-begun notes (summary tally (length records) messages tail) untold;
   cause = inl failed;
 }

@@ -96,7 +96,7 @@ pub record IsReplayed (text written noted : List ℕ) : Type 0 where
   pub count : noted ≡ count_line (codes "steps") (length steps)
 
 -- What is written is the summary of metering the capture of the seed with idle and active time-outs of 300 and 1800
--- seconds and messages of at most 1400 octets, whose stream stays in memory. Nothing is noted.
+-- seconds and messages of at most 1400 octets, whose stream goes nowhere. Nothing is noted.
 pub record IsTested (seed packets keys : ℕ) (metered : List Fragment) (written noted : List ℕ) : Type 0 where
   pub stream : List ℕ
   pub is_metered : IsMetered 300 1800 1400 metered (capture_of seed packets keys) stream written

@@ -7,16 +7,16 @@
 //!    its settings, or none, which is `Usage`. Nothing is read then.
 //! 2. **`meter`**: `metering.rt` opens a cache of the caches that were handed in, with a pass for each worker. The
 //!    input is read in windows, and the workers meter each, all at once, before the next is read. Then the cache is
-//!    closed, and the fragments that it handed out and kept are gathered into records. `meter.rt` lays these out as a
-//!    stream in memory. Up to here the run may refuse, and nothing was written. Then the stream goes out in one piece,
-//!    and the summary goes to the notes.
+//!    closed, and the fragments that it handed out and kept are gathered into records. `meter.rt` makes an emitter for
+//!    their stream, with all memory that writing takes. Up to here the run may refuse, and nothing was written. Then the
+//!    stream goes out, in whole messages through a buffer, and the summary goes to the notes.
 //! 3. **`show`** (`show.rt`): the input is read to its end and decoded as a stream, whose data records become text
 //!    (`lines.rt`).
 //!    **`make`** (`make.rt`): a capture is made by a seed; nothing is read. **`schedule`** (`schedule.rt`): the input
 //!    is read to its end as a schedule and replayed, and the replay is printed. The text of each goes out in one piece,
 //!    and a count to the notes (`ending.rt`).
-//! 4. **`selftest`** (`selftest.rt`): a made capture is metered from memory as by `meter`, and the summary goes to the
-//!    output.
+//! 4. **`selftest`** (`selftest.rt`): a made capture is metered from memory as by `meter`, its stream is emitted to a
+//!    sink that keeps nothing, and the summary goes to the output.
 //! 5. **The end.** At a refusal the notes get its line (`notes.rt`), and nothing else was written.
 //!
 //! A program that meters in its own way gathers and writes as this one by [`gathered_of`] and [`write_stream`], and

@@ -1,11 +1,12 @@
 //! The command `meter`.
 
-ghost use Rattle.std.specs.Prelude.{◌≡◌, ◌≤◌, ◌<◌, ◌*◌, ◌^◌, IfOk};
+ghost use Rattle.std.specs.Prelude.{◌≡◌, ◌≤◌, ◌<◌, ◌*◌, ◌^◌, ℕ, List, IfOk, OnErr};
 ghost use Rattle.std.specs.Option.{ForSome};
 ghost use Rattle.meter_program.specs.Gathering.{export_time};
 ghost use Rattle.meter_program.specs.Metering.{IsWritten, WriteMeans};
 ghost use Rattle.meter_program.specs.Outcome.{Ends};
-ghost use Rattle.meter_io.specs.Sides.{IsUntouched, side};
+ghost use Rattle.meter_io.specs.Causes.{HasCause};
+ghost use Rattle.meter_io.specs.Sides.{IsUntouched, HasTaken, HasBegun, side};
 ghost use Rattle.meter_program.specs.Seen.{seen_of};
 ghost use Rattle.meter_program.specs.Words.{meter};
 
@@ -14,26 +15,13 @@ use crate::notes::summary;
 use crate::settings::Settings;
 use crate::status::Status;
 use cache_face::Caches;
-use ipfix_writer::{Emitter, emit_all};
-use meter_io::{Failed, MemSink, Sink, Source, write_all};
+use ipfix_writer::{Emitter, Phase, emit_all};
+use meter_io::{Failed, Sink, Source};
 use meter_workers::Gate;
 use no_memory::NoMemory;
 use std::alloc::Global;
 use std::thread::Threads;
 use stream_law::layout_law;
-
-/// The length of the message with the templates, in octets.
-const TEMPLATE_MESSAGE: usize = 116;
-
-/// The most octets that a record adds to a stream: its own and those of the headers of a message and of a set.
-const MOST_OF_RECORD: usize = 92;
-
-/// The stream of some records, and how many messages it has.
-#[derive(Drop)]
-pub struct Stream<'a> {
-    pub octets: MemSink<'a>,
-    pub messages: u64,
-}
 
 /// The export time in seconds: the clock, in milliseconds, in whole seconds, and 0 without a packet.
 fn export_time_of(clock: Option<u64>) -> u32
@@ -46,31 +34,42 @@ fn export_time_of(clock: Option<u64>) -> u32
     }
 }
 
-/// The stream of these records, in messages of at most `size` octets, laid out in memory.
-pub fn stream_of<'a>(alloc: Global, gathered: &Gathered, size: u32) -> Result<Stream<'a>, NoMemory>
+/// An emitter for the stream of these records, in messages of at most `size` octets. It has all memory that writing them
+/// takes.
+///
+/// `NoMemory` where that can't be had.
+pub fn emitter_for(alloc: Global, gathered: &Gathered, size: u32) -> Result<Emitter, NoMemory>
     requires { (116 ≤ size) × (size ≤ 65535) }
-    ensures { IfOk result
-        (λ stream. IsWritten size gathered.now.records.items gathered.now.tally stream.octets.held stream.messages) }
+    ensures fresh { IfOk result (λ emitter. emitter.phase ≡ Phase.Fresh) }
+    ensures size { IfOk result (λ emitter. emitter.size ≡ size) }
+    ensures time { IfOk result (λ emitter. emitter.export_time ≡ export_time gathered.now.tally.clock) }
+{
+    let emitter = Emitter::open(alloc, size as usize, export_time_of(gathered.tally.clock))?;
+    Ok(emitter)
+}
+
+/// Writes the stream of these records to a sink by an emitter for them, and tells how many messages it has.
+///
+/// `Failed` comes only where the sink's count of faults rose; the sink then took a beginning of the stream.
+pub fn emit<K: Sink>(emitter: Emitter, gathered: &Gathered, sink: &mut K) -> Result<u64, Failed>
+    requires fresh { emitter.phase ≡ Phase.Fresh }
+    requires size { emitter.size ≤ 65535 }
+    requires time { emitter.export_time ≡ export_time gathered.now.tally.clock }
+    ensures written { IfOk result (λ messages. (bytes : List ℕ)
+        × HasTaken (side K.held K.faults sink.old sink.new) bytes
+        × IsWritten emitter.size gathered.now.records.items gathered.now.tally bytes messages) }
+    ensures begun { OnErr result ((bytes : List ℕ) × (messages : ℕ)
+        × HasBegun (side K.held K.faults sink.old sink.new) bytes
+        × IsWritten emitter.size gathered.now.records.items gathered.now.tally bytes messages) }
+    ensures cause { HasCause (K.faults sink.old) (K.faults sink.new) result }
 {
     layout_law();
-    let records = gathered.records.as_slice();
-    let room = records
-        .len()
-        .saturating_mul(MOST_OF_RECORD)
-        .saturating_add(TEMPLATE_MESSAGE);
-    let mut octets = MemSink::open(alloc, room, room, &[])?;
-    let emitter = Emitter::open(alloc, size as usize, export_time_of(gathered.tally.clock))?;
-    match emit_all(emitter, records, &mut octets) {
-        Ok(messages) => Ok(Stream { octets, messages }),
-        // This isn't reached: no write of this sink is named to fail, and it has room for the longest stream of so many
-        // records. No clause says so, and want of memory is the answer that may always come.
-        Err(Failed) => Err(NoMemory),
-    }
+    emit_all(emitter, gathered.records.as_slice(), sink)
 }
 
 /// Writes the stream of these records, in messages of at most `size` octets, and then notes the summary.
 ///
-/// The stream is laid out first, so that no memory is taken behind the first write, and goes out in one piece.
+/// All memory is taken before the first write.
 ///
 /// - `Done`: the output took the stream, and the notes the summary.
 /// - `WriteFault`: only where a write failed and the output or the notes counted it. Both took a beginning of what they
@@ -90,21 +89,15 @@ pub fn write_stream<K: Sink, N: Sink>(
         (side K.held K.faults output.old output.new)
         (side N.held N.faults notes.old notes.new) result }
 {
-    let Ok(stream) = stream_of(alloc, gathered, size) else {
+    let Ok(emitter) = emitter_for(alloc, gathered, size) else {
         return Status::NoMemory;
     };
-    match write_all(output, stream.octets.held()) {
-        Ok(()) => {}
+    let messages = match emit(emitter, gathered, output) {
+        Ok(messages) => messages,
         Err(Failed) => return Status::WriteFault,
-    }
+    };
     let flows = gathered.records.len() as u64;
-    match summary(
-        notes,
-        &gathered.tally,
-        flows,
-        stream.messages,
-        gathered.tail,
-    ) {
+    match summary(notes, &gathered.tally, flows, messages, gathered.tail) {
         Ok(()) => Status::Done,
         Err(Failed) => Status::WriteFault,
     }

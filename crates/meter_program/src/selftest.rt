@@ -1,12 +1,12 @@
 //! The command `selftest`.
 
-ghost use Rattle.std.specs.Prelude.{◌≡◌, Some};
+ghost use Rattle.std.specs.Prelude.{◌≡◌, Some, None};
 ghost use Rattle.meter_io.specs.Sides.{Side, IsUntouched, side};
 ghost use Rattle.meter_program.specs.Outcome.{Ends};
 ghost use Rattle.meter_program.specs.Seen.{seen_of};
 ghost use Rattle.meter_program.specs.Words.{selftest};
 
-use crate::meter::stream_of;
+use crate::meter::{emit, emitter_for};
 use crate::metering::gathered_from;
 use crate::notes::summary;
 use crate::settings::{Making, Settings};
@@ -38,6 +38,20 @@ impl<'a> Source for Made<'a> {
     }
 }
 
+/// A sink that takes all and keeps nothing.
+#[derive(Drop)]
+struct Nowhere;
+
+impl Sink for Nowhere {
+    ghost held = { λ _. None };
+
+    ghost faults = { λ _. 0 };
+
+    fn write(&mut self, piece: &[u8]) -> Result<usize, Failed> {
+        Ok(piece.len())
+    }
+}
+
 /// How a made capture is metered: by four workers, and else by the defaults of `meter`.
 fn four_workers() -> Settings
     ensures idle { result.idle ≡ 300 }
@@ -55,7 +69,7 @@ fn four_workers() -> Settings
 }
 
 /// Meters the capture of a seed in memory, through a cache of `caches`, and writes the summary to the output. It reads
-/// nothing and notes nothing.
+/// nothing and notes nothing; the stream goes nowhere, and its messages are counted.
 pub fn selftest<R: Threads + Sync, K: Sink, M: Caches, G: Gate>(
     rt: &R,
     alloc: Global,
@@ -81,17 +95,15 @@ pub fn selftest<R: Threads + Sync, K: Sink, M: Caches, G: Gate>(
         // Want of memory: a made capture is refused for nothing else.
         Err(status) => return status,
     };
-    let Ok(stream) = stream_of(alloc, &gathered, settings.size) else {
+    let Ok(emitter) = emitter_for(alloc, &gathered, settings.size) else {
         return Status::NoMemory;
     };
+    let messages = match emit(emitter, &gathered, &mut Nowhere) {
+        Ok(messages) => messages,
+        Err(Failed) => unreachable!(),
+    };
     let flows = gathered.records.len() as u64;
-    match summary(
-        output,
-        &gathered.tally,
-        flows,
-        stream.messages,
-        gathered.tail,
-    ) {
+    match summary(output, &gathered.tally, flows, messages, gathered.tail) {
         Ok(()) => Status::Done,
         Err(Failed) => Status::WriteFault,
     }

@@ -1,7 +1,7 @@
 //! A capture: its first section header looked at, its packets found and read.
 
 ghost use Rattle.std.specs.Prelude.{◌≡◌, ◌+◌, ◌<◌, ◌≤◌, ◌^◌, ◌↔◌, ℕ, All, None, Ok, Err, IfOk, IfErr, OnOk, IsErr};
-ghost use Rattle.std.specs.Prelude.{IsSome, Some, length, slice_get, slice_range};
+ghost use Rattle.std.specs.Prelude.{IsSome, Some, length, slice_get, slice_range, ◌++◌, ◌∷◌, [], OnErr};
 ghost use Rattle.octets.specs.declared.endianness.Endianness.{Endianness};
 ghost use Rattle.pcapng_reader.specs.Blocks.{file_order};
 ghost use Rattle.pcap_reader.specs.Records.{most_captured};
@@ -14,6 +14,7 @@ use crate::front::{Front, begins_section, front_at, magic_order};
 use crate::index::{Place, PngIndex};
 use crate::interface::Interface;
 use crate::record::{PngRecord, enhanced_record, simple_record};
+use meter_io::NoMemory;
 use octets::Endianness;
 use std::alloc::Global;
 
@@ -34,6 +35,15 @@ pub enum PngFault {
 #[derive(Clone, Copy, Debug)]
 pub struct PngCapture<'a> {
     bytes: &'a [u8],
+}
+
+/// Keeps one more, behind the others.
+fn keep<T: Drop>(list: &mut Vec<T>, one: T) -> Result<(), NoMemory>
+    ensures kept { OnOk result (list.new.items ≡ list.old.items ++ one ∷ []) }
+    ensures refused { OnErr result (list.new.items ≡ list.old.items) }
+{
+    list.push(one)?;
+    Ok(())
 }
 
 /// Takes what one block tells: the block from `at` to `to`.
@@ -66,19 +76,19 @@ fn take_block(
     let kept = match content {
         Content::Section => {
             interfaces.clear();
-            true
+            Ok(())
         }
-        Content::Described(interface) => interfaces.push(interface).is_ok(),
-        Content::Enhanced(interface) => places
-            .push(Place::Enhanced(at as u32, to as u32, order, interface))
-            .is_ok(),
-        Content::Simple => places.push(Place::Simple).is_ok(),
-        Content::Other => true,
+        Content::Described(interface) => keep(interfaces, interface),
+        Content::Enhanced(interface) => keep(
+            places,
+            Place::Enhanced(at as u32, to as u32, order, interface),
+        ),
+        Content::Simple => keep(places, Place::Simple),
+        Content::Other => Ok(()),
     };
-    if kept {
-        Ok(())
-    } else {
-        Err(PngFault::NoMemory)
+    match kept {
+        Ok(()) => Ok(()),
+        Err(NoMemory) => Err(PngFault::NoMemory),
     }
 }
 

@@ -27,6 +27,3 @@ pub use laws::blocks_law;
 pub use record::PngRecord;
 pub use running::run_png;
 pub use status::PngStatus;
-
-#[cfg(test)]
-mod tests;

@@ -45,8 +45,6 @@ mod pass;
 mod reads;
 mod scanning;
 mod tells;
-#[cfg(test)]
-mod tests;
 mod writes;
 
 pub use ends::{Collected, ReplaceEnd};

@@ -56,8 +56,6 @@ mod shields;
 mod slots;
 mod steps;
 mod tells;
-#[cfg(test)]
-mod tests;
 mod unite;
 mod views;
 mod words;

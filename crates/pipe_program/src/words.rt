@@ -8,9 +8,6 @@ use crate::settings::PipeSettings;
 use command_words::{OptionRule, OptionsError, values_of};
 use std::alloc::Global;
 
-#[cfg(test)]
-mod tests;
-
 /// The options of `pipe`.
 static PIPE: [OptionRule<'static>; 7] = [
     OptionRule {

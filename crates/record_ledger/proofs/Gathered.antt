@@ -1,13 +1,16 @@
 -- What is joined and sorted is lawful.
 use Rattle.std.proofs.Common.{◌≡◌, ℕ, suc, ◌+◌, ◌-◌, ◌<◌, ◌≤◌, Bool, true, false, cond, Option, Some, None, List, []}
 use Rattle.std.proofs.Common.{◌∷◌, length, get_or, drop, map, refl, sym, ap, ◌∙◌, subst, arith, All, IsPermutation}
-use Rattle.std.proofs.Common.{flat_map, unwrap_or}
+use Rattle.std.proofs.Common.{flat_map, unwrap_or, inl, inr, Contains, ◌++◌, ◌≢◌, ◌⊎◌}
+use Rattle.std.specs.Prelude.{IsSorted}
+use Rattle.std.proofs.lemmas.List.{map-append}
 use Rattle.std.specs.List.{AllZip}
 use Rattle.std.specs.List.Sorted.{IsSortedBy}
 use Rattle.std.specs.Ordering.{is_lt, is_eq, nat_cmp}
 use Rattle.std.specs.declared.cmp.Ordering.{Ordering}
 use Rattle.std.specs.declared.cmp.Ordering.TheVariants.{Less, Equal, Greater}
-use Rattle.std.proofs.lemmas.List.Elements.{All-cons, All-nil, All-tail, All-weaker, All-contains}
+use Rattle.std.proofs.lemmas.List.Elements.{All-cons, All-nil, All-tail, All-weaker, All-contains, All-append}
+use Rattle.std.proofs.lemmas.List.Elements.{Contains-append_cases, Contains-append_left, Contains-append_right}
 use Rattle.std.proofs.lemmas.List.Sorted.{Contains-permutation, IsPermutation-sym, IsPermutation-refl}
 use Rattle.std.proofs.lemmas.List.Sorted.{IsPermutation-trans, IsPermutation-map}
 use Rattle.std.proofs.lemmas.Map.Keys.{IsDistinct-IsPermutation}
@@ -23,20 +26,23 @@ use Rattle.flow_parts.specs.Sharing.{SharesOut}
 use Rattle.flow_parts.proofs.Members.{found}
 use Rattle.packet_accept.proofs.Permuted.{flat_map-permutation}
 use Rattle.flow_parts.proofs.Permuted.{AllZip-permutation}
-use Rattle.flow_parts.proofs.Shares.{permuted}
+use Rattle.flow_parts.proofs.Shares.{permuted, together}
 use Rattle.record_ledger.specs.declared.record.FlowRecord.{FlowRecord}
 use Rattle.record_ledger.specs.Order.{key_then_last, written_order}
 use Rattle.record_ledger.specs.Regrouping.{IsTogether, Regroups}
 use Rattle.packet_accept.specs.Clock.{IsClock}
-use Rattle.record_ledger.specs.Lawful.{of_key, first_part, EachWithNext, StandsApart, HasReason, reason_of, IsLawful}
-use Rattle.record_ledger.specs.Laws.{HasNoTies}
-use Rattle.record_ledger.specs.Steps.{Reaches, Rises, NotAfter, NoneJoinable, next_of_key}
+use Rattle.record_ledger.specs.Lawful.{of_key, first_part, EachWithNext, StandsApart, HasReason, reason_of}
+use Rattle.record_ledger.specs.Lawful.{IsLawfulAt, IsLawfulBy}
+use Rattle.record_ledger.specs.Laws.{HasNoTies, OwnClockIsGiven, LawfulTogether}
+use Rattle.flow_parts.specs.Reaching.{Reaches}
+use Rattle.record_ledger.specs.Steps.{Rises, NotAfter, NoneJoinable, next_of_key}
 use Rattle.record_ledger.proofs.Keyed.{part_of, first_not_less, second_less, first_less, both_tie, tie_from_test}
 use Rattle.record_ledger.proofs.Keyed.{less_numbers, less_from_greater, less_than_rest, less_otherwise, less_no_tie}
 use Rattle.record_ledger.proofs.Keyed.{tie_flips, rises_distinct, distinct_from_rises, rises_more, filter_contains}
 use Rattle.record_ledger.proofs.Keyed.{contains_filter, rises_filter, same_rising, pairs_from_rises, All-unmap}
-use Rattle.record_ledger.proofs.Keyed.{rises_unmap, rises_weaker}
-use Rattle.record_ledger.proofs.Reaching.{grouped, grouped_start, shared}
+use Rattle.record_ledger.proofs.Keyed.{rises_unmap, rises_weaker, contains_head}
+use Rattle.flow_parts.proofs.Reaching.{shared}
+use Rattle.record_ledger.proofs.Reaching.{grouped, grouped_start}
 use Rattle.record_ledger.proofs.Rising.{gathering_total, written_total, written_weak, keys_tie, rises_from_sorted}
 
 -- R holds of each record and the next one, where that has its key
@@ -264,30 +270,48 @@ regrouped limits parts W T L e r perm =
     }
 
 -- the clock of packets is one
-clock_is : (packets : List Packet) (clock : Option ℕ) (c : ℕ) → IsClock packets clock → IsClock packets (Some c)
-    → unwrap_or clock 0 ≡ c
-clock_is packets None c h k =
+own_clock : (packets : List Packet) (clock : Option ℕ) (c : ℕ) → IsClock packets clock → IsClock packets (Some c)
+    → clock ≡ Some c
+own_clock packets None c h k =
     absurd (let f = found (λ (p : Packet). p.time ≡ c) packets k.reached in let below = f.1.1 in
     let none = ap length h in omega arith)
-clock_is packets (Some b) c h k =
+own_clock packets (Some b) c h k =
     let f = found (λ (p : Packet). p.time ≡ b) packets h.reached in
     let g = found (λ (p : Packet). p.time ≡ c) packets k.reached in
     let low = All-contains (λ (p : Packet). p.time ≤ c) packets f.0 k.bound f.1 in
     let high = All-contains (λ (p : Packet). p.time ≤ b) packets g.0 h.bound g.1 in
     let at = f.2 in
     let at' = g.2 in
-    omega arith
+    let same : b ≡ c = omega arith in
+    ap Some same
 
--- the records are lawful for whatever packets the parts share out
-pub lawful : (limits : Timeouts) (clock : Option ℕ) (parts W : List Fragment) (T L : List FlowRecord)
+-- what is lawful by the packets' own clock is lawful, and the other way round
+pub by_own_clock : OwnClockIsGiven
+by_own_clock limits packets clock L at = (
+  λ lawful. record {
+    shared = lawful.shared;
+    ordered = lawful.ordered;
+    apart = lawful.apart;
+    reasons = λ c is key. lawful.reasons c (own_clock packets clock c at is) key;
+  },
+  λ lawful. record {
+    shared = lawful.shared;
+    ordered = lawful.ordered;
+    apart = lawful.apart;
+    reasons = λ c is key. lawful.reasons c (subst (IsClock packets) is at) key;
+  },
+)
+
+-- the records are lawful for whatever packets the parts share out, by any clock
+pub lawful_by : (limits : Timeouts) (clock : Option ℕ) (parts W : List Fragment) (T L : List FlowRecord)
     → map part_of T ≡ W → Reaches limits parts W
     → Rises NotAfter W → NoneJoinable limits W
     → ((k : ℕ) (d : FlowRecord) → k < length T
     → (get_or T k d).reason ≡ reason_of limits (unwrap_or clock 0) (get_or T k d).part
     (next_of_key (get_or T k d).part (drop (k + 1) W)))
     → IsPermutation T L → IsSortedBy (λ (a b : FlowRecord). is_lt (written_order a b)) L
-    → (packets : List Packet) → SharesOut limits packets parts → IsClock packets clock → IsLawful limits packets L
-lawful limits clock parts W T L e r rises apart reasons perm sorted packets shares at =
+    → (packets : List Packet) → SharesOut limits packets parts → IsLawfulBy limits clock packets L
+lawful_by limits clock parts W T L e r rises apart reasons perm sorted packets shares =
     let shares' : SharesOut limits packets W = shared limits packets parts W r shares in
     let up = rises_unmap part_of (λ a b. key_then_last a b ≡ Less) T
     (subst (Rises (λ a b. key_then_last a b ≡ Less)) (sym e)
@@ -302,7 +326,7 @@ lawful limits clock parts W T L e r rises apart reasons perm sorted packets shar
       apart = λ key. subst (EachWithNext (StandsApart limits)) (same key)
           (keyed (StandsApart limits) T rises' (beside_apart limits T (subst (NoneJoinable limits) (sym e) apart)) key);
       reasons = λ c is key. subst (λ n. EachWithNext (HasReason limits n) (of_key key L))
-          (clock_is packets clock c at is)
+          (ap (λ o. unwrap_or o 0) is)
           (subst (EachWithNext (HasReason limits (unwrap_or clock 0))) (same key)
           (keyed (HasReason limits (unwrap_or clock 0)) T rises'
           (beside_reasons limits (unwrap_or clock 0) T W e reasons) key));
@@ -350,9 +374,9 @@ module _ (limits : Timeouts) where
       (no_ties_at (c ∷ L) h.1 (λ key. tail_holds (StandsApart limits) a (of_key key (c ∷ L)) (has_key key a) (k key))
       (All-tail (λ (r : FlowRecord). r.part.last - r.part.first ≤ limits.active) a (c ∷ L) s))
 
-pub rises_written : (limits : Timeouts) (packets : List Packet) (L : List FlowRecord) → IsLawful limits packets L
-    → Rises (λ (a b : FlowRecord). written_order a b ≡ Less) L
-rises_written limits packets L lawful =
+pub rises_written : (limits : Timeouts) (IsNow : ℕ → Type 0) (packets : List Packet) (L : List FlowRecord)
+    → IsLawfulAt limits IsNow packets L → Rises (λ (a b : FlowRecord). written_order a b ≡ Less) L
+rises_written limits IsNow packets L lawful =
     no_ties_at limits L
     (rises_from_sorted (λ (a b : FlowRecord). is_lt (written_order a b)) written_weak L lawful.ordered) lawful.apart
     (All-unmap part_of (λ f. f.last - f.first ≤ limits.active) L
@@ -360,4 +384,103 @@ rises_written limits packets L lawful =
 
 pub no_ties : HasNoTies
 no_ties limits packets L lawful = pairs_from_rises (λ (a b : FlowRecord). written_order a b ≡ Less) L
-    (rises_written limits packets L lawful)
+    (rises_written limits (λ c. IsClock packets (Some c)) packets L lawful)
+
+not_true : (b : Bool) → (b ≡ true → ⊥) → b ≡ false
+not_true true h = absurd (h refl)
+not_true false h = refl
+
+untied : (r s : FlowRecord) → r.part.key ≢ s.part.key → (q : Ordering) → written_order r s ≡ q → is_eq q ≡ false
+untied r s n Less e = refl
+untied r s n Greater e = refl
+untied r s n Equal e = absurd (n (tied_keys r.part.key s.part.key
+    (tied_second (nat_cmp r.part.last s.part.last) (key_order r.part.key s.part.key) e)))
+
+-- lists of records that are lawful for packets of other keys
+module _ (limits : Timeouts) (IsNow : ℕ → Type 0) (packets others : List Packet) (L M B : List FlowRecord)
+    (h : IsLawfulAt limits IsNow packets L) (k : IsLawfulAt limits IsNow others M)
+    (unlike : All (λ (r : FlowRecord). All (λ (s : FlowRecord). r.part.key ≢ s.part.key) M) L)
+    (perm : IsPermutation (L ++ M) B) (sorted : IsSorted written_order B) where
+  abbrev Under : FlowRecord → FlowRecord → Type 0
+  Under a b = is_eq (written_order a b) ≡ false
+
+  across : (L : List FlowRecord) → Rises Under L → Rises Under M
+      → All (λ (r : FlowRecord). All (λ (s : FlowRecord). r.part.key ≢ s.part.key) M) L → Rises Under (L ++ M)
+  across [] a b u = b
+  across (r ∷ L) a b u = (
+    All-append (Under r) L M a.0
+        (All-weaker (λ (s : FlowRecord). r.part.key ≢ s.part.key) (Under r) (λ s n. untied r s n (written_order r s) refl) M
+        (u 0 r (omega arith))),
+    across L a.1 b (All-tail (λ (r : FlowRecord). All (λ (s : FlowRecord). r.part.key ≢ s.part.key) M) r L u),
+  )
+
+  apart_in : (L : List FlowRecord) → Rises (λ (a b : FlowRecord). written_order a b ≡ Less) L → Rises Under L
+  apart_in L = rises_weaker (λ (a b : FlowRecord). written_order a b ≡ Less) Under (λ a b l. ap is_eq l) L
+
+  strict : Rises (λ (a b : FlowRecord). written_order a b ≡ Less) B
+  strict = rises_distinct written_total B
+      (rises_from_sorted (λ (a b : FlowRecord). is_lt (written_order a b)) written_weak B sorted)
+      (IsDistinct-IsPermutation (λ (a b : FlowRecord). is_eq (written_order a b)) (tie_flips written_total) (L ++ M) B
+      perm (distinct_from_rises (λ (a b : FlowRecord). is_eq (written_order a b)) (L ++ M)
+      (across L (apart_in L (rises_written limits IsNow packets L h)) (apart_in M (rises_written limits IsNow others M k))
+      unlike)))
+
+  -- the records of a key are all of the one list or all of the other
+  same_as : (key : FlowKey) (F G : List FlowRecord) → Rises (λ (a b : FlowRecord). written_order a b ≡ Less) F
+      → ((z : FlowRecord) → Contains B z → Contains F z ⊎ Contains G z) → ((z : FlowRecord) → Contains F z → Contains B z)
+      → of_key key G ≡ [] → of_key key B ≡ of_key key F
+  same_as key F G up into from none = same_rising (λ (a b : FlowRecord). a.part.last < b.part.last)
+      (λ a b l m. omega arith) (of_key key B) (of_key key F) (up_written key B strict) (up_written key F up)
+      (λ z c. let b = filter_contains (has_key key) B z c in
+      elim (into z b.0) [
+        | inl f ↦ contains_filter (has_key key) F z f b.1
+        | inr g ↦ absurd (let in_none = contains_filter (has_key key) G z g b.1 in
+            let below = in_none.1 in let empty = ap length none in omega arith)
+      ])
+      (λ z c. let f = filter_contains (has_key key) F z c in contains_filter (has_key key) B z (from z f.0) f.1)
+
+  in_either : (z : FlowRecord) → Contains B z → Contains L z ⊎ Contains M z
+  in_either z c =
+      Contains-append_cases L M z (Contains-permutation B (L ++ M) z (IsPermutation-sym (L ++ M) B perm) c)
+
+  which : (key : FlowKey) (F : List FlowRecord) → of_key key L ≡ F → (of_key key L ≡ []) ⊎ (of_key key M ≡ [])
+  which key [] e = inl e
+  which key (r ∷ F) e =
+      let r_in : Contains (of_key key L) r = subst (λ l. Contains l r) (sym e) (contains_head r F) in
+      let r_is = filter_contains (has_key key) L r r_in in
+      inr (none_left key M
+      (All-weaker (λ (s : FlowRecord). r.part.key ≢ s.part.key) (λ s. has_key key s ≡ false)
+      (λ s n. not_true (has_key key s) (λ is. n (key_from_test key r r_is.1 ∙ sym (key_from_test key s is)))) M
+      (All-contains (λ (r : FlowRecord). All (λ (s : FlowRecord). r.part.key ≢ s.part.key) M) L r unlike r_is.0)))
+
+  one_of : (key : FlowKey) → (of_key key B ≡ of_key key L) ⊎ (of_key key B ≡ of_key key M)
+  one_of key = elim (which key (of_key key L) refl) [
+    | inl none ↦ inr (same_as key M L (rises_written limits IsNow others M k)
+        (λ z c. elim (in_either z c) [ inl l ↦ inr l | inr m ↦ inl m ])
+        (λ z c. Contains-permutation (L ++ M) B z perm (Contains-append_right L M z c)) none)
+    | inr none ↦ inl (same_as key L M (rises_written limits IsNow packets L h) in_either
+        (λ z c. Contains-permutation (L ++ M) B z perm (Contains-append_left L M z c)) none)
+  ]
+
+  of_one : (R : FlowRecord → Option Fragment → Type 0) → ((key : FlowKey) → EachWithNext R (of_key key L))
+      → ((key : FlowKey) → EachWithNext R (of_key key M)) → (key : FlowKey) → EachWithNext R (of_key key B)
+  of_one R a b key = elim (one_of key) [
+    | inl e ↦ subst (EachWithNext R) (sym e) (a key)
+    | inr e ↦ subst (EachWithNext R) (sym e) (b key)
+  ]
+
+  pub lawful_both : IsLawfulAt limits IsNow (packets ++ others) B
+  lawful_both = record {
+    shared = permuted limits (packets ++ others) (packets ++ others) (map part_of L ++ map part_of M) (map part_of B)
+        (IsPermutation-refl (packets ++ others))
+        (subst (λ l. IsPermutation l (map part_of B)) (map-append part_of L M)
+        (IsPermutation-map part_of (L ++ M) B perm))
+        (together limits packets others (map part_of L) (map part_of M) h.shared k.shared);
+    ordered = sorted;
+    apart = of_one (StandsApart limits) h.apart k.apart;
+    reasons = λ c is. of_one (HasReason limits c) (h.reasons c is) (k.reasons c is);
+  }
+
+pub lawful_together : LawfulTogether
+lawful_together limits clock packets others L M B h k unlike perm sorted =
+    lawful_both limits (λ now. clock ≡ Some now) packets others L M B h k unlike perm sorted

@@ -1,7 +1,7 @@
 -- The heaps of a lawful list are the sessions.
 use Rattle.std.proofs.Common.{◌≡◌, ◌≢◌, ℕ, suc, ◌-◌, ◌<◌, ◌≤◌, max, Bool, true, false, cond, ◌&&◌, ◌⊎◌, inl, inr, List}
 use Rattle.std.proofs.Common.{[], ◌∷◌, ◌++◌, length, refl, sym, ap, ◌∙◌, subst, arith, All, AllPairs, Any, Contains}
-use Rattle.std.proofs.Common.{IsPermutation, filter, flat_map, map, nat_le}
+use Rattle.std.proofs.Common.{IsPermutation, filter, flat_map, map, nat_le, Some}
 use Rattle.std.specs.List.{AllZip}
 use Rattle.std.specs.Ordering.{is_eq}
 use Rattle.std.specs.declared.cmp.Ordering.TheVariants.{Less, Equal}
@@ -13,6 +13,7 @@ use Rattle.std.proofs.lemmas.List.Sorted.{Contains-permutation, IsPermutation-sy
 use Rattle.flow_key.specs.declared.key.FlowKey.{FlowKey}
 use Rattle.flow_key.specs.Key.{key_order}
 use Rattle.packet_accept.specs.declared.packet.Packet.{Packet}
+use Rattle.packet_accept.specs.Clock.{IsClock}
 use Rattle.flow_parts.specs.declared.fragment.Fragment.{Fragment}
 use Rattle.flow_parts.specs.declared.timeouts.Timeouts.{Timeouts}
 use Rattle.flow_parts.specs.Heap.{IsLinked, IsHeap}
@@ -338,4 +339,4 @@ module _ (limits : Timeouts) where
 
 pub lawful_are_sessions : LawfulAreSessions
 lawful_are_sessions limits P S h uncut L lawful =
-    records_of limits P S h uncut L lawful (rises_written limits P L lawful)
+    records_of limits P S h uncut L lawful (rises_written limits (λ now. IsClock P (Some now)) P L lawful)

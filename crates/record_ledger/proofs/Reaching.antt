@@ -4,24 +4,22 @@ use Rattle.std.proofs.Common.{◌∙◌, subst, arith, append_assoc, length-appe
 use Rattle.std.specs.List.{AllZip}
 use Rattle.std.proofs.lemmas.List.Elements.{All-append, All-weaker, All-contains, All-take, Contains-push}
 use Rattle.std.proofs.lemmas.List.Sums.{sum_by-append, sum_by-cons}
-use Rattle.std.proofs.lemmas.List.Sorted.{sum_by-IsPermutation, IsPermutation-refl, IsPermutation-sym}
+use Rattle.std.proofs.lemmas.List.Sorted.{IsPermutation-refl, IsPermutation-sym}
 use Rattle.std.proofs.lemmas.List.Sorted.{IsPermutation-trans, IsPermutation-to_front, IsPermutation-append_left}
-use Rattle.packet_accept.specs.declared.packet.Packet.{Packet}
 use Rattle.flow_parts.specs.declared.fragment.Fragment.{Fragment}
 use Rattle.flow_parts.specs.declared.timeouts.Timeouts.{Timeouts}
 use Rattle.packet_accept.specs.Extremes.{IsLeast, IsGreatest}
 use Rattle.flow_parts.specs.Union.{IsUnion}
 use Rattle.flow_parts.specs.Joining.{IsJoinable}
 use Rattle.flow_parts.specs.Parts.{IsJoined}
-use Rattle.flow_parts.specs.Sharing.{SharesOut}
 use Rattle.flow_parts.proofs.Members.{All-one, IsLeast-append, IsGreatest-append, IsUnion-append, IsLeast-one}
 use Rattle.flow_parts.proofs.Members.{IsGreatest-one, IsUnion-one}
 use Rattle.packet_accept.proofs.Permuted.{flat_map-permutation}
 use Rattle.flow_parts.proofs.Permuted.{AllZip-permutation}
-use Rattle.flow_parts.proofs.Shares.{permuted, joined as shares_joined}
 use Rattle.record_ledger.specs.Regrouping.{IsTogether}
-use Rattle.record_ledger.specs.Steps.{Reaches}
-use Rattle.record_ledger.specs.Steps.Reaches.{moved, joined, onward}
+use Rattle.flow_parts.specs.Reaching.{Reaches}
+use Rattle.flow_parts.proofs.Reaching.{same_packets, same_octets, beside}
+use Rattle.flow_parts.specs.Reaching.Reaches.{moved, joined, onward}
 
 abbrev packets_in : Fragment → ℕ
 packets_in f = f.packets
@@ -113,32 +111,6 @@ module _ (limits : Timeouts) where
   grouped A F G (joined f g w rest j u) a = grouped_joined A f g w rest j u a.groups a.whole a.each
   grouped A F G (onward _ M _ r q) a = grouped A M G q (grouped A F M r a)
 
-  pub shared : (P : List Packet) (F G : List Fragment) → Reaches limits F G → SharesOut limits P F
-      → SharesOut limits P G
-  shared P F G (moved _ _ s) a = permuted limits P P F G (IsPermutation-refl P) s a
-  shared P F G (joined f g w rest j u) a = shares_joined limits f g w j u P rest a
-  shared P F G (onward _ M _ r q) a = shared P M G q (shared P F M r a)
-
-  pub same_packets : (F G : List Fragment) → Reaches limits F G → sum_by packets_in G ≡ sum_by packets_in F
-  same_packets F G (moved _ _ s) = sum_by-IsPermutation packets_in F G s
-  same_packets F G (joined f g w rest j u) =
-      (let e = u.packets in
-      omega (arith, sum_by-cons packets_in f (g ∷ rest), sum_by-cons packets_in g rest, sum_by-cons packets_in w rest))
-  same_packets F G (onward _ M _ r q) = same_packets M G q ∙ same_packets F M r
-
-  pub same_octets : (F G : List Fragment) → Reaches limits F G → sum_by octets_in G ≡ sum_by octets_in F
-  same_octets F G (moved _ _ s) = sum_by-IsPermutation octets_in F G s
-  same_octets F G (joined f g w rest j u) =
-      (let e = u.octets in
-      omega (arith, sum_by-cons octets_in f (g ∷ rest), sum_by-cons octets_in g rest, sum_by-cons octets_in w rest))
-  same_octets F G (onward _ M _ r q) = same_octets M G q ∙ same_octets F M r
-
-  pub beside : (F G rest : List Fragment) → Reaches limits F G → Reaches limits (F ++ rest) (G ++ rest)
-  beside F G rest (moved _ _ s) = moved (F ++ rest) (G ++ rest) (IsPermutation-append_left rest F G s)
-  beside F G rest (joined f g w others j u) = joined f g w (others ++ rest) j u
-  beside F G rest (onward _ M _ r q) = onward (F ++ rest) (M ++ rest) (G ++ rest) (beside F M rest r)
-      (beside M G rest q)
-
   -- the top of a stack joined with a fragment
   pub taken_on : (start : List Fragment) (w top v : Fragment) (s t : List Fragment) → s ≡ t ++ top ∷ []
       → IsJoinable limits top w → IsJoined top w v
@@ -154,7 +126,7 @@ module _ (limits : Timeouts) where
       → s ≡ t ++ top ∷ []
       → Reaches limits (part ∷ S) (w ∷ s) → part.packets + sum_by packets_in S < n → top.packets + w.packets < n
   packets_fit part S w top s t n e r h =
-      let all = same_packets (part ∷ S) (w ∷ s) r in
+      let all = same_packets limits (part ∷ S) (w ∷ s) r in
       let parts : sum_by packets_in s ≡ sum_by packets_in t + sum_by packets_in (top ∷ []) =
       ap (sum_by packets_in) e ∙ sum_by-append packets_in t (top ∷ []) in
       omega (arith, sum_by-cons packets_in part S, sum_by-cons packets_in w s, sum_by-cons packets_in top [])
@@ -163,7 +135,7 @@ module _ (limits : Timeouts) where
       → s ≡ t ++ top ∷ []
       → Reaches limits (part ∷ S) (w ∷ s) → part.octets + sum_by octets_in S < n → top.octets + w.octets < n
   octets_fit part S w top s t n e r h =
-      let all = same_octets (part ∷ S) (w ∷ s) r in
+      let all = same_octets limits (part ∷ S) (w ∷ s) r in
       let parts : sum_by octets_in s ≡ sum_by octets_in t + sum_by octets_in (top ∷ []) =
       ap (sum_by octets_in) e ∙ sum_by-append octets_in t (top ∷ []) in
       omega (arith, sum_by-cons octets_in part S, sum_by-cons octets_in w s, sum_by-cons octets_in top [])
@@ -182,7 +154,7 @@ module _ (limits : Timeouts) where
       onward start (S ++ part ∷ rest) ((s ++ w ∷ []) ++ rest) r
       (onward (S ++ part ∷ rest) ((part ∷ S) ++ rest) ((s ++ w ∷ []) ++ rest)
       (moved (S ++ part ∷ rest) ((part ∷ S) ++ rest) before)
-      (onward ((part ∷ S) ++ rest) ((w ∷ s) ++ rest) ((s ++ w ∷ []) ++ rest) (beside (part ∷ S) (w ∷ s) rest q)
+      (onward ((part ∷ S) ++ rest) ((w ∷ s) ++ rest) ((s ++ w ∷ []) ++ rest) (beside limits (part ∷ S) (w ∷ s) rest q)
       (moved ((w ∷ s) ++ rest) ((s ++ w ∷ []) ++ rest) after)))
 
 -- what holds of each element of a list holds of the top of its front

@@ -10,8 +10,9 @@ use Rattle.flow_parts.specs.declared.timeouts.Timeouts.{Timeouts}
 use Rattle.flow_parts.specs.Joining.{IsJoinable}
 use Rattle.record_ledger.specs.declared.record.FlowRecord.{FlowRecord}
 use Rattle.record_ledger.specs.Lawful.{parts_of}
-use Rattle.record_ledger.specs.Steps.{Reaches, Rises, NotAfter, NoneJoinable}
-use Rattle.record_ledger.specs.Steps.Reaches.{moved}
+use Rattle.flow_parts.specs.Reaching.{Reaches}
+use Rattle.record_ledger.specs.Steps.{Rises, NotAfter, NoneJoinable}
+use Rattle.flow_parts.specs.Reaching.Reaches.{moved}
 use Rattle.record_ledger.proofs.Reaching.{stacked, packets_stacked, octets_stacked}
 use Rattle.record_ledger.proofs.Rising.{rises_settled, latest, alike, alike', none_taken, none_pushed}
 

@@ -53,10 +53,19 @@ abbrev pub HasReason : Timeouts → ℕ → FlowRecord → Option Fragment → T
 HasReason limits clock r next = r.reason ≡ reason_of limits clock r.part next
 
 -- The records are lawful for the packets: their fragments share out the packets, they stand in the written order, of
--- the records of one key no two neighbours are joinable, and each reason is right by the clock of the packets.
-pub record IsLawful (limits : Timeouts) (packets : List Packet) (records : List FlowRecord) : Type 0 where
+-- the records of one key no two neighbours are joinable, and each reason is right by every number that is the clock.
+pub record IsLawfulAt (limits : Timeouts) (IsNow : ℕ → Type 0) (packets : List Packet)
+    (records : List FlowRecord) : Type 0 where
   pub shared : SharesOut limits packets (parts_of records)
   pub ordered : IsSorted written_order records
   pub apart : (key : FlowKey) → EachWithNext (StandsApart limits) (of_key key records)
-  pub reasons : (clock : ℕ) → IsClock packets (Some clock) → (key : FlowKey)
+  pub reasons : (clock : ℕ) → IsNow clock → (key : FlowKey)
       → EachWithNext (HasReason limits clock) (of_key key records)
+
+-- Lawful, by a clock that is given: the latest time of all packets, where these are but some of them.
+abbrev pub IsLawfulBy : Timeouts → Option ℕ → List Packet → List FlowRecord → Type 0
+IsLawfulBy limits clock packets records = IsLawfulAt limits (λ now. clock ≡ Some now) packets records
+
+-- Lawful for just these packets: by their own clock.
+abbrev pub IsLawful : Timeouts → List Packet → List FlowRecord → Type 0
+IsLawful limits packets records = IsLawfulAt limits (λ now. IsClock packets (Some now)) packets records

@@ -1,6 +1,7 @@
 -- Laws about lawful lists.
-use Rattle.std.specs.Prelude.{◌≡◌, ℕ, List, All, AllPairs, IsPermutation, IsSorted}
+use Rattle.std.specs.Prelude.{◌≡◌, ◌≢◌, ◌↔◌, ℕ, List, ◌++◌, Option, All, AllPairs, IsPermutation, IsSorted}
 use Rattle.std.specs.declared.cmp.Ordering.TheVariants.{Less}
+use Rattle.packet_accept.specs.Clock.{IsClock}
 use Rattle.packet_accept.specs.declared.packet.Packet.{Packet}
 use Rattle.flow_parts.specs.declared.fragment.Fragment.{Fragment}
 use Rattle.flow_parts.specs.declared.timeouts.Timeouts.{Timeouts}
@@ -8,7 +9,7 @@ use Rattle.flow_parts.specs.Heap.{IsHeap}
 use Rattle.flow_parts.specs.Joining.{IsJoinable}
 use Rattle.record_ledger.specs.declared.record.FlowRecord.{FlowRecord}
 use Rattle.record_ledger.specs.Order.{written_order}
-use Rattle.record_ledger.specs.Lawful.{IsLawful}
+use Rattle.record_ledger.specs.Lawful.{IsLawful, IsLawfulBy}
 use Rattle.record_ledger.specs.Sessions.{IsSessions, key_then_time, cut, IsUncut, AreRecordsOf}
 
 -- Two fragments that stand for packets, of one key and with the same last time, are joinable.
@@ -16,6 +17,21 @@ abbrev pub TiesJoin : Type 0
 TiesJoin = (limits : Timeouts) (packets others : List Packet) (one other : Fragment)
     → IsHeap limits packets one → IsHeap limits others other
     → one.key ≡ other.key → one.last ≡ other.last → IsJoinable limits one other
+
+-- Records are lawful by the clock of the packets exactly where they are lawful for just these.
+abbrev pub OwnClockIsGiven : Type 0
+OwnClockIsGiven = (limits : Timeouts) (packets : List Packet) (clock : Option ℕ) (records : List FlowRecord)
+    → IsClock packets clock → IsLawfulBy limits clock packets records ↔ IsLawful limits packets records
+
+-- Records that are lawful for some packets and records of other keys that are lawful for others, by one clock, are
+-- together, in the written order, lawful for all of these by it.
+abbrev pub LawfulTogether : Type 0
+LawfulTogether = (limits : Timeouts) (clock : Option ℕ) (packets others : List Packet)
+    (records rest both : List FlowRecord)
+    → IsLawfulBy limits clock packets records → IsLawfulBy limits clock others rest
+    → All (λ (r : FlowRecord). All (λ (s : FlowRecord). r.part.key ≢ s.part.key) rest) records
+    → IsPermutation (records ++ rest) both → IsSorted written_order both
+    → IsLawfulBy limits clock (packets ++ others) both
 
 -- In a lawful list each record comes strictly before those after it in the written order.
 abbrev pub HasNoTies : Type 0

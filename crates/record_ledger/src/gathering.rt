@@ -6,7 +6,7 @@ ghost use Rattle.flow_parts.specs.declared.fragment.Fragment.{Fragment};
 ghost use Rattle.flow_parts.specs.Sharing.{SharesOut};
 ghost use Rattle.record_ledger.specs.Regrouping.{Regroups};
 ghost use Rattle.packet_accept.specs.Clock.{IsClock};
-ghost use Rattle.record_ledger.specs.Lawful.{parts_of, IsLawful};
+ghost use Rattle.record_ledger.specs.Lawful.{parts_of, IsLawful, IsLawfulBy};
 ghost use Rattle.record_ledger.specs.Sessions.{IsSessions, IsUncut, AreRecordsOf};
 
 use crate::joining::join_neighbours;
@@ -25,7 +25,8 @@ use std::alloc::Global;
 /// last packet, or where there is none and `clock` is more than the idle time-out after it;
 /// [`ACTIVE_TIMEOUT`](crate::ACTIVE_TIMEOUT) where the next record of its key begins sooner; and else
 /// [`FORCED_END`](crate::FORCED_END). The records stand in the written order, by last time, then by key. `clock` is the
-/// time of the latest packet of all, in milliseconds; `None` without a packet.
+/// time of the latest packet of all, in milliseconds; `None` without a packet. It is taken as given, also where `parts`
+/// are but some of the fragments: those of some keys, of which all are there.
 ///
 /// It takes the time of sorting. Beside `parts` it holds the list of records alone: the parts are copied into it, and
 /// it is sorted, joined and sorted again in place.
@@ -42,6 +43,8 @@ pub fn gather(
     requires packets { sum_by (λ (f : Fragment). f.packets) parts.now < 2 ^ 64 }
     requires octets { sum_by (λ (f : Fragment). f.octets) parts.now < 2 ^ 64 }
     ensures regroups { IfOk result (λ records. Regroups parts.now records.items) }
+    ensures lawful_by { IfOk result (λ records. (packets : List Packet) → SharesOut timeouts packets parts.now
+        → IsLawfulBy timeouts clock packets records.items) }
     ensures lawful { IfOk result (λ records. (packets : List Packet) → SharesOut timeouts packets parts.now
         → IsClock packets clock → IsLawful timeouts packets records.items) }
     ensures sessions { IfOk result (λ records. (packets : List Packet) → SharesOut timeouts packets parts.now

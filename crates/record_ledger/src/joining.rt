@@ -5,7 +5,8 @@ ghost use Rattle.std.specs.Prelude.{All, slice_index_or};
 ghost use Rattle.flow_parts.specs.declared.fragment.Fragment.{Fragment};
 ghost use Rattle.flow_parts.specs.Joining.{IsJoinable};
 ghost use Rattle.record_ledger.specs.Lawful.{parts_of};
-ghost use Rattle.record_ledger.specs.Steps.{Reaches, NoneJoinable, Rises, NotAfter};
+ghost use Rattle.flow_parts.specs.Reaching.{Reaches};
+ghost use Rattle.record_ledger.specs.Steps.{NoneJoinable, Rises, NotAfter};
 
 use crate::record::FlowRecord;
 use flow_parts::{Fragment, Timeouts};

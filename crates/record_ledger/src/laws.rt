@@ -1,6 +1,6 @@
 //! Laws about lawful lists, for any packets and records. These functions do nothing; each contract is a law.
 ghost use Rattle.record_ledger.specs.Laws.{TiesJoin, HasNoTies, CutsAreSessions, HaveSessions, LawfulAreSessions};
-ghost use Rattle.record_ledger.specs.Laws.{RecordsAreOne, LawfulIsOne};
+ghost use Rattle.record_ledger.specs.Laws.{RecordsAreOne, LawfulIsOne, OwnClockIsGiven, LawfulTogether};
 
 /// Two fragments of one key with the same last time are always joinable, where each stands for packets of its own. So
 /// no two records of a lawful list tie in the written order.
@@ -17,4 +17,11 @@ pub fn lawful_lists_are_sessions()
     ensures lawful { LawfulAreSessions }
     ensures one { RecordsAreOne }
     ensures unique { LawfulIsOne }
+{}
+
+/// Where lists are gathered from the fragments of some keys each, by the clock of all packets: put together in the
+/// written order they are lawful for all packets. And to be lawful by the clock of just these packets is to be lawful.
+pub fn lawful_lists_go_together()
+    ensures own_clock { OwnClockIsGiven }
+    ensures together { LawfulTogether }
 {}

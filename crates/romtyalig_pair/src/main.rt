@@ -4,20 +4,21 @@
 
 use biflow_pair::{PairStatus, run_pair};
 use meter_io::{StdSink, StdSource};
-use std::alloc::Global;
+use std::alloc::{AllocError, Global};
 use std::env;
 use std::io::ErrorKind;
 use std::process::ExitCode;
 
-/// The words behind the program's name. A word that isn't UTF-8 is a faulty command line.
+/// The words behind the program's name. A word that isn't UTF-8 is a faulty command line; out of memory is what the
+/// error says it is.
 fn words_of(rt: &HostRuntime) -> Result<Vec<String>, PairStatus> {
     match env::args(rt) {
         Ok(words) => words
             .skip(1)
             .collect(rt.alloc())
-            .map_err(|_| PairStatus::NoMemory),
-        Err(error) if error.kind() == ErrorKind::InvalidData => Err(PairStatus::Usage),
-        Err(_) => Err(PairStatus::NoMemory),
+            .map_err(|_error: AllocError| PairStatus::NoMemory),
+        Err(error) if error.kind() == ErrorKind::OutOfMemory => Err(PairStatus::NoMemory),
+        Err(_) => Err(PairStatus::Usage),
     }
 }
 

@@ -4,23 +4,21 @@
 
 use meter_io::{StdSink, StdSource};
 use pcapng_reader::{PngStatus, run_png};
-use std::alloc::Global;
+use std::alloc::{AllocError, Global};
 use std::env;
 use std::io::ErrorKind;
 use std::process::ExitCode;
 
-#[cfg(test)]
-mod tests;
-
-/// The words behind the program's name. A word that isn't UTF-8 is a faulty command line.
+/// The words behind the program's name. A word that isn't UTF-8 is a faulty command line; out of memory is what the
+/// error says it is.
 fn words_of(rt: &HostRuntime) -> Result<Vec<String>, PngStatus> {
     match env::args(rt) {
         Ok(words) => words
             .skip(1)
             .collect(rt.alloc())
-            .map_err(|_| PngStatus::NoMemory),
-        Err(error) if error.kind() == ErrorKind::InvalidData => Err(PngStatus::Usage),
-        Err(_) => Err(PngStatus::NoMemory),
+            .map_err(|_error: AllocError| PngStatus::NoMemory),
+        Err(error) if error.kind() == ErrorKind::OutOfMemory => Err(PngStatus::NoMemory),
+        Err(_) => Err(PngStatus::Usage),
     }
 }
 

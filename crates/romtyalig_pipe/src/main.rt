@@ -7,20 +7,21 @@ use meter_io::{StdSink, StdSource};
 use meter_program::Status;
 use meter_workers::OpenGate;
 use pipe_program::{pipe_line, run_pipe};
-use std::alloc::Global;
+use std::alloc::{AllocError, Global};
 use std::env;
 use std::io::ErrorKind;
 use std::process::ExitCode;
 
-/// The words behind the program's name. A word that isn't UTF-8 is a faulty command line.
+/// The words behind the program's name. A word that isn't UTF-8 is a faulty command line; out of memory is what the
+/// error says it is.
 fn words_of(rt: &HostRuntime) -> Result<Vec<String>, Status> {
     match env::args(rt) {
         Ok(words) => words
             .skip(1)
             .collect(rt.alloc())
-            .map_err(|_| Status::NoMemory),
-        Err(error) if error.kind() == ErrorKind::InvalidData => Err(Status::Usage),
-        Err(_) => Err(Status::NoMemory),
+            .map_err(|_error: AllocError| Status::NoMemory),
+        Err(error) if error.kind() == ErrorKind::OutOfMemory => Err(Status::NoMemory),
+        Err(_) => Err(Status::Usage),
     }
 }
 

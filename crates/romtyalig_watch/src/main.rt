@@ -4,21 +4,22 @@
 
 use meter_io::{StdSink, StdSource};
 use meter_workers::OpenGate;
-use std::alloc::Global;
+use std::alloc::{AllocError, Global};
 use std::env;
 use std::io::ErrorKind;
 use std::process::ExitCode;
 use watch_program::{WatchStatus, run_watch};
 
-/// The words behind the program's name. A word that isn't UTF-8 is a faulty command line.
+/// The words behind the program's name. A word that isn't UTF-8 is a faulty command line; out of memory is what the
+/// error says it is.
 fn words_of(rt: &HostRuntime) -> Result<Vec<String>, WatchStatus> {
     match env::args(rt) {
         Ok(words) => words
             .skip(1)
             .collect(rt.alloc())
-            .map_err(|_| WatchStatus::NoMemory),
-        Err(error) if error.kind() == ErrorKind::InvalidData => Err(WatchStatus::Usage),
-        Err(_) => Err(WatchStatus::NoMemory),
+            .map_err(|_error: AllocError| WatchStatus::NoMemory),
+        Err(error) if error.kind() == ErrorKind::OutOfMemory => Err(WatchStatus::NoMemory),
+        Err(_) => Err(WatchStatus::Usage),
     }
 }
 

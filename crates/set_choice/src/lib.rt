@@ -11,7 +11,5 @@
 #![tactic(auto)]
 
 mod by_words;
-#[cfg(test)]
-mod tests;
 
 pub use by_words::{WordChoice, choose_by_words, has_words, join_content, put_out};

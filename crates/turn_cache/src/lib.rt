@@ -20,8 +20,6 @@ mod metering;
 mod open;
 mod rule;
 mod steps;
-#[cfg(test)]
-mod tests;
 
 pub use cache::{TurnCache, TurnPass};
 pub use cache_face::NoMemory;

@@ -33,8 +33,6 @@ mod lines;
 mod running;
 mod settings;
 mod status;
-#[cfg(test)]
-mod tests;
 mod total;
 mod watching;
 mod words;

@@ -12,8 +12,6 @@
 mod piece;
 mod pieces;
 mod rule;
-#[cfg(test)]
-mod tests;
 mod views;
 
 pub use no_memory::NoMemory;

@@ -1,59 +1,10 @@
--- The flow records of the stream, their pairs, and the layout of these.
-use Rattle.std.proofs.Common.{◌≡◌, ◌≤◌, ◌/◌, ◌%◌, ◌^◌, ◌∙◌, ℕ, List, Some, Ok, sym, ap, subst, arith, refl}
-use Rattle.std.specs.Option.{option_and_then}
-use Rattle.std.specs.Result.{result_ok}
-use Rattle.record_ledger.specs.declared.record.FlowRecord.{FlowRecord}
-use Rattle.ipfix_model.specs.declared.values.DataRecord.{DataRecord}
-use Rattle.ipfix_reader.specs.Messages.{decode}
-use Rattle.ipfix_reader.specs.Flows.{flows_in, flows_of}
-use Rattle.biflow_pair.specs.declared.biflow.Biflow.{Biflow}
-use Rattle.biflow_pair.specs.Pairs.{ArePairs, members}
-use Rattle.std.specs.List.Sorted.{IsPermutation}
+-- What was paired, laid out.
+use Rattle.std.proofs.Common.{arith, subst}
 use Rattle.biflow_pair.specs.BiLayout.{IsBiLayout}
-use Rattle.biflow_pair.specs.Pairing.{greatest_last, bi_export_time, IsPaired}
-use Rattle.biflow_pair.proofs.BiStreams.{biflows-back}
-use Rattle.biflow_pair.proofs.Valid.{pairs-valid}
 use Rattle.biflow_pair.proofs.stream.pair_stream.Goals as goal
-
-read-all : (stream : List ℕ) (records seen : List DataRecord) (flows : List FlowRecord) → decode stream ≡ Ok records
-    → seen ≡ records
-    → flows_in seen ≡ Some flows → flows_of stream ≡ Some flows
-unfolding flows_of
-read-all stream records seen flows decoded seen_is are =
-    ap (λ read. option_and_then flows_in (result_ok read)) decoded ∙ ap flows_in (sym seen_is) ∙ are
-
-paired-all : (idle size : ℕ) (stream written : List ℕ) (flows seen : List FlowRecord) (pairs listed : List Biflow)
-    (greatest seconds : ℕ) → size ≤ 65535
-    → flows_of stream ≡ Some flows → seen ≡ flows → ArePairs idle seen pairs → IsPermutation seen (members pairs)
-    → listed ≡ pairs → greatest ≡ greatest_last seen
-    → seconds ≡ greatest / 1000 % 2 ^ 32 → IsBiLayout size seconds listed written → IsPaired idle size stream written
-paired-all idle size stream written flows seen pairs listed greatest seconds small read seen_is are once listed_is
-    greatest_is seconds_is layout =
-    let paired : ArePairs idle flows pairs = subst (λ fs. ArePairs idle fs pairs) seen_is are in
-    let time : seconds ≡ bi_export_time flows =
-    seconds_is ∙ ap (λ n. n / 1000 % 2 ^ 32) (greatest_is ∙ ap greatest_last seen_is) in
-    let laid : IsBiLayout size (bi_export_time flows) pairs written =
-    subst (λ t. IsBiLayout size t pairs written) time
-    (subst (λ ps. IsBiLayout size seconds ps written) listed_is layout) in
-    record {
-      flows = flows;
-      read = read;
-      pairs = pairs;
-      are_pairs = paired;
-      each_once = subst (λ fs. IsPermutation fs (members pairs)) seen_is once;
-      layout = laid;
-      decoded = biflows-back size (bi_export_time flows) pairs written small
-          (pairs-valid idle paired.ordered pairs paired.paired) laid;
-    }
 
 pub returns-in-Ok-bi_layout-clause-paired : goal.returns-in-Ok-bi_layout-clause-paired
 returns-in-Ok-bi_layout-clause-paired c =
-    paired-all c.args.idle c.args.size c.args.stream.now c.in-Ok-bi_layout.written.items c.in-Ok-flows_of.flows.items
-    c.as_slice-2.result.now
-    c.in-Ok-pair.pairs.items c.as_slice-4.result.now c.greatest_last.result _ (omega (arith, c.requires.size))
-    (read-all c.args.stream.now c.in-Ok.records.items c.as_slice.result.now c.in-Ok-flows_of.flows.items
-    c.in-Ok.ensures.records c.as_slice.ensures.value
-    c.in-Ok-flows_of.ensures.flows)
-    c.as_slice-2.ensures.value c.in-Ok-pair.ensures.pairs c.in-Ok-pair.ensures.each_once c.as_slice-4.ensures.value
-    (c.greatest_last.ensures ∙ ap greatest_last (c.as_slice-3.ensures.value ∙ sym c.as_slice-2.ensures.value)) refl
-    c.in-Ok-bi_layout.ensures
+    c.in-Ok.ensures.paired c.args.size c.in-Ok-bi_layout.written.items (omega (arith, c.requires.size))
+    (subst (λ pairs. IsBiLayout c.args.size c.in-Ok.paired.seconds pairs c.in-Ok-bi_layout.written.items)
+    c.as_slice.ensures.value c.in-Ok-bi_layout.ensures)

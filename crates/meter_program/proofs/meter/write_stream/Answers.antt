@@ -5,31 +5,31 @@ use Rattle.meter_program.proofs.meter.write_stream.Goals as goal
 
 pub returns-in-Err : goal.returns-in-Err
 returns-in-Err g c =
-    let h = c.in-Err.ensures.prefix in
-    wrote-some c.args.size c.args.gathered.now.records.items c.args.gathered.now.tally c.args.gathered.now.tail
-    c.in-Ok.stream.messages h.0
-    c.in-Ok.stream.octets.held c.held.result.now
-    (side g.K.Sink.held g.K.Sink.faults c.args.output.now c.write_all.new.sink)
-    (side g.N.Sink.held g.N.Sink.faults c.args.notes.now c.args.notes.now) c.held.ensures c.in-Ok.ensures h.2
+    let h = c.in-Err.ensures.begun in
+    wrote-some c.in-Ok.emitter.size c.args.size c.args.gathered.now.records.items c.args.gathered.now.tally
+    c.args.gathered.now.tail h.1 h.0
+    (side g.K.Sink.held g.K.Sink.faults c.args.output.now c.emit.new.sink)
+    (side g.N.Sink.held g.N.Sink.faults c.args.notes.now c.args.notes.now) c.in-Ok.ensures.size h.3 h.2
     c.in-Err.ensures.cause.failed refl
 
 pub returns-in-Ok-summary : goal.returns-in-Ok-summary
 returns-in-Ok-summary g c =
-    wrote-both c.args.size c.args.gathered.now.records.items c.args.gathered.now.tally c.args.gathered.now.tail
-    c.len-flows.result c.in-Ok.stream.messages
-    c.in-Ok.stream.octets.held c.held.result.now
-    (side g.K.Sink.held g.K.Sink.faults c.args.output.now c.write_all.new.sink)
+    let h = c.in-Ok-emit.ensures.written in
+    wrote-both c.in-Ok.emitter.size c.args.size c.args.gathered.now.records.items c.args.gathered.now.tally
+    c.args.gathered.now.tail
+    c.len-flows.result c.in-Ok-emit.messages h.0
+    (side g.K.Sink.held g.K.Sink.faults c.args.output.now c.emit.new.sink)
     (side g.N.Sink.held g.N.Sink.faults c.args.notes.now c.summary.new.notes)
-    (c.len-flows.ensures ∙ c.args.gathered.now.records.ok.0)
-    c.held.ensures c.in-Ok.ensures c.in-Ok-write_all.ensures.whole c.in-Ok-summary.ensures.whole
+    (c.len-flows.ensures ∙ c.args.gathered.now.records.ok.0) c.in-Ok.ensures.size
+    h.2 h.1 c.in-Ok-summary.ensures.whole
 
-pub returns : goal.returns
-returns g c =
-    wrote-first c.args.size c.args.gathered.now.records.items c.args.gathered.now.tally c.args.gathered.now.tail
-    c.len-flows.result c.in-Ok.stream.messages
-    c.in-Ok.stream.octets.held c.held.result.now
-    (side g.K.Sink.held g.K.Sink.faults c.args.output.now c.write_all.new.sink)
+pub returns-in-Err-summary : goal.returns-in-Err-summary
+returns-in-Err-summary g c =
+    let h = c.in-Ok-emit.ensures.written in
+    wrote-first c.in-Ok.emitter.size c.args.size c.args.gathered.now.records.items c.args.gathered.now.tally
+    c.args.gathered.now.tail
+    c.len-flows.result c.in-Ok-emit.messages h.0
+    (side g.K.Sink.held g.K.Sink.faults c.args.output.now c.emit.new.sink)
     (side g.N.Sink.held g.N.Sink.faults c.args.notes.now c.summary.new.notes)
-    (c.len-flows.ensures ∙ c.args.gathered.now.records.ok.0)
-    c.held.ensures c.in-Ok.ensures c.in-Ok-write_all.ensures.whole c.in-Err-summary.ensures.begun
-    c.in-Err-summary.ensures.cause.failed
+    (c.len-flows.ensures ∙ c.args.gathered.now.records.ok.0) c.in-Ok.ensures.size
+    h.2 h.1 c.in-Err-summary.ensures.begun c.in-Err-summary.ensures.cause.failed

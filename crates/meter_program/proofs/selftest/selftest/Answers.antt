@@ -31,14 +31,15 @@ returns-in-Ok-summary g c = λ input notes still quiet. record {
   noted = [];
   answer = tested c.args.settings.now.seed c.args.settings.now.packets c.args.settings.now.keys
       c.four_workers-settings.result.idle c.four_workers-settings.result.active
-      c.four_workers-settings.result.size c.len-flows.result _ c.as_slice.result.now
+      c.in-Ok-emitter_for.emitter.size c.len-flows.result _ c.as_slice.result.now
       (g.M.Caches.metered c.gathered_from.new.caches) c.in-Ok-gathered_from.gathered.records.items
-      c.in-Ok-gathered_from.gathered.tally c.in-Ok-gathered_from.gathered.tail c.in-Ok-stream_of.stream.messages
-      c.in-Ok-stream_of.stream.octets.held
-      c.four_workers-settings.ensures.idle c.four_workers-settings.ensures.active c.four_workers-settings.ensures.size
+      c.in-Ok-gathered_from.gathered.tally c.in-Ok-gathered_from.gathered.tail c.in-Ok-emit.messages
+      c.in-Ok-emit.ensures.written.0
+      c.four_workers-settings.ensures.idle c.four_workers-settings.ensures.active
+      (c.in-Ok-emitter_for.ensures.size ∙ c.four_workers-settings.ensures.size)
       (c.len-flows.ensures ∙ c.in-Ok-gathered_from.gathered.records.ok.0) refl
       (c.as_slice.ensures.value ∙ c.in-Ok.ensures.octets) c.in-Ok-gathered_from.ensures.records
-      c.in-Ok-stream_of.ensures;
+      c.in-Ok-emit.ensures.written.2;
   output = c.in-Ok-summary.ensures.whole;
   notes = quiet;
 }
@@ -51,14 +52,15 @@ returns g c = λ input notes still quiet. record {
   noted = [];
   answer = tested c.args.settings.now.seed c.args.settings.now.packets c.args.settings.now.keys
       c.four_workers-settings.result.idle c.four_workers-settings.result.active
-      c.four_workers-settings.result.size c.len-flows.result _ c.as_slice.result.now
+      c.in-Ok-emitter_for.emitter.size c.len-flows.result _ c.as_slice.result.now
       (g.M.Caches.metered c.gathered_from.new.caches) c.in-Ok-gathered_from.gathered.records.items
-      c.in-Ok-gathered_from.gathered.tally c.in-Ok-gathered_from.gathered.tail c.in-Ok-stream_of.stream.messages
-      c.in-Ok-stream_of.stream.octets.held
-      c.four_workers-settings.ensures.idle c.four_workers-settings.ensures.active c.four_workers-settings.ensures.size
+      c.in-Ok-gathered_from.gathered.tally c.in-Ok-gathered_from.gathered.tail c.in-Ok-emit.messages
+      c.in-Ok-emit.ensures.written.0
+      c.four_workers-settings.ensures.idle c.four_workers-settings.ensures.active
+      (c.in-Ok-emitter_for.ensures.size ∙ c.four_workers-settings.ensures.size)
       (c.len-flows.ensures ∙ c.in-Ok-gathered_from.gathered.records.ok.0) refl
       (c.as_slice.ensures.value ∙ c.in-Ok.ensures.octets) c.in-Ok-gathered_from.ensures.records
-      c.in-Ok-stream_of.ensures;
+      c.in-Ok-emit.ensures.written.2;
   output = inr (c.in-Err-summary.ensures.begun, c.in-Err-summary.ensures.cause.failed);
   notes = none-begun notes [] quiet.bytes;
   cause = (c.in-Err-summary.ensures.cause.failed, quiet);

@@ -7,12 +7,13 @@ use Rattle.flow_parts.specs.declared.fragment.Fragment.{Fragment}
 use Rattle.flow_parts.specs.declared.timeouts.Timeouts.{Timeouts}
 use Rattle.record_ledger.specs.declared.record.FlowRecord.{FlowRecord}
 use Rattle.record_ledger.specs.Lawful.{parts_of, reason_of}
-use Rattle.record_ledger.specs.Steps.{Reaches, Rises, NotAfter, NoneJoinable, next_of_key}
-use Rattle.record_ledger.specs.Steps.Reaches.{moved, onward}
-use Rattle.record_ledger.proofs.Gathered.{regrouped, lawful}
+use Rattle.flow_parts.specs.Reaching.{Reaches}
+use Rattle.record_ledger.specs.Steps.{Rises, NotAfter, NoneJoinable, next_of_key}
+use Rattle.flow_parts.specs.Reaching.Reaches.{moved, onward}
+use Rattle.record_ledger.proofs.Gathered.{regrouped, lawful_by, by_own_clock}
 use Rattle.record_ledger.proofs.Keyed.{part_of, rises_of_map}
 use Rattle.record_ledger.proofs.Matched.{lawful_are_sessions}
-use Rattle.record_ledger.proofs.Reaching.{same_packets, same_octets}
+use Rattle.flow_parts.proofs.Reaching.{same_packets, same_octets}
 use Rattle.record_ledger.proofs.Rising.{by_key_weak, rises_from_sorted}
 use Rattle.record_ledger.proofs.gathering.gather.Goals as goal
 
@@ -72,13 +73,13 @@ returns-clause-regroups c =
     c.join_neighbours.new.records.ok.0 c.deref_mut.ensures.value c.give_reasons.ensures.parts
     c.sort_by_last.ensures.permutation)
 
-pub returns-clause-lawful : goal.returns-clause-lawful
-returns-clause-lawful c =
+pub returns-clause-lawful_by : goal.returns-clause-lawful_by
+returns-clause-lawful_by c =
     let given : List FlowRecord = c.give_reasons.new.records in
     let written : List FlowRecord = c.sort_by_last.new.records.items in
     let same : parts_of c.join_neighbours.new.records.items ≡ parts_of given =
     sym (c.give_reasons.ensures.parts ∙ ap parts_of c.deref_mut.ensures.value) in
-    lawful c.args.timeouts c.args.clock c.args.parts.now (parts_of given) given written refl
+    λ packets shares. lawful_by c.args.timeouts c.args.clock c.args.parts.now (parts_of given) given written refl
     (joined_parts c.args.timeouts c.args.parts.now c.in_ok-records.records.items c.sort_by_key.new.records.items
     c.join_neighbours.new.records.items c.deref_mut.result.now given
     c.in_ok-records.ensures c.sort_by_key.ensures.permutation c.join_neighbours.ensures.reached
@@ -92,7 +93,12 @@ returns-clause-lawful c =
     (given_back _ c.join_neighbours.new.records.items c.deref_mut.result.now given written
     c.join_neighbours.new.records.ok.0 c.deref_mut.ensures.value c.give_reasons.ensures.parts
     c.sort_by_last.ensures.permutation)
-    c.sort_by_last.ensures.order
+    c.sort_by_last.ensures.order packets shares
+
+pub returns-clause-lawful : goal.returns-clause-lawful
+returns-clause-lawful c = λ packets shares at.
+    (by_own_clock c.args.timeouts packets c.args.clock c.sort_by_last.new.records.items at).0
+    (returns-clause-lawful_by c packets shares)
 
 pub returns-clause-sessions : goal.returns-clause-sessions
 returns-clause-sessions c = λ packets shares at sessions is uncut.

@@ -6,8 +6,8 @@ use Rattle.flow_parts.specs.declared.fragment.Fragment.{Fragment}
 use Rattle.flow_parts.specs.Joining.{IsJoinable}
 use Rattle.record_ledger.specs.declared.record.FlowRecord.{FlowRecord}
 use Rattle.record_ledger.specs.Lawful.{parts_of}
-use Rattle.record_ledger.specs.Steps.{Reaches}
-use Rattle.record_ledger.specs.Steps.Reaches.{moved}
+use Rattle.flow_parts.specs.Reaching.{Reaches}
+use Rattle.flow_parts.specs.Reaching.Reaches.{moved}
 use Rattle.record_ledger.proofs.InPlace.{top_of, top_split}
 use Rattle.record_ledger.proofs.Reaching.{taken_on, packets_fit, octets_fit, front_holds}
 use Rattle.record_ledger.proofs.joining.settle.Goals as goal

@@ -1,7 +1,7 @@
 -- The part and the stack have become the fragment and what is left of the stack.
 use Rattle.std.proofs.Common.{◌≡◌, ◌≤◌, ◌∷◌, take, length}
 use Rattle.record_ledger.specs.Lawful.{parts_of}
-use Rattle.record_ledger.specs.Steps.{Reaches}
+use Rattle.flow_parts.specs.Reaching.{Reaches}
 use Rattle.record_ledger.proofs.joining.settle.Given as goal
 
 abbrev pub invariant-loop-top : goal.invariant-loop-top

@@ -32,7 +32,7 @@ invariant_of-self c =
     (sym c.self.view_is) in
     let size : c.args.self.now.size ≡ c.self.inside.size = ap (λ (e : EmitterState). e.size) (sym c.self.view_is) in
     let fits : c.args.length ≤ c.self.inside.size = omega (arith, c.requires.fits, size) in
-    keeps-more _ _ _ _ _ _ _ _ _ _ _ _ _ c.args.flow.now c.self.invariant
+    keeps-more _ _ _ _ _ _ _ _ _ _ _ _ _ _ c.args.flow.now c.self.invariant
     (ap (λ (e : EmitterState). e.phase) c.self.view_is ∙ c.requires.started)
     (c.push.ensures.items ∙ pushed c.push.result _ _ (ap is_ok c.unwrap.ensures)) exact fits c.template.ensures
     (c.push.ensures.capacity)

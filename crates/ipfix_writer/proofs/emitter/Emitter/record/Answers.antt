@@ -1,7 +1,6 @@
-use Rattle.std.proofs.Common.{◌∙◌, ◌≤◌, ◌<◌, ap, sym, subst, arith, ℕ, List, [], ◌∷◌, ◌++◌, take}
+use Rattle.std.proofs.Common.{◌∙◌, ◌≤◌, ◌<◌, ap, sym, subst, arith, ℕ, List, [], ◌∷◌, ◌++◌}
 use Rattle.std.proofs.KnownBytes.{Appends-nil}
-use Rattle.ipfix_writer.specs.Encoding.{message}
-use Rattle.ipfix_writer.specs.Layout.{body_of, message_length}
+use Rattle.ipfix_writer.specs.Layout.{message_length}
 use Rattle.ipfix_writer.specs.Emitting.{EmitterState, IsUnderWay}
 use Rattle.ipfix_writer.proofs.UnderWay.{under_way-more, under_way-next, begins-next}
 use Rattle.ipfix_writer.proofs.Filling.{alone-fits}
@@ -34,11 +33,12 @@ returns-in-Ok-clause-taken g c =
     let now = c.args.self.now in
     let size = ap (λ (e : EmitterState). e.size) c.self.view_is in
     let full : now.size < message_length (now.waiting ++ c.args.flow.now ∷ []) =
-    omega (arith, c.if-longer-self.false, c.length_with-longer.ensures, size) in (
-      message now.export_time now.sequence (body_of now.waiting),
-      c.in-Ok.ensures.written,
-      under_way-next now c.keep-in-Ok.new.self flows written c.args.flow.now
-          (omega (arith, c.self.invariant.least, size)) way full
+    omega (arith, c.if-longer-self.false, c.length_with-longer.ensures, size) in
+    let passed = c.in-Ok.ensures.written in (
+      passed.taken,
+      passed.appended,
+      under_way-next now c.keep-in-Ok.new.self flows written passed.taken c.flush.new.self.held c.args.flow.now
+          (omega (arith, c.self.invariant.least, size)) way full passed.whole
           (c.keep-in-Ok.ensures ∙ ap (λ (e : EmitterState). record e { waiting = e.waiting ++ c.args.flow.now ∷ [] })
           c.in-Ok.ensures.after),
     )
@@ -50,7 +50,7 @@ returns-in-Err-clause-broken g c =
     let size = ap (λ (e : EmitterState). e.size) c.self.view_is in
     let full : now.size < message_length (now.waiting ++ c.args.flow.now ∷ []) =
     omega (arith, c.if-longer-self.false, c.length_with-longer.ensures, size) in
-    let count = c.in-Err.ensures.prefix.0 in
-    let begins = λ (rest : List FlowRecord). begins-next now flows written c.args.flow.now rest count
-    (omega (arith, c.self.invariant.least, size)) way full in
-    (take count (message now.export_time now.sequence (body_of now.waiting)), c.in-Err.ensures.prefix.1, begins)
+    let cut = c.in-Err.ensures.cut in
+    let begins = λ (rest : List FlowRecord). begins-next now flows written cut.1.taken cut.0 c.args.flow.now rest
+    (omega (arith, c.self.invariant.least, size)) way full cut.1.whole in
+    (cut.1.taken, cut.1.appended, begins)

@@ -1,0 +1,90 @@
+#!/bin/bash
+# The Debian package of packaging/deb.sh: what is in it, that it runs, and what lintian says.
+#
+#     checks/deb.sh
+#
+# The package is built and unpacked into a folder. There the programs meter the sample capture, which must give the stream that
+# the programs of bin/ give, and the examples of the package print and draw it. Each program has its page and its completions,
+# and the pages have the version of the package. lintian must find no error and no warning. Two builds must be the same, byte for
+# byte. One line for each; a program that is missing (dpkg-deb, strip; lintian) is skipped with one line. The status is not 0
+# where anything differs.
+set -u
+
+top=$(dirname "$(cd "$(dirname "$0")" && pwd)")
+export LC_ALL=C
+for needed in dpkg-deb strip make; do
+    if ! command -v "$needed" >/dev/null; then
+        echo "skipped: no $needed (packages dpkg, binutils, make)"
+        exit 0
+    fi
+done
+if [ ! -x "$top/bin/romtyalig" ]; then
+    echo "no program at $top/bin/romtyalig" >&2
+    exit 2
+fi
+
+work=$(mktemp -d) || exit 2
+trap 'rm -rf "$work"' EXIT
+trap 'exit 2' HUP INT TERM
+cd "$work" || exit 2
+differ=0
+row() {
+    if "$2" >said 2>&1; then
+        echo "same: $1"
+    else
+        echo "DIFFERS: $1"
+        sed 's/^/    /' said | head -n 20
+        differ=$((differ + 1))
+    fi
+}
+
+built() { package=$("$top/packaging/deb.sh" "$work/once") && dpkg-deb -x "$package" "$work/root" && [ -s "$package" ]; }
+again() { cmp "$("$top/packaging/deb.sh" "$work/twice")" "$package"; }
+sample() {
+    local capture=root/usr/share/doc/romtyalig/examples/web-exchange.pcap
+    root/usr/bin/romtyalig meter <"$capture" >flows.ipfix && "$top/bin/romtyalig" meter <"$capture" | cmp - flows.ipfix &&
+        root/usr/bin/romtyalig-pair pair <flows.ipfix >biflows.ipfix && [ -s biflows.ipfix ]
+}
+named() {
+    root/usr/bin/romtyalig show <flows.ipfix >lines && root/usr/share/doc/romtyalig/examples/named.py <lines >names &&
+        [ "$(grep -c '^sourceIPv4Address=' names)" -eq 4 ]
+}
+report() { root/usr/share/doc/romtyalig/examples/report.sh flows.ipfix biflows.ipfix | grep -q '</html>'; }
+pages() {
+    local version program
+    version=$(sed -n 's/^Version: //p' "$top/packaging/control")
+    [ "$(dpkg-deb -f "$package" Version)" = "$version" ] || return 1
+    zcat root/usr/share/doc/romtyalig/changelog.gz | head -n 1 | grep -qF "($version)" || return 1
+    for program in root/usr/bin/*; do
+        zcat "root/usr/share/man/man1/$(basename "$program").1.gz" | grep -qFx ".Os Romtyalig $version" ||
+            { echo "$(basename "$program"): no page of this version"; return 1; }
+    done
+}
+completions() {
+    local program name options
+    for program in "$top"/completions/*.bash "$top"/completions/_*; do
+        name=$(basename "$program" .bash)
+        [ -s "root/usr/share/bash-completion/completions/$name" ] || [ -s "root/usr/share/zsh/vendor-completions/$name" ] ||
+            { echo "$name isn't there"; return 1; }
+    done
+    # shellcheck disable=SC2034 # the completions read it
+    options=$(find root/usr/share/zsh/vendor-completions root/usr/share/bash-completion/completions -type f | wc -l)
+    [ "$options" -eq "$(find "$top/completions" -type f | wc -l)" ]
+}
+clean() { timeout 300 lintian --allow-root --fail-on error,warning --tag-display-limit 0 "$package"; }
+
+row "the package is built" built
+if [ "$differ" -eq 0 ]; then
+    row "a second build" again
+    row "the sample by the programs of the package" sample
+    row "pages and version" pages
+    row "completions" completions
+    if command -v python3 >/dev/null; then row "named.py of the package" named; else echo "skipped: no python3"; fi
+    if command -v ipfix2csv >/dev/null && command -v mlr >/dev/null && command -v gnuplot >/dev/null; then
+        row "report.sh of the package" report
+    else
+        echo "skipped: no ipfix2csv, mlr or gnuplot"
+    fi
+    if command -v lintian >/dev/null; then row "lintian" clean; else echo "skipped: no lintian"; fi
+fi
+[ "$differ" -eq 0 ]

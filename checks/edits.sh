@@ -1,0 +1,57 @@
+#!/bin/sh
+# Tries all must-fail edits, those that the gate tries and the further ones: the checker must refuse each.
+#
+#     checks/edits.sh [CRATE]..
+#
+# Without words: the edits of all crates. What is committed is cloned into a temporary folder, where the edits of
+# crates/NAME/more-edits/ are laid beside those of crates/NAME/must-fail/; so nothing changes here. Crates are tried one after
+# another, with a line for each, and one that the checker doesn't refuse, or that can't be tried, is told. The last line counts; the
+# status is not 0 where an edit isn't refused. It takes hours where nothing is proved yet; this is no part of the gate.
+set -u
+
+top=$(dirname "$(cd "$(dirname "$0")" && pwd)")
+
+work=$(mktemp -d) || exit 2
+trap 'rm -rf "$work"' EXIT
+trap 'exit 2' HUP INT TERM
+
+git clone -q "$top" "$work/copy" && cd "$work/copy" || exit 2
+if [ $# -eq 0 ]; then
+    # shellcheck disable=SC2046 # names of crates, in the order of crates.txt
+    set -- $(sed -n 's/^\([a-z0-9_][a-z0-9_]*\).*:.*/\1/p' crates.txt)
+fi
+
+crates=0
+edits=0
+refused=0
+failed=0
+for name in "$@"; do
+    folder=crates/$name
+    if [ ! -d "$folder" ]; then
+        echo "no crate $name" >&2
+        exit 2
+    fi
+    for edit in "$folder"/more-edits/*.edit; do
+        [ -e "$edit" ] || continue
+        mkdir -p "$folder/must-fail"
+        if [ -e "$folder/must-fail/${edit##*/}" ]; then
+            echo "twice: $name/${edit##*/}"
+            failed=$((failed + 1))
+        fi
+        cp "$edit" "$folder/must-fail/"
+    done
+    [ -d "$folder/must-fail" ] || continue
+    rt must-fail "$name" >"$work/told" 2>&1 || failed=$((failed + 1))
+    grep -E 'NOT REFUSED|NOT TRIED|BAD EDIT' "$work/told"
+    own=$(find "$folder/must-fail" -name '*.edit' | wc -l)
+    own_refused=$(grep -c ': refused, as it must be' "$work/told")
+    if [ "$own_refused" -eq 0 ]; then
+        tail -n 5 "$work/told"
+    fi
+    echo "$name: $own_refused of $own refused"
+    crates=$((crates + 1))
+    edits=$((edits + own))
+    refused=$((refused + own_refused))
+done
+echo "$crates crates, $edits edits: $refused refused, $((edits - refused)) not"
+[ "$edits" -eq "$refused" ] && [ "$failed" -eq 0 ]

@@ -1,0 +1,10 @@
+use Rattle.std.proofs.Common.{◌≡◌, None}
+use Rattle.flow_watch.specs.Watching.{IsOf, held_by, note_of}
+use Rattle.bench_checks.proofs.asking.ask.Given as goal
+
+abbrev pub invariant-loop-turn : goal.invariant-loop-turn
+invariant-loop-turn l = record {
+  of : IsOf l.cache l.watcher;
+  idle : held_by l.watcher ≡ None;
+  note : note_of l.watcher ≡ note_of l.initial.watcher;
+}

@@ -1,0 +1,31 @@
+use Rattle.std.proofs.Common.{rules, ◌<◌, ap, sym, subst, arith}
+use Rattle.std.specs.Prelude.{All}
+use Rattle.packet_accept.specs.declared.packet.Packet.{Packet}
+use Rattle.cache_face.specs.Meaning.{PassMeans, IsFresh}
+use Rattle.cache_face.specs.Notes.{Note}
+use Rattle.meter_workers.proofs.Taken.{all_popped, all_pushed}
+use Rattle.bench_checks.specs.declared.runner.Runner.{Runner}
+use Rattle.bench_checks.specs.Going.{IsGoing}
+use Rattle.bench_checks.proofs.runner.runners_of.Goals as goal
+
+-- a fresh pass has metered nothing
+fresh-going : (pass : PassMeans) → IsFresh pass → IsGoing 0 pass
+fresh-going pass fresh = record {
+  single = ap (λ (n : Note). n.seats) fresh.0;
+  below = subst (All (λ (p : Packet). p.number < 0)) (sym (ap (λ (n : Note). n.packets) fresh.0))
+      (λ k d lt. omega (arith, lt));
+}
+
+pub loop-pass-preserved : goal.loop-pass-preserved
+loop-pass-preserved g c =
+    let Fresh : g.row.C-Pass.Denot → Type 0 =
+    λ p. g.C.FlowCache.is_of c.args.cache.now p × IsFresh (g.C.FlowCache.shown p) in
+    let Own : Runner g.row.C.Denot g.row.C-Pass.Denot → Type 0 =
+    λ r. g.C.FlowCache.is_of c.args.cache.now r.pass × IsGoing r.next (g.C.FlowCache.shown r.pass) in
+    let p = all_popped Fresh _ _ c.in-Some.pass c.loop-pass.invariant.left c.in-Some.ensures.items in
+    record {
+      left = p.0;
+      going = all_pushed Own _ _ _ c.loop-pass.invariant.going
+          (p.1.0, fresh-going (g.C.FlowCache.shown c.in-Some.pass) p.1.1) c.in_ok-push.ensures.items;
+      many = search rules;
+    }

@@ -1,0 +1,59 @@
+//! A cache whose passes are looked at behind each call.
+
+ghost use Rattle.bench_checks.specs.Looked.{means_of, shown_of, IsOf};
+ghost use Rattle.flow_cache.specs.Shown.{IsTryOf};
+
+use cache_face::{FlowCache, Metered, NoMemory};
+use flow_cache::{PebrCache, PebrPass};
+use flow_parts::Fragment;
+use packet_accept::Packet;
+use std::alloc::Global;
+
+/// A cache without turns.
+#[derive(Drop)]
+pub(crate) struct LookedCache {
+    pub(crate) inner: PebrCache,
+}
+
+/// A pass of it, and the most slots that it had retired behind any call so far.
+#[derive(Drop)]
+pub(crate) struct LookedPass {
+    pub(crate) inner: PebrPass,
+    pub(crate) most: usize,
+}
+
+impl FlowCache for LookedCache {
+    type Pass = LookedPass;
+
+    ghost means = { means_of };
+
+    ghost shown = { shown_of };
+
+    ghost is_of = { IsOf };
+
+    ghost is_try_of = { IsTryOf };
+
+    fn meter(&self, pass: &mut LookedPass, packet: &Packet) -> Metered {
+        let metered = self.inner.meter(&mut pass.inner, packet);
+        pass.most = pass.most.max(pass.inner.retired());
+        metered
+    }
+
+    fn unite(&self, first: LookedPass, second: LookedPass) -> LookedPass {
+        let LookedPass { inner, most } = first;
+        let LookedPass {
+            inner: other,
+            most: others,
+        } = second;
+        LookedPass {
+            inner: self.inner.unite(inner, other),
+            most: most.max(others),
+        }
+    }
+
+    fn close(self, alloc: Global, pass: LookedPass) -> Result<Vec<Fragment>, NoMemory> {
+        let LookedPass { inner, most: _ } = pass;
+        let LookedCache { inner: cache } = self;
+        cache.close(alloc, inner)
+    }
+}

@@ -1,0 +1,91 @@
+//! For `checks/two_threads.sh`: two threads meter the capture into one cache of four sets. Written is `whole` where the
+//! fragments have just the packets and octets of the tally, `differs` where they don't, and `not metered` where the
+//! capture isn't metered.
+
+ghost use Rattle.std.specs.Prelude.{◌<◌, ◌≤◌, ◌^◌, length};
+
+use cache_face::Caches;
+use flow_parts::{Fragment, Timeouts};
+use meter_io::{Source, StdSink, StdSource, read_all, write_all};
+use meter_workers::{OpenGate, Part, meter_all};
+use pcap_reader::{CAPTURE_LIMIT, Capture};
+use std::alloc::Global;
+use std::process::ExitCode;
+use std::thread::Threads;
+use turn_cache::TurnCaches;
+
+/// How many packets and octets there are.
+#[derive(Clone, Copy, PartialEq, Eq, Debug)]
+struct Counts {
+    packets: u64,
+    octets: u64,
+}
+
+/// Those of all fragments.
+fn counts_of(parts: &[Fragment]) -> Counts {
+    let mut counts = Counts {
+        packets: 0,
+        octets: 0,
+    };
+    for part in parts {
+        counts.packets = counts.packets.wrapping_add(part.packets);
+        counts.octets = counts.octets.wrapping_add(part.octets);
+    }
+    counts
+}
+
+/// Whether the fragments have the packets and the octets of the tally, and none where the capture isn't metered.
+fn is_whole<R: Threads + Sync>(rt: &R, alloc: Global, bytes: &[u8]) -> Option<bool>
+    requires { length bytes.now ≤ 2 ^ 30 }
+{
+    let capture = Capture::open(bytes).ok()?;
+    let index = capture.index(alloc).ok()?;
+    let mut caches = TurnCaches::new();
+    let (cache, passes) = caches.open(alloc, 4, 2, Timeouts::new(300, 1800)).ok()?;
+    let part = Part {
+        capture,
+        index: &index,
+        base: 0,
+    };
+    let gathered = meter_all(rt, alloc, &part, &cache, passes, 64, &OpenGate).ok()?;
+    caches
+        .close(alloc, cache, gathered.pass, gathered.parts)
+        .ok()?;
+    let tallied = Counts {
+        packets: gathered.tally.accepted,
+        octets: gathered.tally.octets,
+    };
+    Some(counts_of(caches.metered()) == tallied && tallied.packets > 0)
+}
+
+/// What becomes of the bytes of a source.
+fn check_source<R: Threads + Sync, S: Source>(
+    rt: &R,
+    alloc: Global,
+    input: &mut S,
+) -> Option<bool> {
+    let bytes = read_all(alloc, input, CAPTURE_LIMIT).ok()?;
+    is_whole(rt, alloc, bytes.as_slice())
+}
+
+/// Checks the capture of standard input; the words are `threads` alone.
+pub(crate) fn tell_threads<R: Threads + Sync>(
+    rt: &R,
+    host: &HostRuntime,
+    words: &[String],
+) -> ExitCode {
+    if words.len() != 1 {
+        return ExitCode::from(2);
+    }
+    let mut input = StdSource::new(host.stdin());
+    let mut output = StdSink::new(host.stdout());
+    let (line, code): (&[u8], u8) = match check_source(rt, host.alloc(), &mut input) {
+        Some(true) => (b"whole\n", 0),
+        Some(false) => (b"differs\n", 1),
+        None => (b"not metered\n", 1),
+    };
+    match write_all(&mut output, line) {
+        Ok(()) => ExitCode::from(code),
+        Err(_) => ExitCode::from(1),
+    }
+}

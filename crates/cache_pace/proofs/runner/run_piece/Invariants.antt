@@ -1,8 +1,0 @@
-use Rattle.cache_pace.specs.Going.{IsGoing}
-use Rattle.cache_pace.proofs.runner.run_piece.Given as goal
-
-abbrev pub invariant-loop-packet : goal.invariant-loop-packet
-invariant-loop-packet g l = record {
-  own : g.C.FlowCache.is_of l.cache l.runner.pass;
-  going : IsGoing l.runner.next (g.C.FlowCache.shown l.runner.pass);
-}

@@ -1,0 +1,62 @@
+-- A stream of flow records has no fault, and no record that is no flow.
+use Rattle.std.proofs.Common.{◌≡◌, ◌≢◌, ◌<◌, ℕ, zero, suc, List, [], ◌∷◌, length, get_or, Option, Some, None, Result}
+use Rattle.std.proofs.Common.{Ok, Err, option_map, refl, sym, subst, ◌∙◌, arith}
+use Rattle.std.specs.Option.{option_and_then}
+use Rattle.std.specs.Result.{result_ok}
+use Rattle.record_ledger.specs.declared.record.FlowRecord.{FlowRecord}
+use Rattle.ipfix_model.specs.declared.values.DataRecord.{DataRecord}
+use Rattle.ipfix_reader.specs.declared.fault.StreamFault.{StreamFault}
+use Rattle.ipfix_reader.specs.Messages.{decode}
+use Rattle.ipfix_reader.specs.Flows.{flow, flows_in, flows_of}
+use Rattle.join_program.specs.Outcome.{IsFirstOther}
+
+none_some : {A B : Type 0} (a : A) → ◌≡◌ {A = Option A} None (Some a) → B
+none_some a e = absurd (let z : ◌≡◌ {A = Option _} None (Some a) = e in cc)
+
+by_result : (r : Result (List DataRecord) StreamFault) (flows : List FlowRecord)
+    → option_and_then flows_in (result_ok r) ≡ Some flows
+    → (records : List DataRecord) × (r ≡ Ok records) × (flows_in records ≡ Some flows)
+by_result (Ok records) flows e = (records, refl, e)
+by_result (Err fault) flows e = none_some flows e
+
+flows_decode : (bytes : List ℕ) (flows : List FlowRecord) → flows_of bytes ≡ Some flows
+    → (records : List DataRecord) × (decode bytes ≡ Ok records) × (flows_in records ≡ Some flows)
+unfolding flows_of
+flows_decode bytes flows e = by_result (decode bytes) flows e
+
+two_parts : (first : Option FlowRecord) (rest : Option (List FlowRecord)) (flows : List FlowRecord)
+    → option_and_then (λ f. option_map (λ fs. f ∷ fs) rest) first ≡ Some flows
+    → (first ≢ None) × ((others : List FlowRecord) × (rest ≡ Some others))
+two_parts None rest flows e = none_some flows e
+two_parts (Some f) None flows e = none_some flows e
+two_parts (Some f) (Some fs) flows e = ((λ z. none_some f (sym z)), (fs, refl))
+
+each_flow : (records : List DataRecord) (flows : List FlowRecord) → flows_in records ≡ Some flows
+    → (place : ℕ) (d : DataRecord) → place < length records → flow (get_or records place d) ≢ None
+each_flow [] flows e place d low = absurd (omega (arith, low))
+each_flow (x ∷ xs) flows e zero d low = (two_parts (flow x) (flows_in xs) flows e).0
+each_flow (x ∷ xs) flows e (suc place) d low =
+    let parts = two_parts (flow x) (flows_in xs) flows e in
+    each_flow xs parts.1.0 parts.1.1 place d (omega (arith, low))
+
+pub no_fault : (bytes : List ℕ) (flows : List FlowRecord) (fault : StreamFault) → flows_of bytes ≡ Some flows
+    → decode bytes ≡ Err fault → ⊥
+no_fault bytes flows fault are wrong =
+    let read = flows_decode bytes flows are in
+    let two : Ok read.0 ≡ Err fault = sym read.1 ∙ wrong in cc
+
+same_records : (records others : List DataRecord)
+    → ◌≡◌ {A = Result (List DataRecord) StreamFault} (Ok records) (Ok others) → records ≡ others
+same_records records others e = cc
+
+pub no_other : (bytes : List ℕ) (flows : List FlowRecord) (records : List DataRecord) (place : ℕ)
+    → flows_of bytes ≡ Some flows → decode bytes ≡ Ok records → IsFirstOther records place → ⊥
+no_other bytes flows records place are decoded first =
+    let read = flows_decode bytes flows are in
+    let same : records ≡ read.0 = same_records records read.0 (sym decoded ∙ read.1) in
+    each_flow records flows (subst (λ rs. flows_in rs ≡ Some flows) (sym same) read.2) place
+    (any records first.inside) first.inside (first.other (any records first.inside))
+  where
+    any : (rs : List DataRecord) → place < length rs → DataRecord
+    any [] low = absurd (omega (arith, low))
+    any (r ∷ rs) low = r

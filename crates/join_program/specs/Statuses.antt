@@ -1,0 +1,46 @@
+-- The exit status and the line of each way in which a run ends.
+use Rattle.std.specs.Prelude.{ℕ, List, ◌++◌, codes, decimal}
+use Rattle.ipfix_reader.specs.declared.fault.StreamFault.{StreamFault}
+use Rattle.ipfix_reader.specs.declared.fault.StreamFault.TheVariants.{Cut, BadVersion, BadLength, NoTemplate}
+use Rattle.ipfix_reader.specs.declared.fault.StreamFault.TheVariants.{BadTemplate, BadPadding, BadSequence, Withdrawal}
+use Rattle.join_program.specs.declared.status.FileFault.{FileFault}
+use Rattle.join_program.specs.declared.status.FileFault.TheVariants.{ReadFault, TooLarge, NotStream, NotFlows, TooMany}
+use Rattle.join_program.specs.declared.status.JoinStatus.{JoinStatus}
+use Rattle.join_program.specs.declared.status.JoinStatus.TheVariants.{Done, Usage, WriteFault, NoMemory, Refused}
+
+abbrev pub fault_status : FileFault → ℕ
+fault_status ReadFault = 1
+fault_status TooLarge = 7
+fault_status (NotStream fault) = 9
+fault_status (NotFlows place) = 12
+fault_status TooMany = 13
+
+abbrev pub exit_status : JoinStatus → ℕ
+exit_status Done = 0
+exit_status Usage = 2
+exit_status WriteFault = 3
+exit_status NoMemory = 8
+exit_status (Refused file fault) = fault_status fault
+
+-- A fault of a stream: its kind and its offset.
+abbrev pub stream_fault_text : StreamFault → List ℕ
+stream_fault_text (Cut at) = codes "cut at " ++ decimal at
+stream_fault_text (BadVersion at) = codes "version at " ++ decimal at
+stream_fault_text (BadLength at) = codes "length at " ++ decimal at
+stream_fault_text (NoTemplate at id) = codes "template " ++ decimal id ++ codes " at " ++ decimal at
+stream_fault_text (BadTemplate at) = codes "bad template at " ++ decimal at
+stream_fault_text (BadPadding at) = codes "padding at " ++ decimal at
+stream_fault_text (BadSequence at) = codes "sequence at " ++ decimal at
+stream_fault_text (Withdrawal at) = codes "withdrawal at " ++ decimal at
+
+-- What is wrong with a file.
+abbrev pub fault_text : FileFault → List ℕ
+fault_text ReadFault = codes "read fault"
+fault_text TooLarge = codes "too large"
+fault_text (NotStream fault) = codes "not a stream: " ++ stream_fault_text fault
+fault_text (NotFlows place) = codes "not flow records: " ++ decimal place
+fault_text TooMany = codes "too many"
+
+-- The line of a file.
+abbrev pub fault_line : List ℕ → FileFault → List ℕ
+fault_line name fault = name ++ (codes ": " ++ (fault_text fault ++ codes "\n"))

@@ -1,0 +1,65 @@
+//! Gathering what was taken, and writing it.
+
+ghost use Rattle.std.specs.Prelude.{◌≡◌, ◌≤◌, List, IfOk};
+ghost use Rattle.record_ledger.specs.declared.record.FlowRecord.{FlowRecord};
+ghost use Rattle.meter_io.specs.Sides.{side};
+ghost use Rattle.join_program.specs.Joined.{AreJoined, together, export_time};
+ghost use Rattle.join_program.specs.Taking.{IsTaken, share_of, asked_of, EmitMeans};
+ghost use Rattle.std.specs.Prelude.{ℕ};
+
+use crate::settings::JoinSettings;
+use crate::status::JoinStatus;
+use crate::taken::Taken;
+use flow_parts::Timeouts;
+use ipfix_writer::{Emitter, emit_all};
+use meter_io::{Failed, Sink};
+use no_memory::NoMemory;
+use record_ledger::{FlowRecord, gather};
+use std::alloc::Global;
+use stream_law::layout_law;
+
+/// The records that what was taken becomes.
+pub(crate) fn gather_taken(
+    alloc: Global,
+    settings: &JoinSettings,
+    taken: &Taken,
+) -> Result<Vec<FlowRecord>, NoMemory>
+    requires { (flows : List FlowRecord) × IsTaken (share_of settings.now.share) flows taken.now }
+    ensures { IfOk result (λ records. (names : List (List ℕ)) (inputs : List (List FlowRecord))
+        → IsTaken (share_of settings.now.share) (together inputs) taken.now
+        → AreJoined (asked_of settings.now names) inputs taken.now.clock records.items) }
+{
+    let limits = Timeouts::new(settings.idle, settings.active);
+    gather(alloc, taken.parts.as_slice(), limits, taken.clock)
+}
+
+/// The export time of records with this latest time: in whole seconds, in 32 bits, and 0 without one.
+fn export_time(clock: Option<u64>) -> u32
+    ensures { result ≡ export_time clock }
+{
+    match clock {
+        None => 0,
+        Some(clock) => (clock / 1000 % (1 << 32)) as u32,
+    }
+}
+
+/// Writes the stream of records, message by message. All memory is taken before the first of them.
+pub(crate) fn write_records<K: Sink>(
+    alloc: Global,
+    size: u32,
+    clock: Option<u64>,
+    records: &[FlowRecord],
+    output: &mut K,
+) -> JoinStatus
+    requires { (116 ≤ size) × (size ≤ 65535) }
+    ensures { EmitMeans size (export_time clock) records.now (side K.held K.faults output.old output.new) result }
+{
+    layout_law();
+    let Ok(emitter) = Emitter::open(alloc, size as usize, export_time(clock)) else {
+        return JoinStatus::NoMemory;
+    };
+    match emit_all(emitter, records, output) {
+        Ok(_) => JoinStatus::Done,
+        Err(Failed) => JoinStatus::WriteFault,
+    }
+}

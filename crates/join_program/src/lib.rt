@@ -1,0 +1,26 @@
+//! Joining: the streams of many captures as one.
+//!
+//! [`run_join`] is the top call: it reads files of flow records, one after the other, as they come from an [`Opener`],
+//! takes the fragments of all their records, gathers them anew by the time-outs given, and writes the stream of what
+//! they become. A record of a lawful stream is a heap of its packets, so the fragments of all records share out the
+//! packets of all captures, and what is gathered of them is lawful for all these packets.
+//!
+//! Of a share, one of several, the records of the keys that fall to it are kept alone; the clock is that of all.
+#![tactic(auto)]
+
+mod flows;
+mod joining;
+mod notes;
+mod opener;
+mod reading;
+mod running;
+mod settings;
+mod status;
+mod taken;
+mod taking;
+mod words;
+
+pub use opener::Opener;
+pub use running::run_join;
+pub use settings::{JoinSettings, Share};
+pub use status::{FileFault, JoinStatus};

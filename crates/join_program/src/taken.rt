@@ -1,0 +1,13 @@
+//! What is kept of the records that were read.
+
+use flow_parts::Fragment;
+
+/// What is kept of the records that were read so far: the fragments of those that fall to the share, how many packets
+/// and octets these have, and the latest time of all records.
+#[derive(Drop)]
+pub(crate) struct Taken {
+    pub parts: Vec<Fragment>,
+    pub packets: u64,
+    pub octets: u64,
+    pub clock: Option<u64>,
+}

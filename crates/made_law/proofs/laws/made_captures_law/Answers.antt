@@ -1,8 +1,0 @@
-use Rattle.made_law.proofs.Uncut.{nothing-cuts, tests-are-one}
-use Rattle.made_law.proofs.laws.made_captures_law.Goals as goal
-
-pub returns-clause-uncut : goal.returns-clause-uncut
-returns-clause-uncut c = nothing-cuts c.keys_have_fields.ensures.once
-
-pub returns-clause-one : goal.returns-clause-one
-returns-clause-one c = tests-are-one c.keys_have_fields.ensures.once

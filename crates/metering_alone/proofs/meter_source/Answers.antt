@@ -1,7 +1,0 @@
--- The parts are a rearrangement of what was handed, and so the other way round.
-use Rattle.std.proofs.lemmas.List.Sorted.{IsPermutation-sym}
-use Rattle.metering_alone.proofs.meter_source.Goals as goal
-
-pub close-requires-clause-handed : goal.close-requires-clause-handed
-close-requires-clause-handed g c = IsPermutation-sym c.in-Ok.gathered.pass.seat.me.0.note.handed
-    c.in-Ok.gathered.parts.items c.in-Ok.ensures.parts

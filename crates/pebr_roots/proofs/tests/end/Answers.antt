@@ -1,7 +1,0 @@
-use Rattle.std.proofs.Common.{ap, ◌∙◌}
-use Rattle.std.specs.List.{list_all}
-use Rattle.pebr_core.specs.State.{Seat, is_down}
-use Rattle.pebr_roots.proofs.tests.end.Goals as goal
-
-pub returns-clause-down : goal.returns-clause-down
-returns-clause-down c = ap (λ (s : Seat). list_all is_down s.shields) c.leave.ensures.known ∙ c.clear.ensures.down

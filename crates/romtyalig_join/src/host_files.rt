@@ -1,0 +1,101 @@
+//! The files of the machine, and standard input.
+
+ghost use Rattle.std.specs.Prelude.{◌≡◌, ◌≤◌, None};
+ghost use Rattle.std.specs.Io.{ReadsAtMost};
+ghost use Rattle.meter_io.specs.Causes.{one_more};
+
+use join_program::Opener;
+use meter_io::{Failed, Source};
+use std::fs::File;
+use std::io::{Read, Stdin};
+use std::{fs, io};
+
+/// Where the bytes of an open file come from.
+#[derive(Drop)]
+enum Input {
+    Named(File),
+    Standard(Stdin),
+}
+
+/// A file that is open, and how many of its reads failed. What a file has left isn't told.
+#[derive(Drop)]
+pub struct OpenFile {
+    input: Input,
+    faults: u64,
+}
+
+/// Counts a failed call, where the count isn't at its last value.
+fn count_fault(faults: &mut u64) -> Failed
+    ensures counted { faults.new ≡ one_more faults.old }
+    ensures later { faults.old ≤ faults.new }
+{
+    *faults = faults.saturating_add(1);
+    Failed
+}
+
+/// Reads some bytes.
+fn read_some(input: &mut Input, buf: &mut [u8]) -> io::Result<usize>
+    ensures { ReadsAtMost result buf.new }
+{
+    match input {
+        Input::Named(file) => file.read(buf),
+        Input::Standard(stdin) => stdin.read(buf),
+    }
+}
+
+impl Source for OpenFile {
+    ghost left = { λ _. None };
+
+    ghost faults = { λ file. file.faults };
+
+    fn read(&mut self, buf: &mut [u8]) -> Result<usize, Failed> {
+        match read_some(&mut self.input, buf) {
+            Ok(count) => Ok(count),
+            Err(_) => Err(count_fault(&mut self.faults)),
+        }
+    }
+}
+
+/// The files of the machine by their names; `-` is standard input.
+#[derive(Drop)]
+pub struct HostFiles<'a> {
+    rt: &'a HostRuntime,
+    faults: u64,
+}
+
+impl<'a> HostFiles<'a> {
+    /// None is open.
+    pub fn new(rt: &'a HostRuntime) -> HostFiles<'a> {
+        HostFiles { rt, faults: 0 }
+    }
+
+    /// Opens the file of this name.
+    fn input(&self, name: &str) -> io::Result<Input> {
+        if name == "-" {
+            Ok(Input::Standard(self.rt.stdin()))
+        } else {
+            Ok(Input::Named(fs::open(self.rt, name)?))
+        }
+    }
+}
+
+impl<'a> Opener for HostFiles<'a> {
+    type File = OpenFile;
+
+    ghost contents = { λ _ name. None };
+
+    ghost faults = { λ files. files.faults };
+
+    fn open(&mut self, name: &str) -> Result<OpenFile, Failed> {
+        match self.input(name) {
+            Ok(input) => Ok(OpenFile { input, faults: 0 }),
+            Err(_) => Err(count_fault(&mut self.faults)),
+        }
+    }
+
+    fn close(&mut self, file: OpenFile) {
+        if file.faults > 0 {
+            self.faults = self.faults.saturating_add(1);
+        }
+    }
+}

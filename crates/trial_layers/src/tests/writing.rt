@@ -1,0 +1,119 @@
+//! Streams whose bytes were written out by hand from RFC 7011, sections 3.1 to 3.4.
+
+use super::{tcp_flow, udp_flow};
+use ipfix_writer::{Emitter, emit_all, layout};
+use meter_io::{Failed, MemSink};
+use record_ledger::FlowRecord;
+use samples::octets_of;
+use std::alloc::Global;
+use std::test::Fail;
+
+/// The message with the templates, but for its first eight bytes.
+const TEMPLATES: &str = "0000000000000001000200640100000b00080004000c0004000700020\
+    00b00020004000100060002000200080001000800980008009900080088000\
+    10101000b001b0010001c001000070002000b000200040001000600020002000800010008009800080099000800880001";
+
+/// Whether the layout of these records, in messages of at most 1,400 octets, is the message with the templates and then
+/// these bytes.
+fn is_laid_out(
+    alloc: Global,
+    records: &[FlowRecord],
+    time: u32,
+    time_bytes: &str,
+    data: &str,
+) -> Result<bool, Fail> {
+    let wanted = octets_of(alloc, &["000a0074", time_bytes, TEMPLATES, data])?;
+    let bytes = layout(alloc, records, 1400, time)?;
+    Ok(bytes.as_slice() == wanted.as_slice())
+}
+
+#[test]
+fn streams_are_laid_out_as_written_by_hand(rt: HostRuntime) -> Result<(), Fail> {
+    assert!(rt; is_laid_out(rt.alloc(), &[], 0, "00000000", "")?);
+    let one = "000a0044000003e900000000000000010100003\
+        4c0000201c00002020fa000351100000000000000000002000000000000003800000000000f424000000000000f462804";
+    assert!(rt;
+        is_laid_out(
+            rt.alloc(),
+            &[udp_flow(4000, 2, 56, 1_001_000)],
+            1001,
+            "000003e9",
+            one
+        )?
+    );
+    let two = "000a00a400000005000000000000000101010094\
+        20010db800000000000000000000000120010db80000000000000000000000020000000006000000000000000000010000000000\
+        00009c0000000000001388000000000000138804\
+        20010db800000000000000000000000120010db8000000000000000000000002040101bb06001000000000000000010000000000\
+        00004c0000000000001388000000000000138804";
+    assert!(rt;
+        is_laid_out(
+            rt.alloc(),
+            &[tcp_flow(0, 0, 156, 0), tcp_flow(1025, 443, 76, 16)],
+            5,
+            "00000005",
+            two
+        )?
+    );
+    Ok(())
+}
+
+#[test]
+fn messages_are_filled(rt: HostRuntime) -> Result<(), Fail> {
+    let mut records = Vec::new(rt.alloc());
+    for port in 4000..4029u16 {
+        records.push(udp_flow(port, 1, 28, 1_000_000))?;
+    }
+    records.push(tcp_flow(1025, 443, 76, 16))?;
+    records.push(udp_flow(1, 1, 28, 1_000_000))?;
+    for (count, size, messages, length) in [
+        (0, 1400, 1, 116),
+        (28, 1400, 2, 116 + 1364),
+        (29, 1400, 3, 116 + 1364 + 68),
+        (30, 1400, 3, 116 + 1364 + 144),
+        (31, 1400, 3, 116 + 1364 + 196),
+        (4, 116, 3, 116 + 116 + 116),
+        (3, 116, 3, 116 + 116 + 68),
+        (31, 65_535, 2, 116 + 16 + 3 * 4 + 30 * 48 + 72),
+    ] {
+        assert!(rt; count <= records.len() && size >= 116 && size < 65_536);
+        let emitter = Emitter::open(rt.alloc(), size, 1000)?;
+        let mut sink = MemSink::open(rt.alloc(), 4096, 4096, &[])?;
+        let (first, _) = records.as_slice().split_at(count);
+        let end = emit_all(emitter, first, &mut sink);
+        assert!(rt;
+            end == Ok(messages) && sink.held().len() == length,
+            "{count} records, size {size}"
+        );
+    }
+    Ok(())
+}
+
+#[test]
+fn a_failed_write_leaves_a_beginning(rt: HostRuntime) -> Result<(), Fail> {
+    let records = [udp_flow(4000, 1, 28, 1_000_000)];
+    for (fails, held) in [([1], 0), ([2], 60), ([3], 120), ([4], 180)] {
+        let emitter = Emitter::open(rt.alloc(), 1400, 1000)?;
+        let mut sink = MemSink::open(rt.alloc(), 4096, 60, fails.as_slice())?;
+        let end = emit_all(emitter, records.as_slice(), &mut sink);
+        assert!(rt; end == Err(Failed) && sink.held().len() == held);
+    }
+    Ok(())
+}
+
+/// The message with the templates has 116 octets, and one of 28 records 1,364: 192 of these go out with it in one call
+/// of at most 262,144.
+#[test]
+fn a_stream_goes_out_in_whole_messages(rt: HostRuntime) -> Result<(), Fail> {
+    let mut records = Vec::new(rt.alloc());
+    for place in 0..6000u16 {
+        records.push(udp_flow(place, 1, 28, 1_000_000))?;
+    }
+    for (fails, held) in [([1], 0), ([2], 116 + 192 * 1364)] {
+        let emitter = Emitter::open(rt.alloc(), 1400, 1000)?;
+        let mut sink = MemSink::open(rt.alloc(), 1 << 19, 1 << 19, fails.as_slice())?;
+        let end = emit_all(emitter, records.as_slice(), &mut sink);
+        assert!(rt; end == Err(Failed) && sink.held().len() == held);
+    }
+    Ok(())
+}

@@ -1,0 +1,119 @@
+//! Captures that are metered in windows, and what comes of them.
+
+mod cuts;
+mod gates;
+mod made;
+mod piped;
+
+ghost use Rattle.std.specs.Prelude.{◌<◌, ◌≤◌, ◌^◌, IsTrue, sum_by};
+ghost use Rattle.flow_parts.specs.declared.fragment.Fragment.{Fragment};
+
+use cache_face::Caches;
+use capture_tally::Tally;
+use flow_parts::{Fragment, Timeouts};
+use meter_io::Source;
+use meter_workers::{Gate, MeterFault, Windows, meter_windows};
+use record_ledger::{FlowRecord, gather};
+use std::alloc::Global;
+use std::test::Fail;
+use std::thread::Threads;
+use turn_cache::TurnCaches;
+
+/// The most bytes of a capture.
+const LIMIT: u64 = 1 << 30;
+
+/// The smallest window.
+const SMALL: usize = 262_184;
+
+/// What comes of a capture: its flow records, the tally of its records, and how many bytes are left.
+#[derive(Drop)]
+struct Outcome {
+    records: Vec<FlowRecord>,
+    tally: Tally,
+    tail: u64,
+}
+
+/// How a capture is metered: by how many workers, in windows and pieces of which size, and at most how many bytes of
+/// it.
+#[derive(Clone, Copy)]
+struct Setting {
+    seats: usize,
+    window: usize,
+    piece: u64,
+    limit: u64,
+}
+
+/// One worker, the smallest windows and pieces of 256 records.
+static ONE: Setting = Setting {
+    seats: 1,
+    window: SMALL,
+    piece: 256,
+    limit: LIMIT,
+};
+
+/// Whether the packets and the octets of all parts are few enough to be added up.
+fn are_few(parts: &[Fragment]) -> bool
+    ensures packets { IsTrue result → sum_by (λ (f : Fragment). f.packets) parts.now < 2 ^ 64 }
+    ensures octets { IsTrue result → sum_by (λ (f : Fragment). f.octets) parts.now < 2 ^ 64 }
+{
+    let mut packets = 0u64;
+    let mut octets = 0u64;
+    for part in parts {
+        match (
+            packets.checked_add(part.packets),
+            octets.checked_add(part.octets),
+        ) {
+            (Some(more), Some(longer)) => {
+                packets = more;
+                octets = longer;
+            }
+            _ => return false,
+        }
+    }
+    true
+}
+
+/// Meters what a source gives, and gathers the records.
+fn meter_source<R: Threads + Sync, S: Source, G: Gate>(
+    rt: &R,
+    alloc: Global,
+    source: &mut S,
+    setting: Setting,
+    gate: &G,
+) -> Result<Result<Outcome, MeterFault>, Fail>
+    requires seats { (1 ≤ setting.seats) × (setting.seats ≤ 64) }
+    requires window { (262184 ≤ setting.window) × (setting.window ≤ 2 ^ 27) }
+    requires piece { (0 < setting.piece) × (setting.piece ≤ 65536) }
+    requires limit { setting.limit ≤ 2 ^ 30 }
+{
+    let Setting {
+        seats,
+        window,
+        piece,
+        limit,
+    } = setting;
+    let limits = Timeouts::new(300, 1800);
+    let mut caches = TurnCaches::new();
+    let (cache, passes) = caches.open(alloc, 4096, seats, limits)?;
+    let windows = Windows {
+        size: window,
+        limit,
+        piece,
+        front: Some(limits),
+    };
+    let done = meter_windows(rt, alloc, source, &cache, passes, windows, gate);
+    let gathered = match done {
+        Ok(gathered) => gathered,
+        Err(fault) => return Ok(Err(fault)),
+    };
+    caches.close(alloc, cache, gathered.pass, gathered.parts)?;
+    if !are_few(caches.metered()) {
+        return Err(Fail::from("more packets than there are"));
+    }
+    let records = gather(alloc, caches.metered(), limits, gathered.tally.clock)?;
+    Ok(Ok(Outcome {
+        records,
+        tally: gathered.tally,
+        tail: gathered.tail,
+    }))
+}

@@ -1,0 +1,173 @@
+//! One table: what comes of captures with a queue is what comes of them without.
+
+ghost use Rattle.std.specs.Prelude.{◌≤◌, ◌^◌};
+
+use super::{LIMIT, Outcome, SMALL, Setting, meter_capture};
+use crate::Meeting;
+use capture_maker::capture;
+use meter_workers::{MeterFault, OpenGate};
+use std::alloc::Global;
+use std::process::Abort;
+use std::sync::Wait;
+use std::test::Fail;
+use std::thread::Threads;
+
+/// A file header: least byte first, microseconds, version 2.4, raw IP.
+static HEADER: [u8; 24] = [
+    0xd4, 0xc3, 0xb2, 0xa1, 2, 0, 4, 0, 0, 0, 0, 0, 0, 0, 0, 0, 0, 0, 4, 0, 101, 0, 0, 0,
+];
+
+/// A record header that claims 262,145 captured bytes.
+static DAMAGE: [u8; 16] = [0xe8, 3, 0, 0, 0, 0, 0, 0, 1, 0, 4, 0, 1, 0, 4, 0];
+
+/// A capture: a file header, records of so many captured bytes, and some bytes behind them.
+#[derive(Clone, Copy)]
+struct Row {
+    header: &'static [u8],
+    records: &'static [u32],
+    behind: &'static [u8],
+    limit: u64,
+    fails: u64,
+    want: Result<(u64, u64), MeterFault>,
+}
+
+/// The bytes of a capture.
+fn bytes_of(alloc: Global, row: &Row) -> Result<Vec<u8>, Fail> {
+    let mut bytes = Vec::new(alloc);
+    bytes.extend_from_slice(row.header)?;
+    for captured in row.records {
+        bytes.extend_from_slice(&[0xe8, 3, 0, 0, 0, 0, 0, 0])?;
+        bytes.extend_from_slice(&captured.to_le_bytes())?;
+        bytes.extend_from_slice(&captured.to_le_bytes())?;
+        let data = vec![in alloc; 0u8; *captured as usize]?;
+        bytes.extend_from_slice(&data)?;
+    }
+    bytes.extend_from_slice(row.behind)?;
+    Ok(bytes)
+}
+
+/// What comes of a capture without a queue, and that the same comes of it with one, by one worker and by three.
+fn outcome<R: Threads + Wait + Sync + Abort>(
+    rt: &R,
+    alloc: Global,
+    bytes: &[u8],
+    window: usize,
+    limit: u64,
+    fails: u64,
+) -> Result<Result<Outcome, MeterFault>, Fail>
+    requires window { (262184 ≤ window) × (window ≤ 4194304) }
+    requires limit { limit ≤ 2 ^ 30 }
+{
+    let plain = Setting {
+        passes: 3,
+        room: 0,
+        window,
+        limit,
+        fails,
+    };
+    let want = meter_capture(rt, alloc, bytes, plain, &OpenGate)?;
+    for (passes, room) in [(3, 1), (5, 2)] {
+        assert!(rt; 3 <= passes && passes <= 64 && room <= 64);
+        let setting = Setting {
+            passes,
+            room,
+            ..plain
+        };
+        let done = meter_capture(rt, alloc, bytes, setting, &OpenGate)?;
+        assert_eq!(rt; done, want, "{passes} passes, room for {room}");
+    }
+    Ok(want)
+}
+
+#[test]
+fn the_same_comes_of_cut_and_refused_captures(rt: HostRuntime) -> Result<(), Fail> {
+    let good = Row {
+        header: &HEADER,
+        records: &[],
+        behind: b"",
+        limit: LIMIT,
+        fails: 0,
+        want: Ok((0, 0)),
+    };
+    let long = Row {
+        records: &[262_144, 262_144, 100],
+        behind: &DAMAGE,
+        want: Err(MeterFault::Damaged(524_460)),
+        ..good
+    };
+    let rows = [
+        good,
+        // The second record's header stands in two windows, then its captured bytes do.
+        Row {
+            records: &[262_136, 100],
+            want: Ok((2, 0)),
+            ..good
+        },
+        Row {
+            records: &[262_100, 100, 262_144, 262_144, 0, 262_144, 7],
+            want: Ok((7, 0)),
+            ..good
+        },
+        Row {
+            records: &[262_144, 100],
+            behind: b"tail",
+            want: Ok((2, 4)),
+            ..good
+        },
+        long,
+        // Refused content is read to its end first.
+        Row {
+            limit: 524_475,
+            want: Err(MeterFault::TooLarge),
+            ..long
+        },
+        Row {
+            fails: 4,
+            want: Err(MeterFault::Failed),
+            ..long
+        },
+        Row {
+            header: b"no capture, but bytes of more",
+            want: Err(MeterFault::NotCapture),
+            ..long
+        },
+    ];
+    for row in rows {
+        assert!(rt; row.limit <= 1 << 30);
+        let bytes = bytes_of(rt.alloc(), &row)?;
+        let done = outcome(&rt, rt.alloc(), &bytes, SMALL, row.limit, row.fails)?;
+        let told = done.map(|outcome| (outcome.tally.captured, outcome.tail));
+        assert_eq!(rt; told, row.want, "{:?}", row.records);
+    }
+    Ok(())
+}
+
+#[test]
+fn a_made_capture_in_two_batches(rt: HostRuntime) -> Result<(), Fail> {
+    let alloc = rt.alloc();
+    let bytes = capture(alloc, 1, 8_000, 64)?;
+    let done = outcome(&rt, alloc, &bytes, SMALL, LIMIT, 0)?;
+    let done = done.ok().ok_or("all batches")?;
+    assert_eq!(rt; done.tally.captured, 8_000);
+    assert_eq!(rt; done.packets, 8_000);
+    assert_eq!(rt; done.tail, 0);
+    Ok(())
+}
+
+#[test]
+fn the_reader_and_a_worker_meter_at_once(rt: HostRuntime) -> Result<(), Fail> {
+    let bytes = capture(rt.alloc(), 1, 20_000, 64)?;
+    let setting = Setting {
+        passes: 3,
+        room: 1,
+        window: SMALL,
+        limit: LIMIT,
+        fails: 0,
+    };
+    let gate = Meeting::new();
+    let done = meter_capture(&rt, rt.alloc(), &bytes, setting, &gate)?;
+    let done = done.ok().ok_or("all batches")?;
+    assert_eq!(rt; done.packets, 20_000);
+    assert!(rt; gate.has_met());
+    Ok(())
+}

@@ -1,0 +1,4 @@
+//! The same schedules by the calls of two layers.
+
+mod roots;
+mod words;
