@@ -9,7 +9,7 @@ use Rattle.meter_workers.proofs.windows.work_all.Goals as goal
 
 pub returns-clause-worked : goal.returns-clause-worked
 returns-clause-worked g c =
-    let W : Type 0 = Worker g.row.C.Denot g.row.C-Pass.Denot DrawPass in
+    let W : Type 0 = Worker g.row.C.Denot DrawPass g.row.C-Pass.Denot in
     let R : W → W → Type 0 =
     λ o w. w.state ≡ Finished → HasWorked {X = g.row.C.Denot} {P = g.row.C-Pass.Denot}
     (g.C.FlowCache.is_of c.args.cache.now) g.C.FlowCache.shown (g.C.FlowCache.means c.args.cache.now).limits
