@@ -25,7 +25,7 @@ loop-draw-init c =
     }
 
 pub unite-all-requires-clause-own : goal.unite-all-requires-clause-own
-unite-all-requires-clause-own c κs within =
+unite-all-requires-clause-own c =
     let p = all_popped (HasDrawn c.args.pieces.now) c.loop-draw.draws.items c.pop-in-loop-draw.new.self.items
     c.in-Some-pop.draw c.loop-draw.invariant.left c.in-Some-pop.ensures.items in
     (c.loop-draw.invariant.own, p.1.of)
