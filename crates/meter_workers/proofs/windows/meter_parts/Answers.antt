@@ -3,10 +3,12 @@ use Rattle.std.specs.declared.option.Option.{Option}
 use Rattle.capture_input.specs.Parts.{Answer, answers_from, answers_by}
 use Rattle.capture_input.specs.Giving.{HasGiven, part_in, base_in}
 use Rattle.capture_input.specs.Refusals.{IsRefused}
+use Rattle.capture_input.specs.declared.fault.MeterFault.{MeterFault}
+use Rattle.capture_input.proofs.Filling.{seen}
 use Rattle.meter_workers.specs.declared.share.Share.{Share}
 use Rattle.meter_workers.specs.Shares.{IsShare, HaveMetered}
 use Rattle.meter_workers.proofs.Sharing.{nothing-metered}
-use Rattle.meter_workers.proofs.Metering.{given-few}
+use Rattle.meter_workers.proofs.Metering.{given-few, err-weaker}
 use Rattle.meter_workers.proofs.windows.meter_parts.Given as given
 use Rattle.meter_workers.proofs.windows.meter_parts.Goals as goal
 
@@ -75,7 +77,41 @@ next-requires-clause-given g c =
     (had.0, had.1, _, r.2)
 
 pub returns-in_err-reading-clause-refused : goal.returns-in_err-reading-clause-refused
-returns-in_err-reading-clause-refused g c = λ before limit given. let p = c.from_residual.ensures in let q = c.in_err-reading.ensures.refused in ?
+returns-in_err-reading-clause-refused g c = λ before limit given.
+    let r = c.loop-shares.invariant.read before limit given in
+    let Refused : ℕ → MeterFault → Type 0 =
+    λ n fault. IsRefused (seen before (g.S.Source.left c.next.new.source) n (g.S.Source.faults c.next.new.source)) limit
+    fault in
+    let told : Refused (g.S.Source.faults c.loop-shares.source) c.in_err-reading.field-0.0 =
+    c.in_err-reading.ensures.refused before limit _ r.2 in
+    let from : Refused (g.S.Source.faults c.args.source.now) c.in_err-reading.field-0.0 =
+    subst (λ (n : ℕ). Refused n c.in_err-reading.field-0.0) c.loop-shares.invariant.quiet told in
+    err-weaker c.from_residual.result _ (Refused (g.S.Source.faults c.args.source.now)) c.from_residual.ensures.1
+    (λ fault same. (let is : fault ≡ c.in_err-reading.field-0.0 = cc in
+    subst (Refused (g.S.Source.faults c.args.source.now)) (sym is) from))
 
 pub loop-shares-preserved : goal.loop-shares-preserved
-loop-shares-preserved g c = let h = c.in_ok-reading in let q = c.in_ok-reading.ensures in ?
+loop-shares-preserved g c =
+    let Has : List Answer → S g → Type 0 =
+    IsShare (g.C.FlowCache.is_of c.args.cache.now) g.C.FlowCache.shown (g.C.FlowCache.means c.args.cache.now).limits in
+    let reading = c.loop-shares.reading in
+    let next = c.in_ok-reading.ensures in
+    let part : List Answer = answers_from (base_in reading) (part_in reading) in
+    let same : answers_by c.part-part.result ≡ part =
+    (λ i. answers_from (c.part-part.ensures.base i) (c.part-part.ensures.file i)) in
+    record {
+      many = c.in-Ok.ensures.many ∙ c.loop-shares.invariant.many;
+      part = next.part;
+      few = next.few;
+      read = λ before limit given.
+          (let r = c.loop-shares.invariant.read before limit given in
+          let told = next.given before limit (r.0 ++ part) r.2 in
+          (
+            r.0 ++ part,
+            told.0,
+            told.1,
+            subst (λ (l : List Answer). HaveMetered {S = S g} Has (r.0 ++ l) c.in-Ok.shares.items) same
+                (c.in-Ok.ensures.metered r.0 r.3),
+          ));
+      quiet = next.faults ∙ c.loop-shares.invariant.quiet;
+    }
