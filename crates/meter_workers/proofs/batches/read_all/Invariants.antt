@@ -7,8 +7,8 @@ use Rattle.batch_queue.specs.Passes.{IsPassOf, IsOpen, reader_of, put_of}
 use Rattle.meter_workers.specs.Batched.{IsReadyAt, IsStill, HasHanded}
 use Rattle.meter_workers.proofs.batches.read_all.Given as goal
 
-abbrev pub invariant-loop : goal.invariant-loop
-invariant-loop g l = record {
+abbrev pub invariant-loop-read : goal.invariant-loop-read
+invariant-loop-read g l = record {
   part : IsIndexOf l.index (part_in l.reading);
   few : base_in l.reading + length l.index.offsets < 2 ^ 32;
   low : l.reader.next ≤ base_in l.reading;
@@ -25,5 +25,5 @@ invariant-loop g l = record {
       (g.C.FlowCache.means l.cache).limits done (put_of (reader_of l.reader.feed)) l.reader.share;
 }
 
-abbrev pub decreases-loop : goal.decreases-loop
-decreases-loop g l = left_in l.reading
+abbrev pub decreases-loop-read : goal.decreases-loop-read
+decreases-loop-read g l = left_in l.reading
