@@ -1,8 +1,8 @@
 -- The reader hands on one part of a capture after the other.
-use Rattle.std.proofs.Common.{◌≡◌, ℕ, ◌+◌, ◌<◌, ◌≤◌, List, [], ◌++◌, length, sym, ap, ◌∙◌, subst, arith, append-nil}
-use Rattle.std.specs.Prelude.{All, Result, Ok, Err, slice_range}
+use Rattle.std.proofs.Common.{◌≡◌, ℕ, ◌+◌, ◌<◌, ◌≤◌, List, [], ◌++◌, length, sym, ap, ◌∙◌, subst, arith}
+use Rattle.std.specs.Prelude.{All, slice_range}
 use Rattle.std.specs.declared.option.Option.{Option}
-use Rattle.std.proofs.lemmas.List.{nil_from_length, length-append}
+use Rattle.std.proofs.lemmas.List.{length-append}
 use Rattle.std.proofs.lemmas.List.Elements.{All-nil}
 use Rattle.meter_io.specs.Sides.{Side}
 use Rattle.meter_io.specs.Reading.{TakesAtMost}
@@ -13,16 +13,14 @@ use Rattle.flow_parts.specs.declared.timeouts.Timeouts.{Timeouts}
 use Rattle.cache_face.specs.Meaning.{PassMeans}
 use Rattle.capture_input.specs.declared.reading.Reading.{Reading}
 use Rattle.capture_input.specs.declared.fault.MeterFault.{MeterFault}
-use Rattle.capture_input.specs.declared.fault.MeterFault.TheVariants.{Failed, TooLarge, NotCapture, LinkUnknown}
-use Rattle.capture_input.specs.declared.fault.MeterFault.TheVariants.{Damaged, NoMemory}
-use Rattle.capture_input.specs.Refusals.{IsRefused, HasFaults}
+use Rattle.capture_input.specs.Refusals.{IsRefused}
 use Rattle.capture_input.specs.Parts.{Answer, answers_from}
 use Rattle.capture_input.specs.Giving.{HasGiven, part_in, base_in}
 use Rattle.batch_queue.specs.declared.batch.Batch.{Batch}
 use Rattle.batch_queue.specs.Batches.{count_of}
 use Rattle.meter_workers.specs.declared.share.Share.{Share}
 use Rattle.meter_workers.specs.Shares.{IsShare}
-use Rattle.meter_workers.specs.Batched.{answers_of_batch, IsReadyAt, HasHanded}
+use Rattle.meter_workers.specs.Batched.{answers_of_batch, IsReadyAt}
 use Rattle.meter_workers.proofs.Records.{answers-count, whole-range}
 
 -- all answers to a batch
@@ -35,26 +33,6 @@ batch-range base count file batch back base_is file_is count_is same =
     (let a = answers-count back.base (part_of back.head back.bytes.items) in
     omega (arith, count_is, a, back.indexed.count))
     ∙ ap answers_of_batch same
-
--- a part without records gives no answers
-pub answers-none : (base : ℕ) (file : CaptureFile) → length (records_of file) ≡ 0 → answers_from base file ≡ []
-answers-none base file none = nil_from_length (answers_from base file) (answers-count base file ∙ none)
-
-pub handed-nothing : {X P : Type 0} (is_of : P → Type 0) (shown : P → PassMeans) (limits : Timeouts)
-    (answers more : List Answer) (put : List Batch) (share : Share X P)
-    → more ≡ [] → HasHanded {X = X} {P = P} is_of shown limits answers put share
-    → HasHanded {X = X} {P = P} is_of shown limits (answers ++ more) put share
-handed-nothing {X} {P} is_of shown limits answers more put share none handed =
-    subst (λ (l : List Answer). HasHanded {X = X} {P = P} is_of shown limits l put share)
-    (sym (ap (λ l. answers ++ l) none ∙ append-nil answers)) handed
-
--- the same by other answers
-pub handed-same : {X P : Type 0} (is_of : P → Type 0) (shown : P → PassMeans) (limits : Timeouts)
-    (answers answers' : List Answer) (put : List Batch) (share : Share X P)
-    → answers ≡ answers' → HasHanded {X = X} {P = P} is_of shown limits answers put share
-    → HasHanded {X = X} {P = P} is_of shown limits answers' put share
-handed-same {X} {P} is_of shown limits answers answers' put share same handed =
-    subst (λ (l : List Answer). HasHanded {X = X} {P = P} is_of shown limits l put share) same handed
 
 -- before anything was handed on
 pub ready-first : {X P : Type 0} (is_of : P → Type 0) (shown : P → PassMeans) (limits : Timeouts) (number base : ℕ)
@@ -95,19 +73,3 @@ pub refused-from : (before after : Option (List ℕ)) (f f0 f' limit : ℕ) (fau
     → f ≡ f0 → IsRefused (seen before after f f') limit fault → IsRefused (seen before after f0 f') limit fault
 refused-from before after f f0 f' limit fault same refused =
     subst (λ (n : ℕ). IsRefused (seen before after n f') limit fault) same refused
-
-faults-seen : {T : Type 0} (before now after : Option (List ℕ)) (f f' : ℕ) (result : Result T MeterFault)
-    → HasFaults (seen now after f f') result → HasFaults (seen before after f f') result
-faults-seen before now after f f' (Ok x) faults = faults
-faults-seen before now after f f' (Err Failed) faults = faults
-faults-seen before now after f f' (Err TooLarge) faults = faults
-faults-seen before now after f f' (Err NotCapture) faults = faults
-faults-seen before now after f f' (Err (LinkUnknown link)) faults = faults
-faults-seen before now after f f' (Err (Damaged at)) faults = faults
-faults-seen before now after f f' (Err NoMemory) faults = faults
-
-pub faults-from : {T : Type 0} (before now after : Option (List ℕ)) (f f0 f' : ℕ) (result : Result T MeterFault)
-    → f ≡ f0 → HasFaults (seen now after f f') result → HasFaults (seen before after f0 f') result
-faults-from before now after f f0 f' result same faults =
-    faults-seen before now after f0 f' result
-    (subst (λ (n : ℕ). HasFaults (seen now after n f') result) same faults)

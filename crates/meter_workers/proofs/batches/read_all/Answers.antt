@@ -72,16 +72,16 @@ returns-then-is_last-clause-read g c =
     let done = known.done in
     let answers = done.0 ++ answers_from (base_in c.loop-read.reading) (part_in c.loop-read.reading) in
     record {
-      of = told.own.0;
+      of = told.handed.of;
       still = still-again (reader_of c.args.reader.now.feed) (reader_of c.loop-read.reader.feed)
-          (reader_of c.hand_part.new.reader.feed) known.still told.still;
+          (reader_of c.hand_part.new.reader.feed) known.still told.handed.still;
       answers = answers;
       whole = c.tail.ensures (g.S.Source.left c.args.source.now) (g.S.Source.left c.loop-read.source) c.args.limit
           answers
           (told.given (g.S.Source.left c.args.source.now) (g.S.Source.left c.loop-read.source) c.args.limit
           answers done.2)
           (c.is_last.ensures.0 c.if-is_last.true);
-      handed = told.handed done.0 done.3;
+      handed = told.handed.handed done.0 done.3;
     }
 
 pub next-requires-clause-given : goal.next-requires-clause-given
@@ -129,15 +129,15 @@ loop-read-preserved g c =
       few = then.few;
       low = (let n = told.next in omega (arith, n, base));
       size = then.same ∙ told.same.0 ∙ known.size;
-      of = told.own.0;
-      «open» = told.own.1;
+      of = told.handed.of;
+      «open» = told.handed.goes;
       still = still-again (reader_of c.args.reader.now.feed) (reader_of c.loop-read.reader.feed)
-          (reader_of c.hand_part.new.reader.feed) known.still told.still;
+          (reader_of c.hand_part.new.reader.feed) known.still told.handed.still;
       ready = ready-later (put_of (reader_of c.hand_part.new.reader.feed))
           (put_of (reader_of c.hand_part.new.reader.feed)) c.hand_part.new.reader.next c.hand_part.new.reader.next
           (base_in old + length c.loop-read.index.offsets) (base_in reading)
           c.hand_part.new.reader.share.tally.captured c.hand_part.new.reader.share.tally.captured refl (omega arith)
           (omega (arith, base)) (let f = told.ready.few in omega (arith, f, base)) told.ready;
       quiet = then.faults ∙ known.quiet;
-      done = (answers, given.0, given.1, told.handed done.0 done.3);
+      done = (answers, given.0, given.1, told.handed.handed done.0 done.3);
     }
