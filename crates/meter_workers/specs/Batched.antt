@@ -4,6 +4,7 @@ use Rattle.std.specs.declared.option.Option.{Option}
 use Rattle.pcap_reader.specs.Views.{part_of}
 use Rattle.flow_parts.specs.declared.timeouts.Timeouts.{Timeouts}
 use Rattle.cache_face.specs.Meaning.{PassMeans}
+use Rattle.cache_face.specs.declared.caches.FlowCache.{Ghosts}
 use Rattle.capture_input.specs.Parts.{Answer, answers_from}
 use Rattle.capture_input.specs.Giving.{IsReadWhole}
 use Rattle.batch_queue.specs.declared.batch.Batch.{Batch}
@@ -65,24 +66,26 @@ pub record IsStill (old new : QueuePass) : Type 0 where
   pub others : others_of new ≡ others_of old
   pub took : took_of new ≡ took_of old
 
--- A reader that can hand on batches, and has handed on some answers.
-pub record IsReading {X P : Type 0} (is_of : P → Type 0) (shown : P → PassMeans) (limits : Timeouts)
-    (queue : BatchQueue) (reader : Reader X P) : Type 0 where
+-- A reader that can hand on batches, and has handed on some answers; `the` is what the type of the cache means.
+pub record IsReading {X P : Type 0} (the : Ghosts X P) (cache : X) (queue : BatchQueue) (reader : Reader X P) : Type 0 where
   pub of : IsPassOf queue (reader_of reader.feed)
   pub puts : IsReaders (reader_of reader.feed)
   pub goes : IsOpen reader.feed
   pub answers : List Answer
-  pub handed : HasHanded {X = X} {P = P} is_of shown limits answers (put_of (reader_of reader.feed)) reader.share
+  pub handed : HasHanded {X = X} {P = P} (the.is_of cache) the.shown (the.means cache).limits answers
+      (put_of (reader_of reader.feed)) reader.share
 
 -- The reader handed these answers on besides, and can go on.
-pub record HandsOn {X P : Type 0} (is_of : P → Type 0) (shown : P → PassMeans) (limits : Timeouts)
-    (queue : BatchQueue) (more : List Answer) (old new : Reader X P) : Type 0 where
+pub record HandsOn {X P : Type 0} (the : Ghosts X P) (cache : X) (queue : BatchQueue) (more : List Answer)
+    (old new : Reader X P) : Type 0 where
   pub of : IsPassOf queue (reader_of new.feed)
   pub goes : IsOpen new.feed
   pub still : IsStill (reader_of old.feed) (reader_of new.feed)
   pub handed : (answers : List Answer)
-      → HasHanded {X = X} {P = P} is_of shown limits answers (put_of (reader_of old.feed)) old.share
-      → HasHanded {X = X} {P = P} is_of shown limits (answers ++ more) (put_of (reader_of new.feed)) new.share
+      → HasHanded {X = X} {P = P} (the.is_of cache) the.shown (the.means cache).limits answers
+      (put_of (reader_of old.feed)) old.share
+      → HasHanded {X = X} {P = P} (the.is_of cache) the.shown (the.means cache).limits (answers ++ more)
+      (put_of (reader_of new.feed)) new.share
 
 -- The next batch that the reader hands on can have this number, behind so many records.
 abbrev pub IsReaderAt : {X P : Type 0} → ℕ → ℕ → Reader X P → Type 0

@@ -227,12 +227,12 @@ fn hand_over<C: FlowCache, G: Gate, R: Wait>(
     reader: &mut Reader<C>,
     batch: Batch,
 ) -> Result<(), NoMemory>
-    requires reading { IsReading (C.is_of cache.now) C.shown (C.means cache.now).limits shared.now.queue reader.old }
+    requires reading { IsReading C.FlowCache cache.now shared.now.queue reader.old }
     requires ready { IsReaderAt batch.number batch.base reader.old }
     ensures ready { OnOk result (IsReaderAt (batch.number + 1) (batch.base + count_of batch) reader.new) }
     ensures next { OnOk result (reader.new.next ≡ reader.old.next) }
-    ensures handed { OnOk result (HandsOn (C.is_of cache.now) C.shown (C.means cache.now).limits shared.now.queue
-        (answers_of_batch batch) reader.old reader.new) }
+    ensures handed { OnOk result (HandsOn C.FlowCache cache.now shared.now.queue (answers_of_batch batch) reader.old
+        reader.new) }
 {
     match shared.queue.offer(rt, &mut reader.feed, batch) {
         Ok(()) => Ok(()),
@@ -261,7 +261,7 @@ fn hand_part<C: FlowCache, G: Gate, R: Wait>(
     requires size { size_in read.0 ≡ shared.now.size }
     requires given { (before left : Option (List ℕ)) × (limit : ℕ) × (answers : List Answer)
         × HasGiven before left limit read.0 answers }
-    requires reading { IsReading (C.is_of cache.now) C.shown (C.means cache.now).limits shared.now.queue reader.old }
+    requires reading { IsReading C.FlowCache cache.now shared.now.queue reader.old }
     requires ready { IsReaderAt reader.old.next (base_in read.0) reader.old }
     ensures same { IfOk result (λ r. (size_in r.0 ≡ size_in read.0) × (left_in r.0 ≡ left_in read.0)
         × (IsLast r.0 ↔ IsLast read.0)) }
@@ -269,7 +269,7 @@ fn hand_part<C: FlowCache, G: Gate, R: Wait>(
         → HasGiven before left limit read.0 answers → IfOk result (λ r. HasGiven before left limit r.0 answers) }
     ensures ready { OnOk result (IsReaderAt reader.new.next (base_in read.0 + length read.1.offsets) reader.new) }
     ensures next { OnOk result (reader.new.next ≤ base_in read.0 + length read.1.offsets) }
-    ensures handed { OnOk result (HandsOn (C.is_of cache.now) C.shown (C.means cache.now).limits shared.now.queue
+    ensures handed { OnOk result (HandsOn C.FlowCache cache.now shared.now.queue
         (answers_from (base_in read.0) (part_in read.0)) reader.old reader.new) }
 {
     let (reading, index) = read;
@@ -308,8 +308,9 @@ fn read_all<S: Source, C: FlowCache, G: Gate, R: Wait>(
         × IsOpen reader.old.feed }
     requires fresh { IsFresh (reader_of reader.old.feed) × (reader.old.next ≡ 0) }
     requires share { IsShare (C.is_of cache.now) C.shown (C.means cache.now).limits [] reader.old.share }
-    ensures read { IfOk result (λ tail. HasRead (C.is_of cache.now) C.shown (C.means cache.now).limits shared.now.queue (S.left source.old) (S.left source.new) limit
-        (reader_of reader.old.feed) (reader_of reader.new.feed) reader.new.share tail) }
+    ensures read { IfOk result (λ tail. HasRead (C.is_of cache.now) C.shown (C.means cache.now).limits shared.now.queue
+        (S.left source.old) (S.left source.new) limit (reader_of reader.old.feed) (reader_of reader.new.feed)
+        reader.new.share tail) }
     ensures refused { IfErr result (λ fault. IsRefused (side S.left S.faults source.old source.new) limit fault) }
     ensures faults { HasFaults (side S.left S.faults source.old source.new) result }
 {
@@ -343,8 +344,9 @@ fn read_and_end<S: Source, C: FlowCache, G: Gate, R: Wait>(
         × IsOpen reader.old.feed }
     requires fresh { IsFresh (reader_of reader.old.feed) × (reader.old.next ≡ 0) }
     requires share { IsShare (C.is_of cache.now) C.shown (C.means cache.now).limits [] reader.old.share }
-    ensures read { IfOk result (λ tail. HasRead (C.is_of cache.now) C.shown (C.means cache.now).limits shared.now.queue (S.left source.old) (S.left source.new) limit
-        (reader_of reader.old.feed) (reader_of reader.new.feed) reader.new.share tail) }
+    ensures read { IfOk result (λ tail. HasRead (C.is_of cache.now) C.shown (C.means cache.now).limits shared.now.queue
+        (S.left source.old) (S.left source.new) limit (reader_of reader.old.feed) (reader_of reader.new.feed)
+        reader.new.share tail) }
     ensures refused { IfErr result (λ fault. IsRefused (side S.left S.faults source.old source.new) limit fault) }
     ensures faults { HasFaults (side S.left S.faults source.old source.new) result }
 {
