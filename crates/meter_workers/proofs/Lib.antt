@@ -4,3 +4,4 @@ pub mod Drawn
 pub mod Sharing
 pub mod Whole
 pub mod Taking
+pub mod Crew

@@ -37,7 +37,7 @@ loop-preserved-in-Some-take g c =
     let known = c.loop.invariant in
     let batch = c.in-Some-take.batch in
     let took = c.in-Some-take.ensures.took in
-    let told = c.in_ok-meter_run.ensures in
+    let told = c.in_ok-meter_run-in-Some-take.ensures in
     let own : slice_range (answers_by c.part-part.result) 0 c.count.result ≡ answers_of_batch batch =
     whole-range (answers_by c.part-part.result) (answers_of_batch batch) c.count.result
     (ap (λ k. answers_from k _) c.part-part.ensures.base
