@@ -20,12 +20,16 @@ loop-seat-init c = record {
 }
 
 pub unite-all-requires : goal.unite-all-requires
-unite-all-requires c κs within =
+unite-all-requires c =
     let P : QueuePass → Type 0 =
     λ s. IsPassOf c.args.queue.now s × (put_of s ≡ []) × (seats_of s ≡ 1) × (others_of s ≡ 0) in
-    (c.loop-seat.invariant.own,
-    (all_popped P c.loop-seat.seats.items c.pop.new.self.items c.in-Some.seat c.loop-seat.invariant.left
-    c.in-Some.ensures.items).1.0)
+    record {
+      own = (
+        c.loop-seat.invariant.own,
+        (all_popped P c.loop-seat.seats.items c.pop.new.self.items c.in-Some.seat c.loop-seat.invariant.left
+            c.in-Some.ensures.items).1.0,
+      );
+    }
 
 pub loop-seat-preserved : goal.loop-seat-preserved
 loop-seat-preserved c =
