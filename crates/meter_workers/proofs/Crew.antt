@@ -10,12 +10,17 @@ use Rattle.std.proofs.lemmas.List.Sorted.{IsPermutation-refl, IsPermutation-tran
 use Rattle.std.proofs.lemmas.List.Sorted.{IsPermutation-append_comm, IsPermutation-append_left, IsPermutation-append_right}
 use Rattle.std.proofs.lemmas.Slice.Zip.{all_zipped_more}
 use Rattle.packet_accept.proofs.Permuted.{flat_map-permutation}
+use Rattle.flow_parts.specs.declared.timeouts.Timeouts.{Timeouts}
+use Rattle.cache_face.specs.Meaning.{PassMeans}
 use Rattle.capture_input.specs.Parts.{Answer}
 use Rattle.batch_queue.specs.declared.batch.Batch.{Batch}
+use Rattle.batch_queue.specs.declared.queue.BatchQueue.{BatchQueue}
 use Rattle.batch_queue.specs.declared.queue.QueuePass.{QueuePass}
-use Rattle.batch_queue.specs.Passes.{took_of}
-use Rattle.meter_workers.specs.Shares.{HaveMetered}
-use Rattle.meter_workers.specs.Batched.{answers_of_batch, answers_in, IsReadyFor}
+use Rattle.batch_queue.specs.Passes.{IsPassOf, IsMore, took_of}
+use Rattle.meter_workers.specs.declared.share.Share.{Share}
+use Rattle.meter_workers.specs.Shares.{HaveMetered, IsShare}
+use Rattle.meter_workers.specs.Batched.{answers_of_batch, answers_in, IsReadyFor, IsReadyToTake, HasTaken}
+use Rattle.meter_workers.proofs.Taking.{took-more, took-seats}
 
 -- a worker that tallied nothing is ready for each batch
 pub ready-nothing : (taken : List Batch) (captured : ℕ) → captured ≡ 0 → IsReadyFor taken captured
@@ -118,4 +123,23 @@ gathered {W} {S} Has share seat ws answers own put took more all seats shares on
           (IsPermutation-append_right own (answers_in put) (theirs ++ left) of_all)
           (IsPermutation-trans _ ((theirs ++ own) ++ left) _ turned have.whole));
       each = have.each;
+    }
+
+-- a worker that has metered what it took, which is all that it did
+pub taken-all : {X P : Type 0} (is_of : P → Type 0) (shown : P → PassMeans) (limits : Timeouts) (queue : BatchQueue)
+    (old new : Share X P) (before after : QueuePass) (more : List Batch)
+    → IsReadyToTake {X = X} {P = P} is_of shown limits queue old before → IsPassOf queue after
+    → IsMore [] more before after
+    → ((done : List Answer) → IsShare {X = X} {P = P} is_of shown limits done old
+    → IsShare {X = X} {P = P} is_of shown limits (done ++ answers_in more) new)
+    → HasTaken {X = X} {P = P} is_of shown limits queue new after
+taken-all {X} {P} is_of shown limits queue old new before after more ready of is did =
+    let seats = took-seats before after more is in
+    let took : took_of after ≡ more = took-more before after more is ∙ ap (λ l. l ++ more) ready.fresh.2 in
+    record {
+      is = subst (λ l. IsShare {X = X} {P = P} is_of shown limits (answers_in l) new) (sym took) (did [] ready.is);
+      of = of;
+      put = seats.0 ∙ ready.fresh.1;
+      single = seats.1 ∙ ready.fresh.0;
+      apart = seats.2 ∙ ready.apart;
     }
