@@ -399,7 +399,7 @@ fn run_both<S: Source, C: FlowCache, G: Gate, R: Threads + Wait + Sync>(
 {
     let (_, end) = join_mut(
         rt,
-        &mut || -> ()
+        &mut move || -> ()
             requires sync { IsSync R.row }
             requires some { 0 < length workers.now.items }
             requires ready { All (λ w. IsReadyToTake (C.is_of cache.now) C.shown (C.means cache.now).limits shared.now.queue w.share w.seat) workers.now.items }
