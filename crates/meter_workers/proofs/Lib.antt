@@ -5,3 +5,4 @@ pub mod Sharing
 pub mod Whole
 pub mod Taking
 pub mod Crew
+pub mod Handing

@@ -11,7 +11,9 @@ use Rattle.batch_queue.specs.declared.queue.BatchQueue.{BatchQueue}
 use Rattle.batch_queue.specs.declared.queue.QueuePass.{QueuePass}
 use Rattle.batch_queue.specs.Batches.{IsBefore, count_of}
 use Rattle.batch_queue.specs.Passes.{IsPassOf, IsReaders, IsFresh, put_of, took_of, seats_of, others_of}
+use Rattle.batch_queue.specs.Passes.{reader_of, IsOpen}
 use Rattle.meter_workers.specs.declared.share.Share.{Share}
+use Rattle.meter_workers.specs.declared.batches.Reader.{Reader}
 use Rattle.meter_workers.specs.Shares.{IsShare}
 
 -- The answers to the records of a batch, and to those of several, one batch behind the other.
@@ -62,6 +64,30 @@ pub record IsStill (old new : QueuePass) : Type 0 where
   pub seats : seats_of new ≡ seats_of old
   pub others : others_of new ≡ others_of old
   pub took : took_of new ≡ took_of old
+
+-- A reader that can hand on batches, and has handed on some answers.
+pub record IsReading {X P : Type 0} (is_of : P → Type 0) (shown : P → PassMeans) (limits : Timeouts)
+    (queue : BatchQueue) (reader : Reader X P) : Type 0 where
+  pub of : IsPassOf queue (reader_of reader.feed)
+  pub puts : IsReaders (reader_of reader.feed)
+  pub goes : IsOpen reader.feed
+  pub answers : List Answer
+  pub handed : HasHanded {X = X} {P = P} is_of shown limits answers (put_of (reader_of reader.feed)) reader.share
+
+-- The reader handed these answers on besides, and can go on.
+pub record HandsOn {X P : Type 0} (is_of : P → Type 0) (shown : P → PassMeans) (limits : Timeouts)
+    (queue : BatchQueue) (more : List Answer) (old new : Reader X P) : Type 0 where
+  pub of : IsPassOf queue (reader_of new.feed)
+  pub goes : IsOpen new.feed
+  pub still : IsStill (reader_of old.feed) (reader_of new.feed)
+  pub handed : (answers : List Answer)
+      → HasHanded {X = X} {P = P} is_of shown limits answers (put_of (reader_of old.feed)) old.share
+      → HasHanded {X = X} {P = P} is_of shown limits (answers ++ more) (put_of (reader_of new.feed)) new.share
+
+-- The next batch that the reader hands on can have this number, behind so many records.
+abbrev pub IsReaderAt : {X P : Type 0} → ℕ → ℕ → Reader X P → Type 0
+IsReaderAt number base reader =
+    IsReadyAt number base (put_of (reader_of reader.feed)) reader.share.tally.captured
 
 -- The reader has read the whole capture and handed on its records.
 pub record HasRead {X P : Type 0} (is_of : P → Type 0) (shown : P → PassMeans) (limits : Timeouts) (queue : BatchQueue)

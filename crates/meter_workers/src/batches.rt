@@ -17,7 +17,7 @@ ghost use Rattle.batch_queue.specs.Passes.{seats_of, others_of, reader_of, IsOpe
 ghost use Rattle.batch_queue.specs.declared.batch.Batch.{Batch};
 ghost use Rattle.meter_workers.specs.Shares.{HasMetered, IsShare};
 ghost use Rattle.meter_workers.specs.Batched.{answers_of_batch, answers_in, IsReadyFor, IsReadyToTake, HasTaken};
-ghost use Rattle.meter_workers.specs.Batched.{HasHanded, IsReadyAt, IsStill, HasRead};
+ghost use Rattle.meter_workers.specs.Batched.{HasHanded, IsReading, HandsOn, IsReaderAt, HasRead};
 ghost use Rattle.meter_workers.specs.Whole.{IsMeteredWhole};
 
 use crate::gate::Gate;
@@ -227,20 +227,12 @@ fn hand_over<C: FlowCache, G: Gate, R: Wait>(
     reader: &mut Reader<C>,
     batch: Batch,
 ) -> Result<(), NoMemory>
-    requires own { IsPassOf shared.now.queue (reader_of reader.old.feed) × IsReaders (reader_of reader.old.feed)
-        × IsOpen reader.old.feed }
-    requires handed { (answers : List Answer) × HasHanded (C.is_of cache.now) C.shown (C.means cache.now).limits answers (put_of (reader_of reader.old.feed))
-        reader.old.share }
-    requires ready { IsReadyAt batch.number batch.base (put_of (reader_of reader.old.feed))
-        reader.old.share.tally.captured }
-    ensures own { OnOk result (IsPassOf shared.now.queue (reader_of reader.new.feed) × IsOpen reader.new.feed) }
-    ensures still { OnOk result (IsStill (reader_of reader.old.feed) (reader_of reader.new.feed)) }
-    ensures ready { OnOk result (IsReadyAt (batch.number + 1) (batch.base + count_of batch)
-        (put_of (reader_of reader.new.feed)) reader.new.share.tally.captured) }
+    requires reading { IsReading (C.is_of cache.now) C.shown (C.means cache.now).limits shared.now.queue reader.old }
+    requires ready { IsReaderAt batch.number batch.base reader.old }
+    ensures ready { OnOk result (IsReaderAt (batch.number + 1) (batch.base + count_of batch) reader.new) }
     ensures next { OnOk result (reader.new.next ≡ reader.old.next) }
-    ensures handed { OnOk result ((answers : List Answer)
-        → HasHanded (C.is_of cache.now) C.shown (C.means cache.now).limits answers (put_of (reader_of reader.old.feed)) reader.old.share
-        → HasHanded (C.is_of cache.now) C.shown (C.means cache.now).limits (answers ++ answers_of_batch batch) (put_of (reader_of reader.new.feed)) reader.new.share) }
+    ensures handed { OnOk result (HandsOn (C.is_of cache.now) C.shown (C.means cache.now).limits shared.now.queue
+        (answers_of_batch batch) reader.old reader.new) }
 {
     match shared.queue.offer(rt, &mut reader.feed, batch) {
         Ok(()) => Ok(()),
@@ -269,25 +261,16 @@ fn hand_part<C: FlowCache, G: Gate, R: Wait>(
     requires size { size_in read.0 ≡ shared.now.size }
     requires given { (before left : Option (List ℕ)) × (limit : ℕ) × (answers : List Answer)
         × HasGiven before left limit read.0 answers }
-    requires own { IsPassOf shared.now.queue (reader_of reader.old.feed) × IsReaders (reader_of reader.old.feed)
-        × IsOpen reader.old.feed }
-    requires handed { (answers : List Answer) × HasHanded (C.is_of cache.now) C.shown (C.means cache.now).limits answers (put_of (reader_of reader.old.feed))
-        reader.old.share }
-    requires ready { IsReadyAt reader.old.next (base_in read.0) (put_of (reader_of reader.old.feed))
-        reader.old.share.tally.captured }
+    requires reading { IsReading (C.is_of cache.now) C.shown (C.means cache.now).limits shared.now.queue reader.old }
+    requires ready { IsReaderAt reader.old.next (base_in read.0) reader.old }
     ensures same { IfOk result (λ r. (size_in r.0 ≡ size_in read.0) × (left_in r.0 ≡ left_in read.0)
         × (IsLast r.0 ↔ IsLast read.0)) }
     ensures given { (before left : Option (List ℕ)) (limit : ℕ) (answers : List Answer)
         → HasGiven before left limit read.0 answers → IfOk result (λ r. HasGiven before left limit r.0 answers) }
-    ensures own { OnOk result (IsPassOf shared.now.queue (reader_of reader.new.feed) × IsOpen reader.new.feed) }
-    ensures still { OnOk result (IsStill (reader_of reader.old.feed) (reader_of reader.new.feed)) }
+    ensures ready { OnOk result (IsReaderAt reader.new.next (base_in read.0 + length read.1.offsets) reader.new) }
     ensures next { OnOk result (reader.new.next ≤ base_in read.0 + length read.1.offsets) }
-    ensures ready { OnOk result (IsReadyAt reader.new.next (base_in read.0 + length read.1.offsets)
-        (put_of (reader_of reader.new.feed)) reader.new.share.tally.captured) }
-    ensures handed { OnOk result ((answers : List Answer)
-        → HasHanded (C.is_of cache.now) C.shown (C.means cache.now).limits answers (put_of (reader_of reader.old.feed)) reader.old.share
-        → HasHanded (C.is_of cache.now) C.shown (C.means cache.now).limits (answers ++ answers_from (base_in read.0) (part_in read.0))
-        (put_of (reader_of reader.new.feed)) reader.new.share) }
+    ensures handed { OnOk result (HandsOn (C.is_of cache.now) C.shown (C.means cache.now).limits shared.now.queue
+        (answers_from (base_in read.0) (part_in read.0)) reader.old reader.new) }
 {
     let (reading, index) = read;
     if index.count() == 0 {

@@ -1,0 +1,29 @@
+-- The records of the parts so far were handed on, and the part that was read last comes next.
+use Rattle.std.proofs.Common.{◌≡◌, ◌≤◌, ◌<◌, ◌+◌, ◌^◌, ◌++◌, ℕ, List, length}
+use Rattle.pcap_reader.specs.Index.{IsIndexOf}
+use Rattle.capture_input.specs.Parts.{Answer, answers_from}
+use Rattle.capture_input.specs.Giving.{HasGiven, part_in, base_in, size_in, left_in}
+use Rattle.batch_queue.specs.Passes.{IsPassOf, IsOpen, reader_of, put_of}
+use Rattle.meter_workers.specs.Batched.{IsReadyAt, IsStill, HasHanded}
+use Rattle.meter_workers.proofs.batches.read_all.Given as goal
+
+abbrev pub invariant-loop-read : goal.invariant-loop-read
+invariant-loop-read g l = record {
+  part : IsIndexOf l.index (part_in l.reading);
+  few : base_in l.reading + length l.index.offsets < 2 ^ 32;
+  low : l.reader.next ≤ base_in l.reading;
+  size : size_in l.reading ≡ l.shared.size;
+  of : IsPassOf l.shared.queue (reader_of l.reader.feed);
+  «open» : IsOpen l.reader.feed;
+  still : IsStill (reader_of l.initial.reader.feed) (reader_of l.reader.feed);
+  ready : IsReadyAt l.reader.next (base_in l.reading) (put_of (reader_of l.reader.feed)) l.reader.share.tally.captured;
+  quiet : g.S.Source.faults l.source ≡ g.S.Source.faults l.fn.source;
+  done : (done : List Answer) × (base_in l.reading ≡ length done)
+      × HasGiven (g.S.Source.left l.fn.source) (g.S.Source.left l.source) l.limit l.reading
+      (done ++ answers_from (base_in l.reading) (part_in l.reading))
+      × HasHanded {X = g.row.C.Denot} {P = g.row.C-Pass.Denot} (g.C.FlowCache.is_of l.cache) g.C.FlowCache.shown
+      (g.C.FlowCache.means l.cache).limits done (put_of (reader_of l.reader.feed)) l.reader.share;
+}
+
+abbrev pub decreases-loop-read : goal.decreases-loop-read
+decreases-loop-read g l = left_in l.reading
