@@ -6,3 +6,4 @@ pub mod Whole
 pub mod Taking
 pub mod Metering
 pub mod Handing
+pub mod Crew
