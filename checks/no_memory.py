@@ -24,11 +24,9 @@ MEMORY = ("NoMemory", "AllocError", "AllocFailed")
 # Calls of the standard library and of the toolchain's crates that fail for want of memory alone.
 ALLOCATES = {"push", "extend_from_slice", "with_capacity", "of_words", "collect", "to_vec", "reserve"}
 
-# Arms that aren't reached, which no clause says yet: a worker that is still at work when all have ended, and a batch that is damaged.
+# An arm that isn't reached, which no clause says yet: a worker that is still at work when all have ended.
 KNOWN = {
-    ("batch_workers/src/batch.rt", "Err(IndexError::NoMemory | IndexError::Damaged(_)) => return Err(NoMemory),"),
-    ("batch_workers/src/share.rt", "WorkState::Going | WorkState::NoMemory => return Err(NoMemory),"),
-    ("meter_workers/src/part.rt", "return Err(NoMemory);"),
+    ("meter_workers/src/worker.rt", "WorkState::Going | WorkState::NoMemory => return Err(NoMemory),"),
 }
 
 PLANTED_RIGHT = """

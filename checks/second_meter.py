@@ -24,8 +24,7 @@ import generate  # noqa: E402
 
 TOP = Path(__file__).resolve().parent.parent
 FIELDS = [(7, 2), (11, 2), (4, 1), (6, 2), (2, 8), (1, 8), (152, 8), (153, 8), (136, 1)]
-# Whether the program's workers have fronts, and how many places of two entries a front has.
-WITH_FRONT = False
+# How many places of two entries a worker's front has.
 PLACES = 2048
 TEMPLATES = {256: [(8, 4), (12, 4)] + FIELDS, 257: [(27, 16), (28, 16)] + FIELDS}
 
@@ -217,7 +216,7 @@ def cached(packets: list[Packet], limits: Limits, sets: int) -> list[list]:
     """What a cache of so many sets of four entries hands out and keeps, where one worker meters all packets."""
     cache: dict[int, list] = {}
     out = []
-    for part in through_front(packets, limits) if WITH_FRONT else map(alone, packets):
+    for part in through_front(packets, limits):
         left = put_in(cache.setdefault(set_of(part[0], sets), [None] * 4), part, limits)
         if left:
             out.append(left)

@@ -120,7 +120,7 @@ fn meter_bytes<R: Threads + Sync>(
     let capture = Capture::open(bytes).ok()?;
     let part = Part {
         capture,
-        index: index,
+        index,
         base: 0,
     };
     meter_all(rt, alloc, &part, cache, passes, PIECE, &OpenGate).ok()
@@ -190,7 +190,7 @@ fn close_cache(
     let Gathered {
         pass,
         parts,
-        tally: _,
+        ..
     } = gathered;
     let Asked {
         pass: own,

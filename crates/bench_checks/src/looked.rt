@@ -1,12 +1,12 @@
 //! A cache whose passes are looked at behind each call.
 
-ghost use Rattle.bench_checks.specs.Looked.{means_of, shown_of, IsOf};
+ghost use Rattle.pebr_words.specs.Pasts.{Lost};
+ghost use Rattle.bench_checks.specs.Looked.{means_of, shown_of, tries_of, IsOf};
 ghost use Rattle.flow_cache.specs.Shown.{IsTryOf};
 
 use cache_face::{FlowCache, Metered, NoMemory};
 use flow_cache::{PebrCache, PebrPass};
 use flow_parts::Fragment;
-use packet_accept::Packet;
 use std::alloc::Global;
 
 /// A cache without turns.
@@ -31,10 +31,14 @@ impl FlowCache for LookedCache {
 
     ghost is_of = { IsOf };
 
+    ghost lost_try = { Lost };
+
     ghost is_try_of = { IsTryOf };
 
-    fn meter(&self, pass: &mut LookedPass, packet: &Packet) -> Metered {
-        let metered = self.inner.meter(&mut pass.inner, packet);
+    ghost lost = { tries_of };
+
+    fn meter_part(&self, pass: &mut LookedPass, part: &Fragment) -> Metered {
+        let metered = self.inner.meter_part(&mut pass.inner, part);
         pass.most = pass.most.max(pass.inner.retired());
         metered
     }

@@ -14,14 +14,14 @@ use std::thread::Threads;
 /// How many packets a thread takes at a time.
 const PIECE: usize = 256;
 
-/// What a thread meters through, which of the threads it is, the least number of its next packet, and how many packets
-/// the fragments have that it was handed. The unused words behind it keep the cache lines of two threads apart.
+/// What a thread meters through, which of the threads it is, how many packets it has metered, and how many packets the
+/// fragments have that it was handed. The unused words behind it keep the cache lines of two threads apart.
 #[derive(Drop)]
 #[repr(C)]
 pub(crate) struct Runner<C: FlowCache> {
     pub(crate) pass: C::Pass,
     pub(crate) place: usize,
-    pub(crate) next: u64,
+    pub(crate) count: u64,
     pub(crate) handed: u64,
     apart: [u64; 16],
 }
@@ -35,7 +35,7 @@ pub(crate) fn runners_of<C: FlowCache>(
     requires passes { All (λ p. C.is_of cache.now p × IsFresh (C.shown p)) passes.items }
     ensures many { IfOk result (λ runners. length runners.items ≡ length passes.items) }
     ensures going { IfOk result
-        (λ runners. All (λ r. C.is_of cache.now r.pass × IsGoing r.next (C.shown r.pass)) runners.items) }
+        (λ runners. All (λ r. C.is_of cache.now r.pass × IsGoing r.count (C.shown r.pass)) runners.items) }
 {
     let _ = cache;
     let mut runners = Vec::new(alloc);
@@ -45,7 +45,7 @@ pub(crate) fn runners_of<C: FlowCache>(
         runners.push(Runner {
             pass,
             place,
-            next: 0,
+            count: 0,
             handed: 0,
             apart: [0; 16],
         })?;
@@ -53,19 +53,18 @@ pub(crate) fn runners_of<C: FlowCache>(
     Ok(runners)
 }
 
-/// Meters a packet whose number is not below the next one, and adds the packets of the fragment that is handed out.
+/// Meters a packet, where it may, and adds the packets of the fragment that is handed out.
 fn run_packet<C: FlowCache>(packet: &Packet, cache: &C, runner: &mut Runner<C>)
     requires own { C.is_of cache.now runner.old.pass }
-    requires going { IsGoing runner.old.next (C.shown runner.old.pass) }
+    requires going { IsGoing runner.old.count (C.shown runner.old.pass) }
     ensures own { C.is_of cache.now runner.new.pass }
-    ensures going { IsGoing runner.new.next (C.shown runner.new.pass) }
+    ensures going { IsGoing runner.new.count (C.shown runner.new.pass) }
 {
-    let number = packet.number;
-    if number < runner.next || number > 0xffff_ffff || packet.octets >= 1 << 24 {
+    if runner.count > 0xffff_ffff || packet.octets >= 1 << 24 {
         return;
     }
     let metered = cache.meter(&mut runner.pass, packet);
-    runner.next = number + 1;
+    runner.count += 1;
     if let Some(fragment) = metered.out {
         runner.handed = runner.handed.wrapping_add(fragment.packets);
     }
@@ -74,9 +73,9 @@ fn run_packet<C: FlowCache>(packet: &Packet, cache: &C, runner: &mut Runner<C>)
 /// Meters the packets of a piece.
 fn run_piece<C: FlowCache>(packets: &[Packet], cache: &C, runner: &mut Runner<C>)
     requires own { C.is_of cache.now runner.old.pass }
-    requires going { IsGoing runner.old.next (C.shown runner.old.pass) }
+    requires going { IsGoing runner.old.count (C.shown runner.old.pass) }
     ensures own { C.is_of cache.now runner.new.pass }
-    ensures going { IsGoing runner.new.next (C.shown runner.new.pass) }
+    ensures going { IsGoing runner.new.count (C.shown runner.new.pass) }
 {
     for packet in packets {
         run_packet(packet, cache, runner);
@@ -87,7 +86,7 @@ fn run_piece<C: FlowCache>(packets: &[Packet], cache: &C, runner: &mut Runner<C>
 fn run_share<C: FlowCache>(packets: &[Packet], count: usize, cache: &C, runner: &mut Runner<C>)
     requires some { 0 < count }
     requires own { C.is_of cache.now runner.old.pass }
-    requires going { IsGoing runner.old.next (C.shown runner.old.pass) }
+    requires going { IsGoing runner.old.count (C.shown runner.old.pass) }
 {
     let mut turn = 0;
     for piece in packets.chunks(PIECE) {
@@ -115,7 +114,7 @@ pub(crate) fn run_all<C: FlowCache, R: Threads + Sync>(
     runners: &mut [Runner<C>],
 )
     requires some { 0 < length runners.old }
-    requires going { All (λ r. C.is_of cache.now r.pass × IsGoing r.next (C.shown r.pass)) runners.old }
+    requires going { All (λ r. C.is_of cache.now r.pass × IsGoing r.count (C.shown r.pass)) runners.old }
 {
     let count = runners.len();
     thread::for_each_mut(
@@ -124,7 +123,7 @@ pub(crate) fn run_all<C: FlowCache, R: Threads + Sync>(
         count,
         &|_, r: &mut Runner<C>|
             requires some { 0 < count }
-            requires going { C.is_of cache.now r.old.pass × IsGoing r.old.next (C.shown r.old.pass) }
+            requires going { C.is_of cache.now r.old.pass × IsGoing r.old.count (C.shown r.old.pass) }
         { run_share(packets, count, cache, r) },
     );
 }

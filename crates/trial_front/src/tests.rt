@@ -76,7 +76,8 @@ fn part(flow: u16, packets: u32, first: u32, last: u32) -> Option<Fragment>
 
 /// What leaves for each packet: the second entry is opened where the first is of another flow; each takes in its own flow;
 /// of two the one with the least last time leaves, the first among equals; one of the flow that doesn't fit leaves, in
-/// either entry. At the end each open fragment comes once, place by place.
+/// either entry, and also where the other is empty, which stays so. At the end each open fragment comes once, place by
+/// place.
 #[test]
 fn two_entries_of_a_place(rt: HostRuntime) -> Result<(), NoMemory> {
     let mut front = new_front(rt.alloc())?;
@@ -94,6 +95,8 @@ fn two_entries_of_a_place(rt: HostRuntime) -> Result<(), NoMemory> {
         (TWO, 801, part(TWO, 1, 500, 500)),
         (THREE, 601, None),
         (FIRST, 60, None),
+        (LAST, 350, None),
+        (LAST, 651, part(LAST, 2, 50, 350)),
     ];
     for (flow, second, left) in rows {
         assert!(rt; front.take_in(flow, second) == left);
@@ -102,7 +105,7 @@ fn two_entries_of_a_place(rt: HostRuntime) -> Result<(), NoMemory> {
         part(FIRST, 1, 60, 60),
         part(THREE, 2, 600, 601),
         part(TWO, 1, 801, 801),
-        part(LAST, 1, 50, 50),
+        part(LAST, 1, 651, 651),
         None,
         None,
     ];

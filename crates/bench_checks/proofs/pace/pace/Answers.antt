@@ -13,7 +13,7 @@ of_value P (Err e) a is p = absurd cc
 pub run_all-requires-clause-going : goal.run_all-requires-clause-going
 run_all-requires-clause-going g c κs within =
     let Own : Runner g.row.M-Cache.Denot g.row.M-Cache-Pass.Denot → Type 0 =
-    λ r. g.M.Cache.FlowCache.is_of c.in_ok-cache.cache r.pass × IsGoing r.next (g.M.Cache.FlowCache.shown r.pass) in
+    λ r. g.M.Cache.FlowCache.is_of c.in_ok-cache.cache r.pass × IsGoing r.count (g.M.Cache.FlowCache.shown r.pass) in
     subst (All Own) (sym c.as_mut_slice.ensures.value)
     (of_value (λ runners. All Own runners.items) c.runners_of.result c.in_ok-runners.runners
     c.in_ok-runners.ensures.value c.runners_of.ensures.going)

@@ -1,6 +1,6 @@
-use Rattle.std.proofs.Common.{rules, ◌<◌, ap, sym, subst, arith}
+use Rattle.std.proofs.Common.{rules, ◌≡◌, ◌≤◌, ap, sym, subst, arith}
 use Rattle.std.specs.Prelude.{All}
-use Rattle.packet_accept.specs.declared.packet.Packet.{Packet}
+use Rattle.cache_face.specs.Keeping.{packet_count}
 use Rattle.cache_face.specs.Meaning.{PassMeans, IsFresh}
 use Rattle.cache_face.specs.Notes.{Note}
 use Rattle.meter_workers.proofs.Taken.{all_popped, all_pushed}
@@ -8,12 +8,11 @@ use Rattle.bench_checks.specs.declared.runner.Runner.{Runner}
 use Rattle.bench_checks.specs.Going.{IsGoing}
 use Rattle.bench_checks.proofs.runner.runners_of.Goals as goal
 
--- a fresh pass has metered nothing
+-- a fresh pass was given nothing
 fresh-going : (pass : PassMeans) → IsFresh pass → IsGoing 0 pass
 fresh-going pass fresh = record {
   single = ap (λ (n : Note). n.seats) fresh.0;
-  below = subst (All (λ (p : Packet). p.number < 0)) (sym (ap (λ (n : Note). n.packets) fresh.0))
-      (λ k d lt. omega (arith, lt));
+  few = subst (λ (n : Note). packet_count n.taken ≤ 0) (sym fresh.0) (omega arith);
 }
 
 pub loop-pass-preserved : goal.loop-pass-preserved
@@ -21,7 +20,7 @@ loop-pass-preserved g c =
     let Fresh : g.row.C-Pass.Denot → Type 0 =
     λ p. g.C.FlowCache.is_of c.args.cache.now p × IsFresh (g.C.FlowCache.shown p) in
     let Own : Runner g.row.C.Denot g.row.C-Pass.Denot → Type 0 =
-    λ r. g.C.FlowCache.is_of c.args.cache.now r.pass × IsGoing r.next (g.C.FlowCache.shown r.pass) in
+    λ r. g.C.FlowCache.is_of c.args.cache.now r.pass × IsGoing r.count (g.C.FlowCache.shown r.pass) in
     let p = all_popped Fresh _ _ c.in-Some.pass c.loop-pass.invariant.left c.in-Some.ensures.items in
     record {
       left = p.0;

@@ -7,7 +7,7 @@ use Rattle.bench_checks.proofs.runner.runners_of.Given as goal
 abbrev pub invariant-loop-pass : goal.invariant-loop-pass
 invariant-loop-pass g l = record {
   left : All (λ p. g.C.FlowCache.is_of l.cache p × IsFresh (g.C.FlowCache.shown p)) l.passes.items;
-  going : All (λ r. g.C.FlowCache.is_of l.cache r.pass × IsGoing r.next (g.C.FlowCache.shown r.pass)) l.runners.items;
+  going : All (λ r. g.C.FlowCache.is_of l.cache r.pass × IsGoing r.count (g.C.FlowCache.shown r.pass)) l.runners.items;
   many : length l.runners.items + length l.passes.items ≡ length l.initial.passes.items;
 }
 
