@@ -13,6 +13,7 @@ use Rattle.pebr_roots.specs.Orders.{HasClearedOne}
 use Rattle.pebr_roots.specs.Passes.{known_by, past_by, number_by, operations_by, shape_at}
 use Rattle.pebr_roots.proofs.Passing.{all_down, down_all}
 use Rattle.pebr_roots.proofs.Orders.{below_more}
+use Rattle.pebr_roots.proofs.Counts.{cleared_few}
 use Rattle.pebr_roots.proofs.pass.Roots.clear.Goals as goal
 
 pub returns-clause-known : goal.returns-clause-known
@@ -77,3 +78,7 @@ loop-place-preserved g c =
       last = λ _. ap (λ (p : History). p.last) is;
       sure = λ _. told.step.sure;
     }
+
+pub returns-clause-few : goal.returns-clause-few
+returns-clause-few g c = cleared_few (shape_at c.args.self.now) (number_by c.args.pass.now)
+    (operations_by c.args.pass.now) (operations_by c.loop-place.pass) ?
