@@ -11,9 +11,10 @@ use Rattle.pebr_table.specs.Operations.{Op, load, exchange}
 use Rattle.pebr_core.specs.declared.kinds.Shape.{Shape}
 use Rattle.pebr_core.specs.State.{Seat}
 use Rattle.pebr_core.specs.Steps.{after_note, last_epoch}
-use Rattle.pebr_words.specs.Places.{index, epoch_word}
+use Rattle.pebr_words.specs.Places.{index, epoch_word, shield_word}
 use Rattle.pebr_words.specs.Pasts.{History}
-use Rattle.pebr_roots.specs.Orders.{HasMade, AreMade, ButFor, HasCleared, HasPassed, HasScannedSome, opened_operations}
+use Rattle.pebr_roots.specs.Orders.{HasMade, AreMade, ButFor, HasCleared, HasPassed, HasScannedOne, HasScannedSome}
+use Rattle.pebr_roots.specs.Orders.{opened_operations}
 use Rattle.pebr_roots.specs.Orders.{is_passable, HasMadeCollection, HasEndedAt}
 
 pub made_none : (old new : List Op) → new ≡ old → HasMade 0 old new
@@ -85,37 +86,57 @@ opened_few shape noted found x y is = by (nat_lt noted last_epoch) is
     by true is = made_two _ _ x y is
     by false is = made_in 1 2 x y (omega arith) (made_one _ x y is)
 
+-- some were made
+abbrev More : List Op → List Op → Type 0
+More x y = (n : ℕ) × HasMade n x y
+
+more_on : (x y z : List Op) → More x y → More y z → More x z
+more_on x y z h k = (h.0 + k.0, made_on h.0 k.0 x y z h.1 k.1)
+
+module _ (shape : Shape) (known : Seat) (force : Bool) (me : ℕ) where
+  passing : (js : List ℕ) (x y : List Op)
+      → AreMade (ButFor me (λ j. HasPassed shape known force j true)) js x y → More x y
+  passing js x y all =
+      (
+        2 * length js,
+        made_each (ButFor me (λ j. HasPassed shape known force j true)) 2 js x y
+            (λ j l r. but_few me 2 j (λ k. HasPassed shape known force k true) l r
+            (λ p q. passed_few shape known force j true p q)) all,
+      )
+
+  scanned_few : (n j : ℕ) (x y : List Op) → n ≡ 1 * length (range_with_len 0 shape.shields)
+      → HasScannedSome shape j shape.shields x y → HasMade n x y
+  scanned_few n j x y is all = subst (λ m. HasMade m x y) (sym is)
+      (made_each (HasScannedOne shape j) 1 (range_with_len 0 shape.shields) x y
+      (λ k l r made. made_one (load (index shape (shield_word j k)) made.0) l r made.1) all)
+
+  scanning : (n : ℕ) (js : List ℕ) (x y : List Op) → n ≡ 1 * length (range_with_len 0 shape.shields)
+      → AreMade (ButFor me (λ j. HasScannedSome shape j shape.shields)) js x y → More x y
+  scanning n js x y is all =
+      (
+        n * length js,
+        made_each (ButFor me (λ j. HasScannedSome shape j shape.shields)) n js x y
+            (λ j l r. but_few me n j (λ k. HasScannedSome shape k shape.shields) l r
+            (λ p q. scanned_few n j p q is)) all,
+      )
+
 -- a whole collection only adds operations
 pub collection_more : (shape : Shape) (force : Bool) (me : ℕ) (known : Seat) (ended : Bool) (past past' : History)
     (x y : List Op) → HasMadeCollection shape force me known ended past past' x y → (n : ℕ) × HasMade n x y
-collection_more shape force me known ended past past' x y h = by ended refl
-  where
-    begun : List Op
-    begun = opened_operations shape h.noted h.found x
-    passing : (js : List ℕ) (a b : List Op)
-        → AreMade (ButFor me (λ j. HasPassed shape (after_note shape h.noted known) force j true)) js a b
-        → HasMade (2 * length js) a b
-    passing js a b all = made_each _ 2 js a b (λ j l r. but_few me 2 j _ l r (λ p q.
-    passed_few shape (after_note shape h.noted known) force j true p q)) all
-    scanned_few : (j : ℕ) (a b : List Op) → HasScannedSome shape j shape.shields a b
-        → HasMade (1 * length (range_with_len 0 shape.shields)) a b
-    scanned_few j a b all = made_each _ 1 (range_with_len 0 shape.shields) a b (λ k l r is. made_one _ l r is.1) all
-    scanning : (js : List ℕ) (a b : List Op)
-        → AreMade (ButFor me (λ j. HasScannedSome shape j shape.shields)) js a b
-        → HasMade (1 * length (range_with_len 0 shape.shields) * length js) a b
-    scanning js a b all = made_each _ (1 * length (range_with_len 0 shape.shields)) js a b
-        (λ j l r. but_few me (1 * length (range_with_len 0 shape.shields)) j _ l r (λ p q. scanned_few j p q)) all
-    by : (b : Bool) → ended ≡ b → (n : ℕ) × HasMade n x y
-    by true is =
-        let w = h.whole is in
-        let one = opened_few shape h.noted h.found x begun refl in
-        let two = passing (range_with_len 0 shape.seats) begun w.0 w.3 in
-        let three = scanning (range_with_len 0 shape.seats) w.0 w.1 w.4 in
-        let four = made_one _ w.1 y w.5 in
-        (_, made_on _ 1 x w.1 y (made_on _ _ x w.0 w.1 (made_on 2 _ x begun w.0 one two) three) four)
-    by false is =
-        let w : HasEndedAt shape (after_note shape h.noted known) force me begun y = h.held_up is in
-        let one = opened_few shape h.noted h.found x begun refl in
-        let two = passing (range_with_len 0 w.other) begun w.mid w.before in
-        (_, made_on _ 2 x w.mid y (made_on 2 _ x begun w.mid one two)
-        (passed_few shape (after_note shape h.noted known) force w.other false w.mid y w.last))
+collection_more shape force me known true past past' x y h =
+    let seen : Seat = after_note shape h.noted known in
+    let begun : List Op = opened_operations shape h.noted h.found x in
+    let w = h.whole refl in
+    more_on x w.1 y
+    (more_on x w.0 w.1 (more_on x begun w.0 (2, opened_few shape h.noted h.found x begun refl)
+    (passing shape seen force me (range_with_len 0 shape.seats) begun w.0 w.3))
+    (scanning shape seen force me (1 * length (range_with_len 0 shape.shields)) (range_with_len 0 shape.seats) w.0 w.1
+    refl w.4))
+    (1, made_one (load (index shape epoch_word) w.2) w.1 y w.5)
+collection_more shape force me known false past past' x y h =
+    let seen : Seat = after_note shape h.noted known in
+    let begun : List Op = opened_operations shape h.noted h.found x in
+    let w : HasEndedAt shape seen force me begun y = h.held_up refl in
+    more_on x w.mid y (more_on x begun w.mid (2, opened_few shape h.noted h.found x begun refl)
+    (passing shape seen force me (range_with_len 0 w.other) begun w.mid w.before))
+    (2, passed_few shape seen force w.other false w.mid y w.last)
