@@ -1,5 +1,5 @@
 -- How often a pass collects: steps that neither note the epoch alone nor pin alone, and what it does before a try.
-use Rattle.std.proofs.Common.{◌≡◌, ◌≢◌, ◌<◌, ◌≤◌, ◌+◌, ◌∷◌, ℕ, Bool, true, false, Some, refl, sym, subst, arith}
+use Rattle.std.proofs.Common.{◌≡◌, ◌≢◌, ◌<◌, ◌≤◌, ◌+◌, ◌∷◌, ℕ, Bool, true, false, List, Some, refl, sym, subst, arith}
 use Rattle.std.specs.Prelude.{if◌then◌else◌}
 use mathlib.Core.Logic.{dite}
 use native.Mathlib.Decide.{ℕ_discrete, dec_le}
@@ -9,7 +9,12 @@ use Rattle.pebr_core.specs.declared.kinds.Step.TheVariants as step
 use Rattle.pebr_words.specs.Pasts.{Load, Replaced, History, past_after, is_ejected, is_replaced, is_shown, shown_at}
 use Rattle.pebr_words.specs.Pasts.{with_lost, without_slot, was_ejected, found_other}
 use Rattle.pebr_roots.specs.Ends.{entered_past}
-use Rattle.flow_cache.specs.Collecting.{HasCollected, CollectsFrom}
+use Rattle.pebr_core.specs.declared.kinds.Shape.{Shape}
+use Rattle.pebr_core.specs.Frames.{retired_count}
+use Rattle.pebr_table.specs.Operations.{Op}
+use Rattle.pebr_roots.specs.Orders.{HasMade}
+use Rattle.pebr_roots.proofs.Counts.{made_on}
+use Rattle.flow_cache.specs.Collecting.{HasCollected, HasBegun, CollectsFrom}
 
 pub spared_one : (old new : History) → new.notes ≡ old.notes → new.pins ≡ old.pins → HasCollected 0 old new
 spared_one old new notes pins = omega (arith, notes, pins)
@@ -62,26 +67,41 @@ spared_put start mid end new i root slot fresh a seat n p n' p' is =
     collected_on 0 0 start mid new (spared_one start mid n p) (collected_on 0 0 mid end new (spared_one mid end n' p')
     (subst (HasCollected 0 end) (sym is) (replace_spares i root slot fresh a seat end)))
 
+-- what began with a collection goes on
+pub begun_on : (shape : Shape) (me : ℕ) (known : Seat) (past : History) (old mid new : List Op) (n : ℕ)
+    → HasBegun shape me known past old mid → HasMade n mid new → HasBegun shape me known past old new
+begun_on shape me known past old mid new n h more = record {
+  ended = h.ended;
+  past' = h.past';
+  mid = h.mid;
+  collection = h.collection;
+  most = h.most + n;
+  later = made_on h.most n h.mid mid new h.later more;
+}
+
 -- what is collected before the first try, by how many slots are retired then, and how many are fresh behind the first
 -- collection
-pub collects_from : (retired fresh : ℕ) (old mid new : History) → (32 ≤ retired → HasCollected 1 old mid)
-    → (retired < 32 → HasCollected 0 old mid) → (fresh ≡ 0 → HasCollected 1 mid new)
-    → (0 < fresh → HasCollected 0 mid new) → (retired < 32 → 0 < fresh) → CollectsFrom retired old new
-collects_from retired fresh old mid new many few none some room =
+pub collects_from : (shape : Shape) (me : ℕ) (known : Seat) (fresh : ℕ) (old mid new : History) (x y z : List Op) (n : ℕ)
+    → (32 ≤ retired_count known → HasCollected 1 old mid)
+    → (32 ≤ retired_count known → HasBegun shape me known old x y)
+    → (retired_count known < 32 → HasCollected 0 old mid) → (fresh ≡ 0 → HasCollected 1 mid new)
+    → (0 < fresh → HasCollected 0 mid new) → (retired_count known < 32 → 0 < fresh) → HasMade n y z
+    → CollectsFrom shape me known old new x z
+collects_from shape me known fresh old mid new x y z n many begun few none some room more =
     dite (dec_le 32 retired)
     (λ (high : 32 ≤ retired). dite (ℕ_discrete fresh 0)
     (λ (empty : fresh ≡ 0). record {
       times = 2;
       collected = collected_on 1 1 old mid new (many high) (none empty);
       most = omega arith;
-      from = λ is. omega arith;
+      from = λ is. (omega arith, begun_on shape me known old x y z n (begun is) more);
       below = λ low. absurd (omega (arith, low, high));
     })
     (λ (full : fresh ≢ 0). record {
       times = 1;
       collected = collected_on 1 0 old mid new (many high) (some (omega (arith, full)));
       most = omega arith;
-      from = λ is. omega arith;
+      from = λ is. (omega arith, begun_on shape me known old x y z n (begun is) more);
       below = λ low. absurd (omega (arith, low, high));
     }))
     (λ (below : ¬ (32 ≤ retired)). (let low : retired < 32 = omega (arith, below) in record {
@@ -91,14 +111,18 @@ collects_from retired fresh old mid new many few none some room =
       from = λ is. absurd (below is);
       below = λ is. refl;
     }))
+  where
+    retired : ℕ
+    retired = retired_count known
 
 -- and the tries behind it collect nothing
-pub collects_on : (retired : ℕ) (old mid new : History) → CollectsFrom retired old mid → HasCollected 0 mid new
-    → CollectsFrom retired old new
-collects_on retired old mid new room spared = record {
+pub collects_on : (shape : Shape) (me : ℕ) (known : Seat) (old mid new : History) (x y z : List Op) (n : ℕ)
+    → CollectsFrom shape me known old mid x y → HasCollected 0 mid new → HasMade n y z
+    → CollectsFrom shape me known old new x z
+collects_on shape me known old mid new x y z n room spared more = record {
   times = room.times;
   collected = (let c = room.collected in omega (arith, c, spared));
   most = room.most;
-  from = room.from;
+  from = λ is. ((room.from is).0, begun_on shape me known old x y z n (room.from is).1 more);
   below = room.below;
 }

@@ -4,9 +4,13 @@ use Rattle.flow_parts.specs.declared.fragment.Fragment.{Fragment}
 use Rattle.cache_face.specs.Meaning.{CacheMeans, PassMeans}
 use Rattle.cache_face.specs.Notes.{Note, first_note, empty_note}
 use Rattle.pebr_core.specs.Frames.{retired_count}
+use Rattle.pebr_core.specs.State.{Seat}
+use Rattle.pebr_core.specs.declared.kinds.Shape.{Shape}
+use Rattle.pebr_table.specs.Operations.{Op}
 use Rattle.pebr_words.specs.Pasts.{Lost, was_ejected, found_other, Ejection, History}
 use Rattle.pebr_roots.specs.Passes as roots
-use Rattle.pebr_roots.specs.Passes.{shape_at, known_by, note_by, past_by, lost_by, count_by_pass, IsUnitedPass}
+use Rattle.pebr_roots.specs.Passes.{shape_at, known_by, number_by, note_by, past_by, lost_by, operations_by, count_by_pass}
+use Rattle.pebr_roots.specs.Passes.{IsUnitedPass}
 use Rattle.pebr_roots.specs.declared.pass.RootPass.{RootPass}
 use Rattle.pebr_roots.specs.declared.pass.Roots.{Roots}
 use Rattle.flow_cache.specs.contracts.protocol.CacheRuleRootProtocol.TheImpl as rule
@@ -33,6 +37,9 @@ roots_of cache = cache.roots
 abbrev pub seat_of : PebrPass → CacheSeat
 seat_of pass = pass.inner
 
+abbrev pub shape_of_roots : PebrCache → Shape
+shape_of_roots cache = shape_at (roots_of cache)
+
 abbrev pub means_of : PebrCache → CacheMeans
 means_of cache = record { sets = cache.sets; seats = (shape_at (roots_of cache)).seats; limits = cache.timeouts }
 
@@ -53,6 +60,16 @@ tries_of pass = lost_by (seat_of pass)
 -- What its seat's steps were.
 abbrev pub past_of : PebrPass → History
 past_of pass = past_by (seat_of pass)
+
+-- The number that its seat acts as, what the seat knows, and the operations on words that it made, the newest first.
+abbrev pub number_of : PebrPass → ℕ
+number_of pass = number_by (seat_of pass)
+
+abbrev pub known_of : PebrPass → Seat
+known_of pass = known_by (seat_of pass)
+
+abbrev pub operations_of : PebrPass → List Op
+operations_of pass = operations_by (seat_of pass)
 
 -- How many slots it has retired, and the ejections that its seat made.
 abbrev pub retired_of : PebrPass → ℕ

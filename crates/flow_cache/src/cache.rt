@@ -27,6 +27,9 @@ pub struct PebrPass {
     pub(crate) inner: RootPass<CacheRule>,
     /// The number of tries that it lost, as far as 64 bits count.
     pub(crate) lost: u64,
+    /// The words of the four entries that it read last. They are used within a try alone, and kept so that no try
+    /// has to zero them first.
+    pub(crate) contents: [[u64; 10]; 4],
     ghost out: { IsTrue (is_out (known_by inner).status) },
     ghost down: { IsTrue (list_all is_down (known_by inner).shields) },
     ghost counted: { lost ≡ min (length (lost_by inner)) (2 ^ 64 - 1) },

@@ -66,15 +66,21 @@ impl PebrCache {
         ensures united { IsUnited (shown_of first) (shown_of second) (shown_of result) }
         ensures lost { tries_of result ≡ tries_of first ++ tries_of second }
     {
-        let PebrPass { inner, lost } = first;
+        let PebrPass {
+            inner,
+            lost,
+            contents,
+        } = first;
         let PebrPass {
             inner: other,
             lost: more,
+            contents: _,
         } = second;
         let inner = self.roots.unite(inner, other);
         PebrPass {
             inner,
             lost: lost.saturating_add(more),
+            contents,
         }
     }
 
@@ -86,7 +92,11 @@ impl PebrCache {
             (λ entries. Reaches (means_of self).limits (shown_of pass).note.taken
             (entries.items ++ (shown_of pass).note.handed)) }
     {
-        let PebrPass { inner, lost: _ } = pass;
+        let PebrPass {
+            inner,
+            lost: _,
+            contents: _,
+        } = pass;
         let PebrCache {
             roots,
             sets,

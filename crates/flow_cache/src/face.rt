@@ -1,6 +1,6 @@
 //! The cache as a shared cache, and who opens and closes such caches.
 
-ghost use Rattle.std.specs.Prelude.{◌≡◌, ◌≢◌, ◌+◌, ◌*◌, ◌<◌, ◌≤◌, ◌^◌, []};
+ghost use Rattle.std.specs.Prelude.{◌≡◌, ◌≢◌, ◌+◌, ◌-◌, ◌*◌, ◌<◌, ◌≤◌, ◌^◌, []};
 ghost use Rattle.flow_key.specs.Key.{set_number};
 ghost use Rattle.cache_face.specs.Keeping.{packet_count};
 ghost use Rattle.cache_face.specs.Meaning.{IsAnswer};
@@ -9,7 +9,8 @@ ghost use Rattle.cache_face.specs.Tries.{HasLost};
 ghost use Rattle.flow_cache.specs.Closed.{metered_by};
 ghost use Rattle.flow_cache.specs.Collecting.{CollectsFrom};
 ghost use Rattle.flow_cache.specs.Shown.{means_of, shown_of, tries_of, retired_of, ejections_of, slots_of, IsOf};
-ghost use Rattle.flow_cache.specs.Shown.{past_of, IsTryOf};
+ghost use Rattle.flow_cache.specs.Shown.{past_of, IsTryOf, shape_of_roots, number_of, known_of, operations_of};
+ghost use Rattle.pebr_roots.specs.Orders.{HasMade};
 ghost use Rattle.pebr_words.specs.Pasts.{Lost};
 
 use crate::cache::{PebrCache, PebrPass};
@@ -45,7 +46,10 @@ impl FlowCache for PebrCache {
             (tries_of pass.old) (tries_of pass.new) }
         ensures retired { retired_of pass.new ≤ slots_of self.now }
         ensures ejections { retired_of pass.old ≢ slots_of self.now → ejections_of pass.new ≡ ejections_of pass.old }
-        ensures collects { CollectsFrom (retired_of pass.old) (past_of pass.old) (past_of pass.new) }
+        ensures collects { CollectsFrom (shape_of_roots self.now) (number_of pass.old) (known_of pass.old)
+            (past_of pass.old) (past_of pass.new) (operations_of pass.old) (operations_of pass.new) }
+        ensures few { HasMade (12 * ((means_of self.now).seats - 1) + 209) (operations_of pass.old)
+            (operations_of pass.new) }
     {
         self.meter_stopping(pass, part, &mut Never)
     }

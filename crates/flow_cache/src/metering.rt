@@ -1,6 +1,6 @@
 //! A packet is metered.
 
-ghost use Rattle.std.specs.Prelude.{◌≡◌, ◌≢◌, ◌+◌, ◌*◌, ◌<◌, ◌≤◌, ◌^◌, None, IsTrue};
+ghost use Rattle.std.specs.Prelude.{◌≡◌, ◌≢◌, ◌+◌, ◌-◌, ◌*◌, ◌<◌, ◌≤◌, ◌^◌, None, IsTrue};
 ghost use Rattle.std.specs.List.{list_all};
 ghost use Rattle.flow_key.specs.Key.{set_number};
 ghost use Rattle.cache_face.specs.Keeping.{packet_count};
@@ -9,12 +9,13 @@ ghost use Rattle.cache_face.specs.Notes.{first_note, note_with};
 ghost use Rattle.cache_face.specs.Tries.{HasLost};
 ghost use Rattle.pebr_core.specs.State.{is_out, is_down};
 ghost use Rattle.pebr_core.specs.Frames.{fresh_count, retired_count};
-ghost use Rattle.pebr_roots.specs.Passes.{shape_at, known_by, note_by, past_by, IsOf, IsSame};
-ghost use Rattle.flow_cache.specs.Collecting.{HasCollected, CollectsFrom};
+ghost use Rattle.pebr_roots.specs.Orders.{HasMade};
+ghost use Rattle.pebr_roots.specs.Passes.{shape_at, known_by, number_by, note_by, past_by, operations_by, IsOf, IsSame};
+ghost use Rattle.flow_cache.specs.Collecting.{HasCollected, HasBegun, CollectsFrom};
 ghost use Rattle.flow_cache.specs.Outcome.{HaveLost, IsOutcome};
 ghost use Rattle.flow_cache.specs.Shown as shown;
 ghost use Rattle.flow_cache.specs.Shown.{means_of, shown_of, past_of, tries_of, retired_of, ejections_of, slots_of};
-ghost use Rattle.flow_cache.specs.Shown.{IsTryOf};
+ghost use Rattle.flow_cache.specs.Shown.{IsTryOf, shape_of_roots, number_of, known_of, operations_of};
 ghost use Rattle.flow_cache.specs.Trying.{IsOwn};
 
 use crate::cache::{PebrCache, PebrPass};
@@ -43,7 +44,12 @@ impl PebrCache {
         ensures lost { (past_by pass.new).lost ≡ (past_by pass.old).lost }
         ensures ejections { (past_by pass.new).ejections ≡ (past_by pass.old).ejections }
         ensures many { 32 ≤ retired_count (known_by pass.old) → HasCollected 1 (past_by pass.old) (past_by pass.new) }
-        ensures few { retired_count (known_by pass.old) < 32 → HasCollected 0 (past_by pass.old) (past_by pass.new) }
+        ensures none { retired_count (known_by pass.old) < 32 → HasCollected 0 (past_by pass.old) (past_by pass.new) }
+        ensures batch { 32 ≤ retired_count (known_by pass.old) → HasBegun (shape_at self.now.roots)
+            (number_by pass.old) (known_by pass.old) (past_by pass.old) (operations_by pass.old)
+            (operations_by pass.new) }
+        ensures few { HasMade (6 * ((shape_at self.now.roots).seats - 1) + 4) (operations_by pass.old)
+            (operations_by pass.new) }
         ensures fresh { fresh_count (known_by pass.old) ≤ fresh_count (known_by pass.new) }
     {
         if pass.retired() >= BATCH {
@@ -65,6 +71,8 @@ impl PebrCache {
             → (past_by pass.new).ejections ≡ (past_by pass.old).ejections }
         ensures none { fresh_count (known_by pass.old) ≡ 0 → HasCollected 1 (past_by pass.old) (past_by pass.new) }
         ensures some { 0 < fresh_count (known_by pass.old) → HasCollected 0 (past_by pass.old) (past_by pass.new) }
+        ensures few { HasMade (6 * ((shape_at self.now.roots).seats - 1) + 4) (operations_by pass.old)
+            (operations_by pass.new) }
         ensures fresh { 0 < fresh_count (known_by pass.new) }
     {
         if pass.fresh() == 0 {
@@ -84,7 +92,10 @@ impl PebrCache {
         ensures lost { (past_by pass.new).lost ≡ (past_by pass.old).lost }
         ensures ejections { retired_count (known_by pass.old) ≢ 32 + 4 * (shape_at self.now.roots).seats
             → (past_by pass.new).ejections ≡ (past_by pass.old).ejections }
-        ensures collects { CollectsFrom (retired_count (known_by pass.old)) (past_by pass.old) (past_by pass.new) }
+        ensures collects { CollectsFrom (shape_at self.now.roots) (number_by pass.old) (known_by pass.old)
+            (past_by pass.old) (past_by pass.new) (operations_by pass.old) (operations_by pass.new) }
+        ensures few { HasMade (12 * ((shape_at self.now.roots).seats - 1) + 8) (operations_by pass.old)
+            (operations_by pass.new) }
         ensures fresh { 0 < fresh_count (known_by pass.new) }
     {
         self.collect_batch(pass);
@@ -98,6 +109,7 @@ impl PebrCache {
         pass: &mut RootPass<CacheRule>,
         set: u64,
         own: &Fragment,
+        contents: &mut [[u64; 10]; 4],
         metered: &mut Metered,
         stop: &mut T,
     ) -> u64
@@ -118,10 +130,11 @@ impl PebrCache {
         ensures spared { HasCollected 0 (past_by pass.old) (past_by pass.new) }
         ensures outcome { IsOutcome self.now.timeouts (shape_at self.now.roots).seats set
             (past_by pass.new) own.now result metered.new.how metered.new.out }
+        ensures few { HasMade 201 (operations_by pass.old) (operations_by pass.new) }
     {
         for lost in 0..TRIES {
             let last = lost + 1 == TRIES;
-            if self.attempt(pass, set, own, last, metered, stop) {
+            if self.attempt(pass, set, own, last, contents, metered, stop) {
                 return lost;
             }
         }
@@ -135,8 +148,9 @@ impl PebrCache {
     /// Puts a fragment in, as [`meter_part`](cache_face::FlowCache::meter_part) does. It waits for nobody and takes no
     /// memory. At the points of each try it calls `stop`; that it does is tested, and no clause says where.
     ///
-    /// From 32 retired slots on it collects, and with fewer it doesn't. Another seat is ejected only where the pass had
-    /// all its slots retired when the call began.
+    /// From 32 retired slots on it begins with a collection without force, and with fewer it doesn't collect. Another
+    /// seat is ejected only where the pass had all its slots retired when the call began. It makes at most 209
+    /// operations on words, and 12 for each other seat besides.
     pub fn meter_stopping<T: Stop>(
         &self,
         pass: &mut PebrPass,
@@ -154,7 +168,10 @@ impl PebrCache {
             (tries_of pass.old) (tries_of pass.new) }
         ensures retired { retired_of pass.new ≤ slots_of self.now }
         ensures ejections { retired_of pass.old ≢ slots_of self.now → ejections_of pass.new ≡ ejections_of pass.old }
-        ensures collects { CollectsFrom (retired_of pass.old) (past_of pass.old) (past_of pass.new) }
+        ensures collects { CollectsFrom (shape_of_roots self.now) (number_of pass.old) (known_of pass.old)
+            (past_of pass.old) (past_of pass.new) (operations_of pass.old) (operations_of pass.new) }
+        ensures few { HasMade (12 * ((means_of self.now).seats - 1) + 209) (operations_of pass.old)
+            (operations_of pass.new) }
     {
         let set = part.key.set_of(self.sets);
         self.make_room(&mut pass.inner);
@@ -162,7 +179,14 @@ impl PebrCache {
             how: How::PassedBy,
             out: None,
         };
-        let lost = self.put_in(&mut pass.inner, set, part, &mut metered, stop);
+        let lost = self.put_in(
+            &mut pass.inner,
+            set,
+            part,
+            &mut pass.contents,
+            &mut metered,
+            stop,
+        );
         pass.lost = pass.lost.saturating_add(lost);
         metered
     }

@@ -34,7 +34,11 @@ impl PebrCache {
         ensures pass { IsOf self.now result × IsFresh (shown_of result) }
         ensures unlost { tries_of result ≡ [] }
     {
-        PebrPass { inner, lost: 0 }
+        PebrPass {
+            inner,
+            lost: 0,
+            contents: [[0; 10]; 4],
+        }
     }
 
     /// A pass for each seat.

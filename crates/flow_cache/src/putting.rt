@@ -11,7 +11,8 @@ ghost use Rattle.pebr_core.specs.Frames.{fresh_count};
 ghost use Rattle.seat_slots.specs.Sets.{least_in};
 ghost use Rattle.pebr_words.specs.Pasts.{Lost, written_at};
 ghost use Rattle.pebr_words.specs.Ruled.{IsSure};
-ghost use Rattle.pebr_roots.specs.Passes.{shape_at, known_by, note_by, past_by, IsOf, IsSame};
+ghost use Rattle.pebr_roots.specs.Passes.{shape_at, known_by, note_by, past_by, operations_by, IsOf, IsSame};
+ghost use Rattle.pebr_roots.specs.Orders.{HasMade};
 ghost use Rattle.set_choice.specs.Chosen.{out_of};
 ghost use Rattle.flow_cache.specs.Collecting.{HasCollected};
 ghost use Rattle.flow_cache.specs.Shown.{IsTryOf};
@@ -78,6 +79,7 @@ impl PebrCache {
         ensures written { (word : ℕ) → word < 10
             → written_at (past_by pass.new).written (least_in (known_by pass.old).fresh) word
             ≡ Some (slice_index words.now word) }
+        ensures few { HasMade 10 (operations_by pass.old) (operations_by pass.new) }
     {
         for word in 0..10 {
             self.roots.write_fresh(pass, word, words[word]);
@@ -92,6 +94,7 @@ impl PebrCache {
         pass: &mut RootPass<CacheRule>,
         set: u64,
         own: &Fragment,
+        contents: &mut [[u64; 10]; 4],
         metered: &mut Metered,
         stop: &mut T,
     ) -> bool
@@ -115,11 +118,11 @@ impl PebrCache {
             × ((known_by pass.new).fresh ≡ (known_by pass.old).fresh)
             × ((try : Lost) × ((past_by pass.new).lost ≡ try ∷ (past_by pass.old).lost) × IsTryOf set try) }
         ensures untouched { result ≡ false → metered.new.out ≡ None }
+        ensures few { HasMade 51 (operations_by pass.old) (operations_by pass.new) }
     {
         stop.at(Point::Read);
-        let mut contents = [[0; 10]; 4];
-        self.read_contents(pass, &mut contents);
-        let choice = choose_by_words(self.timeouts, &contents, own);
+        self.read_contents(pass, contents);
+        let choice = choose_by_words(self.timeouts, contents, own);
         let out = put_out(choice.how, &contents[choice.place]);
         stop.at(Point::Write);
         self.fill(pass, &choice.words);
@@ -141,6 +144,7 @@ impl PebrCache {
         pass: &mut RootPass<CacheRule>,
         set: u64,
         own: &Fragment,
+        contents: &mut [[u64; 10]; 4],
         metered: &mut Metered,
         stop: &mut T,
     ) -> bool
@@ -162,9 +166,10 @@ impl PebrCache {
             × ((known_by pass.new).fresh ≡ (known_by pass.old).fresh)
             × ((try : Lost) × ((past_by pass.new).lost ≡ try ∷ (past_by pass.old).lost) × IsTryOf set try) }
         ensures untouched { result ≡ false → metered.new.out ≡ None }
+        ensures few { HasMade 62 (operations_by pass.old) (operations_by pass.new) }
     {
         match self.reach(pass, set, stop) {
-            Checked::Valid => self.put(pass, set, own, metered, stop),
+            Checked::Valid => self.put(pass, set, own, contents, metered, stop),
             Checked::Ejected => false,
         }
     }
@@ -181,6 +186,7 @@ impl PebrCache {
           steps =
               (past_by pass.new).steps;
         } }
+        ensures few { HasMade 4 (operations_by pass.old) (operations_by pass.new) }
     {
         stop.at(Point::Clear);
         self.roots.clear(pass);
@@ -210,6 +216,7 @@ impl PebrCache {
               (past_by pass.new).steps;
         } }
         ensures sure { IsSure IsWhole (shape_at self.now.roots) (known_by pass.new) (past_by pass.new) }
+        ensures few { HasMade 5 (operations_by pass.old) (operations_by pass.new) }
     {
         self.take_down(pass, stop);
         stop.at(Point::Leave);
@@ -227,6 +234,7 @@ impl PebrCache {
         set: u64,
         own: &Fragment,
         last: bool,
+        contents: &mut [[u64; 10]; 4],
         metered: &mut Metered,
         stop: &mut T,
     ) -> bool
@@ -252,8 +260,9 @@ impl PebrCache {
             × ((known_by pass.new).fresh ≡ (known_by pass.old).fresh) × ((shape_at self.now.roots).seats ≢ 1)
             × ((try : Lost) × ((past_by pass.new).lost ≡ try ∷ (past_by pass.old).lost) × IsTryOf set try) }
         ensures untouched { result ≡ false → metered.new.out ≡ None }
+        ensures few { HasMade 67 (operations_by pass.old) (operations_by pass.new) }
     {
-        let done = self.reach_and_put(pass, set, own, metered, stop);
+        let done = self.reach_and_put(pass, set, own, contents, metered, stop);
         let passes_by = is_passed_by(last, done);
         self.end(pass, own, passes_by, stop);
         done

@@ -6,7 +6,8 @@ ghost use Rattle.cache_face.specs.Notes.{first_note};
 ghost use Rattle.pebr_core.specs.State.{is_out, is_down};
 ghost use Rattle.pebr_shields.specs.declared.checked.Checked.TheVariants as checked;
 ghost use Rattle.pebr_words.specs.Pasts.{was_ejected};
-ghost use Rattle.pebr_roots.specs.Passes.{known_by, note_by, past_by, lost_by, IsOf, IsSame};
+ghost use Rattle.pebr_roots.specs.Passes.{known_by, note_by, past_by, lost_by, operations_by, IsOf, IsSame};
+ghost use Rattle.pebr_roots.specs.Orders.{HasMade};
 ghost use Rattle.flow_cache.specs.Shown.{means_of, roots_of, seat_of};
 ghost use Rattle.flow_cache.specs.Trying.{AreProtected, IsUnlost};
 
@@ -45,6 +46,7 @@ impl PebrCache {
         ensures valid { result ≡ checked.Valid → AreProtected set (known_by pass.new) (past_by pass.new)
             × IsUnlost (past_by pass.old) (past_by pass.new) }
         ensures ejected { result ≡ checked.Ejected → (past_by pass.new).lost ≡ was_ejected ∷ (past_by pass.old).lost }
+        ensures few { HasMade 11 (operations_by pass.old) (operations_by pass.new) }
     {
         self.reach(pass, set, &mut Never)
     }
@@ -57,7 +59,11 @@ impl PebrPass {
         ensures out { IsTrue (is_out (known_by result).status) }
         ensures down { IsTrue (list_all is_down (known_by result).shields) }
     {
-        let PebrPass { inner, lost: _ } = self;
+        let PebrPass {
+            inner,
+            lost: _,
+            contents: _,
+        } = self;
         inner
     }
 
@@ -68,6 +74,10 @@ impl PebrPass {
         requires counted { lost ≡ min (length (lost_by seat)) (2 ^ 64 - 1) }
         ensures seat { seat_of result ≡ seat }
     {
-        PebrPass { inner: seat, lost }
+        PebrPass {
+            inner: seat,
+            lost,
+            contents: [[0; 10]; 4],
+        }
     }
 }

@@ -1,5 +1,6 @@
 -- Which operations a call makes, in which order. Lists of operations have the newest first.
-use Rattle.std.specs.Prelude.{◌≡◌, ◌≢◌, ℕ, ◌+◌, ◌*◌, ◌<◌, Bool, true, false, List, [], ◌∷◌, if◌then◌else◌, nat_lt}
+use Rattle.std.specs.Prelude.{◌≡◌, ◌≢◌, ℕ, ◌+◌, ◌*◌, ◌<◌, ◌≤◌, Bool, true, false, List, [], ◌∷◌, ◌++◌, length}
+use Rattle.std.specs.Prelude.{if◌then◌else◌, nat_lt}
 use Rattle.std.specs.List.{range_with_len}
 use Rattle.pebr_table.specs.Operations.{Op, load, store, exchange}
 use Rattle.pebr_core.specs.declared.kinds.Shape.{Shape}
@@ -8,6 +9,12 @@ use Rattle.pebr_core.specs.Steps.{can_pass, epoch_of, after_note, last_epoch}
 use Rattle.pebr_words.specs.Places.{index, epoch_word, status_word, shield_word, root_word}
 use Rattle.pebr_words.specs.Making.{stance_from}
 use Rattle.pebr_words.specs.Pasts.{History}
+
+-- So many operations at most were made.
+pub record HasMade (most : ℕ) (old new : List Op) : Type 0 where
+  pub made : List Op
+  pub is : new ≡ made ++ old
+  pub few : length made ≤ most
 
 -- These are made one after another, for each number of a list.
 abbrev pub AreMade : (ℕ → List Op → List Op → Type 0) → List ℕ → List Op → List Op → Type 0

@@ -1,13 +1,13 @@
 //! Collecting: retired slots that nobody uses are made fresh.
 
-ghost use Rattle.std.specs.Prelude.{◌≡◌, ◌+◌, ◌-◌, ◌*◌, ◌≤◌, ℕ, IsTrue, length, not};
+ghost use Rattle.std.specs.Prelude.{◌≡◌, ◌+◌, ◌-◌, ◌*◌, ◌≤◌, ℕ, IsTrue, not};
 ghost use Rattle.std.specs.List.{list_all};
 ghost use Rattle.pebr_core.specs.State.{is_out, is_down};
 ghost use Rattle.pebr_core.specs.Steps.{is_scanning};
 ghost use Rattle.pebr_core.specs.Frames.{fresh_count};
 ghost use Rattle.pebr_words.specs.Ruled.{IsSure};
 ghost use Rattle.pebr_roots.specs.Collecting.{IsCollected, HasCollected};
-ghost use Rattle.pebr_roots.specs.Orders.{HasMadeCollection};
+ghost use Rattle.pebr_roots.specs.Orders.{HasMade, HasMadeCollection};
 ghost use Rattle.pebr_roots.specs.Passes.{shape_at, known_by, number_by, note_by, past_by, operations_by, IsOf, IsSame};
 
 use crate::ends::Collected;
@@ -37,9 +37,9 @@ impl<P: RootProtocol> Roots<P> {
         ensures operations { HasMadeCollection (shape_at self.now) force (number_by pass.old) (known_by pass.old)
             (not (is_scanning (known_by pass.new))) (past_by pass.old) (past_by pass.new) (operations_by pass.old)
             (operations_by pass.new) }
-        ensures few { length (operations_by pass.new) ≤ length (operations_by pass.old)
-            + (2 * ((shape_at self.now).seats - 1) + ((shape_at self.now).seats - 1) * (shape_at self.now).shields
-            + 4) }
+        ensures few { HasMade (2 * ((shape_at self.now).seats - 1)
+            + ((shape_at self.now).seats - 1) * (shape_at self.now).shields + 4) (operations_by pass.old)
+            (operations_by pass.new) }
         ensures sure { IsSure P.whole (shape_at self.now) (known_by pass.new) (past_by pass.new) }
         ensures left { IsTrue force → result.left ≤ ((shape_at self.now).seats - 1) * (shape_at self.now).shields }
         ensures fresh { IsTrue force → (shape_at self.now).batch + (shape_at self.now).shields

@@ -12,7 +12,7 @@ ghost use Rattle.pebr_shields.specs.declared.checked.Checked.TheVariants as chec
 ghost use Rattle.pebr_shields.specs.Found.{answer_to, checked_seat};
 ghost use Rattle.pebr_roots.specs.Under.{slot_at, is_valid_at};
 ghost use Rattle.pebr_roots.specs.Ends.{loaded_seat, loaded_past, cleared_seat, cleared_past};
-ghost use Rattle.pebr_roots.specs.Orders.{loaded_operations, HasCleared};
+ghost use Rattle.pebr_roots.specs.Orders.{loaded_operations, HasCleared, HasMade};
 ghost use Rattle.pebr_roots.specs.Passes.{shape_at, known_by, number_by, note_by, past_by, IsOf, IsSame, IsOneStep};
 ghost use Rattle.pebr_roots.specs.Passes.{operations_by};
 
@@ -92,6 +92,7 @@ impl<P: RootProtocol> Roots<P> {
         ensures past { past_by pass.new ≡ cleared_past (shape_at self.now) (past_by pass.old) }
         ensures operations { HasCleared (shape_at self.now) (number_by pass.old) (operations_by pass.old)
             (operations_by pass.new) }
+        ensures few { HasMade (shape_at self.now).shields (operations_by pass.old) (operations_by pass.new) }
         ensures sure { IsSure P.whole (shape_at self.now) (known_by pass.new) (past_by pass.new) }
     {
         let shields = self.words.shape().shields;

@@ -1,4 +1,7 @@
-//! The same schedules by the calls of two layers.
+//! The same schedules by the calls of two layers, and schedules of two roots.
 
+mod free;
+mod passes;
 mod roots;
+mod seats;
 mod words;

@@ -28,6 +28,9 @@ pub struct TurnPass {
     pub(crate) seat: Seat<(), Known>,
     /// The number that it takes turns by.
     pub(crate) number: u64,
+    /// The words of the four entries that it read last. They are used within a call alone, and kept so that no call
+    /// has to zero them first.
+    pub(crate) contents: [[u64; 10]; 4],
     ghost acts: { number_of seat.me.0.numbers ≡ number },
     ghost low: { number < 64 },
     ghost no_turn: { seat.me.0.turn ≡ idle },

@@ -120,7 +120,11 @@ impl TurnCache {
             (λ entries. Reaches (means_of self).limits (shown_of pass).note.taken
             (entries.items ++ (shown_of pass).note.handed)) }
     {
-        let TurnPass { seat, number: _ } = pass;
+        let TurnPass {
+            seat,
+            number: _,
+            contents: _,
+        } = pass;
         let TurnCache {
             table,
             sets,

@@ -209,9 +209,8 @@ impl TurnCache {
     {
         let set = own.key.set_of(self.sets);
         let number = pass.number;
-        let mut contents = [[0; 10]; 4];
         if self.take_turn(&mut pass.seat, number, set, own) {
-            self.put(&mut pass.seat, set, own, &mut contents, metered);
+            self.put(&mut pass.seat, set, own, &mut pass.contents, metered);
         } else {
             metered.out = Some(*own);
         }

@@ -41,7 +41,11 @@ impl TurnCache {
         ensures unlost { lost_of result ≡ [] }
     {
         let seat = self.table.shared.split_seat::<Parts>(seat);
-        TurnPass { seat, number }
+        TurnPass {
+            seat,
+            number,
+            contents: [[0; 10]; 4],
+        }
     }
 
     /// A pass for each seat.
@@ -105,12 +109,21 @@ impl TurnCache {
         ensures united { IsUnited (shown_of first) (shown_of second) (shown_of result) }
         ensures lost { lost_of result ≡ lost_of first ++ lost_of second }
     {
-        let TurnPass { mut seat, number } = first;
+        let TurnPass {
+            mut seat,
+            number,
+            contents,
+        } = first;
         let TurnPass {
             seat: other,
             number: _,
+            contents: _,
         } = second;
         self.table.shared.join_seat::<Parts>(&mut seat, other);
-        TurnPass { seat, number }
+        TurnPass {
+            seat,
+            number,
+            contents,
+        }
     }
 }

@@ -1,43 +1,19 @@
 //! Two passes on one thread.
 
-ghost use Rattle.std.specs.Prelude.{◌≡◌, ◌<◌, ◌≤◌, ◌+◌, ℕ, IsTrue, IfOk, true, false};
+ghost use Rattle.std.specs.Prelude.{◌≡◌, ◌<◌, ◌≤◌, ◌+◌, ℕ, IsTrue, IfOk, true, false, length};
 ghost use Rattle.std.specs.List.{list_all};
 ghost use Rattle.pebr_core.specs.State.{has, is_out, is_down, shield_at};
 ghost use Rattle.pebr_core.specs.declared.kinds.ShieldAt.TheVariants as shield;
 ghost use Rattle.pebr_core.specs.Frames.{fresh_count};
 ghost use Rattle.pebr_shields.specs.declared.checked.Checked.TheVariants as checked;
 ghost use Rattle.pebr_roots.specs.Under.{is_valid_at};
-ghost use Rattle.pebr_roots.specs.Passes.{shape_at, known_by, past_by, number_by, count_by_pass, IsOf, IsSame};
+ghost use Rattle.pebr_roots.specs.Passes.{shape_at, known_by, operations_by, number_by, count_by_pass, IsOf, IsSame};
 ghost use Rattle.pebr_roots.specs.Passes.{IsUnitedPass, IsOpenedPass};
 
+use crate::tests::free::Free;
 use pebr_roots::{Collected, ReplaceEnd, RootPass, Roots};
-use pebr_shields::{Checked, NoMemory, RootProtocol, Shape};
+use pebr_shields::{Checked, NoMemory, Shape};
 use std::alloc::Global;
-
-/// A protocol that always keeps, with notes without content.
-struct Free;
-
-impl RootProtocol for Free {
-    type Note = ();
-
-    type Act = ();
-
-    type Fixed = ();
-
-    ghost keeps = { λ fixed contents notes. Unit {0} };
-
-    ghost whole = { λ content. Unit {0} };
-
-    ghost first = { tt };
-
-    ghost empty = { tt };
-
-    ghost merged = { λ a b. tt };
-
-    ghost after = { λ note act. tt };
-
-    ghost unites = { λ fixed contents notes i j a b kept apart at at'. tt };
-}
 
 /// Enters, loads the root and checks.
 fn protect(roots: &Roots<Free>, pass: &mut RootPass<Free>) -> (usize, Checked)
@@ -275,7 +251,7 @@ fn collect_by_force(roots: &Roots<Free>, pass: &mut RootPass<Free>) -> Collected
     requires down { IsTrue (list_all is_down (known_by pass.old).shields) }
     requires two { ((shape_at roots.now).seats ≡ 2) × ((shape_at roots.now).shields ≡ 1) }
     ensures same { IsSame roots.now pass.old pass.new }
-    ensures steps { (past_by pass.new).steps ≤ (past_by pass.old).steps + 7 }
+    ensures operations { length (operations_by pass.new) ≤ length (operations_by pass.old) + 7 }
     ensures left { result.left ≤ 1 }
 {
     roots.collect(pass, true)

@@ -7,35 +7,11 @@ ghost use Rattle.pebr_core.specs.State.{has, is_out, shield_at, slot_count, scan
 ghost use Rattle.pebr_words.specs.Seats.{IsAt, IsStill, IsUnited, IsOpenedSeat, shape_of, known_of, number_of};
 ghost use Rattle.pebr_words.specs.Seats.{count_of};
 
+use crate::tests::free::Free;
 use no_memory::NoMemory;
 use pebr_core::{LAST_EPOCH, Shape, valid_shields_protect};
-use pebr_words::{Looked, RootProtocol, Seat, Words};
+use pebr_words::{Looked, Seat, Words};
 use std::alloc::Global;
-
-/// A protocol that always keeps, with notes without content.
-struct Free;
-
-impl RootProtocol for Free {
-    type Note = ();
-
-    type Act = ();
-
-    type Fixed = ();
-
-    ghost keeps = { λ fixed contents notes. Unit {0} };
-
-    ghost whole = { λ content. Unit {0} };
-
-    ghost first = { tt };
-
-    ghost empty = { tt };
-
-    ghost merged = { λ a b. tt };
-
-    ghost after = { λ note act. tt };
-
-    ghost unites = { λ fixed contents notes i j a b kept apart at at'. tt };
-}
 
 /// Notes, pins, loads the root and sets the shield on its slot: the epoch, and the slot.
 fn reach(words: &Words<Free>, seat: &mut Seat<Free>) -> (u64, usize)

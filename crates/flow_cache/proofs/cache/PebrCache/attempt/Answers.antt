@@ -6,6 +6,8 @@ use Rattle.pebr_words.specs.Pasts.{History}
 use Rattle.pebr_roots.specs.Passes.{note_by, past_by}
 use Rattle.flow_cache.proofs.Histories.{chosen_still}
 use Rattle.flow_cache.proofs.Spared.{collected_on, spared_one}
+use Rattle.pebr_roots.specs.Passes.{operations_by}
+use Rattle.pebr_roots.proofs.Counts.{made_on}
 use Rattle.flow_cache.proofs.cache.PebrCache.attempt.Goals as goal
 
 pub returns-clause-done : goal.returns-clause-done
@@ -33,3 +35,8 @@ returns-clause-spared g c =
     collected_on 0 0 start mid end c.reach_and_put-done.ensures.spared
     (spared_one mid end (ap (λ (p : History). p.notes) c.end.ensures.past)
     (ap (λ (p : History). p.pins) c.end.ensures.past))
+
+pub returns-clause-few : goal.returns-clause-few
+returns-clause-few g c =
+    made_on 62 5 (operations_by c.args.pass.now) (operations_by c.reach_and_put-done.new.pass)
+    (operations_by c.end.new.pass) c.reach_and_put-done.ensures.few c.end.ensures.few

@@ -7,6 +7,8 @@ use Rattle.pebr_words.specs.Making.{act_on}
 use Rattle.pebr_words.specs.Ruled.{CanNote}
 use Rattle.pebr_roots.specs.Passes.{fixed_at, number_by, note_by}
 use Rattle.flow_cache.proofs.Sets.{can_end, after_act}
+use Rattle.pebr_roots.specs.Passes.{operations_by}
+use Rattle.pebr_roots.proofs.Counts.{made_one, made_on}
 use Rattle.flow_cache.proofs.cache.PebrCache.end.Goals as goal
 
 pub leave-requires-clause-keeps : goal.leave-requires-clause-keeps
@@ -23,3 +25,9 @@ leave-requires-clause-keeps g c =
     (subst (λ act. can c.args.self.now.timeouts (note_by first_note c.args.pass.now) act) (sym c.leaving_note.ensures)
     (can_end c.args.self.now.timeouts c.args.self.now.sets number
     (note_by first_note c.args.pass.now) c.args.own.now c.args.passes_by c.requires.own))))
+
+pub returns-clause-few : goal.returns-clause-few
+returns-clause-few g c =
+    let a = operations_by c.take_down.new.pass in
+    let b = operations_by c.leave.new.pass in
+    made_on 4 1 (operations_by c.args.pass.now) a b c.take_down.ensures.few (made_one _ a b c.leave.ensures.step.made.2)

@@ -1,4 +1,4 @@
-use Rattle.std.proofs.Common.{◌≡◌, ◌++◌, List, sym, ap, ◌∙◌, subst, refl}
+use Rattle.std.proofs.Common.{◌≡◌, ◌≤◌, ◌++◌, List, sym, ap, ◌∙◌, subst, refl, arith}
 use Rattle.std.specs.List.{flat_map}
 use lib.ListN.{get_elem?}
 use Rattle.cache_face.specs.Laws.{CanTake}
@@ -6,12 +6,14 @@ use Rattle.cache_face.proofs.Keeping.{taken_is_small}
 use Rattle.cache_face.specs.Meaning.{PassMeans}
 use Rattle.cache_face.specs.Notes.{Note, first_note}
 use Rattle.pebr_words.specs.Pasts.{Lost}
-use Rattle.pebr_roots.specs.Passes.{note_by, past_by, lost_by}
+use Rattle.pebr_roots.specs.Passes.{shape_at, known_by, number_by, note_by, past_by, lost_by}
 use Rattle.flow_cache.specs.Reading.{entries_read, set_read, written_in}
 use Rattle.flow_cache.specs.Shown.{means_of}
 use Rattle.flow_cache.specs.Trying.{IsOwn}
 use Rattle.flow_cache.proofs.Spared.{collects_on}
 use Rattle.flow_cache.proofs.Answering.{lost_on, lost_at, answered}
+use Rattle.pebr_roots.specs.Passes.{operations_by}
+use Rattle.pebr_roots.proofs.Counts.{made_on, made_in}
 use Rattle.flow_cache.proofs.cache.PebrCache.meter_stopping.Goals as goal
 
 pub put_in-lost-requires-clause-own : goal.put_in-lost-requires-clause-own
@@ -70,5 +72,14 @@ returns-clause-lost g c =
 
 pub returns-clause-collects : goal.returns-clause-collects
 returns-clause-collects g c =
-    collects_on _ (past_by c.args.pass.now.inner) (past_by c.make_room.new.pass) (past_by c.put_in-lost.new.pass)
-    c.make_room.ensures.collects c.put_in-lost.ensures.spared
+    collects_on (shape_at c.args.self.now.roots) (number_by c.args.pass.now.inner) (known_by c.args.pass.now.inner)
+    (past_by c.args.pass.now.inner) (past_by c.make_room.new.pass) (past_by c.put_in-lost.new.pass)
+    (operations_by c.args.pass.now.inner) (operations_by c.make_room.new.pass) (operations_by c.put_in-lost.new.pass) 201
+    c.make_room.ensures.collects c.put_in-lost.ensures.spared c.put_in-lost.ensures.few
+
+pub returns-clause-few : goal.returns-clause-few
+returns-clause-few g c =
+    let x = operations_by c.args.pass.now.inner in
+    let y = operations_by c.make_room.new.pass in
+    let z = operations_by c.put_in-lost.new.pass in
+    made_in _ _ x z (omega arith) (made_on _ 201 x y z c.make_room.ensures.few c.put_in-lost.ensures.few)

@@ -28,6 +28,8 @@ use Rattle.flow_cache.proofs.Choosing.{choice_is}
 use Rattle.flow_cache.proofs.Histories.{chosen_of, lost_here}
 use Rattle.flow_cache.proofs.Sets.{can_replace, at_place, written_is}
 use Rattle.flow_cache.proofs.Spared.{spared_put}
+use Rattle.pebr_roots.specs.Passes.{operations_by}
+use Rattle.pebr_roots.proofs.Counts.{made_one, made_on}
 use Rattle.flow_cache.proofs.cache.PebrCache.put.Goals as goal
 
 pub replace-requires-clause-keeps : goal.replace-requires-clause-keeps
@@ -201,3 +203,21 @@ returns-in-Other-clause-spared g c =
     (ap (λ (p : History). p.notes) c.read_contents.ensures.past) (ap (λ (p : History). p.pins) c.read_contents.ensures.past)
     (ap (λ (p : History). p.notes) c.fill.ensures.past) (ap (λ (p : History). p.pins) c.fill.ensures.past)
     c.replace.ensures.step.past
+
+pub returns-in-Replaced-clause-few : goal.returns-in-Replaced-clause-few
+returns-in-Replaced-clause-few g c =
+    let x = operations_by c.args.pass.now in
+    let a = operations_by c.read_contents.new.pass in
+    let b = operations_by c.fill.new.pass in
+    made_on 50 1 x b (operations_by c.replace.new.pass)
+    (made_on 40 10 x a b c.read_contents.ensures.few c.fill.ensures.few)
+    (made_one _ b (operations_by c.replace.new.pass) c.replace.ensures.step.made.2)
+
+pub returns-in-Other-clause-few : goal.returns-in-Other-clause-few
+returns-in-Other-clause-few g c =
+    let x = operations_by c.args.pass.now in
+    let a = operations_by c.read_contents.new.pass in
+    let b = operations_by c.fill.new.pass in
+    made_on 50 1 x b (operations_by c.replace.new.pass)
+    (made_on 40 10 x a b c.read_contents.ensures.few c.fill.ensures.few)
+    (made_one _ b (operations_by c.replace.new.pass) c.replace.ensures.step.made.2)

@@ -1,4 +1,4 @@
-use Rattle.std.proofs.Common.{◌≡◌, ◌<◌, ◌+◌, ◌∷◌, ◌∙◌, ℕ, Bool, true, false, Some, List, ap, subst, arith}
+use Rattle.std.proofs.Common.{◌≡◌, ◌<◌, ◌≤◌, ◌+◌, ◌*◌, ◌∷◌, ◌∙◌, ℕ, Bool, true, false, Some, List, ap, subst, arith}
 use Rattle.std.specs.Prelude.{◌==◌, if◌then◌else◌}
 use Rattle.std.proofs.lemmas.Grind.{common_steps}
 use Rattle.std.proofs.lemmas.List.Elements.{All-cons}
@@ -8,6 +8,8 @@ use Rattle.pebr_roots.specs.Passes.{note_by, past_by}
 use Rattle.flow_cache.specs.Shown.{IsTryOf}
 use Rattle.flow_cache.proofs.Spared.{collected_on}
 use Rattle.flow_cache.proofs.Tries.{go_on}
+use Rattle.pebr_roots.specs.Passes.{operations_by}
+use Rattle.pebr_roots.proofs.Counts.{made_on, made_in}
 use Rattle.flow_cache.proofs.cache.PebrCache.put_in.Goals as goal
 
 is_last : (n : ℕ) → n + 1 ≡ 3 → ((n + 1) == 3) ≡ true
@@ -45,4 +47,8 @@ loop-lost-preserved g c =
         many = (let m = before.tries.many in omega (arith, m));
         each = All-cons (IsTryOf c.args.set) h.3.0 before.tries.tries h.3.2 before.tries.each;
       };
+      few = made_in (67 * n + 67) (67 * (n + 1)) (operations_by start) (operations_by new) (omega arith)
+          (made_on (67 * n) 67 (operations_by start) (operations_by old) (operations_by new) before.few
+          c.attempt.ensures.few);
     }
+

@@ -10,6 +10,8 @@ use Rattle.pebr_roots.specs.Passes.{known_by, number_by, past_by}
 use Rattle.flow_cache.proofs.Tries.{checked_set}
 use Rattle.flow_cache.specs.Collecting.{HasCollected}
 use Rattle.flow_cache.proofs.Spared.{collected_on, spared_one, enter_spares, check_spares}
+use Rattle.pebr_roots.specs.Passes.{operations_by}
+use Rattle.pebr_roots.proofs.Counts.{made_one, made_two, made_on}
 use Rattle.flow_cache.proofs.cache.PebrCache.reach.Goals as goal
 
 -- a check makes no pin
@@ -61,3 +63,12 @@ returns-clause-spared g c =
     (ap (λ (p : History). p.pins) c.load_set.ensures.past))
     (subst (HasCollected 0 mid) (sym c.check.ensures.step.past)
     (check_spares (number_by c.load_set.new.pass) (answer_to c.check.result) (known_by c.load_set.new.pass) mid)))
+
+pub returns-clause-few : goal.returns-clause-few
+returns-clause-few g c =
+    let x = operations_by c.args.pass.now in
+    let a = operations_by c.enter.new.pass in
+    let b = operations_by c.load_set.new.pass in
+    made_on 10 1 x b (operations_by c.check.new.pass)
+    (made_on 2 8 x a b (made_two _ _ x a c.enter.ensures.operations) c.load_set.ensures.few)
+    (made_one _ b (operations_by c.check.new.pass) c.check.ensures.step.made.2)

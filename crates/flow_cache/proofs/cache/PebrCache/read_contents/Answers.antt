@@ -13,6 +13,8 @@ use Rattle.flow_cache.specs.Reading.{words_read}
 use Rattle.flow_cache.specs.Trying.{HasMore, HasTen}
 use Rattle.flow_cache.proofs.Histories.{more_more}
 use Rattle.flow_cache.proofs.Sets.{has_ten, ten_stay, words_stay, words_are, four_read}
+use Rattle.pebr_roots.specs.Passes.{operations_by}
+use Rattle.pebr_roots.proofs.Counts.{made_on}
 use Rattle.flow_cache.proofs.cache.PebrCache.read_contents.Goals as goal
 
 each_of_four : (P : ℕ → Type 0) → P 0 → P 1 → P 2 → P 3 → (place : ℕ) → place < 4 → P place
@@ -105,3 +107,12 @@ returns-clause-whole c =
     (sym (four_set c.args.contents.now a.new.words b.new.words d.new.words e.new.words c.told-contents))
     (all_four IsWhole a.new.words b.new.words d.new.words e.new.words a.ensures.whole b.ensures.whole d.ensures.whole
     e.ensures.whole)
+
+pub returns-clause-few : goal.returns-clause-few
+returns-clause-few c =
+    let x = operations_by c.args.pass.now in
+    let a = c.read_words in let b = c.read_words-2 in let d = c.read_words-3 in let e = c.read_words-4 in
+    made_on 30 10 x (operations_by d.new.pass) (operations_by e.new.pass)
+    (made_on 20 10 x (operations_by b.new.pass) (operations_by d.new.pass)
+    (made_on 10 10 x (operations_by a.new.pass) (operations_by b.new.pass) a.ensures.few b.ensures.few) d.ensures.few)
+    e.ensures.few

@@ -1,5 +1,5 @@
 use Rattle.std.proofs.Common.{◌≡◌, ◌≢◌, ℕ, ◌+◌, ◌<◌, refl, sym, subst, ap, ◌∙◌, arith}
-use Rattle.std.specs.List.{list_all}
+use Rattle.std.specs.List.{list_all, range_with_len}
 use Rattle.std.proofs.lemmas.List.{get_or-set_other}
 use mathlib.Core.Logic.{dite}
 use native.Mathlib.Decide.{ℕ_discrete}
@@ -9,10 +9,11 @@ use Rattle.pebr_core.specs.State.{Seat, is_down, shield_at}
 use Rattle.pebr_core.specs.Kept.{held_count}
 use Rattle.pebr_words.specs.Pasts.{History}
 use Rattle.pebr_words.specs.Seats.{known_of, operations_of}
-use Rattle.pebr_roots.specs.Orders.{HasClearedOne}
+use Rattle.pebr_roots.specs.Orders.{AreMade, HasClearedOne}
 use Rattle.pebr_roots.specs.Passes.{known_by, past_by, number_by, operations_by, shape_at}
 use Rattle.pebr_roots.proofs.Passing.{all_down, down_all}
 use Rattle.pebr_roots.proofs.Orders.{below_more}
+use Rattle.pebr_roots.proofs.Counts.{cleared_few}
 use Rattle.pebr_roots.proofs.pass.Roots.clear.Goals as goal
 
 pub returns-clause-known : goal.returns-clause-known
@@ -77,3 +78,15 @@ loop-place-preserved g c =
       last = λ _. ap (λ (p : History). p.last) is;
       sure = λ _. told.step.sure;
     }
+
+pub returns-clause-few : goal.returns-clause-few
+returns-clause-few g c =
+    let before = c.loop-place.invariant in
+    let shape = shape_at c.args.self.now in
+    let me = number_by c.args.pass.now in
+    let x = operations_by c.args.pass.now in
+    let y = operations_by c.loop-place.pass in
+    let whole : c.loop-place.place ≡ shape.shields =
+    (let a = before.all in let l = before.low in let t = c.loop-place-test.false in omega (arith, a, l, t)) in
+    cleared_few shape me x y
+    (subst (λ n. AreMade (HasClearedOne shape me) (range_with_len 0 n) x y) whole before.operations)

@@ -12,6 +12,7 @@ use Rattle.pebr_roots.proofs.Scans.{is_whole, scanning_on}
 use Rattle.pebr_roots.proofs.Whole.{opened_as, opened_held, unread_at, collected, collected_past}
 use Rattle.pebr_roots.proofs.Whole.{fresh_enough, GiveLaws}
 use Rattle.pebr_roots.proofs.Orders.{whole_made, held_made, counted_more, counted_few}
+use Rattle.pebr_roots.proofs.Counts.{made_by, collection_more}
 use Rattle.pebr_roots.proofs.pass.Roots.collect.Goals as goal
 
 pub returns-then-not-pass_all-clause-same : goal.returns-then-not-pass_all-clause-same
@@ -209,9 +210,13 @@ returns-clause-few g c =
     let one = counted_more (step.Give (number_of scanned)) _ (known_of scanned) (past_of scanned) (past_of given) _
     (operations_of scanned) (operations_of given) c.give-given.ensures.step.past c.give-given.ensures.step.made.2 in
     let few = (returns-clause-past g c).few in
-    counted_few _ (past_by c.args.pass.now) (past_of given) (operations_by c.args.pass.now) (operations_of given)
+    let more = collection_more (shape_at c.args.self.now) c.args.force (number_by c.args.pass.now)
+    (known_by c.args.pass.now) _ (past_by c.args.pass.now) (past_of given) (operations_by c.args.pass.now)
+    (operations_of given) (returns-clause-operations g c) in
+    made_by more.0 _ (operations_by c.args.pass.now) (operations_of given) more.1
+    (counted_few _ (past_by c.args.pass.now) (past_of given) (operations_by c.args.pass.now) (operations_of given)
     (let x = c.open_scan.ensures.counted in let y = c.pass_all.ensures.counted in
-    let z = c.scan_all.ensures.counted in omega (arith, x, y, z, one)) few
+    let z = c.scan_all.ensures.counted in omega (arith, x, y, z, one)) few)
 
 pub returns-then-not-pass_all-clause-few : goal.returns-then-not-pass_all-clause-few
 returns-then-not-pass_all-clause-few g c =
@@ -219,4 +224,8 @@ returns-then-not-pass_all-clause-few g c =
     let y = c.pass_all.ensures.counted in
     let a = c.open_scan.ensures.past.few in
     let b = c.pass_all.ensures.past.few in
-    omega (arith, x, y, a, b)
+    let passed = c.pass_all.new.seat in
+    let more = collection_more (shape_at c.args.self.now) c.args.force (number_by c.args.pass.now)
+    (known_by c.args.pass.now) _ (past_by c.args.pass.now) (past_of passed) (operations_by c.args.pass.now)
+    (operations_of passed) (returns-then-not-pass_all-clause-operations g c) in
+    made_by more.0 _ (operations_by c.args.pass.now) (operations_of passed) more.1 (omega (arith, x, y, a, b))

@@ -1,5 +1,0 @@
-//! Two roots, two seats.
-
-mod free;
-mod passes;
-mod seats;
