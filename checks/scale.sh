@@ -3,13 +3,14 @@
 #
 #     checks/scale.sh
 #
-# Each block there that is marked `run: NAME, with PROGRAM` is taken as it stands and run in a folder with the files that it names,
-# but that for Slurm, which checks/slurm.sh runs. One line for each; a block whose program is missing is skipped with one line.
-# Of examples/many.sh it is tried besides that it makes just what isn't there, says which capture is refused, and joins by
-# parts. The status is not 0 where any differs.
+# Each block there that is marked `run: NAME, with PROGRAM` is taken as it stands and run in a folder with the files
+# that it names, but that for Slurm, which checks/slurm.sh runs. One line for each; a block whose program is missing
+# is skipped with one line. Of examples/many.sh it is tried besides that it makes just what isn't there, says which
+# capture is refused, and joins by parts. The status is not 0 where any differs.
 #
-# ROMTYALIG and ROMTYALIG_JOIN are the programs' paths (bin/romtyalig and bin/romtyalig-join unless set). PACKETS is how many packets
-# the capture has (60000 unless set).
+# ROMTYALIG and ROMTYALIG_JOIN are the programs' paths (bin/romtyalig and bin/romtyalig-join unless set). PACKETS is
+# how many packets the capture has (60000 unless set).
+# shellcheck disable=SC2317 # rows call functions by their names
 set -u
 
 top=$(dirname "$(cd "$(dirname "$0")" && pwd)")
@@ -89,10 +90,11 @@ for number, (one, other) in enumerate(zip(cuts, cuts[1:])):
 PYTHON
 }
 meter_each() {
-    local name
+    local name stream
     mkdir -p "$2"
     for name in "$1"/*.pcap; do
-        romtyalig meter <"$name" >"$2/$(basename "$name" .pcap).ipfix" 2>/dev/null || return
+        stream=$2/$(basename "$name" .pcap).ipfix
+        romtyalig meter <"$name" >"$stream" 2>/dev/null || return
     done
 }
 
@@ -104,12 +106,13 @@ two_hours() {
         mv all/00.ipfix all/03.ipfix hours/00 && mv all/*.ipfix hours/01
 }
 three_streams() {
-    cut captures 3 && meter_each captures all && mv all/00.ipfix a.ipfix && mv all/01.ipfix b.ipfix && mv all/02.ipfix c.ipfix
+    cut captures 3 && meter_each captures all && mv all/00.ipfix a.ipfix && mv all/01.ipfix b.ipfix &&
+        mv all/02.ipfix c.ipfix
 }
 
 some_captures() {
-    [ "$(find captures -name '*.pcap' | wc -l)" -gt 1 ] && meter_each captures streams && romtyalig-join join streams/*.ipfix >got &&
-        cmp got ../wanted.ipfix
+    [ "$(find captures -name '*.pcap' | wc -l)" -gt 1 ] && meter_each captures streams &&
+        romtyalig-join join streams/*.ipfix >got && cmp got ../wanted.ipfix
 }
 same_flows() { cmp flows ../wanted.ipfix; }
 same_stream() { cmp flows.ipfix ../wanted.ipfix; }
@@ -119,14 +122,15 @@ records() { for file in "$@"; do romtyalig show <"$file" 2>/dev/null || return; 
 same_parts() { records part-?.ipfix >got && records ../wanted.ipfix | cmp - got; }
 
 # many.sh, without a document.
-many() { examples/many.sh captures streams flows.ipfix "$@"; }
+many() { examples/many.sh captures streams flows.ipfix; }
 goes_on() {
-    four_captures && many >/dev/null && rm streams/01.ipfix && touch -d '1 hour ago' streams/*.ipfix && many >said.out &&
-        [ "$(wc -l <said.out)" -eq 2 ] && grep -q '^streams/01.ipfix: ' said.out && grep -q '^flows.ipfix: ' said.out && same_stream &&
-        [ -z "$(many)" ]
+    four_captures && many >/dev/null && rm streams/01.ipfix && touch -d '1 hour ago' streams/*.ipfix &&
+        many >said.out && [ "$(wc -l <said.out)" -eq 2 ] && grep -q '^streams/01.ipfix: ' said.out &&
+        grep -q '^flows.ipfix: ' said.out && same_stream && [ -z "$(many)" ]
 }
 by_parts() {
-    four_captures && PARTS=3 many >/dev/null && records flows.?.ipfix >got && [ ! -e flows.ipfix ] && records ../wanted.ipfix | cmp - got
+    four_captures && PARTS=3 many >/dev/null && records flows.?.ipfix >got && [ ! -e flows.ipfix ] &&
+        records ../wanted.ipfix | cmp - got
 }
 is_refused() {
     four_captures && echo none >captures/bad.pcap && ! many >/dev/null 2>said.err && [ ! -e flows.ipfix ] &&
@@ -134,7 +138,8 @@ is_refused() {
         [ "$(find streams -type f | wc -l)" -eq 4 ]
 }
 by_time_outs() {
-    four_captures && TIMEOUTS="--idle 1 --active 2" many >/dev/null && meter_each captures other && ! cmp -s streams/00.ipfix other/00.ipfix &&
+    four_captures && TIMEOUTS="--idle 1 --active 2" many >/dev/null && meter_each captures other &&
+        ! cmp -s streams/00.ipfix other/00.ipfix &&
         romtyalig-join join --idle 1 --active 2 streams/*.ipfix | cmp - flows.ipfix
 }
 

@@ -3,15 +3,17 @@
 #
 #     checks/slurm.sh
 #
-# It starts munged, slurmctld and four slurmd with files of their own in a temporary folder, and ends them by their pid files, also
-# when a row fails. Eight captures are what `make` writes, cut by packets, and eight what bench/make_traffic.c writes. The first task that comes
-# to its capture writes a beginning of the stream and is killed then: the others' streams must be there, that one not, and no join.
-# Submitted again, one task meters. What is joined must be the very bytes of metering all packets as one capture, and four parts
-# together just its records. One line for each row; the status is not 0 where any differs. Without root or one of the programs it is
-# skipped with one line.
+# It starts munged, slurmctld and four slurmd with files of their own in a temporary folder, and ends them by their
+# pid files, also when a row fails. Eight captures are what `make` writes, cut by packets, and eight what
+# bench/make_traffic.c writes. The first task that comes to its capture writes a beginning of the stream and is killed
+# then: the others' streams must be there, that one not, and no join. Submitted again, one task meters. What is joined
+# must be the very bytes of metering all packets as one capture, and four parts together just its records. One line
+# for each row; the status is not 0 where any differs. Without root or one of the programs it is skipped with one
+# line.
 #
-# ROMTYALIG and ROMTYALIG_JOIN are the programs' paths (bin/romtyalig and bin/romtyalig-join unless set). PACKETS is how many
-# packets each of the two kinds has (80000 unless set). Debian packages: slurm-wlm, munge; gcc.
+# ROMTYALIG and ROMTYALIG_JOIN are the programs' paths (bin/romtyalig and bin/romtyalig-join unless set). PACKETS is
+# how many packets each of the two kinds has (80000 unless set). Debian packages: slurm-wlm, munge; gcc.
+# shellcheck disable=SC2317 # rows call functions by their names
 set -u
 
 top=$(dirname "$(cd "$(dirname "$0")" && pwd)")
@@ -49,7 +51,7 @@ clean() {
     local name pid turn
     [ ! -e "$work/run/ctld.pid" ] || scancel --user=root 2>/dev/null
     for name in $daemons; do
-        pid=$(cat "$work/run/$name.pid" 2>/dev/null) && kill "$pid" 2>/dev/null || continue
+        if ! pid=$(cat "$work/run/$name.pid" 2>/dev/null) || ! kill "$pid" 2>/dev/null; then continue; fi
         for turn in $(seq 100); do
             kill -0 "$pid" 2>/dev/null || break
             [ "$turn" -lt 100 ] || kill -KILL "$pid"
@@ -116,8 +118,9 @@ CONFIGURATION
 start_munge() {
     mkdir "$work/munge"
     mungekey --create --keyfile="$work/munge/key" && chown -R munge: "$work/munge" && chmod 755 "$work/munge" &&
-        setpriv --reuid=munge --regid=munge --clear-groups munged --key-file="$work/munge/key" --socket="$work/munge/socket" \
-            --pid-file="$work/munge/pid" --log-file="$work/munge/log" --seed-file="$work/munge/seed" &&
+        setpriv --reuid=munge --regid=munge --clear-groups munged --key-file="$work/munge/key" \
+            --socket="$work/munge/socket" --pid-file="$work/munge/pid" --log-file="$work/munge/log" \
+            --seed-file="$work/munge/seed" &&
         wait_for 20 test -s "$work/munge/pid" && ln -s "$work/munge/pid" "$work/run/munged.pid"
 }
 
@@ -217,7 +220,8 @@ one_is_left() {
 nothing_is_left() {
     local before
     before=$(stat -c %Y.%i "$work/whole.ipfix")
-    submit 1 && wait_for 600 are_gone && [ -z "$(job_of meter)" ] && [ "$(stat -c %Y.%i "$work/whole.ipfix")" = "$before" ]
+    submit 1 && wait_for 600 are_gone && [ -z "$(job_of meter)" ] &&
+        [ "$(stat -c %Y.%i "$work/whole.ipfix")" = "$before" ]
 }
 whole_is_one() {
     "$program" meter <"$work/one.pcap" >"$work/wanted.ipfix" 2>/dev/null && cmp "$work/whole.ipfix" "$work/wanted.ipfix"

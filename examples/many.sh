@@ -5,17 +5,19 @@
 #     examples/many.sh --meter STREAMS CAPTURE
 #     examples/many.sh --join CAPTURES STREAMS WHOLE [PART]
 #
-# The stream of CAPTURES/NAME.pcap is STREAMS/NAME.ipfix, and WHOLE, which isn't to lie in STREAMS, is all of them joined. A stream
-# has its name only once it is whole. Run again, only what isn't there is made: the streams that are missing, and WHOLE where a
-# stream is newer. A line on standard output tells the summary of each capture. For a capture that is refused, or the first stream
-# that is, a line on standard error says why; then WHOLE isn't made, and the status is not 0.
+# The stream of CAPTURES/NAME.pcap is STREAMS/NAME.ipfix, and WHOLE, which isn't to lie in STREAMS, is all of them
+# joined. A stream has its name only once it is whole. Run again, only what isn't there is made: the streams that are
+# missing, and WHOLE where a stream is newer. A line on standard output tells the summary of each capture. For a
+# capture that is refused, or the first stream that is, a line on standard error says why; then WHOLE isn't made, and
+# the status is not 0.
 #
-# By --meter one capture is metered alone, by --join the streams of a folder's captures are joined, without WHOLE's ending only PART
-# of PARTS.
+# By --meter one capture is metered alone, by --join the streams of a folder's captures are joined, without WHOLE's
+# ending only PART of PARTS.
 #
-# JOBS is how many meter at a time, one a processor unless set. With PARTS above 1 WHOLE is so many files, by key: DAY.ipfix becomes
-# DAY.1.ipfix to DAY.PARTS.ipfix, each joined with a PARTS-th of the memory. TIMEOUTS are options of `meter` and `join` alike, as
-# "--idle 60 --active 300". METER and JOIN are the commands, `romtyalig meter` and `romtyalig-join join` unless set.
+# JOBS is how many meter at a time, one a processor unless set. With PARTS above 1 WHOLE is so many files, by key:
+# DAY.ipfix becomes DAY.1.ipfix to DAY.PARTS.ipfix, each joined with a PARTS-th of the memory. TIMEOUTS are options of
+# `meter` and `join` alike, as "--idle 60 --active 300". METER and JOIN are the commands, `romtyalig meter` and
+# `romtyalig-join join` unless set.
 set -u
 : "${METER:=romtyalig meter}" "${JOIN:=romtyalig-join join}" "${TIMEOUTS:=}" "${PARTS:=1}" "${JOBS:=$(nproc)}"
 unfinished=
@@ -67,11 +69,7 @@ join() {
         whole=${whole%.ipfix}.$part.ipfix
         options="$options --part $part --parts $PARTS"
     fi
-    is_made=$([ -e "$whole" ] && echo yes)
-    for stream in "$@"; do
-        if [ -n "$is_made" ] && [ "$stream" -nt "$whole" ]; then is_made=; fi
-    done
-    [ -n "$is_made" ] && return
+    if [ -e "$whole" ] && newer=$(find "$@" -newer "$whole") && [ -z "$newer" ]; then return; fi
     begin "$whole"
     # shellcheck disable=SC2086 # the command and its options are words
     $JOIN $options "$@" >"$unfinished" 2>"$unfinished.notes"

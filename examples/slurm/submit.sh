@@ -3,19 +3,19 @@
 #
 #     examples/slurm/submit.sh CAPTURES STREAMS [WHOLE]
 #
-# Folders, files and environment are those of examples/many.sh, and lie where all nodes see them under the same names, as this folder
-# and the programs do. An array job meters each capture that has no stream yet, and a job that depends on it joins; with PARTS
-# above 1 it is an array too, with a task for each part. The numbers of the jobs go to standard output, a line each: `meter N` and
-# `join N`. Where a task fails its stream isn't there, the log in STREAMS/logs says why, and the join is cancelled: submit again,
-# and only what isn't there is metered.
+# Folders, files and environment are those of examples/many.sh, and lie where all nodes see them under the same names,
+# as this folder and the programs do. An array job meters each capture that has no stream yet, and a job that depends
+# on it joins; with PARTS above 1 it is an array too, with a task for each part. The numbers of the jobs go to
+# standard output, a line each: `meter N` and `join N`. Where a task fails its stream isn't there, the log in
+# STREAMS/logs says why, and the join is cancelled: submit again, and only what isn't there is metered.
 #
-# SBATCH are options of `sbatch` for all jobs, as "--partition all --time 60". An array has at most ARRAY tasks (1000 unless set,
-# the most that Slurm takes where MaxArraySize isn't set); for more captures there are several.
+# SBATCH are options of `sbatch` for all jobs, as "--partition all --time 60". An array has at most ARRAY tasks (1000
+# unless set, the most that Slurm takes where MaxArraySize isn't set); for more captures there are several.
 set -eu
 : "${ARRAY:=1000}" "${SBATCH:=}" "${PARTS:=1}"
 export PARTS
 if [ $# -lt 2 ] || [ $# -gt 3 ] || [ ! -d "$1" ]; then
-    sed -n '2,15s/^# \{0,1\}//p' "$0" >&2
+    sed -n '2,13s/^# \{0,1\}//p' "$0" >&2
     exit 2
 fi
 here=$(cd "$(dirname "$0")" && pwd)
