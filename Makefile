@@ -60,6 +60,8 @@ check: build $(CHECKS:%=bin/%)
 	checks/page.sh
 	checks/readme.sh
 	checks/operators.sh
+	checks/scale.sh
+	checks/slurm.sh
 	python3 checks/element_names.py
 	python3 checks/named.py
 	python3 checks/report.py

@@ -1,0 +1,18 @@
+#!/bin/sh
+# A task of an array that submit.sh submits.
+#
+#     task.sh MANY meter STREAMS LIST FIRST
+#     task.sh MANY join CAPTURES STREAMS WHOLE
+#
+# MANY is the path of many.sh, since Slurm runs a copy of this file. The first meters the capture on the line of the
+# LIST whose number is FIRST and the task's, the second joins, with PARTS above 1 the part with the task's number.
+set -u
+many=$1 work=$2
+shift 2
+if [ "$work" = meter ]; then
+    exec "$many" --meter "$1" "$(sed -n "$(($3 + SLURM_ARRAY_TASK_ID))p" "$2")"
+elif [ "$PARTS" -eq 1 ]; then
+    exec "$many" --join "$@"
+else
+    exec "$many" --join "$@" "$SLURM_ARRAY_TASK_ID"
+fi
