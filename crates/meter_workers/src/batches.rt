@@ -496,7 +496,7 @@ fn gather<C: FlowCache, G: Gate, R: Wait>(
     requires reader { IsPassOf crew.shared.queue (reader_of crew.reader.feed) × IsReaders (reader_of crew.reader.feed)
         × (seats_of (reader_of crew.reader.feed) ≡ 1) × (took_of (reader_of crew.reader.feed) ≡ []) }
     requires many { (others_of (reader_of crew.reader.feed) ≡ length crew.workers.items)
-        × (crew.reader.number ≡ length crew.workers.items) × (length crew.workers.items ≤ 62) }
+        × (length crew.workers.items ≤ 62) }
     requires handed { (answers : List Answer) × HasHanded (C.is_of cache.now) C.shown (C.means cache.now).limits answers (put_of (reader_of crew.reader.feed))
         crew.reader.share }
     requires workers { All (λ w. w.state ≡ WorkState.Finished → HasTaken (C.is_of cache.now) C.shown (C.means cache.now).limits crew.shared.queue w.share w.seat)
@@ -514,7 +514,7 @@ fn gather<C: FlowCache, G: Gate, R: Wait>(
         workers,
         mut last,
     } = crew;
-    let drain = reader.number + 1;
+    let drain = workers.len() + 1;
     let (mut shares, seats) = unseat_workers(alloc, workers)?;
     let mut seat = unite_seats(&shared.queue, reader.feed.into_pass(), seats);
     work_batches(rt, &shared, cache, gate, drain, &mut seat, &mut last)?;
