@@ -1,16 +1,12 @@
 -- A part that all workers metered, and a capture that is metered part by part.
-use Rattle.std.proofs.Common.{◌≡◌, ℕ, ◌+◌, ◌-◌, ◌*◌, ◌/◌, ◌<◌, ◌≤◌, List, [], ◌++◌, length, map, sym, ap, ◌∙◌, subst, arith, All}
-use Rattle.std.specs.Prelude.{Option, Result, IfErr, flat_map, IsPermutation}
+use Rattle.std.proofs.Common.{◌≡◌, ℕ, ◌+◌, ◌-◌, ◌*◌, ◌/◌, ◌<◌, ◌≤◌, List, ◌++◌, length, map, sym, ap, ◌∙◌, subst, arith, All}
+use Rattle.std.specs.Prelude.{Option, Result, Ok, Err, IfErr, IsErrAnd, flat_map, IsPermutation}
 use Rattle.std.specs.List.{AllZip}
-use Rattle.std.specs.Io.KnownBytes.{Consumes}
 use Rattle.std.proofs.lemmas.List.{length-map}
-use Rattle.meter_io.specs.Sides.{Side}
 use Rattle.meter_io.specs.Reading.{TakesAtMost}
 use Rattle.flow_parts.specs.declared.timeouts.Timeouts.{Timeouts}
 use Rattle.cache_face.specs.Meaning.{PassMeans}
-use Rattle.capture_input.specs.declared.fault.MeterFault.{MeterFault}
 use Rattle.capture_input.specs.declared.reading.Reading.{Reading}
-use Rattle.capture_input.specs.Refusals.{IsRefused, HasFaults}
 use Rattle.capture_input.specs.Parts.{Answer}
 use Rattle.capture_input.specs.Giving.{HasGiven}
 use Rattle.work_pieces.specs.declared.pieces.Pieces.{Pieces}
@@ -105,3 +101,8 @@ pub given-few : (before left : Option (List ℕ)) (limit : ℕ) (reading : Readi
     → HasGiven before left limit reading answers → TakesAtMost (limit + 1) before left
 given-few before left limit reading answers h =
     (h.file.bytes, (let w = h.within in let n = h.count in omega (arith, w, n)), h.given)
+
+-- what the fault that was passed on is
+pub err-weaker : {T E : Type 0} (r : Result T E) (P Q : E → Type 0) → IsErrAnd r P → ((e : E) → P e → Q e) → IfErr r Q
+err-weaker (Ok x) P Q is more = absurd is
+err-weaker (Err e) P Q is more = more e is

@@ -1,6 +1,6 @@
 //! A capture that is read in windows, each metered before the next is read.
 
-ghost use Rattle.std.specs.Prelude.{◌≡◌, ◌+◌, ◌++◌, ◌^◌, ◌<◌, ◌≤◌, [], List, ℕ, length, flat_map, All, IfOk, IfErr, IfSome};
+ghost use Rattle.std.specs.Prelude.{◌≡◌, ◌≢◌, ◌+◌, ◌++◌, ◌^◌, ◌<◌, ◌≤◌, [], List, ℕ, length, flat_map, All, IfOk, IfErr, IfSome};
 ghost use Rattle.std.specs.Prelude.{OnOk, IsPermutation};
 ghost use Rattle.std.specs.List.{AllZip};
 ghost use Rattle.std.specs.declared.option.Option.{Option};
@@ -96,6 +96,7 @@ fn work<C: FlowCache, G: Gate>(
     requires ready { IsReady (C.is_of cache.now) C.shown (C.means cache.now).limits pieces.now part.now.base
         worker.old.share worker.old.seat }
     requires whole { count_of pieces.now ≡ length part.now.index.now.offsets }
+    ensures ended { worker.new.state ≢ WorkState.Going }
     ensures worked { worker.new.state ≡ WorkState.Finished → HasWorked (C.is_of cache.now) C.shown
         (C.means cache.now).limits pieces.now (answers_by part.now) worker.old.share worker.new.share worker.new.seat }
 {
@@ -127,6 +128,7 @@ fn work_all<C: FlowCache, G: Gate, R: Threads + Sync>(
     requires ready { All (λ w. IsReady (C.is_of cache.now) C.shown (C.means cache.now).limits pieces.now part.now.base
         w.share w.seat) workers.old }
     requires whole { count_of pieces.now ≡ length part.now.index.now.offsets }
+    ensures ended { All (λ w. w.state ≢ WorkState.Going) workers.new }
     ensures worked { AllZip (λ o w. w.state ≡ WorkState.Finished → HasWorked (C.is_of cache.now) C.shown
         (C.means cache.now).limits pieces.now (answers_by part.now) o.share w.share w.seat) workers.old workers.new }
 {
@@ -139,6 +141,7 @@ fn work_all<C: FlowCache, G: Gate, R: Threads + Sync>(
             requires ready { IsReady (C.is_of cache.now) C.shown (C.means cache.now).limits pieces.now part.now.base
                 w.old.share w.old.seat }
             requires whole { count_of pieces.now ≡ length part.now.index.now.offsets }
+            ensures ended { w.new.state ≢ WorkState.Going }
             ensures worked { w.new.state ≡ WorkState.Finished → HasWorked (C.is_of cache.entry.now) C.shown
                 (C.means cache.entry.now).limits pieces.entry.now (answers_by part.entry.now) w.old.share w.new.share
                 w.new.seat }
@@ -159,6 +162,7 @@ fn run_workers<C: FlowCache, G: Gate, R: Threads + Sync>(
     requires ready { All (λ w. IsReady (C.is_of cache.now) C.shown (C.means cache.now).limits pieces.now part.now.base
         w.share w.seat) workers.items }
     requires whole { count_of pieces.now ≡ length part.now.index.now.offsets }
+    ensures ended { All (λ w. w.state ≢ WorkState.Going) result.items }
     ensures worked { AllZip (λ o w. w.state ≡ WorkState.Finished → HasWorked (C.is_of cache.now) C.shown
         (C.means cache.now).limits pieces.now (answers_by part.now) o.share w.share w.seat) workers.items result.items }
 {

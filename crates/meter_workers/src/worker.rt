@@ -1,6 +1,6 @@
 //! A worker, and how it stands.
 
-ghost use Rattle.std.specs.Prelude.{◌≡◌, length, map, All, IfOk, OnOk};
+ghost use Rattle.std.specs.Prelude.{◌≡◌, ◌≢◌, length, map, All, IfOk, OnOk};
 
 use crate::share::Share;
 use cache_face::FlowCache;
@@ -55,11 +55,12 @@ pub(crate) fn seat_workers<C: FlowCache, T: Drop>(
     Ok(workers)
 }
 
-/// What the workers have done, and their seats, where all have finished.
+/// What the workers have done, and their seats, where all have finished. `NoMemory`: one ended without.
 pub(crate) fn unseat_workers<C: FlowCache, T: Drop>(
     alloc: Global,
     workers: Vec<Worker<C, T>>,
 ) -> Result<(Vec<Share<C>>, Vec<T>), NoMemory>
+    requires ended { All (λ w. w.state ≢ WorkState.Going) workers.items }
     ensures shares { IfOk result (λ r. r.0.items ≡ map (λ w. w.share) workers.items) }
     ensures seats { IfOk result (λ r. r.1.items ≡ map (λ w. w.seat) workers.items) }
     ensures finished { OnOk result (All (λ w. w.state ≡ WorkState.Finished) workers.items) }
@@ -70,7 +71,8 @@ pub(crate) fn unseat_workers<C: FlowCache, T: Drop>(
     while let Some(worker) = workers.pop() {
         match worker.state {
             WorkState::Finished => {}
-            WorkState::Going | WorkState::NoMemory => return Err(NoMemory),
+            WorkState::NoMemory => return Err(NoMemory),
+            WorkState::Going => unreachable!(),
         }
         shares.insert(0, worker.share)?;
         seats.insert(0, worker.seat)?;

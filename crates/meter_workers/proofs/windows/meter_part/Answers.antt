@@ -46,7 +46,7 @@ run_workers-workers-requires-clause-ready g c κs within =
     }
 
 pub unite_draws-requires-clause-drawn : goal.unite_draws-requires-clause-drawn
-unite_draws-requires-clause-drawn g c κs within =
+unite_draws-requires-clause-drawn g c =
     all-drawn {X = g.row.C.Denot} {P = g.row.C-Pass.Denot} (g.C.FlowCache.is_of c.args.cache.now) g.C.FlowCache.shown
     (g.C.FlowCache.means c.args.cache.now).limits c.in_ok-pieces.pieces (answers_by c.args.part.now)
     c.in_ok-workers.workers.items c.run_workers-workers.result.items c.in_ok-shares.draws.items

@@ -1,8 +1,9 @@
 use Rattle.std.proofs.Common.{◌≡◌, ◌++◌, ◌∷◌, List, [], map, sym, ap, ◌∙◌, append_assoc, append-nil}
+use Rattle.std.specs.Prelude.{◌≢◌}
 use Rattle.meter_workers.specs.declared.share.Share.{Share}
 use Rattle.meter_workers.specs.declared.worker.Worker.{Worker}
-use Rattle.meter_workers.specs.declared.worker.WorkState.TheVariants.{Finished}
-use Rattle.meter_workers.proofs.Taken.{all_pushed}
+use Rattle.meter_workers.specs.declared.worker.WorkState.TheVariants.{Going, Finished}
+use Rattle.meter_workers.proofs.Taken.{all_popped, all_pushed}
 use Rattle.meter_workers.proofs.Sharing.{moved-front}
 use Rattle.meter_workers.proofs.worker.unseat_workers.Given as given
 use Rattle.meter_workers.proofs.worker.unseat_workers.Goals as goal
@@ -13,6 +14,8 @@ loop-worker-preserved g c =
     let i = c.loop-worker.invariant in
     let w = c.in-Some.worker in
     record {
+      ended = (all_popped (λ (v : W). v.state ≢ Going) c.loop-worker.workers.items c.pop.new.self.items w i.ended
+          c.in-Some.ensures.items).0;
       shares = moved-front (λ (v : W). v.share) c.loop-worker.workers.items c.pop.new.self.items w
           c.loop-worker.shares.items _ _ c.in-Some.ensures.items c.in_ok-insert.ensures.items i.shares;
       seats = moved-front (λ (v : W). v.seat) c.loop-worker.workers.items c.pop.new.self.items w

@@ -1,10 +1,11 @@
 use Rattle.std.proofs.Common.{◌≡◌, ◌++◌, length, map, vec_len}
-use Rattle.std.specs.Prelude.{All}
-use Rattle.meter_workers.specs.declared.worker.WorkState.TheVariants.{Finished}
+use Rattle.std.specs.Prelude.{◌≢◌, All}
+use Rattle.meter_workers.specs.declared.worker.WorkState.TheVariants.{Going, Finished}
 use Rattle.meter_workers.proofs.worker.unseat_workers.Given as goal
 
 abbrev pub invariant-loop-worker : goal.invariant-loop-worker
 invariant-loop-worker g l = record {
+  ended : All (λ w. w.state ≢ Going) l.workers.items;
   shares : map (λ w. w.share) l.workers.items ++ l.shares.items ≡ map (λ w. w.share) l.initial.workers.items;
   seats : map (λ w. w.seat) l.workers.items ++ l.seats.items ≡ map (λ w. w.seat) l.initial.workers.items;
   finished : All (λ w. w.state ≡ Finished) l.workers.items → All (λ w. w.state ≡ Finished) l.initial.workers.items;
