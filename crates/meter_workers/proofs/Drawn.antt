@@ -60,7 +60,7 @@ pub behind-next : (size counted n captured : ℕ) (drawn : List ℕ) → IsBehin
 behind-next size counted n captured drawn b rises =
     let place : ℕ = b.place in
     let le : place ≤ n = b.next n rises in
-    let m = mul-le-mul_right {a = place} {b = n} size le in
+    let m = mul-le-mul_right {m = place} {n = n} size le in
     let few : captured ≤ counted + place * size = b.few in
     omega (arith, m, few)
 

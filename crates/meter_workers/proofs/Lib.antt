@@ -4,4 +4,6 @@ pub mod Drawn
 pub mod Sharing
 pub mod Whole
 pub mod Taking
+pub mod Crew
 pub mod Handing
+pub mod Metering

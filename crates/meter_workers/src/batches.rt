@@ -33,6 +33,7 @@ use meter_io::Source;
 use no_memory::NoMemory;
 use pcap_reader::RecordIndex;
 use std::alloc::Global;
+use std::mem;
 use std::sync::Wait;
 use std::thread;
 use std::thread::{Threads, join_mut};
@@ -191,21 +192,25 @@ fn work_all<C: FlowCache, G: Gate, R: Threads + Wait + Sync>(
     );
 }
 
-/// The workers, once they have worked, all at once.
+/// All workers work at once. The workers, once they have worked; none are left where they stood.
 fn run_workers<C: FlowCache, G: Gate, R: Threads + Wait + Sync>(
     rt: &R,
+    alloc: Global,
     shared: &Shared,
     cache: &C,
     gate: &G,
     workers: &mut Vec<Worker<C, QueuePass>>,
-)
+) -> Vec<Worker<C, QueuePass>>
     requires some { 0 < length workers.old.items }
-    requires ready { All (λ w. IsReadyToTake (C.is_of cache.now) C.shown (C.means cache.now).limits shared.now.queue w.share w.seat) workers.old.items }
-    ensures same { length workers.new.items ≡ length workers.old.items }
-    ensures worked { All (λ w. w.state ≡ WorkState.Finished → HasTaken (C.is_of cache.now) C.shown (C.means cache.now).limits shared.now.queue w.share w.seat)
-        workers.new.items }
+    requires ready { All (λ w. IsReadyToTake (C.is_of cache.now) C.shown (C.means cache.now).limits shared.now.queue
+        w.share w.seat) workers.old.items }
+    ensures same { length result.items ≡ length workers.old.items }
+    ensures worked { All (λ w. w.state ≡ WorkState.Finished → HasTaken (C.is_of cache.now) C.shown
+        (C.means cache.now).limits shared.now.queue w.share w.seat) result.items }
 {
-    work_all(rt, shared, cache, gate, workers.as_mut_slice());
+    let mut crew = mem::replace(workers, Vec::new(alloc));
+    work_all(rt, shared, cache, gate, crew.as_mut_slice());
+    crew
 }
 
 /// The reader: its number, its feed of the queue, what it has done, and the number of its next batch.
@@ -355,7 +360,7 @@ fn read_and_end<S: Source, C: FlowCache, G: Gate, R: Wait>(
     end
 }
 
-/// The reader and all workers at once. How the reader ended.
+/// The reader and all workers at once. The workers, once they have worked, and how the reader ended.
 fn run_both<S: Source, C: FlowCache, G: Gate, R: Threads + Wait + Sync>(
     rt: &R,
     alloc: Global,
@@ -364,34 +369,34 @@ fn run_both<S: Source, C: FlowCache, G: Gate, R: Threads + Wait + Sync>(
     cache: &C,
     gate: &G,
     reader: &mut Reader<C>,
-    workers: &mut Vec<Worker<C, QueuePass>>,
+    mut workers: Vec<Worker<C, QueuePass>>,
     limit: u64,
-) -> Result<u64, MeterFault>
+) -> (Vec<Worker<C, QueuePass>>, Result<u64, MeterFault>)
     requires limit { limit ≤ 2 ^ 30 }
     requires own { IsPassOf shared.now.queue (reader_of reader.old.feed) × IsReaders (reader_of reader.old.feed)
         × IsOpen reader.old.feed }
     requires fresh { IsFresh (reader_of reader.old.feed) × (reader.old.next ≡ 0) }
     requires share { IsShare (C.is_of cache.now) C.shown (C.means cache.now).limits [] reader.old.share }
-    requires some { 0 < length workers.old.items }
-    requires ready { All (λ w. IsReadyToTake (C.is_of cache.now) C.shown (C.means cache.now).limits shared.now.queue w.share w.seat) workers.old.items }
-    ensures same { length workers.new.items ≡ length workers.old.items }
+    requires some { 0 < length workers.items }
+    requires ready { All (λ w. IsReadyToTake (C.is_of cache.now) C.shown (C.means cache.now).limits shared.now.queue w.share w.seat) workers.items }
+    ensures same { length result.0.items ≡ length workers.items }
     ensures worked { All (λ w. w.state ≡ WorkState.Finished → HasTaken (C.is_of cache.now) C.shown (C.means cache.now).limits shared.now.queue w.share w.seat)
-        workers.new.items }
-    ensures read { IfOk result (λ tail. HasRead (C.is_of cache.now) C.shown (C.means cache.now).limits shared.now.queue (S.left source.old) (S.left source.new) limit
+        result.0.items }
+    ensures read { IfOk result.1 (λ tail. HasRead (C.is_of cache.now) C.shown (C.means cache.now).limits shared.now.queue (S.left source.old) (S.left source.new) limit
         (reader_of reader.old.feed) (reader_of reader.new.feed) reader.new.share tail) }
-    ensures refused { IfErr result (λ fault. IsRefused (side S.left S.faults source.old source.new) limit fault) }
-    ensures faults { HasFaults (side S.left S.faults source.old source.new) result }
+    ensures refused { IfErr result.1 (λ fault. IsRefused (side S.left S.faults source.old source.new) limit fault) }
+    ensures faults { HasFaults (side S.left S.faults source.old source.new) result.1 }
 {
-    let (_, end) = join_mut(
+    join_mut(
         rt,
-        &mut || -> ()
+        &mut move || -> Vec<Worker<C, QueuePass>>
             requires sync { IsSync R.row }
-            requires some { 0 < length workers.now.items }
-            requires ready { All (λ w. IsReadyToTake (C.is_of cache.now) C.shown (C.means cache.now).limits shared.now.queue w.share w.seat) workers.now.items }
-            ensures same { length workers.exit.now.items ≡ length workers.entry.now.items }
+            requires some { 0 < length workers.items }
+            requires ready { All (λ w. IsReadyToTake (C.is_of cache.now) C.shown (C.means cache.now).limits shared.now.queue w.share w.seat) workers.items }
+            ensures same { length result.items ≡ length workers.entry.items }
             ensures worked { All (λ w. w.state ≡ WorkState.Finished → HasTaken (C.is_of cache.entry.now) C.shown
-                (C.means cache.entry.now).limits shared.entry.now.queue w.share w.seat) workers.exit.now.items }
-        { run_workers(rt, shared, cache, gate, workers) },
+                (C.means cache.entry.now).limits shared.entry.now.queue w.share w.seat) result.items }
+        { run_workers(rt, alloc, shared, cache, gate, &mut workers) },
         &mut || -> Result<u64, MeterFault>
             requires limit { limit ≤ 2 ^ 30 }
             requires own { IsPassOf shared.now.queue (reader_of reader.now.feed)
@@ -406,8 +411,7 @@ fn run_both<S: Source, C: FlowCache, G: Gate, R: Threads + Wait + Sync>(
                 (λ fault. IsRefused (side S.left S.faults source.entry.now source.exit.now) limit fault) }
             ensures faults { HasFaults (side S.left S.faults source.entry.now source.exit.now) result }
         { read_and_end(rt, alloc, source, shared, cache, gate, reader, limit) },
-    );
-    end
+    )
 }
 
 /// What the reader, the workers and the drain have, before anything was read.
@@ -561,10 +565,10 @@ pub fn meter_batches<S: Source, C: FlowCache, G: Gate, R: Threads + Wait + Sync>
     let Crew {
         shared,
         mut reader,
-        mut workers,
+        workers,
         last,
     } = crew;
-    let end = run_both(
+    let (workers, end) = run_both(
         rt,
         alloc,
         source,
@@ -572,7 +576,7 @@ pub fn meter_batches<S: Source, C: FlowCache, G: Gate, R: Threads + Wait + Sync>
         cache,
         gate,
         &mut reader,
-        &mut workers,
+        workers,
         batches.limit,
     );
     let tail = end?;

@@ -2,7 +2,7 @@ use Rattle.std.proofs.Common.{◌≡◌, ◌++◌, ◌∷◌, List, [], length, 
 use Rattle.std.specs.Prelude.{slice_range}
 use Rattle.pcap_reader.specs.File.{CaptureFile}
 use Rattle.pcap_reader.specs.Index.{Offsets}
-use Rattle.pcap_reader.specs.Views.{part_of}
+use Rattle.pcap_reader.specs.Views.{part_of, file_of}
 use Rattle.capture_input.specs.Parts.{Answer, answers_by, answers_from}
 use Rattle.batch_queue.specs.Passes.{took_of}
 use Rattle.meter_workers.specs.declared.share.Share.{Share}
@@ -37,10 +37,10 @@ loop-preserved-in-Some-take g c =
     let known = c.loop.invariant in
     let batch = c.in-Some-take.batch in
     let took = c.in-Some-take.ensures.took in
-    let told = c.in_ok-meter_run.ensures in
+    let told = c.in_ok-meter_run-in-Some-take.ensures in
     let own : slice_range (answers_by c.part-part.result) 0 c.count.result ≡ answers_of_batch batch =
     whole-range (answers_by c.part-part.result) (answers_of_batch batch) c.count.result
-    (ap (λ k. answers_from k _) c.part-part.ensures.base
+    (ap (λ k. answers_from k (file_of c.part-part.result.capture)) c.part-part.ensures.base
     ∙ ap (λ (f : CaptureFile). answers_from batch.base f) c.part-part.ensures.file)
     (let n = c.count.ensures in let i = ap (λ (o : Offsets). length o.offsets) c.part-part.ensures.index in
     let a = answers-count batch.base (part_of batch.head batch.bytes.items) in

@@ -1,4 +1,4 @@
-use Rattle.std.proofs.Common.{◌≡◌, ◌≤◌, ◌<◌, ◌*◌, ◌+◌, ◌-◌, ◌/◌, ◌∙◌, ◌++◌, ℕ, List, refl, sym, ap, subst, length, map, arith, length-map}
+use Rattle.std.proofs.Common.{◌≡◌, ◌≤◌, ◌<◌, ◌*◌, ◌+◌, ◌-◌, ◌/◌, ◌∙◌, ◌++◌, ℕ, List, refl, sym, ap, subst, length, map, arith}
 use Rattle.std.specs.Prelude.{All, IfOk, flat_map, IsPermutation}
 use Rattle.pcap_reader.specs.Views.{file_of}
 use Rattle.work_pieces.specs.declared.pieces.DrawPass.{DrawPass}
@@ -11,20 +11,19 @@ use Rattle.meter_workers.specs.Pieces.{pieces_of}
 use Rattle.meter_workers.specs.Shares.{IsShare, HaveMetered}
 use Rattle.meter_workers.specs.Working.{IsReady, HasDrawn, HasWorked}
 use Rattle.meter_workers.proofs.Records.{answers-count}
-use Rattle.meter_workers.proofs.Drawn.{covered, enough, pieces-each}
-use Rattle.meter_workers.proofs.Sharing.{zip-all, zip-second, zip-length, each-metered, all-mapped, map-all, all-both}
-use Rattle.meter_workers.proofs.Sharing.{flat-mapped, grown}
+use Rattle.meter_workers.proofs.Sharing.{each-metered, all-mapped}
+use Rattle.meter_workers.proofs.Metering.{all-drawn, part-metered, still-many, enough-pieces}
 use Rattle.meter_workers.proofs.windows.meter_part.Given as given
 use Rattle.meter_workers.proofs.windows.meter_part.Goals as goal
 
 abbrev W : given.Over → Type 0
-W g = Worker g.row.C.Denot g.row.C-Pass.Denot DrawPass
+W g = Worker g.row.C.Denot DrawPass g.row.C-Pass.Denot
 
 abbrev S : given.Over → Type 0
 S g = Share g.row.C.Denot g.row.C-Pass.Denot
 
-pub run_workers-requires-clause-ready : goal.run_workers-requires-clause-ready
-run_workers-requires-clause-ready g c κs within =
+pub run_workers-workers-requires-clause-ready : goal.run_workers-workers-requires-clause-ready
+run_workers-workers-requires-clause-ready g c κs within =
     let Has : List Answer → S g → Type 0 =
     IsShare (g.C.FlowCache.is_of c.args.cache.now) g.C.FlowCache.shown (g.C.FlowCache.means c.args.cache.now).limits in
     let had = c.requires.metered in
@@ -46,3 +45,43 @@ run_workers-requires-clause-ready g c κs within =
       few = (let le = s.1 in let base = had.1 in omega (arith, le, base, s.2.metered.tallied.captured));
     }
 
+pub unite_draws-requires-clause-drawn : goal.unite_draws-requires-clause-drawn
+unite_draws-requires-clause-drawn g c κs within =
+    all-drawn {X = g.row.C.Denot} {P = g.row.C-Pass.Denot} (g.C.FlowCache.is_of c.args.cache.now) g.C.FlowCache.shown
+    (g.C.FlowCache.means c.args.cache.now).limits c.in_ok-pieces.pieces (answers_by c.args.part.now)
+    c.in_ok-workers.workers.items c.run_workers-workers.result.items c.in_ok-shares.draws.items
+    c.in_ok-shares.ensures.seats c.in_ok-shares.ensures.finished c.run_workers-workers.ensures.worked
+
+pub unite_draws-requires-clause-all : goal.unite_draws-requires-clause-all
+unite_draws-requires-clause-all g c =
+    let many : length c.in_ok-shares.draws.items ≡ length c.args.shares.items =
+    still-many {X = g.row.C.Denot} {P = g.row.C-Pass.Denot} {D = DrawPass} (g.C.FlowCache.is_of c.args.cache.now)
+    g.C.FlowCache.shown (g.C.FlowCache.means c.args.cache.now).limits c.in_ok-pieces.pieces (answers_by c.args.part.now)
+    (λ w. w.seat) c.in_ok-workers.workers.items c.run_workers-workers.result.items c.args.shares.items
+    c.in_ok-shares.draws.items c.in_ok-workers.ensures.shares c.in_ok-shares.ensures.seats
+    c.run_workers-workers.ensures.worked in
+    let seats = c.in_ok-pieces.ensures.pieces.2 in
+    let some = c.requires.some.0 in
+    (omega (arith, many, some), omega (arith, many, seats, c.args.shares.ok.0))
+
+pub returns-clause-many : goal.returns-clause-many
+returns-clause-many g c =
+    still-many {X = g.row.C.Denot} {P = g.row.C-Pass.Denot} {D = S g} (g.C.FlowCache.is_of c.args.cache.now)
+    g.C.FlowCache.shown (g.C.FlowCache.means c.args.cache.now).limits c.in_ok-pieces.pieces (answers_by c.args.part.now)
+    (λ w. w.share) c.in_ok-workers.workers.items c.run_workers-workers.result.items c.args.shares.items
+    c.in_ok-shares.shares.items c.in_ok-workers.ensures.shares c.in_ok-shares.ensures.shares
+    c.run_workers-workers.ensures.worked
+
+pub returns-clause-metered : goal.returns-clause-metered
+returns-clause-metered g c = λ before have.
+    let part = c.args.part.now in
+    let all : length (answers_by part) ≡ c.count.result =
+    answers-count part.base (file_of part.capture) ∙ sym part.indexed.count ∙ sym c.count.ensures in
+    let told = c.in_ok-pieces.ensures.pieces in
+    part-metered {X = g.row.C.Denot} {P = g.row.C-Pass.Denot} (g.C.FlowCache.is_of c.args.cache.now)
+    g.C.FlowCache.shown (g.C.FlowCache.means c.args.cache.now).limits c.in_ok-pieces.pieces (answers_by part) before
+    c.in_ok-workers.workers.items c.run_workers-workers.result.items c.args.shares.items c.in_ok-shares.shares.items
+    c.in_ok-shares.draws.items c.in_ok-workers.ensures.shares c.in_ok-shares.ensures.shares
+    c.in_ok-shares.ensures.seats c.in_ok-shares.ensures.finished c.run_workers-workers.ensures.worked c.unite_draws.ensures
+    (enough-pieces c.in_ok-pieces.pieces (answers_by part) c.count.result c.args.piece all told.1 told.3
+    c.requires.piece.0) have

@@ -24,8 +24,8 @@ loop-draw-init c =
       once = λ x. sym (drawn-popped {D = DrawPass} drawn_of c.args.draws.items c.pop.new.self.items first x is);
     }
 
-pub unite-requires-clause-own : goal.unite-requires-clause-own
-unite-requires-clause-own c κs within =
+pub unite-all-requires-clause-own : goal.unite-all-requires-clause-own
+unite-all-requires-clause-own c =
     let p = all_popped (HasDrawn c.args.pieces.now) c.loop-draw.draws.items c.pop-in-loop-draw.new.self.items
     c.in-Some-pop.draw c.loop-draw.invariant.left c.in-Some-pop.ensures.items in
     (c.loop-draw.invariant.own, p.1.of)
@@ -38,11 +38,11 @@ loop-draw-preserved c =
     let p = all_popped (HasDrawn c.args.pieces.now) c.loop-draw.draws.items c.pop-in-loop-draw.new.self.items next
     i.left is in
     let e = popped_length c.loop-draw.draws.items c.pop-in-loop-draw.new.self.items next is in
-    let both = c.unite.ensures.both in
+    let both = c.unite-all.ensures.both in
     let s = p.1.single in
     record {
       left = p.0;
-      own = c.unite.ensures.own;
+      own = c.unite-all.ensures.own;
       many = omega (arith, e, s, both.0, i.many);
       some = omega (arith, both.0, i.some);
       ended = omega (arith, both.1, i.ended);
@@ -56,14 +56,14 @@ pub returns : goal.returns
 returns c = λ x.
     let none : c.loop-draw.draws.items ≡ [] = search rules in
     let i = c.loop-draw.invariant in
-    let same = c.complete.ensures.same in
+    let same = c.complete-all.ensures.same in
     let many = i.many in
     let no : length c.loop-draw.draws.items ≡ 0 = ap length none in
-    let seats : seats_of c.complete.result ≡ seats_in c.args.pieces.now =
+    let seats : seats_of c.complete-all.result ≡ seats_in c.args.pieces.now =
     (let t = same.0 in let a = c.requires.all.1 in omega (arith, t, many, no, a)) in
-    let ended : 0 < nones_of c.complete.result = (let t = same.1 in let e = i.ended in omega (arith, t, e)) in
-    let each = c.complete.ensures.all seats ended x in
+    let ended : 0 < nones_of c.complete-all.result = (let t = same.1 in let e = i.ended in omega (arith, t, e)) in
+    let each = c.complete-all.ensures.all seats ended x in
     let o = i.once x in
     let z : times x (flat_map drawn_of c.loop-draw.draws.items) ≡ 0 = ap (λ l. times x (flat_map drawn_of l)) none in
-    let here : times x (drawn_of c.complete.result) ≡ times x (drawn_of c.loop-draw.all) = ap (times x) same.2 in
+    let here : times x (drawn_of c.complete-all.result) ≡ times x (drawn_of c.loop-draw.all) = ap (times x) same.2 in
     omega (arith, o, z, each, here)

@@ -6,8 +6,8 @@ use Rattle.meter_workers.specs.Shares.{IsShare}
 use Rattle.meter_workers.proofs.Drawn.{IsBehind}
 use Rattle.meter_workers.proofs.windows.work_through.Given as goal
 
-abbrev pub invariant-loop-piece : goal.invariant-loop-piece
-invariant-loop-piece g l = record {
+abbrev pub invariant-loop-draw : goal.invariant-loop-draw
+invariant-loop-draw g l = record {
   draws : IsPassOf l.pieces l.draw;
   seat : seats_of l.draw ≡ 1;
   share : (done : List Answer)
@@ -20,6 +20,6 @@ invariant-loop-piece g l = record {
   behind : IsBehind (size_of l.pieces) l.initial.share.tally.captured (drawn_of l.draw) l.share.tally.captured;
 }
 
-abbrev pub decreases-loop-piece : goal.decreases-loop-piece
-decreases-loop-piece g l =
+abbrev pub decreases-loop-draw : goal.decreases-loop-draw
+decreases-loop-draw g l =
     l.initial.share.tally.captured + length l.part.index.now.offsets - l.share.tally.captured

@@ -9,7 +9,7 @@ use Rattle.meter_workers.proofs.worker.unseat_workers.Goals as goal
 
 pub loop-worker-preserved : goal.loop-worker-preserved
 loop-worker-preserved g c =
-    let W : Type 0 = Worker g.row.C.Denot g.row.C-Pass.Denot g.row.T.Denot in
+    let W : Type 0 = Worker g.row.C.Denot g.row.T.Denot g.row.C-Pass.Denot in
     let i = c.loop-worker.invariant in
     let w = c.in-Some.worker in
     record {

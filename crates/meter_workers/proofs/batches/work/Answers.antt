@@ -1,0 +1,31 @@
+use Rattle.std.proofs.Common.{◌≡◌, ◌++◌, List, [], ap, ◌∙◌, sym, subst}
+use Rattle.capture_input.specs.Parts.{Answer}
+use Rattle.batch_queue.specs.Passes.{took_of}
+use Rattle.meter_workers.specs.declared.share.Share.{Share}
+use Rattle.meter_workers.specs.Shares.{IsShare}
+use Rattle.meter_workers.specs.Batched.{answers_in}
+use Rattle.meter_workers.proofs.Crew.{ready-nothing, taken-all}
+use Rattle.meter_workers.proofs.batches.work.Goals.{in-Ok, in-Err}
+use Rattle.meter_workers.proofs.batches.work.Goals as goal
+
+pub work_batches-end-requires-clause-share : goal.work_batches-end-requires-clause-share
+work_batches-end-requires-clause-share g c κs within = ([], c.requires.ready.is)
+
+pub work_batches-end-requires-clause-ready : goal.work_batches-end-requires-clause-ready
+work_batches-end-requires-clause-ready g c κs within =
+    ready-nothing (took_of c.args.worker.now.seat) c.args.worker.now.share.tally.captured
+    c.requires.ready.is.metered.tallied.captured
+
+pub returns : goal.returns
+returns g c = record {
+  worked = elim c.match-end.branch [
+    in-Ok w ↦ λ finished.
+        (let told = w.in-Ok.ensures in
+        let did = told.did in
+        taken-all (g.C.FlowCache.is_of c.args.cache.now) g.C.FlowCache.shown
+        (g.C.FlowCache.means c.args.cache.now).limits c.args.shared.now.queue c.args.worker.now.share
+        c.work_batches-end.new.share c.args.worker.now.seat c.work_batches-end.new.seat did.0 c.requires.ready
+        c.work_batches-end.ensures.own did.1 did.2)
+    | in-Err w ↦ λ finished. absurd (let e = sym w.worker-is ∙ finished in cc)
+  ];
+}
