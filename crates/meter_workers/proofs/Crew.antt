@@ -11,18 +11,21 @@ use Rattle.std.proofs.lemmas.List.Sorted.{IsPermutation-refl, IsPermutation-tran
 use Rattle.std.proofs.lemmas.List.Sorted.{IsPermutation-append_comm, IsPermutation-append_left, IsPermutation-append_right}
 use Rattle.std.proofs.lemmas.Slice.Zip.{all_zipped_more}
 use Rattle.packet_accept.proofs.Permuted.{flat_map-permutation}
-use Rattle.flow_parts.specs.declared.timeouts.Timeouts.{Timeouts}
-use Rattle.cache_face.specs.Meaning.{PassMeans}
+use Rattle.cache_face.specs.declared.caches.FlowCache.{Ghosts}
 use Rattle.capture_input.specs.Parts.{Answer}
 use Rattle.batch_queue.specs.declared.batch.Batch.{Batch}
 use Rattle.batch_queue.specs.declared.queue.BatchQueue.{BatchQueue}
 use Rattle.batch_queue.specs.declared.queue.QueuePass.{QueuePass}
 use Rattle.batch_queue.specs.Passes.{IsPassOf, IsReaders, IsMore, StandsForAll, put_of, took_of, seats_of, others_of}
+use Rattle.batch_queue.specs.Passes.{reader_of}
 use Rattle.meter_workers.specs.declared.share.Share.{Share}
 use Rattle.meter_workers.specs.declared.worker.Worker.{Worker}
 use Rattle.meter_workers.specs.declared.worker.WorkState.TheVariants.{Finished}
-use Rattle.meter_workers.specs.Shares.{HaveMetered, IsShare}
-use Rattle.meter_workers.specs.Batched.{answers_of_batch, answers_in, IsReadyFor, IsReadyToTake, HasTaken, HasHanded}
+use Rattle.meter_workers.specs.declared.batches.Reader.{Reader}
+use Rattle.meter_workers.specs.Shares.{HaveMetered}
+use Rattle.meter_workers.specs.Seats.{IsShareOf}
+use Rattle.meter_workers.specs.Batched.{answers_of_batch, answers_in, IsReadyFor, IsReadyToTake, HasTaken, HasTakenAll}
+use Rattle.meter_workers.specs.Batched.{HasHandedOn}
 use Rattle.meter_workers.proofs.Taking.{took-more, took-seats}
 
 -- a worker that tallied nothing is ready for each batch
@@ -133,18 +136,17 @@ gathered {W} {S} Has share seat ws answers own put took more all seats shares on
     }
 
 -- a worker that has metered what it took, which is all that it did
-pub taken-all : {X P : Type 0} (is_of : P → Type 0) (shown : P → PassMeans) (limits : Timeouts) (queue : BatchQueue)
-    (old new : Share X P) (before after : QueuePass) (more : List Batch)
-    → IsReadyToTake {X = X} {P = P} is_of shown limits queue old before → IsPassOf queue after
-    → IsMore [] more before after
-    → ((done : List Answer) → IsShare {X = X} {P = P} is_of shown limits done old
-    → IsShare {X = X} {P = P} is_of shown limits (done ++ answers_in more) new)
-    → HasTaken {X = X} {P = P} is_of shown limits queue new after
-taken-all {X} {P} is_of shown limits queue old new before after more ready of is did =
+pub taken-all : {X P : Type 0} (the : Ghosts X P) (cache : X) (queue : BatchQueue) (old new : Share X P)
+    (before after : QueuePass) (more : List Batch)
+    → IsReadyToTake {X = X} {P = P} (the.is_of cache) the.shown (the.means cache).limits queue old before
+    → IsPassOf queue after → IsMore [] more before after
+    → ((done : List Answer) → IsShareOf the cache done old → IsShareOf the cache (done ++ answers_in more) new)
+    → HasTaken {X = X} {P = P} (the.is_of cache) the.shown (the.means cache).limits queue new after
+taken-all the cache queue old new before after more ready of is did =
     let seats = took-seats before after more is in
     let took : took_of after ≡ more = took-more before after more is ∙ ap (λ l. l ++ more) ready.fresh.2 in
     record {
-      is = subst (λ l. IsShare {X = X} {P = P} is_of shown limits (answers_in l) new) (sym took) (did [] ready.is);
+      is = subst (λ l. IsShareOf the cache (answers_in l) new) (sym took) (did [] ready.is);
       of = of;
       put = seats.0 ∙ ready.fresh.1;
       single = seats.1 ∙ ready.fresh.0;
@@ -159,24 +161,22 @@ IsForAll seats united first = (IsReaders first → IsReaders united)
     × IsPermutation (took_of first ++ flat_map took_of seats) (took_of united)
 
 -- what the whole crew has metered
-pub crew-gathered : {X P : Type 0} (is_of : P → Type 0) (shown : P → PassMeans) (limits : Timeouts) (queue : BatchQueue)
-    (ws : List (Worker X QueuePass P)) (answers : List Answer) (seats : List QueuePass)
-    (feed first united after : QueuePass) (more : List Batch) (shares one both : List (Share X P))
-    (reader last last' : Share X P)
-    → All (λ w. w.state ≡ Finished → HasTaken {X = X} {P = P} is_of shown limits queue w.share w.seat) ws
-    → All (λ w. w.state ≡ Finished) ws
+pub crew-gathered : {X P : Type 0} (the : Ghosts X P) (cache : X) (queue : BatchQueue)
+    (ws : List (Worker X QueuePass P)) (answers : List Answer) (reader : Reader X P) (seats : List QueuePass)
+    (first united after : QueuePass) (more : List Batch) (shares one both : List (Share X P)) (last last' : Share X P)
+    → All (HasTakenAll the cache queue) ws → All (λ w. w.state ≡ Finished) ws
     → shares ≡ map (λ w. w.share) ws → seats ≡ map (λ w. w.seat) ws
-    → one ≡ shares ++ reader ∷ [] → both ≡ one ++ last' ∷ []
-    → IsReaders feed × (seats_of feed ≡ 1) × (took_of feed ≡ []) × (others_of feed ≡ length ws)
-    → HasHanded {X = X} {P = P} is_of shown limits answers (put_of feed) reader
-    → first ≡ feed → IsForAll seats united first → IsMore [] more united after
+    → one ≡ shares ++ reader.share ∷ [] → both ≡ one ++ last' ∷ []
+    → IsReaders (reader_of reader.feed) × (seats_of (reader_of reader.feed) ≡ 1)
+    × (took_of (reader_of reader.feed) ≡ []) × (others_of (reader_of reader.feed) ≡ length ws)
+    → HasHandedOn the cache answers reader
+    → first ≡ reader_of reader.feed → IsForAll seats united first → IsMore [] more united after
     → (StandsForAll after → IsPermutation (put_of after) (took_of after))
-    → IsShare {X = X} {P = P} is_of shown limits [] last
-    → ((done : List Answer) → IsShare {X = X} {P = P} is_of shown limits done last
-    → IsShare {X = X} {P = P} is_of shown limits (done ++ answers_in more) last')
-    → HaveMetered {S = Share X P} (IsShare {X = X} {P = P} is_of shown limits) answers both
-crew-gathered {X} {P} is_of shown limits queue ws answers seats feed first united after more shares one both reader last
-    last' worked finished shares_are seats_are one_is both_is reads handed same told is all_of fresh did =
+    → IsShareOf the cache [] last
+    → ((done : List Answer) → IsShareOf the cache done last → IsShareOf the cache (done ++ answers_in more) last')
+    → HaveMetered {S = Share X P} (IsShareOf the cache) answers both
+crew-gathered {X} {P} the cache queue ws answers reader seats first united after more shares one both last last' worked
+    finished shares_are seats_are one_is both_is reads handed same told is all_of fresh did =
     let W : Type 0 = Worker X QueuePass P in
     let all = subst (IsForAll seats united) same told in
     let same_seats = took-seats united after more is in
@@ -186,9 +186,10 @@ crew-gathered {X} {P} is_of shown limits queue ws answers seats feed first unite
       (let s = same_seats.1 in let o = same_seats.2 in let t = all.1.2 in let p = all.1.1 in
           omega (arith, s, o, t, p, count, reads.1, reads.3)),
     ) in
-    gathered {W = W} {S = Share X P} (IsShare {X = X} {P = P} is_of shown limits) (λ (w : W). w.share) (λ (w : W). w.seat) ws
-    answers handed.own (put_of feed) (took_of united) more (took_of after) seats shares one both reader last'
-    (λ k d inside. (worked k d inside (finished k d inside)).is) shares_are seats_are one_is both_is handed.all handed.is
+    gathered {W = W} {S = Share X P} (IsShareOf the cache) (λ (w : W). w.share) (λ (w : W). w.seat) ws answers
+    handed.own (put_of (reader_of reader.feed)) (took_of united) more (took_of after) seats shares one both reader.share
+    last' (λ k d inside. ((worked k d inside).1 (finished k d inside)).is) shares_are seats_are one_is both_is
+    handed.all handed.is
     (subst (λ (l : List Batch). IsPermutation (l ++ flat_map took_of seats) (took_of united)) reads.2 all.2)
     (took-more united after more is)
     (subst (λ (l : List Batch). IsPermutation l (took_of after)) (same_seats.0 ∙ all.1.0) (all_of stands))

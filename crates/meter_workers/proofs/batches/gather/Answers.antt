@@ -10,6 +10,9 @@ use Rattle.meter_workers.proofs.Crew.{crew-gathered}
 use Rattle.meter_workers.proofs.batches.gather.Given as given
 use Rattle.meter_workers.proofs.batches.gather.Goals as goal
 
+pub unseat_workers-requires-clause-ended : goal.unseat_workers-requires-clause-ended
+unseat_workers-requires-clause-ended g c κs within = λ k d inside. (c.requires.workers k d inside).0
+
 pub unite_seats-seat-requires-clause-others : goal.unite_seats-seat-requires-clause-others
 unite_seats-seat-requires-clause-others g c =
     let W : Type 0 = Worker g.row.C.Denot QueuePass g.row.C-Pass.Denot in
@@ -17,7 +20,7 @@ unite_seats-seat-requires-clause-others g c =
     λ s. IsPassOf c.args.crew.shared.queue s × (put_of s ≡ []) × (seats_of s ≡ 1) × (others_of s ≡ 0) in
     subst (All Q) (sym c.in_ok-shares.ensures.seats)
     (All-map Q (λ (w : W). w.seat) c.args.crew.workers.items (λ k d inside.
-    let has = c.requires.workers k d inside (c.in_ok-shares.ensures.finished k d inside) in
+    let has = (c.requires.workers k d inside).1 (c.in_ok-shares.ensures.finished k d inside) in
     (has.of, has.put, has.single, has.apart)))
 
 pub unite_all-requires-clause-metered : goal.unite_all-requires-clause-metered
@@ -28,13 +31,12 @@ unite_all-requires-clause-metered g c κs within =
     let u = c.unite_seats-seat.ensures in
     let d = c.in_ok-work_batches.ensures in
     (c.requires.handed.0,
-    crew-gathered (g.C.FlowCache.is_of c.args.cache.now) g.C.FlowCache.shown (g.C.FlowCache.means c.args.cache.now).limits
-    crew.shared.queue crew.workers.items c.requires.handed.0 c.in_ok-shares.seats.items (reader_of crew.reader.feed)
-    c.into_pass.result c.unite_seats-seat.result c.work_batches.new.seat d.did.0 c.in_ok-shares.shares.items
-    c.push.new.self.items c.push-2.new.self.items crew.reader.share crew.last c.work_batches.new.share
+    (crew-gathered g.C.FlowCache c.args.cache.now crew.shared.queue crew.workers.items c.requires.handed.0 crew.reader
+    c.in_ok-shares.seats.items c.into_pass.result c.unite_seats-seat.result c.work_batches.new.seat d.did.0
+    c.in_ok-shares.shares.items c.push.new.self.items c.push-2.new.self.items crew.last c.work_batches.new.share
     c.requires.workers told.finished told.shares told.seats c.in_ok-push.ensures.items c.in_ok-push-2.ensures.items
-    (r.1, r.2, r.3, c.requires.many.0) c.requires.handed.1 c.into_pass.ensures (u.reader, u.same, u.took)
-    d.did.1 d.all c.requires.last d.did.2)
+    (r.1, r.2, r.3, c.requires.many.0) c.requires.handed.1 c.into_pass.ensures (u.reader, u.same, u.took) d.did.1 d.all
+    c.requires.last d.did.2))
 
 pub returns-clause-metered : goal.returns-clause-metered
 returns-clause-metered g c = λ answers handed.
@@ -44,13 +46,12 @@ returns-clause-metered g c = λ answers handed.
     let u = c.unite_seats-seat.ensures in
     let d = c.in_ok-work_batches.ensures in
     c.unite_all.ensures.metered answers
-    (crew-gathered (g.C.FlowCache.is_of c.args.cache.now) g.C.FlowCache.shown (g.C.FlowCache.means c.args.cache.now).limits
-    crew.shared.queue crew.workers.items answers c.in_ok-shares.seats.items (reader_of crew.reader.feed)
-    c.into_pass.result c.unite_seats-seat.result c.work_batches.new.seat d.did.0 c.in_ok-shares.shares.items
-    c.push.new.self.items c.push-2.new.self.items crew.reader.share crew.last c.work_batches.new.share
+    (crew-gathered g.C.FlowCache c.args.cache.now crew.shared.queue crew.workers.items answers crew.reader
+    c.in_ok-shares.seats.items c.into_pass.result c.unite_seats-seat.result c.work_batches.new.seat d.did.0
+    c.in_ok-shares.shares.items c.push.new.self.items c.push-2.new.self.items crew.last c.work_batches.new.share
     c.requires.workers told.finished told.shares told.seats c.in_ok-push.ensures.items c.in_ok-push-2.ensures.items
-    (r.1, r.2, r.3, c.requires.many.0) handed c.into_pass.ensures (u.reader, u.same, u.took)
-    d.did.1 d.all c.requires.last d.did.2)
+    (r.1, r.2, r.3, c.requires.many.0) handed c.into_pass.ensures (u.reader, u.same, u.took) d.did.1 d.all
+    c.requires.last d.did.2)
 
 pub returns-clause-own : goal.returns-clause-own
 returns-clause-own g c =
