@@ -1,25 +1,31 @@
 -- What the reader, the workers and the drain have done together.
 use Rattle.std.proofs.Common.{◌≡◌, ℕ, ◌<◌, ◌≤◌, ◌+◌, List, [], ◌∷◌, ◌++◌, length, get_or, map, take, drop, refl, sym, ap, ◌∙◌, subst, arith}
 use Rattle.std.proofs.Common.{append_assoc, append-nil}
-use Rattle.std.specs.Prelude.{flat_map, All, IsPermutation}
+use Rattle.std.specs.Prelude.{flat_map, All, IfOk, IsPermutation, Result, Ok}
 use Rattle.std.specs.List.{AllZip}
 use Rattle.std.proofs.lemmas.Grind.{flat_map-append}
+use Rattle.std.proofs.lemmas.List.{length-map}
 use Rattle.std.proofs.lemmas.List.Elements.{All-tail}
 use Rattle.std.proofs.lemmas.List.Folds.{flat_map-map}
 use Rattle.std.proofs.lemmas.List.Sorted.{IsPermutation-refl, IsPermutation-trans, IsPermutation-sym}
 use Rattle.std.proofs.lemmas.List.Sorted.{IsPermutation-append_comm, IsPermutation-append_left, IsPermutation-append_right}
 use Rattle.std.proofs.lemmas.Slice.Zip.{all_zipped_more}
 use Rattle.packet_accept.proofs.Permuted.{flat_map-permutation}
-use Rattle.flow_parts.specs.declared.timeouts.Timeouts.{Timeouts}
-use Rattle.cache_face.specs.Meaning.{PassMeans}
+use Rattle.cache_face.specs.declared.caches.FlowCache.{Ghosts}
 use Rattle.capture_input.specs.Parts.{Answer}
 use Rattle.batch_queue.specs.declared.batch.Batch.{Batch}
 use Rattle.batch_queue.specs.declared.queue.BatchQueue.{BatchQueue}
 use Rattle.batch_queue.specs.declared.queue.QueuePass.{QueuePass}
-use Rattle.batch_queue.specs.Passes.{IsPassOf, IsMore, took_of}
+use Rattle.batch_queue.specs.Passes.{IsPassOf, IsReaders, IsMore, StandsForAll, put_of, took_of, seats_of, others_of}
+use Rattle.batch_queue.specs.Passes.{reader_of}
 use Rattle.meter_workers.specs.declared.share.Share.{Share}
-use Rattle.meter_workers.specs.Shares.{HaveMetered, IsShare}
-use Rattle.meter_workers.specs.Batched.{answers_of_batch, answers_in, IsReadyFor, IsReadyToTake, HasTaken}
+use Rattle.meter_workers.specs.declared.worker.Worker.{Worker}
+use Rattle.meter_workers.specs.declared.worker.WorkState.TheVariants.{Finished}
+use Rattle.meter_workers.specs.declared.batches.Reader.{Reader}
+use Rattle.meter_workers.specs.Shares.{HaveMetered}
+use Rattle.meter_workers.specs.Seats.{IsShareOf}
+use Rattle.meter_workers.specs.Batched.{answers_of_batch, answers_in, IsReadyFor, IsReadyToTake, HasTaken, HasTakenAll}
+use Rattle.meter_workers.specs.Batched.{HasHandedOn}
 use Rattle.meter_workers.proofs.Taking.{took-more, took-seats}
 
 -- a worker that tallied nothing is ready for each batch
@@ -33,6 +39,10 @@ first-of P xs x all some is = subst P (sym is) (all 0 x some)
 pub behind-first : {X : Type 0} (P : X → Type 0) (xs ys : List X) → All P xs → ys ≡ take 0 xs ++ drop 1 xs → All P ys
 behind-first P [] ys all is = subst (All P) (sym is) all
 behind-first P (x ∷ xs) ys all is = subst (All P) (sym is) (All-tail P x xs all)
+
+-- what holds of a result that is Ok holds of its value
+pub if-ok : {T E : Type 0} (result : Result T E) (P : T → Type 0) (x : T) → result ≡ Ok x → IfOk result P → P x
+if-ok {T = T} {E = E} result P x is holds = subst (λ (r : Result T E). IfOk r P) is holds
 
 -- what one of them took goes from the others to those that are united
 pub took-one : {D Y : Type 0} (f : D → List Y) (whole a b : List Y) (ds ds' : List D) (d : D)
@@ -126,20 +136,61 @@ gathered {W} {S} Has share seat ws answers own put took more all seats shares on
     }
 
 -- a worker that has metered what it took, which is all that it did
-pub taken-all : {X P : Type 0} (is_of : P → Type 0) (shown : P → PassMeans) (limits : Timeouts) (queue : BatchQueue)
-    (old new : Share X P) (before after : QueuePass) (more : List Batch)
-    → IsReadyToTake {X = X} {P = P} is_of shown limits queue old before → IsPassOf queue after
-    → IsMore [] more before after
-    → ((done : List Answer) → IsShare {X = X} {P = P} is_of shown limits done old
-    → IsShare {X = X} {P = P} is_of shown limits (done ++ answers_in more) new)
-    → HasTaken {X = X} {P = P} is_of shown limits queue new after
-taken-all {X} {P} is_of shown limits queue old new before after more ready of is did =
+pub taken-all : {X P : Type 0} (the : Ghosts X P) (cache : X) (queue : BatchQueue) (old new : Share X P)
+    (before after : QueuePass) (more : List Batch)
+    → IsReadyToTake {X = X} {P = P} (the.is_of cache) the.shown (the.means cache).limits queue old before
+    → IsPassOf queue after → IsMore [] more before after
+    → ((done : List Answer) → IsShareOf the cache done old → IsShareOf the cache (done ++ answers_in more) new)
+    → HasTaken {X = X} {P = P} (the.is_of cache) the.shown (the.means cache).limits queue new after
+taken-all the cache queue old new before after more ready of is did =
     let seats = took-seats before after more is in
     let took : took_of after ≡ more = took-more before after more is ∙ ap (λ l. l ++ more) ready.fresh.2 in
     record {
-      is = subst (λ l. IsShare {X = X} {P = P} is_of shown limits (answers_in l) new) (sym took) (did [] ready.is);
+      is = subst (λ l. IsShareOf the cache (answers_in l) new) (sym took) (did [] ready.is);
       of = of;
       put = seats.0 ∙ ready.fresh.1;
       single = seats.1 ∙ ready.fresh.0;
       apart = seats.2 ∙ ready.apart;
     }
+
+-- a pass of the queue for this one and all these seats
+abbrev IsForAll : List QueuePass → QueuePass → QueuePass → Type 0
+IsForAll seats united first = (IsReaders first → IsReaders united)
+    × ((put_of united ≡ put_of first) × (others_of united ≡ others_of first)
+    × (seats_of united ≡ seats_of first + length seats))
+    × IsPermutation (took_of first ++ flat_map took_of seats) (took_of united)
+
+-- what the whole crew has metered
+pub crew-gathered : {X P : Type 0} (the : Ghosts X P) (cache : X) (queue : BatchQueue)
+    (ws : List (Worker X QueuePass P)) (answers : List Answer) (reader : Reader X P) (seats : List QueuePass)
+    (first united after : QueuePass) (more : List Batch) (shares one both : List (Share X P)) (last last' : Share X P)
+    → All (HasTakenAll the cache queue) ws → All (λ w. w.state ≡ Finished) ws
+    → shares ≡ map (λ w. w.share) ws → seats ≡ map (λ w. w.seat) ws
+    → one ≡ shares ++ reader.share ∷ [] → both ≡ one ++ last' ∷ []
+    → IsReaders (reader_of reader.feed) × (seats_of (reader_of reader.feed) ≡ 1)
+    × (took_of (reader_of reader.feed) ≡ []) × (others_of (reader_of reader.feed) ≡ length ws)
+    → HasHandedOn the cache answers reader
+    → first ≡ reader_of reader.feed → IsForAll seats united first → IsMore [] more united after
+    → (StandsForAll after → IsPermutation (put_of after) (took_of after))
+    → IsShareOf the cache [] last
+    → ((done : List Answer) → IsShareOf the cache done last → IsShareOf the cache (done ++ answers_in more) last')
+    → HaveMetered {S = Share X P} (IsShareOf the cache) answers both
+crew-gathered {X} {P} the cache queue ws answers reader seats first united after more shares one both last last' worked
+    finished shares_are seats_are one_is both_is reads handed same told is all_of fresh did =
+    let W : Type 0 = Worker X QueuePass P in
+    let all = subst (IsForAll seats united) same told in
+    let same_seats = took-seats united after more is in
+    let count : length seats ≡ length ws = ap length seats_are ∙ length-map ws (λ (w : W). w.seat) in
+    let stands : StandsForAll after = (
+      same_seats.3 (all.0 reads.0),
+      (let s = same_seats.1 in let o = same_seats.2 in let t = all.1.2 in let p = all.1.1 in
+          omega (arith, s, o, t, p, count, reads.1, reads.3)),
+    ) in
+    gathered {W = W} {S = Share X P} (IsShareOf the cache) (λ (w : W). w.share) (λ (w : W). w.seat) ws answers
+    handed.own (put_of (reader_of reader.feed)) (took_of united) more (took_of after) seats shares one both reader.share
+    last' (λ k d inside. ((worked k d inside).1 (finished k d inside)).is) shares_are seats_are one_is both_is
+    handed.all handed.is
+    (subst (λ (l : List Batch). IsPermutation (l ++ flat_map took_of seats) (took_of united)) reads.2 all.2)
+    (took-more united after more is)
+    (subst (λ (l : List Batch). IsPermutation l (took_of after)) (same_seats.0 ∙ all.1.0) (all_of stands))
+    (did [] fresh)

@@ -1,5 +1,5 @@
 -- What metering batches means.
-use Rattle.std.specs.Prelude.{◌≡◌, ℕ, ◌+◌, ◌<◌, ◌≤◌, List, [], ◌++◌, All, flat_map, IsPermutation}
+use Rattle.std.specs.Prelude.{◌≡◌, ◌≢◌, ℕ, ◌+◌, ◌<◌, ◌≤◌, List, [], ◌++◌, All, flat_map, IsPermutation}
 use Rattle.std.specs.declared.option.Option.{Option}
 use Rattle.pcap_reader.specs.Views.{part_of}
 use Rattle.flow_parts.specs.declared.timeouts.Timeouts.{Timeouts}
@@ -14,6 +14,8 @@ use Rattle.batch_queue.specs.Batches.{IsBefore, count_of}
 use Rattle.batch_queue.specs.Passes.{IsPassOf, IsReaders, IsFresh, put_of, took_of, seats_of, others_of}
 use Rattle.batch_queue.specs.Passes.{reader_of, IsOpen}
 use Rattle.meter_workers.specs.declared.share.Share.{Share}
+use Rattle.meter_workers.specs.declared.worker.Worker.{Worker}
+use Rattle.meter_workers.specs.declared.worker.WorkState.TheVariants.{Going, Finished}
 use Rattle.meter_workers.specs.declared.batches.Reader.{Reader}
 use Rattle.meter_workers.specs.Shares.{IsShare}
 
@@ -100,3 +102,26 @@ pub record HasRead {X P : Type 0} (is_of : P → Type 0) (shown : P → PassMean
   pub answers : List Answer
   pub whole : IsReadWhole before left limit answers tail
   pub handed : HasHanded {X = X} {P = P} is_of shown limits answers (put_of new) share
+
+-- ---- the same by what the type of a cache means, and of workers and the reader
+
+-- A worker that has taken nothing from the queue.
+abbrev pub IsToTake : {X P : Type 0} → Ghosts X P → X → BatchQueue → Worker X QueuePass P → Type 0
+IsToTake {X} {P} the cache queue worker =
+    IsReadyToTake {X = X} {P = P} (the.is_of cache) the.shown (the.means cache).limits queue worker.share worker.seat
+
+-- A worker that has ended: if it has finished, it has metered just the batches that it took.
+abbrev pub HasTakenAll : {X P : Type 0} → Ghosts X P → X → BatchQueue → Worker X QueuePass P → Type 0
+HasTakenAll {X} {P} the cache queue worker = (worker.state ≢ Going) × (worker.state ≡ Finished
+    → HasTaken {X = X} {P = P} (the.is_of cache) the.shown (the.means cache).limits queue worker.share worker.seat)
+
+-- The reader handed these answers on.
+abbrev pub HasHandedOn : {X P : Type 0} → Ghosts X P → X → List Answer → Reader X P → Type 0
+HasHandedOn {X} {P} the cache answers reader = HasHanded {X = X} {P = P} (the.is_of cache) the.shown
+    (the.means cache).limits answers (put_of (reader_of reader.feed)) reader.share
+
+-- The reader has read the whole capture and handed on its records.
+abbrev pub HasReadAll : {X P : Type 0} → Ghosts X P → X → BatchQueue → Option (List ℕ) → Option (List ℕ) → ℕ
+    → Reader X P → Reader X P → ℕ → Type 0
+HasReadAll {X} {P} the cache queue before left limit old new tail = HasRead {X = X} {P = P} (the.is_of cache) the.shown
+    (the.means cache).limits queue before left limit (reader_of old.feed) (reader_of new.feed) new.share tail

@@ -1,7 +1,7 @@
 //! A capture that is metered while it is read.
 
-ghost use Rattle.std.specs.Prelude.{◌≡◌, ◌↔◌, ◌+◌, ◌++◌, ◌^◌, ◌<◌, ◌≤◌, [], List, ℕ, length, flat_map, All, IfOk, IfErr, IfSome, None};
-ghost use Rattle.std.specs.Prelude.{OnOk, IsPermutation};
+ghost use Rattle.std.specs.Prelude.{◌≡◌, ◌↔◌, ◌+◌, ◌++◌, ◌^◌, ◌<◌, ◌≤◌, [], List, ℕ, length, flat_map, All, None};
+ghost use Rattle.std.specs.Prelude.{IfOk, IfErr, IfSome, OnOk, IsPermutation};
 ghost use Rattle.std.specs.Thread.{IsSync};
 ghost use Rattle.std.specs.declared.option.Option.{Option};
 ghost use Rattle.meter_io.specs.Sides.{side};
@@ -15,9 +15,9 @@ ghost use Rattle.batch_queue.specs.Batches.{count_of};
 ghost use Rattle.batch_queue.specs.Passes.{IsPassOf, IsReaders, IsFresh, IsMore, StandsForAll, put_of, took_of};
 ghost use Rattle.batch_queue.specs.Passes.{seats_of, others_of, reader_of, IsOpen};
 ghost use Rattle.batch_queue.specs.declared.batch.Batch.{Batch};
-ghost use Rattle.meter_workers.specs.Shares.{HasMetered, IsShare};
-ghost use Rattle.meter_workers.specs.Batched.{answers_of_batch, answers_in, IsReadyFor, IsReadyToTake, HasTaken};
-ghost use Rattle.meter_workers.specs.Batched.{HasHanded, IsReading, HandsOn, IsReaderAt, HasRead};
+ghost use Rattle.meter_workers.specs.Seats.{IsShareOf, AreSharesOf};
+ghost use Rattle.meter_workers.specs.Batched.{answers_of_batch, answers_in, IsReadyFor, IsToTake, HasTakenAll};
+ghost use Rattle.meter_workers.specs.Batched.{IsReading, HandsOn, IsReaderAt, HasHandedOn, HasReadAll};
 ghost use Rattle.meter_workers.specs.Whole.{IsMeteredWhole};
 
 use crate::gate::Gate;
@@ -109,12 +109,12 @@ fn work_batches<C: FlowCache, G: Gate, R: Wait>(
     share: &mut Share<C>,
 ) -> Result<(), NoMemory>
     requires own { IsPassOf shared.now.queue seat.old }
-    requires share { (done : List Answer) × IsShare (C.is_of cache.now) C.shown (C.means cache.now).limits done share.old }
+    requires share { (done : List Answer) × IsShareOf C.FlowCache cache.now done share.old }
     requires ready { IsReadyFor (took_of seat.old) share.old.tally.captured }
     ensures own { IsPassOf shared.now.queue seat.new }
     ensures did { OnOk result ((more : List Batch) × IsMore [] more seat.old seat.new
-        × ((done : List Answer) → IsShare (C.is_of cache.now) C.shown (C.means cache.now).limits done share.old
-        → IsShare (C.is_of cache.now) C.shown (C.means cache.now).limits (done ++ answers_in more) share.new)) }
+        × ((done : List Answer) → IsShareOf C.FlowCache cache.now done share.old
+        → IsShareOf C.FlowCache cache.now (done ++ answers_in more) share.new)) }
     ensures all { OnOk result (StandsForAll seat.new → IsPermutation (put_of seat.new) (took_of seat.new)) }
 {
     for _ in rt.forever() {
@@ -145,9 +145,8 @@ fn work<C: FlowCache, G: Gate, R: Wait>(
     gate: &G,
     worker: &mut Worker<C, QueuePass>,
 )
-    requires ready { IsReadyToTake (C.is_of cache.now) C.shown (C.means cache.now).limits shared.now.queue worker.old.share worker.old.seat }
-    ensures worked { worker.new.state ≡ WorkState.Finished → HasTaken (C.is_of cache.now) C.shown (C.means cache.now).limits shared.now.queue worker.new.share
-        worker.new.seat }
+    requires ready { IsToTake C.FlowCache cache.now shared.now.queue worker.old }
+    ensures worked { HasTakenAll C.FlowCache cache.now shared.now.queue worker.new }
 {
     let end = work_batches(
         rt,
@@ -173,10 +172,9 @@ fn work_all<C: FlowCache, G: Gate, R: Threads + Wait + Sync>(
     workers: &mut [Worker<C, QueuePass>],
 )
     requires some { 0 < length workers.old }
-    requires ready { All (λ w. IsReadyToTake (C.is_of cache.now) C.shown (C.means cache.now).limits shared.now.queue w.share w.seat) workers.old }
+    requires ready { All (IsToTake C.FlowCache cache.now shared.now.queue) workers.old }
     ensures same { length workers.new ≡ length workers.old }
-    ensures worked { All (λ w. w.state ≡ WorkState.Finished → HasTaken (C.is_of cache.now) C.shown (C.means cache.now).limits shared.now.queue w.share w.seat)
-        workers.new }
+    ensures worked { All (HasTakenAll C.FlowCache cache.now shared.now.queue) workers.new }
 {
     let count = workers.len();
     thread::for_each_mut(
@@ -184,10 +182,8 @@ fn work_all<C: FlowCache, G: Gate, R: Threads + Wait + Sync>(
         workers,
         count,
         &|_, w: &mut Worker<C, QueuePass>|
-            requires ready { IsReadyToTake (C.is_of cache.now) C.shown (C.means cache.now).limits shared.now.queue
-                w.old.share w.old.seat }
-            ensures worked { w.new.state ≡ WorkState.Finished → HasTaken (C.is_of cache.entry.now) C.shown
-                (C.means cache.entry.now).limits shared.entry.now.queue w.new.share w.new.seat }
+            requires ready { IsToTake C.FlowCache cache.now shared.now.queue w.old }
+            ensures worked { HasTakenAll C.FlowCache cache.entry.now shared.entry.now.queue w.new }
         { work(rt, shared, cache, gate, w) },
     );
 }
@@ -202,11 +198,9 @@ fn run_workers<C: FlowCache, G: Gate, R: Threads + Wait + Sync>(
     workers: &mut Vec<Worker<C, QueuePass>>,
 ) -> Vec<Worker<C, QueuePass>>
     requires some { 0 < length workers.old.items }
-    requires ready { All (λ w. IsReadyToTake (C.is_of cache.now) C.shown (C.means cache.now).limits shared.now.queue
-        w.share w.seat) workers.old.items }
+    requires ready { All (IsToTake C.FlowCache cache.now shared.now.queue) workers.old.items }
     ensures same { length result.items ≡ length workers.old.items }
-    ensures worked { All (λ w. w.state ≡ WorkState.Finished → HasTaken (C.is_of cache.now) C.shown
-        (C.means cache.now).limits shared.now.queue w.share w.seat) result.items }
+    ensures worked { All (HasTakenAll C.FlowCache cache.now shared.now.queue) result.items }
 {
     let mut crew = mem::replace(workers, Vec::new(alloc));
     work_all(rt, shared, cache, gate, crew.as_mut_slice());
@@ -312,10 +306,9 @@ fn read_all<S: Source, C: FlowCache, G: Gate, R: Wait>(
     requires own { IsPassOf shared.now.queue (reader_of reader.old.feed) × IsReaders (reader_of reader.old.feed)
         × IsOpen reader.old.feed }
     requires fresh { IsFresh (reader_of reader.old.feed) × (reader.old.next ≡ 0) }
-    requires share { IsShare (C.is_of cache.now) C.shown (C.means cache.now).limits [] reader.old.share }
-    ensures read { IfOk result (λ tail. HasRead (C.is_of cache.now) C.shown (C.means cache.now).limits shared.now.queue
-        (S.left source.old) (S.left source.new) limit (reader_of reader.old.feed) (reader_of reader.new.feed)
-        reader.new.share tail) }
+    requires share { IsShareOf C.FlowCache cache.now [] reader.old.share }
+    ensures read { IfOk result (λ tail. HasReadAll C.FlowCache cache.now shared.now.queue (S.left source.old)
+        (S.left source.new) limit reader.old reader.new tail) }
     ensures refused { IfErr result (λ fault. IsRefused (side S.left S.faults source.old source.new) limit fault) }
     ensures faults { HasFaults (side S.left S.faults source.old source.new) result }
 {
@@ -348,10 +341,9 @@ fn read_and_end<S: Source, C: FlowCache, G: Gate, R: Wait>(
     requires own { IsPassOf shared.now.queue (reader_of reader.old.feed) × IsReaders (reader_of reader.old.feed)
         × IsOpen reader.old.feed }
     requires fresh { IsFresh (reader_of reader.old.feed) × (reader.old.next ≡ 0) }
-    requires share { IsShare (C.is_of cache.now) C.shown (C.means cache.now).limits [] reader.old.share }
-    ensures read { IfOk result (λ tail. HasRead (C.is_of cache.now) C.shown (C.means cache.now).limits shared.now.queue
-        (S.left source.old) (S.left source.new) limit (reader_of reader.old.feed) (reader_of reader.new.feed)
-        reader.new.share tail) }
+    requires share { IsShareOf C.FlowCache cache.now [] reader.old.share }
+    ensures read { IfOk result (λ tail. HasReadAll C.FlowCache cache.now shared.now.queue (S.left source.old)
+        (S.left source.new) limit reader.old reader.new tail) }
     ensures refused { IfErr result (λ fault. IsRefused (side S.left S.faults source.old source.new) limit fault) }
     ensures faults { HasFaults (side S.left S.faults source.old source.new) result }
 {
@@ -376,14 +368,13 @@ fn run_both<S: Source, C: FlowCache, G: Gate, R: Threads + Wait + Sync>(
     requires own { IsPassOf shared.now.queue (reader_of reader.old.feed) × IsReaders (reader_of reader.old.feed)
         × IsOpen reader.old.feed }
     requires fresh { IsFresh (reader_of reader.old.feed) × (reader.old.next ≡ 0) }
-    requires share { IsShare (C.is_of cache.now) C.shown (C.means cache.now).limits [] reader.old.share }
+    requires share { IsShareOf C.FlowCache cache.now [] reader.old.share }
     requires some { 0 < length workers.items }
-    requires ready { All (λ w. IsReadyToTake (C.is_of cache.now) C.shown (C.means cache.now).limits shared.now.queue w.share w.seat) workers.items }
+    requires ready { All (IsToTake C.FlowCache cache.now shared.now.queue) workers.items }
     ensures same { length result.0.items ≡ length workers.items }
-    ensures worked { All (λ w. w.state ≡ WorkState.Finished → HasTaken (C.is_of cache.now) C.shown (C.means cache.now).limits shared.now.queue w.share w.seat)
-        result.0.items }
-    ensures read { IfOk result.1 (λ tail. HasRead (C.is_of cache.now) C.shown (C.means cache.now).limits shared.now.queue (S.left source.old) (S.left source.new) limit
-        (reader_of reader.old.feed) (reader_of reader.new.feed) reader.new.share tail) }
+    ensures worked { All (HasTakenAll C.FlowCache cache.now shared.now.queue) result.0.items }
+    ensures read { IfOk result.1 (λ tail. HasReadAll C.FlowCache cache.now shared.now.queue (S.left source.old)
+        (S.left source.new) limit reader.old reader.new tail) }
     ensures refused { IfErr result.1 (λ fault. IsRefused (side S.left S.faults source.old source.new) limit fault) }
     ensures faults { HasFaults (side S.left S.faults source.old source.new) result.1 }
 {
@@ -392,21 +383,18 @@ fn run_both<S: Source, C: FlowCache, G: Gate, R: Threads + Wait + Sync>(
         &mut move || -> Vec<Worker<C, QueuePass>>
             requires sync { IsSync R.row }
             requires some { 0 < length workers.items }
-            requires ready { All (λ w. IsReadyToTake (C.is_of cache.now) C.shown (C.means cache.now).limits shared.now.queue w.share w.seat) workers.items }
+            requires ready { All (IsToTake C.FlowCache cache.now shared.now.queue) workers.items }
             ensures same { length result.items ≡ length workers.entry.items }
-            ensures worked { All (λ w. w.state ≡ WorkState.Finished → HasTaken (C.is_of cache.entry.now) C.shown
-                (C.means cache.entry.now).limits shared.entry.now.queue w.share w.seat) result.items }
+            ensures worked { All (HasTakenAll C.FlowCache cache.entry.now shared.entry.now.queue) result.items }
         { run_workers(rt, alloc, shared, cache, gate, &mut workers) },
         &mut || -> Result<u64, MeterFault>
             requires limit { limit ≤ 2 ^ 30 }
             requires own { IsPassOf shared.now.queue (reader_of reader.now.feed)
                 × IsReaders (reader_of reader.now.feed) × IsOpen reader.now.feed }
             requires fresh { IsFresh (reader_of reader.now.feed) × (reader.now.next ≡ 0) }
-            requires share { IsShare (C.is_of cache.now) C.shown (C.means cache.now).limits [] reader.now.share }
-            ensures read { IfOk result (λ tail. HasRead (C.is_of cache.entry.now) C.shown
-                (C.means cache.entry.now).limits shared.entry.now.queue (S.left source.entry.now)
-                (S.left source.exit.now) limit (reader_of reader.entry.now.feed) (reader_of reader.exit.now.feed)
-                reader.exit.now.share tail) }
+            requires share { IsShareOf C.FlowCache cache.now [] reader.now.share }
+            ensures read { IfOk result (λ tail. HasReadAll C.FlowCache cache.entry.now shared.entry.now.queue
+                (S.left source.entry.now) (S.left source.exit.now) limit reader.entry.now reader.exit.now tail) }
             ensures refused { IfErr result
                 (λ fault. IsRefused (side S.left S.faults source.entry.now source.exit.now) limit fault) }
             ensures faults { HasFaults (side S.left S.faults source.entry.now source.exit.now) result }
@@ -438,8 +426,9 @@ fn open_crew<C: FlowCache>(
     ensures others { IfOk result (λ r. (others_of (reader_of r.reader.feed) ≡ length r.workers.items)
         × (length r.workers.items + 2 ≡ length passes.items) × (r.reader.next ≡ 0)
         × (r.reader.number ≡ length r.workers.items)) }
-    ensures shares { IfOk result (λ r. IsShare (C.is_of cache.now) C.shown (C.means cache.now).limits [] r.reader.share × IsShare (C.is_of cache.now) C.shown (C.means cache.now).limits [] r.last) }
-    ensures workers { IfOk result (λ r. All (λ w. IsReadyToTake (C.is_of cache.now) C.shown (C.means cache.now).limits r.shared.queue w.share w.seat) r.workers.items) }
+    ensures shares { IfOk result (λ r. IsShareOf C.FlowCache cache.now [] r.reader.share
+        × IsShareOf C.FlowCache cache.now [] r.last) }
+    ensures workers { IfOk result (λ r. All (IsToTake C.FlowCache cache.now r.shared.queue) r.workers.items) }
 {
     let mut shares = open_shares(alloc, cache, passes, batches.front)?;
     let share = shares.remove(0);
@@ -498,17 +487,14 @@ fn gather<C: FlowCache, G: Gate, R: Wait>(
     requires reader { IsPassOf crew.shared.queue (reader_of crew.reader.feed) × IsReaders (reader_of crew.reader.feed)
         × (seats_of (reader_of crew.reader.feed) ≡ 1) × (took_of (reader_of crew.reader.feed) ≡ []) }
     requires many { (others_of (reader_of crew.reader.feed) ≡ length crew.workers.items)
-        × (crew.reader.number ≡ length crew.workers.items) × (length crew.workers.items ≤ 62) }
-    requires handed { (answers : List Answer) × HasHanded (C.is_of cache.now) C.shown (C.means cache.now).limits answers (put_of (reader_of crew.reader.feed))
-        crew.reader.share }
-    requires workers { All (λ w. w.state ≡ WorkState.Finished → HasTaken (C.is_of cache.now) C.shown (C.means cache.now).limits crew.shared.queue w.share w.seat)
-        crew.workers.items }
-    requires last { IsShare (C.is_of cache.now) C.shown (C.means cache.now).limits [] crew.last }
+        × (length crew.workers.items ≤ 62) }
+    requires handed { (answers : List Answer) × HasHandedOn C.FlowCache cache.now answers crew.reader }
+    requires workers { All (HasTakenAll C.FlowCache cache.now crew.shared.queue) crew.workers.items }
+    requires last { IsShareOf C.FlowCache cache.now [] crew.last }
     ensures own { IfOk result (λ r. C.is_of cache.now r.pass × (r.front ≡ None)
         × ((C.shown r.pass).note.seats ≡ length crew.workers.items + 2)) }
-    ensures metered { (answers : List Answer)
-        → HasHanded (C.is_of cache.now) C.shown (C.means cache.now).limits answers (put_of (reader_of crew.reader.feed)) crew.reader.share
-        → IfOk result (λ r. HasMetered C.shown (C.means cache.now).limits answers r) }
+    ensures metered { (answers : List Answer) → HasHandedOn C.FlowCache cache.now answers crew.reader
+        → IfOk result (λ r. AreSharesOf C.FlowCache cache.now answers r) }
 {
     let Crew {
         shared,
@@ -516,7 +502,7 @@ fn gather<C: FlowCache, G: Gate, R: Wait>(
         workers,
         mut last,
     } = crew;
-    let drain = reader.number + 1;
+    let drain = workers.len() + 1;
     let (mut shares, seats) = unseat_workers(alloc, workers)?;
     let mut seat = unite_seats(&shared.queue, reader.feed.into_pass(), seats);
     work_batches(rt, &shared, cache, gate, drain, &mut seat, &mut last)?;

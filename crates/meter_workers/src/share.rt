@@ -1,7 +1,7 @@
 //! What a seat has done, and how it meters records.
 
-ghost use Rattle.std.specs.Prelude.{◌≡◌, ◌+◌, ◌*◌, ◌^◌, ◌<◌, ◌≤◌, ◌++◌, ◌∷◌, [], List, length, All, IfOk, IfSome, OnOk, None};
-ghost use Rattle.std.specs.Prelude.{slice_range};
+ghost use Rattle.std.specs.Prelude.{◌≡◌, ◌+◌, ◌*◌, ◌^◌, ◌<◌, ◌≤◌, ◌++◌, ◌∷◌, [], List, length, All, None};
+ghost use Rattle.std.specs.Prelude.{IfOk, IfSome, OnOk, slice_range};
 ghost use Rattle.flow_parts.specs.Parts.{IsAlone};
 ghost use Rattle.flow_parts.specs.Reaching.{Reaches};
 ghost use Rattle.flow_parts.specs.declared.fragment.Fragment.{Fragment};
@@ -9,7 +9,8 @@ ghost use Rattle.cache_face.specs.Keeping.{IsBounded, packet_count};
 ghost use Rattle.cache_face.specs.Meaning.{IsFresh};
 ghost use Rattle.front_cache.specs.Fronts.{open_in};
 ghost use Rattle.capture_input.specs.Parts.{Answer, answers_by};
-ghost use Rattle.meter_workers.specs.Shares.{HasMetered, HaveMetered, HasLimits, IsSeated, IsShare, put_by};
+ghost use Rattle.meter_workers.specs.Shares.{HaveMetered, put_by};
+ghost use Rattle.meter_workers.specs.Seats.{IsSeatOf, IsShareOf, AreSharesOf};
 
 use cache_face::FlowCache;
 use capture_input::Part;
@@ -65,10 +66,10 @@ fn meter_packet<C: FlowCache>(
     parts: &mut Vec<Fragment>,
     packet: &Packet,
 ) -> Result<(), NoMemory>
-    requires seated { IsSeated (C.is_of cache.now) C.shown (C.means cache.now).limits pass.old front.old }
+    requires seated { IsSeatOf C.FlowCache cache.now pass.old front.old }
     requires octets { packet.now.octets < 2 ^ 24 }
     requires room { packet_count (put_by (C.shown pass.old) front.old) < 2 ^ 32 }
-    ensures seated { OnOk result (IsSeated (C.is_of cache.now) C.shown (C.means cache.now).limits pass.new front.new) }
+    ensures seated { OnOk result (IsSeatOf C.FlowCache cache.now pass.new front.new) }
     ensures reached { OnOk result ((own : Fragment) × IsAlone packet.now own × Reaches (C.means cache.now).limits
         (own ∷ put_by (C.shown pass.old) front.old) (put_by (C.shown pass.new) front.new)) }
     ensures handed { OnOk result (parts.old.items ≡ (C.shown pass.old).note.handed
@@ -92,12 +93,11 @@ fn meter_record<C: FlowCache>(
     n: u64,
     share: &mut Share<C>,
 ) -> Result<(), NoMemory>
-    requires share { (done : List Answer) × IsShare (C.is_of cache.now) C.shown (C.means cache.now).limits done share.old }
+    requires share { (done : List Answer) × IsShareOf C.FlowCache cache.now done share.old }
     requires number { n < length part.now.index.now.offsets }
     requires room { share.old.tally.captured < 2 ^ 32 }
-    ensures share { OnOk result ((done : List Answer) → IsShare (C.is_of cache.now) C.shown (C.means cache.now).limits done share.old
-        → IsShare (C.is_of cache.now) C.shown (C.means cache.now).limits
-        (done ++ slice_range (answers_by part.now) n (n + 1)) share.new) }
+    ensures share { OnOk result ((done : List Answer) → IsShareOf C.FlowCache cache.now done share.old
+        → IsShareOf C.FlowCache cache.now (done ++ slice_range (answers_by part.now) n (n + 1)) share.new) }
     ensures captured { OnOk result (share.new.tally.captured ≡ share.old.tally.captured + 1) }
 {
     packets_law();
@@ -128,12 +128,11 @@ pub(crate) fn meter_run<C: FlowCache>(
     to: u64,
     share: &mut Share<C>,
 ) -> Result<(), NoMemory>
-    requires share { (done : List Answer) × IsShare (C.is_of cache.now) C.shown (C.means cache.now).limits done share.old }
+    requires share { (done : List Answer) × IsShareOf C.FlowCache cache.now done share.old }
     requires run { (from ≤ to) × (to ≤ length part.now.index.now.offsets) }
     requires room { share.old.tally.captured + to ≤ 2 ^ 32 + from }
-    ensures share { OnOk result ((done : List Answer) → IsShare (C.is_of cache.now) C.shown (C.means cache.now).limits done share.old
-        → IsShare (C.is_of cache.now) C.shown (C.means cache.now).limits
-        (done ++ slice_range (answers_by part.now) from to) share.new) }
+    ensures share { OnOk result ((done : List Answer) → IsShareOf C.FlowCache cache.now done share.old
+        → IsShareOf C.FlowCache cache.now (done ++ slice_range (answers_by part.now) from to) share.new) }
     ensures captured { OnOk result (share.new.tally.captured + from ≡ share.old.tally.captured + to) }
 {
     for n in from..to {
@@ -151,7 +150,7 @@ fn open_share<C: FlowCache>(
 ) -> Result<Share<C>, NoMemory>
     requires pass { C.is_of _cache.now pass × IsFresh (C.shown pass) }
     requires front { IfSome front (λ timeouts. timeouts ≡ (C.means _cache.now).limits) }
-    ensures { IfOk result (λ s. IsShare (C.is_of _cache.now) C.shown (C.means _cache.now).limits [] s) }
+    ensures { IfOk result (IsShareOf C.FlowCache _cache.now []) }
 {
     sharing_out_stands();
     let front = match front {
@@ -176,7 +175,7 @@ pub(crate) fn open_shares<C: FlowCache>(
     requires passes { All (λ p. C.is_of cache.now p × IsFresh (C.shown p)) passes.items }
     requires front { IfSome front (λ timeouts. timeouts ≡ (C.means cache.now).limits) }
     ensures many { IfOk result (λ shares. length shares.items ≡ length passes.items) }
-    ensures shares { IfOk result (λ shares. All (λ s. IsShare (C.is_of cache.now) C.shown (C.means cache.now).limits [] s) shares.items) }
+    ensures shares { IfOk result (λ shares. All (IsShareOf C.FlowCache cache.now []) shares.items) }
 {
     let mut passes = passes;
     let mut shares = Vec::new(alloc);
@@ -211,9 +210,9 @@ fn empty_front<C: FlowCache>(
 
 /// The share without its front, which is emptied into the cache.
 pub(crate) fn finish<C: FlowCache>(cache: &C, share: Share<C>) -> Result<Share<C>, NoMemory>
-    requires share { (done : List Answer) × IsShare (C.is_of cache.now) C.shown (C.means cache.now).limits done share }
-    ensures share { (done : List Answer) → IsShare (C.is_of cache.now) C.shown (C.means cache.now).limits done share
-        → IfOk result (λ r. IsShare (C.is_of cache.now) C.shown (C.means cache.now).limits done r) }
+    requires share { (done : List Answer) × IsShareOf C.FlowCache cache.now done share }
+    ensures share { (done : List Answer) → IsShareOf C.FlowCache cache.now done share
+        → IfOk result (λ r. IsShareOf C.FlowCache cache.now done r) }
     ensures front { IfOk result (λ r. r.front ≡ None) }
 {
     sharing_out_counts();
@@ -244,15 +243,13 @@ pub(crate) fn unite<C: FlowCache>(
     requires fronts { (share.front ≡ None) × (other.front ≡ None) }
     requires seats { (C.shown share.pass).note.seats + (C.shown other.pass).note.seats ≤ 64 }
     requires some { (0 < (C.shown share.pass).note.seats) × (0 < (C.shown other.pass).note.seats) }
-    requires metered { (done rest : List Answer)
-        × HasMetered C.shown (C.means cache.now).limits done share
-        × HasMetered C.shown (C.means cache.now).limits rest other }
+    requires metered { (done rest : List Answer) × AreSharesOf C.FlowCache cache.now done share
+        × AreSharesOf C.FlowCache cache.now rest other }
     ensures own { IfOk result (λ r. C.is_of cache.now r.pass × (r.front ≡ None)
         × ((C.shown r.pass).note.seats ≡ (C.shown share.pass).note.seats + (C.shown other.pass).note.seats)) }
     ensures metered { (done rest : List Answer)
-        → HasMetered C.shown (C.means cache.now).limits done share
-        → HasMetered C.shown (C.means cache.now).limits rest other
-        → IfOk result (λ r. HasMetered C.shown (C.means cache.now).limits (done ++ rest) r) }
+        → AreSharesOf C.FlowCache cache.now done share → AreSharesOf C.FlowCache cache.now rest other
+        → IfOk result (λ r. AreSharesOf C.FlowCache cache.now (done ++ rest) r) }
 {
     packets_law();
     room_law();
@@ -273,13 +270,11 @@ pub(crate) fn unite_all<C: FlowCache>(
     shares: Vec<Share<C>>,
 ) -> Result<Share<C>, NoMemory>
     requires many { (0 < length shares.items) × (length shares.items ≤ 64) }
-    requires metered { (answers : List Answer) × HaveMetered (IsShare (C.is_of cache.now) C.shown
-        (C.means cache.now).limits) answers shares.items }
+    requires metered { (answers : List Answer) × HaveMetered (IsShareOf C.FlowCache cache.now) answers shares.items }
     ensures own { IfOk result (λ r. C.is_of cache.now r.pass × (r.front ≡ None)
         × ((C.shown r.pass).note.seats ≡ length shares.items)) }
-    ensures metered { (answers : List Answer) → HaveMetered (IsShare (C.is_of cache.now) C.shown
-        (C.means cache.now).limits) answers shares.items
-        → IfOk result (λ r. HasMetered C.shown (C.means cache.now).limits answers r) }
+    ensures metered { (answers : List Answer) → HaveMetered (IsShareOf C.FlowCache cache.now) answers shares.items
+        → IfOk result (λ r. AreSharesOf C.FlowCache cache.now answers r) }
 {
     packets_law();
     order_law();

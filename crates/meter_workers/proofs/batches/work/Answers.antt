@@ -19,13 +19,17 @@ work_batches-end-requires-clause-ready g c κs within =
 pub returns : goal.returns
 returns g c = record {
   worked = elim c.match-end.branch [
-    in-Ok w ↦ λ finished.
-        (let told = w.in-Ok.ensures in
-        let did = told.did in
-        taken-all (g.C.FlowCache.is_of c.args.cache.now) g.C.FlowCache.shown
-        (g.C.FlowCache.means c.args.cache.now).limits c.args.shared.now.queue c.args.worker.now.share
+  in-Ok w ↦ (
+    λ going. absurd (let e = sym w.worker-is ∙ going in cc),
+    λ finished.
+        (let did = w.in-Ok.ensures.did in
+        taken-all g.C.FlowCache c.args.cache.now c.args.shared.now.queue c.args.worker.now.share
         c.work_batches-end.new.share c.args.worker.now.seat c.work_batches-end.new.seat did.0 c.requires.ready
-        c.work_batches-end.ensures.own did.1 did.2)
-    | in-Err w ↦ λ finished. absurd (let e = sym w.worker-is ∙ finished in cc)
-  ];
+        c.work_batches-end.ensures.own did.1 did.2),
+  )
+  | in-Err w ↦ (
+    λ going. absurd (let e = sym w.worker-is ∙ going in cc),
+    λ finished. absurd (let e = sym w.worker-is ∙ finished in cc),
+  )
+];
 }
