@@ -1,12 +1,11 @@
-use Rattle.std.proofs.Common.{◌≡◌, ◌++◌, ◌≤◌, ◌∙◌, ℕ, List, [], length, sym, subst, ap, arith}
-use Rattle.flow_parts.specs.declared.fragment.Fragment.{Fragment}
+use Rattle.std.proofs.Common.{◌++◌, ◌≤◌, ◌∙◌, List, [], length, sym, subst, ap, arith}
 use Rattle.flow_parts.specs.Sharing.{SharesOut}
 use Rattle.packet_accept.specs.Packets.{packets_in}
 use Rattle.capture_tally.specs.declared.tally.Tally.{Tally}
 use Rattle.capture_tally.specs.Tallies.{IsTallyOf}
 use Rattle.capture_input.specs.Parts.{Answer, answers_by}
 use Rattle.meter_workers.specs.declared.share.Share.{Share}
-use Rattle.meter_workers.specs.Shares.{IsShare, HasMetered, HaveMetered}
+use Rattle.meter_workers.specs.Shares.{IsShare, HasMetered}
 use Rattle.meter_workers.proofs.Sharing.{nothing-metered}
 use Rattle.meter_workers.proofs.Whole.{shared-all}
 use Rattle.meter_workers.proofs.windows.meter_all.Given as given
