@@ -187,11 +187,7 @@ fn close_cache(
     requires seats { (shown_of gathered.pass).note.seats + 1 ≡ (means_of cache).seats }
     requires some { seats ≤ 64 }
 {
-    let Gathered {
-        pass,
-        parts,
-        ..
-    } = gathered;
+    let Gathered { pass, parts, .. } = gathered;
     let Asked {
         pass: own,
         held,
