@@ -1,5 +1,5 @@
 -- Operations that a loop makes, in its next turn.
-use Rattle.std.proofs.Common.{◌≡◌, ◌≤◌, ℕ, ◌+◌, ◌*◌, List, ◌∷◌, arith}
+use Rattle.std.proofs.Common.{◌≡◌, ℕ, ◌+◌, ◌*◌, List, ◌∷◌, arith}
 use Rattle.pebr_table.specs.Operations.{Op}
 use Rattle.pebr_roots.specs.Orders.{HasMade}
 use Rattle.pebr_roots.proofs.Counts.{made_one, made_two, made_on, made_in}

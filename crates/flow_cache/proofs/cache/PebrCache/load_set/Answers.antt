@@ -1,4 +1,4 @@
-use Rattle.std.proofs.Common.{◌≡◌, true, ◌+◌, ◌*◌, ◌∙◌, ℕ, refl, sym, ap, subst, arith}
+use Rattle.std.proofs.Common.{◌≡◌, true, ◌+◌, ◌∙◌, ℕ, refl, sym, ap, subst, arith}
 use Rattle.pebr_core.specs.declared.kinds.ShieldAt.TheVariants as shield
 use Rattle.pebr_core.specs.State.{Seat, has, is_out, shield_at}
 use Rattle.pebr_words.specs.Pasts.{History}
