@@ -1,5 +1,5 @@
 -- What a pass is told of the fragment that it put in, or that was passed by.
-use Rattle.std.proofs.Common.{◌≡◌, ◌<◌, List, ◌++◌, ℕ, length, Option, MatchOption, All, sym, ap, ◌∙◌, subst, append_assoc}
+use Rattle.std.proofs.Common.{◌≡◌, List, ◌++◌, ℕ, length, Option, MatchOption, All, sym, ap, ◌∙◌, subst, append_assoc}
 use Rattle.flow_key.specs.Key.{set_number}
 use Rattle.flow_parts.specs.declared.fragment.Fragment.{Fragment}
 use Rattle.flow_parts.specs.declared.timeouts.Timeouts.{Timeouts}

@@ -1,4 +1,4 @@
-use Rattle.std.proofs.Common.{◌≡◌, ◌≤◌, ℕ, ap, arith}
+use Rattle.std.proofs.Common.{ap, arith}
 use Rattle.pebr_core.specs.Frames.{fresh_count}
 use Rattle.pebr_core.specs.State.{slots_per_seat}
 use Rattle.pebr_roots.specs.Passes.{shape_at, known_by, number_by, past_by}

@@ -1,4 +1,4 @@
-use Rattle.std.proofs.Common.{◌≡◌, ◌≤◌, ◌++◌, List, sym, ap, ◌∙◌, subst, refl, arith}
+use Rattle.std.proofs.Common.{◌≡◌, ◌++◌, List, sym, ap, ◌∙◌, subst, refl, arith}
 use Rattle.std.specs.List.{flat_map}
 use lib.ListN.{get_elem?}
 use Rattle.cache_face.specs.Laws.{CanTake}

@@ -1,4 +1,4 @@
-use Rattle.std.proofs.Common.{◌≡◌, ◌<◌, ◌≤◌, ◌+◌, ◌*◌, ◌∷◌, ◌∙◌, ℕ, Bool, true, false, Some, List, ap, subst, arith}
+use Rattle.std.proofs.Common.{◌≡◌, ◌<◌, ◌+◌, ◌*◌, ◌∷◌, ◌∙◌, ℕ, Bool, true, false, Some, List, ap, subst, arith}
 use Rattle.std.specs.Prelude.{◌==◌, if◌then◌else◌}
 use Rattle.std.proofs.lemmas.Grind.{common_steps}
 use Rattle.std.proofs.lemmas.List.Elements.{All-cons}
@@ -52,3 +52,11 @@ loop-lost-preserved g c =
           c.attempt.ensures.few);
     }
 
+pub returns-then-attempt-clause-few : goal.returns-then-attempt-clause-few
+returns-then-attempt-clause-few g c =
+    let n : ℕ = c.loop-lost.lost in
+    let x = operations_by c.args.pass.now in
+    let y = operations_by c.loop-lost.pass in
+    let z = operations_by c.attempt.new.pass in
+    made_in (67 * n + 67) 201 x z (let t = c.loop-lost-test.true in omega (arith, t))
+    (made_on (67 * n) 67 x y z c.loop-lost.invariant.few c.attempt.ensures.few)

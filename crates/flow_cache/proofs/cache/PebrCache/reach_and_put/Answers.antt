@@ -1,4 +1,4 @@
-use Rattle.std.proofs.Common.{arith, ◌≤◌}
+use Rattle.std.proofs.Common.{arith}
 use Rattle.pebr_roots.specs.Passes.{operations_by}
 use Rattle.pebr_roots.proofs.Counts.{made_on, made_in}
 use Rattle.flow_cache.proofs.cache.PebrCache.reach_and_put.Goals as goal
