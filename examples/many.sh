@@ -31,8 +31,8 @@ begin() {
 
 # Ends it, by whether what wrote it did well and what it noted: end GOOD NAME
 end() {
+    [ "$1" -ne 0 ] || mv "$unfinished" "$2" || set -- 1 "$2"
     if [ "$1" -eq 0 ]; then
-        mv "$unfinished" "$2"
         notes=$(tr '\n' ' ' <"$unfinished.notes")
         echo "$2: ${notes:-made}"
     else
