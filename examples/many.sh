@@ -7,9 +7,9 @@
 #
 # The stream of CAPTURES/NAME.pcap is STREAMS/NAME.ipfix, and WHOLE, which isn't to lie in STREAMS, is all of them
 # joined. A stream has its name only once it is whole. Run again, only what isn't there is made: the streams that are
-# missing, and WHOLE where a stream is newer. A line on standard output tells the summary of each capture. For a
-# capture that is refused, or the first stream that is, a line on standard error says why; then WHOLE isn't made, and
-# the status is not 0.
+# missing, and WHOLE where a stream is newer; a capture that changed isn't looked at. A line on standard output tells
+# the summary of each capture. For a capture that is refused, or the first stream that is, a line on standard error
+# says why; then WHOLE isn't made, and the status is not 0.
 #
 # By --meter one capture is metered alone, by --join the streams of a folder's captures are joined, without WHOLE's
 # ending only PART of PARTS.
@@ -31,9 +31,10 @@ begin() {
 
 # Ends it, by whether what wrote it did well and what it noted: end GOOD NAME
 end() {
+    [ "$1" -ne 0 ] || mv "$unfinished" "$2" || set -- 1 "$2"
     if [ "$1" -eq 0 ]; then
-        mv "$unfinished" "$2"
-        echo "$2: $(tr '\n' ' ' <"$unfinished.notes")"
+        notes=$(tr '\n' ' ' <"$unfinished.notes")
+        echo "$2: ${notes:-made}"
     else
         echo "$2: not made, status $1: $(cat "$unfinished.notes")" >&2
     fi
