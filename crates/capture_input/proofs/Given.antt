@@ -73,8 +73,7 @@ given-part before left limit base count next reading answers index laws h known 
     let rest : drop next window ≡ rest_of part =
     ap (λ (k : ℕ). drop k window) place ∙ kept-rest window part 0 (tail_of part) refl refl (omega arith) whole refl in
     let short : tail_of part < 16 + most_captured = laws.short part (omega arith) undamaged in
-    let left-over : length (rest_of (grown_file h.file h.more)) ≡ tail_of part = ap length (sym sound.rest) in
-    (
+    let left-over : length (rest_of (grown_file h.file h.more)) ≡ tail_of part = ap length (sym sound.rest) in (
       base_is ∙ h.records ∙ sym (laws.count h.file) ∙ ap length (sym h.are),
       record {
         file = grown_file h.file h.more;
@@ -112,22 +111,22 @@ pub filled-again : (before left left' : Option (List ℕ)) (limit : ℕ) (readin
     → HasFilled before left' limit reading' answers
 filled-again before left left' limit reading reading' answers kept got h given kept_is head base count bytes size taken
     limit_is within fits ended = record {
-  file = h.file;
-  more = got;
-  are = h.are;
-  given = Consumes-trans _ _ _ _ _ h.given given;
-  at = subst (λ (d : Head). IsAt d reading'.input.window.bytes 0 reading'.input.taken h.file got) (sym head)
-      (subst (λ (l : List ℕ). IsAt reading.head l 0 reading'.input.taken h.file got) (sym bytes)
-      (at-filled reading.head kept got reading.input.taken reading'.input.taken h.file h.sound (kept_is ∙ h.rest) h.count
-      taken));
-  limit_is = limit_is ∙ h.limit_is;
-  within = (let e = h.limit_is in omega (arith, within, limit_is, e));
-  small = h.small;
-  fits = fits;
-  large = (let l = h.large in omega (arith, l, size));
-  ended = ended;
-  records = omega (arith, base, count, h.records);
-}
+      file = h.file;
+      more = got;
+      are = h.are;
+      given = Consumes-trans _ _ _ _ _ h.given given;
+      at = subst (λ (d : Head). IsAt d reading'.input.window.bytes 0 reading'.input.taken h.file got) (sym head)
+          (subst (λ (l : List ℕ). IsAt reading.head l 0 reading'.input.taken h.file got) (sym bytes)
+          (at-filled reading.head kept got reading.input.taken reading'.input.taken h.file h.sound (kept_is ∙ h.rest) h.count
+          taken));
+      limit_is = limit_is ∙ h.limit_is;
+      within = (let e = h.limit_is in omega (arith, within, limit_is, e));
+      small = h.small;
+      fits = fits;
+      large = (let l = h.large in omega (arith, l, size));
+      ended = ended;
+      records = omega (arith, base, count, h.records);
+    }
 
 -- the first window, behind the file header
 pub filled-first : (before left : Option (List ℕ)) (limit : ℕ) (reading : Reading) (window : List ℕ)
@@ -140,21 +139,21 @@ pub filled-first : (before left : Option (List ℕ)) (limit : ℕ) (reading : Re
     → HasFilled before left limit reading []
 filled-first before left limit reading window front given bytes taken base count limit_is within small fits large ended
     none = record {
-  file = front_of (headed_by reading.head window);
-  more = drop 24 window;
-  are = sym none;
-  given = subst (λ l. Consumes before left l) (sym (take-append-drop 24 window)) given;
-  at = at-kept reading.head window reading.input.window.bytes 24 reading.input.taken
-      (front_of (headed_by reading.head window)) (drop 24 window)
-      (at-first reading.head window reading.input.taken front taken) bytes;
-  limit_is = limit_is;
-  within = within;
-  small = small;
-  fits = (let e = ap length bytes in omega (arith, e, length-drop 24 window, fits));
-  large = large;
-  ended = ended;
-  records = omega (arith, base, count, ap length front.none);
-}
+      file = front_of (headed_by reading.head window);
+      more = drop 24 window;
+      are = sym none;
+      given = subst (λ l. Consumes before left l) (sym (take-append-drop 24 window)) given;
+      at = at-kept reading.head window reading.input.window.bytes 24 reading.input.taken
+          (front_of (headed_by reading.head window)) (drop 24 window)
+          (at-first reading.head window reading.input.taken front taken) bytes;
+      limit_is = limit_is;
+      within = within;
+      small = small;
+      fits = (let e = ap length bytes in omega (arith, e, length-drop 24 window, fits));
+      large = large;
+      ended = ended;
+      records = omega (arith, base, count, ap length front.none);
+    }
 
 -- the same refusal, where nothing had failed before
 pub refused-moved : {T : Type 0} (result : Result T MeterFault) (before after : Option (List ℕ)) (f f0 f' limit : ℕ)

@@ -105,7 +105,16 @@ fn meter_capture<G: Gate, R: Threads + Wait + Sync>(
     let limits = Timeouts::new(300, 1800);
     let mut caches = TurnCaches::new();
     let (cache, passes) = caches.open(alloc, 4096, setting.passes, limits)?;
-    let gathered = match run(rt, alloc, &mut source, &cache, passes, limits, setting, gate) {
+    let gathered = match run(
+        rt,
+        alloc,
+        &mut source,
+        &cache,
+        passes,
+        limits,
+        setting,
+        gate,
+    ) {
         Ok(gathered) => gathered,
         Err(fault) => return Ok(Err(fault)),
     };
