@@ -83,13 +83,6 @@ packets-few [] = omega arith
 packets-few (Ok packet ∷ answers) = (let h = packets-few answers in omega (arith, h))
 packets-few (Err cause ∷ answers) = (let h = packets-few answers in omega (arith, h))
 
--- a tally of at most 2^32 records has room
-pub room-of : (tally : Tally) (answers : List Answer)
-    → ((tally : Tally) (answers : List Answer) → IsTallyOf tally answers → length answers < 2 ^ 38
-    → AreSmall (packets_in answers) → HasRoom tally)
-    → tally.captured < 2 ^ 38 → IsTallyOf tally answers → AreSmall (packets_in answers) → HasRoom tally
-room-of tally answers law few is small = law tally answers is (omega (arith, few, is.captured)) small
-
 -- ---- what was put in
 
 -- no more packets were put in than records were tallied
