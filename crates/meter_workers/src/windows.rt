@@ -1,7 +1,7 @@
 //! A capture that is read in windows, each metered before the next is read.
 
-ghost use Rattle.std.specs.Prelude.{◌≡◌, ◌≢◌, ◌+◌, ◌++◌, ◌^◌, ◌<◌, ◌≤◌, [], List, ℕ, length, flat_map, All, IfOk, IfErr, IfSome};
-ghost use Rattle.std.specs.Prelude.{OnOk, IsPermutation};
+ghost use Rattle.std.specs.Prelude.{◌≡◌, ◌≢◌, ◌+◌, ◌++◌, ◌^◌, ◌<◌, ◌≤◌, [], List, ℕ, length, flat_map, All};
+ghost use Rattle.std.specs.Prelude.{IfOk, IfErr, IfSome, OnOk, IsPermutation};
 ghost use Rattle.std.specs.List.{AllZip};
 ghost use Rattle.std.specs.declared.option.Option.{Option};
 ghost use Rattle.meter_io.specs.Sides.{side};
@@ -203,8 +203,8 @@ fn meter_part<C: FlowCache, G: Gate, R: Threads + Sync>(
         (C.is_of cache.now) C.shown (C.means cache.now).limits) before shares.items }
     ensures many { IfOk result (λ r. length r.items ≡ length shares.items) }
     ensures metered { (before : List Answer) → HaveMetered (IsShare (C.is_of cache.now) C.shown
-        (C.means cache.now).limits) before shares.items → IfOk result (λ r. HaveMetered (IsShare (C.is_of cache.now) C.shown
-        (C.means cache.now).limits) (before ++ answers_by part.now) r.items) }
+        (C.means cache.now).limits) before shares.items → IfOk result (λ r. HaveMetered (IsShare (C.is_of cache.now)
+        C.shown (C.means cache.now).limits) (before ++ answers_by part.now) r.items) }
 {
     let seats = shares.len();
     let (pieces, draws) = Pieces::open(alloc, part.index.count(), piece, seats)?;
@@ -241,7 +241,8 @@ fn meter_parts<S: Source, C: FlowCache, G: Gate, R: Threads + Sync>(
         × HaveMetered (IsShare (C.is_of cache.now) C.shown (C.means cache.now).limits) answers r.0.items) }
     ensures refused { (before : Option (List ℕ)) (limit : ℕ)
         → HasGiven before (S.left source.old) limit first.0 (answers_from 0 (part_in first.0))
-        → IfErr result (λ fault. IsRefused (side_from before (side S.left S.faults source.old source.new)) limit fault) }
+        → IfErr result
+        (λ fault. IsRefused (side_from before (side S.left S.faults source.old source.new)) limit fault) }
     ensures faults { HasFaults (side S.left S.faults source.old source.new) result }
 {
     let (mut reading, mut index) = first;
@@ -259,9 +260,9 @@ fn meter_parts<S: Source, C: FlowCache, G: Gate, R: Threads + Sync>(
     }
 }
 
-/// Meters a capture that is read in windows, through a cache, by one worker for each of its passes (1 to 64). Each window
-/// is metered, by all workers at once, before the next is read; what is left behind the last record of a window begins
-/// the next one. The memory of the window and of its index is taken once. Where fronts are asked for, each worker has
+/// Meters a capture that is read in windows, through a cache, by one worker for each of its passes (1 to 64). Each
+/// window is metered, by all workers at once, before the next is read; what is left behind the last record of a window
+/// begins the next one. The memory of the window and of its index is taken once. Where fronts are asked for, each worker has
 /// one across all windows, and only what leaves it goes into the cache; behind the last window each front is emptied
 /// into the cache through its own pass.
 ///
@@ -296,16 +297,7 @@ pub fn meter_windows<S: Source, C: FlowCache, G: Gate, R: Threads + Sync>(
         return Err(MeterFault::NoMemory);
     };
     let first = Reading::begin(alloc, source, windows.size, windows.limit)?;
-    let (shares, tail) = meter_parts(
-        rt,
-        alloc,
-        source,
-        first,
-        cache,
-        shares,
-        windows.piece,
-        gate,
-    )?;
+    let (shares, tail) = meter_parts(rt, alloc, source, first, cache, shares, windows.piece, gate)?;
     match unite_all(cache, shares) {
         Ok(all) => Ok(gather_all(all, tail)),
         Err(NoMemory) => Err(MeterFault::NoMemory),
@@ -331,12 +323,12 @@ pub(crate) fn gather_all<C: FlowCache>(all: Share<C>, tail: u64) -> Gathered<C>
     }
 }
 
-/// Meters a capture that is in memory, as its first and only part, through a cache, by one worker for each of its passes
-/// (1 to 64), all at once, without fronts.
+/// Meters a capture that is in memory, as its first and only part, through a cache, by one worker for each of its
+/// passes (1 to 64), all at once, without fronts.
 ///
 /// The records are cut into pieces of `piece` records (1 to 65,536); the gate is told of each piece. What was put in
-/// through the united pass shares out the packets of the part; `parts` are the fragments that it was handed, in the order
-/// of its note; the tally is that of all records.
+/// through the united pass shares out the packets of the part; `parts` are the fragments that it was handed, in the
+/// order of its note; the tally is that of all records.
 ///
 /// `NoMemory`: out of memory. Nothing of the capture is said then.
 pub fn meter_all<C: FlowCache, G: Gate, R: Threads + Sync>(
