@@ -257,9 +257,9 @@ fn meter_parts<S: Source, C: FlowCache, G: Gate, R: Threads + Sync>(
 
 /// Meters a capture that is read in windows, through a cache, by one worker for each of its passes (1 to 64). Each
 /// window is metered, by all workers at once, before the next is read; what is left behind the last record of a window
-/// begins the next one. The memory of the window and of its index is taken once. Where fronts are asked for, each worker has
-/// one across all windows, and only what leaves it goes into the cache; behind the last window each front is emptied
-/// into the cache through its own pass.
+/// begins the next one. The memory of the window and of its index is taken once. Where fronts are asked for, each
+/// worker has one across all windows, and only what leaves it goes into the cache; behind the last window each front is
+/// emptied into the cache through its own pass.
 ///
 /// The records of a window are cut into pieces; the gate is told of each piece, by its number within the window. What
 /// was put in through the united pass shares out the packets of the capture; `parts` are the fragments that it was
