@@ -43,8 +43,8 @@ times_last : (n : ℕ) (xs : List ℕ) → 0 < times n (xs ++ n ∷ [])
 times_last n [] = grind (arith, common_steps)
 times_last n (x ∷ xs) = let h = times_last n xs in omega (arith, h)
 
--- All pieces that can still be drawn lie behind what was metered. `place` is the number of the first such, and `counted`
--- how many records were tallied before the part.
+-- All pieces that can still be drawn lie behind what was metered. `place` is the number of the first such, and
+-- `counted` how many records were tallied before the part.
 pub record IsBehind (size counted : ℕ) (drawn : List ℕ) (captured : ℕ) : Type 0 where
   pub place : ℕ
   pub next : (n : ℕ) → ((x : ℕ) → 0 < times x drawn → x < n) → place ≤ n

@@ -1,5 +1,6 @@
 -- A part that all workers metered, and a capture that is metered part by part.
-use Rattle.std.proofs.Common.{◌≡◌, ℕ, ◌+◌, ◌-◌, ◌*◌, ◌/◌, ◌<◌, ◌≤◌, List, ◌++◌, length, map, sym, ap, ◌∙◌, subst, arith, All}
+use Rattle.std.proofs.Common.{◌≡◌, ℕ, ◌+◌, ◌-◌, ◌*◌, ◌/◌, ◌<◌, ◌≤◌, List, ◌++◌, length, map}
+use Rattle.std.proofs.Common.{sym, ap, ◌∙◌, subst, arith, All}
 use Rattle.std.specs.Prelude.{Option, Result, Ok, Err, IfErr, IsErrAnd, flat_map, IsPermutation}
 use Rattle.std.specs.List.{AllZip}
 use Rattle.std.proofs.lemmas.List.{length-map}
@@ -41,7 +42,8 @@ pub all-drawn : {X P : Type 0} (is_of : P → Type 0) (shown : P → PassMeans) 
     → HaveWorked {X = X} {P = P} is_of shown limits pieces answers us vs → All (HasDrawn pieces) draws
 all-drawn {X = X} {P = P} is_of shown limits pieces answers us vs draws are finished worked =
     let W : Type 0 = Worker X DrawPass P in
-    let S : W → W → Type 0 = λ o w. HasWorked {X = X} {P = P} is_of shown limits pieces answers o.share w.share w.seat in
+    let S : W → W → Type 0 =
+    λ o w. HasWorked {X = X} {P = P} is_of shown limits pieces answers o.share w.share w.seat in
     subst (All (HasDrawn pieces)) (sym are)
     (All-map (HasDrawn pieces) (λ (w : W). w.seat) vs (zip-second (λ (w : W). HasDrawn pieces w.seat) S us vs
     (λ o w h. h.drawn) (zip-all (λ (w : W). w.state ≡ Finished) (λ o w. w.state ≡ Finished → S o w) S us vs
@@ -70,7 +72,8 @@ part-metered {X = X} {P = P} is_of shown limits pieces answers before us vs shar
     worked once long have =
     let W : Type 0 = Worker X DrawPass P in
     let Has : List Answer → Share X P → Type 0 = IsShare {X = X} {P = P} is_of shown limits in
-    let S : W → W → Type 0 = λ o w. HasWorked {X = X} {P = P} is_of shown limits pieces answers o.share w.share w.seat in
+    let S : W → W → Type 0 =
+    λ o w. HasWorked {X = X} {P = P} is_of shown limits pieces answers o.share w.share w.seat in
     let size : ℕ = size_of pieces in
     let more : W → List Answer = λ w. pieces_of size answers (drawn_of w.seat) in
     let T : W → W → Type 0 = λ o w. (done : List Answer) → Has done o.share → Has (done ++ more w) w.share in
@@ -88,8 +91,8 @@ part-metered {X = X} {P = P} is_of shown limits pieces answers before us vs shar
 
 -- and there are as many as before
 pub still-many : {X P D : Type 0} (is_of : P → Type 0) (shown : P → PassMeans) (limits : Timeouts) (pieces : Pieces)
-    (answers : List Answer) (f : Worker X DrawPass P → D) (us vs : List (Worker X DrawPass P)) (shares : List (Share X P))
-    (ds : List D)
+    (answers : List Answer) (f : Worker X DrawPass P → D) (us vs : List (Worker X DrawPass P))
+    (shares : List (Share X P)) (ds : List D)
     → map (λ w. w.share) us ≡ shares → ds ≡ map f vs
     → HaveWorked {X = X} {P = P} is_of shown limits pieces answers us vs → length ds ≡ length shares
 still-many {X = X} {P = P} is_of shown limits pieces answers f us vs shares ds had has worked =

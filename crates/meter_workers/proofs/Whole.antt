@@ -1,8 +1,6 @@
 -- A whole capture was metered.
-use Rattle.std.proofs.Common.{◌≡◌, ℕ, ◌∙◌, ◌++◌, List, [], None, sym, ap, subst, append-nil}
-use Rattle.std.specs.Prelude.{Option}
+use Rattle.std.proofs.Common.{◌≡◌, ℕ, ◌∙◌, ◌++◌, List, None, sym, ap, subst, append-nil}
 use Rattle.meter_io.specs.Sides.{Side}
-use Rattle.packet_accept.specs.declared.packet.Packet.{Packet}
 use Rattle.packet_accept.specs.Packets.{packets_in, answers_of}
 use Rattle.flow_parts.specs.declared.fragment.Fragment.{Fragment}
 use Rattle.flow_parts.specs.declared.timeouts.Timeouts.{Timeouts}
@@ -13,7 +11,7 @@ use Rattle.cache_face.specs.Meaning.{PassMeans}
 use Rattle.capture_input.specs.Parts.{Answer}
 use Rattle.capture_input.specs.Giving.{IsReadWhole}
 use Rattle.meter_workers.specs.declared.share.Share.{Share}
-use Rattle.meter_workers.specs.Shares.{HasMetered, open_of, put_by}
+use Rattle.meter_workers.specs.Shares.{HasMetered, open_of}
 use Rattle.meter_workers.specs.Whole.{IsMeteredWhole}
 
 -- without a front all that was put in is in the cache

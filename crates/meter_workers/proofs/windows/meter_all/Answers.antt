@@ -1,12 +1,11 @@
-use Rattle.std.proofs.Common.{◌≡◌, ◌++◌, ◌≤◌, ◌∙◌, ℕ, List, [], length, sym, subst, ap, arith}
-use Rattle.flow_parts.specs.declared.fragment.Fragment.{Fragment}
+use Rattle.std.proofs.Common.{◌++◌, ◌≤◌, ◌∙◌, List, [], length, sym, subst, ap, arith}
 use Rattle.flow_parts.specs.Sharing.{SharesOut}
 use Rattle.packet_accept.specs.Packets.{packets_in}
 use Rattle.capture_tally.specs.declared.tally.Tally.{Tally}
 use Rattle.capture_tally.specs.Tallies.{IsTallyOf}
 use Rattle.capture_input.specs.Parts.{Answer, answers_by}
 use Rattle.meter_workers.specs.declared.share.Share.{Share}
-use Rattle.meter_workers.specs.Shares.{IsShare, HasMetered, HaveMetered}
+use Rattle.meter_workers.specs.Shares.{IsShare, HasMetered}
 use Rattle.meter_workers.proofs.Sharing.{nothing-metered}
 use Rattle.meter_workers.proofs.Whole.{shared-all}
 use Rattle.meter_workers.proofs.windows.meter_all.Given as given
@@ -26,8 +25,7 @@ meter_part-requires-clause-metered g c κs within =
 pub unite_all-requires-clause-metered : goal.unite_all-requires-clause-metered
 unite_all-requires-clause-metered g c κs within =
     let Has : List Answer → S g → Type 0 =
-    IsShare (g.C.FlowCache.is_of c.args.cache.now) g.C.FlowCache.shown (g.C.FlowCache.means c.args.cache.now).limits in
-    (
+    IsShare (g.C.FlowCache.is_of c.args.cache.now) g.C.FlowCache.shown (g.C.FlowCache.means c.args.cache.now).limits in (
       [] ++ answers_by c.args.part.now,
       c.in_ok-shares-2.ensures.metered []
           (nothing-metered {S = S g} Has c.in_ok-shares.shares.items c.in_ok-shares.ensures.shares),

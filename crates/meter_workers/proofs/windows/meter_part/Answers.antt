@@ -1,15 +1,12 @@
-use Rattle.std.proofs.Common.{◌≡◌, ◌≤◌, ◌<◌, ◌*◌, ◌+◌, ◌-◌, ◌/◌, ◌∙◌, ◌++◌, ℕ, List, refl, sym, ap, subst, length, map, arith}
-use Rattle.std.specs.Prelude.{All, IfOk, flat_map, IsPermutation}
+use Rattle.std.proofs.Common.{◌≡◌, ◌≤◌, ◌-◌, ◌∙◌, List, sym, subst, length, arith}
+use Rattle.std.specs.Prelude.{All}
 use Rattle.pcap_reader.specs.Views.{file_of}
 use Rattle.work_pieces.specs.declared.pieces.DrawPass.{DrawPass}
-use Rattle.work_pieces.specs.Passes.{IsPassOf, IsFresh, size_of, number_of, drawn_of, seats_in}
+use Rattle.work_pieces.specs.Passes.{IsPassOf, IsFresh}
 use Rattle.capture_input.specs.Parts.{Answer, answers_by}
 use Rattle.meter_workers.specs.declared.share.Share.{Share}
 use Rattle.meter_workers.specs.declared.worker.Worker.{Worker}
-use Rattle.meter_workers.specs.declared.worker.WorkState.TheVariants.{Finished}
-use Rattle.meter_workers.specs.Pieces.{pieces_of}
-use Rattle.meter_workers.specs.Shares.{IsShare, HaveMetered}
-use Rattle.meter_workers.specs.Working.{IsReady, HasDrawn, HasWorked}
+use Rattle.meter_workers.specs.Shares.{IsShare}
 use Rattle.meter_workers.proofs.Records.{answers-count}
 use Rattle.meter_workers.proofs.Sharing.{each-metered, all-mapped}
 use Rattle.meter_workers.proofs.Metering.{all-drawn, part-metered, still-many, enough-pieces}
@@ -82,6 +79,7 @@ returns-clause-metered g c = λ before have.
     g.C.FlowCache.shown (g.C.FlowCache.means c.args.cache.now).limits c.in_ok-pieces.pieces (answers_by part) before
     c.in_ok-workers.workers.items c.run_workers-workers.result.items c.args.shares.items c.in_ok-shares.shares.items
     c.in_ok-shares.draws.items c.in_ok-workers.ensures.shares c.in_ok-shares.ensures.shares
-    c.in_ok-shares.ensures.seats c.in_ok-shares.ensures.finished c.run_workers-workers.ensures.worked c.unite_draws.ensures
+    c.in_ok-shares.ensures.seats c.in_ok-shares.ensures.finished c.run_workers-workers.ensures.worked
+    c.unite_draws.ensures
     (enough-pieces c.in_ok-pieces.pieces (answers_by part) c.count.result c.args.piece all told.1 told.3
     c.requires.piece.0) have

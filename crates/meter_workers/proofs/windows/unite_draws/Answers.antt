@@ -1,7 +1,7 @@
-use Rattle.std.proofs.Common.{◌≡◌, ◌+◌, ◌++◌, ◌<◌, ℕ, List, [], length, rules, sym, ap, ◌∙◌, subst, arith}
+use Rattle.std.proofs.Common.{◌≡◌, ◌<◌, [], length, rules, sym, ap, ◌∙◌, arith}
 use Rattle.std.specs.Prelude.{flat_map}
-use Rattle.work_pieces.specs.Dealing.{times, once_below}
-use Rattle.work_pieces.specs.Passes.{drawn_of, seats_of, seats_in, nones_of, number_of}
+use Rattle.work_pieces.specs.Dealing.{times}
+use Rattle.work_pieces.specs.Passes.{drawn_of, seats_of, seats_in, nones_of}
 use Rattle.work_pieces.proofs.Totals.{times-append}
 use Rattle.work_pieces.specs.declared.pieces.DrawPass.{DrawPass}
 use Rattle.meter_workers.specs.Working.{HasDrawn}
@@ -47,7 +47,8 @@ loop-draw-preserved c =
       some = omega (arith, both.0, i.some);
       ended = omega (arith, both.1, i.ended);
       once = λ x. (let o = i.once x in
-          let d = drawn-popped {D = DrawPass} drawn_of c.loop-draw.draws.items c.pop-in-loop-draw.new.self.items next x is in
+          let d = drawn-popped {D = DrawPass} drawn_of c.loop-draw.draws.items c.pop-in-loop-draw.new.self.items next x
+          is in
           let a = ap (times x) both.2 ∙ times-append x (drawn_of c.loop-draw.all) (drawn_of next) in
           omega (arith, o, d, a));
     }

@@ -1,4 +1,5 @@
-use Rattle.std.proofs.Common.{◌≡◌, ◌+◌, ◌*◌, ◌≤◌, ◌++◌, ◌∷◌, List, [], length, min, sym, ap, ◌∙◌, subst, arith, append-nil, append_assoc}
+use Rattle.std.proofs.Common.{◌≡◌, ◌+◌, ◌*◌, ◌≤◌, ◌++◌, List, [], length, min, sym, ap}
+use Rattle.std.proofs.Common.{◌∙◌, subst, arith, append-nil, append_assoc}
 use Rattle.std.specs.Prelude.{slice_range}
 use Rattle.pcap_reader.specs.Views.{file_of}
 use Rattle.work_pieces.specs.Passes.{size_of, drawn_of}
@@ -30,9 +31,10 @@ loop-draw-init g c =
 
 pub meter_run-requires-clause-share : goal.meter_run-requires-clause-share
 meter_run-requires-clause-share g c κs within =
-    let r = c.requires.ready in
-    (r.done ++ pieces_of (size_of c.args.pieces.now) (answers_by c.args.part.now) (drawn_of c.loop-draw.draw),
-    c.loop-draw.invariant.share r.done r.is)
+    let r = c.requires.ready in (
+      r.done ++ pieces_of (size_of c.args.pieces.now) (answers_by c.args.part.now) (drawn_of c.loop-draw.draw),
+      c.loop-draw.invariant.share r.done r.is,
+    )
 
 pub meter_run-requires-clause-room : goal.meter_run-requires-clause-room
 meter_run-requires-clause-room g c κs within =

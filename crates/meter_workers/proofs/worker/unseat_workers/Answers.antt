@@ -1,6 +1,5 @@
-use Rattle.std.proofs.Common.{◌≡◌, ◌++◌, ◌∷◌, List, [], map, sym, ap, ◌∙◌, append_assoc, append-nil}
+use Rattle.std.proofs.Common.{◌≡◌}
 use Rattle.std.specs.Prelude.{◌≢◌}
-use Rattle.meter_workers.specs.declared.share.Share.{Share}
 use Rattle.meter_workers.specs.declared.worker.Worker.{Worker}
 use Rattle.meter_workers.specs.declared.worker.WorkState.TheVariants.{Going, Finished}
 use Rattle.meter_workers.proofs.Taken.{all_popped, all_pushed}
