@@ -1,7 +1,7 @@
 -- Shares that are emptied, united and listed.
-use Rattle.std.proofs.Common.{◌≡◌, ℕ, zero, suc, ◌+◌, ◌*◌, ◌<◌, ◌≤◌, ◌^◌, List, [], ◌∷◌, ◌++◌, length, map, get_or, None, refl, sym, ap}
+use Rattle.std.proofs.Common.{◌≡◌, ℕ, suc, ◌+◌, ◌<◌, ◌≤◌, ◌^◌, List, [], ◌∷◌, ◌++◌, length, map, get_or, None, refl, sym, ap}
 use Rattle.std.proofs.Common.{◌∙◌, subst, arith, append_assoc, append-nil, length-append, All}
-use Rattle.std.specs.Prelude.{Option, flat_map, IsPermutation}
+use Rattle.std.specs.Prelude.{flat_map, IsPermutation}
 use Rattle.std.specs.List.{AllZip}
 use Rattle.std.proofs.lemmas.Grind.{flat_map-append}
 use Rattle.std.proofs.lemmas.List.{map-append}
@@ -14,14 +14,13 @@ use Rattle.packet_accept.specs.declared.packet.Packet.{Packet}
 use Rattle.packet_accept.specs.Packets.{packets_in}
 use Rattle.flow_parts.specs.declared.fragment.Fragment.{Fragment}
 use Rattle.flow_parts.specs.declared.timeouts.Timeouts.{Timeouts}
-use Rattle.flow_parts.specs.Laws.{StandsTogether, StandsPermuted, NothingIsShared}
+use Rattle.flow_parts.specs.Laws.{StandsTogether, StandsPermuted}
 use Rattle.flow_parts.specs.Sharing.{SharesOut}
 use Rattle.capture_tally.specs.declared.tally.Tally.{Tally}
 use Rattle.capture_tally.specs.Tallies.{IsTallyOf}
 use Rattle.cache_face.specs.Keeping.{packet_count}
-use Rattle.cache_face.specs.Meaning.{PassMeans, IsUnited, IsFresh}
+use Rattle.cache_face.specs.Meaning.{PassMeans, IsUnited}
 use Rattle.cache_face.specs.Notes.{Note}
-use Rattle.front_cache.specs.Fronts.{FrontMeans, open_in}
 use Rattle.capture_input.specs.Parts.{Answer}
 use Rattle.meter_workers.specs.declared.share.Share.{Share}
 use Rattle.meter_workers.specs.Shares.{HasMetered, HaveMetered, AreSmall, open_of, put_by}

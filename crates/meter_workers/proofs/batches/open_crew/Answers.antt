@@ -1,7 +1,6 @@
 -- Who has which share.
-use Rattle.std.proofs.Common.{◌≡◌, ◌<◌, List, [], length, map, sym, subst, arith}
+use Rattle.std.proofs.Common.{◌≡◌, ◌<◌, [], length, sym, subst, arith}
 use Rattle.std.specs.Prelude.{All}
-use Rattle.capture_input.specs.Parts.{Answer}
 use Rattle.batch_queue.specs.declared.queue.QueuePass.{QueuePass}
 use Rattle.batch_queue.specs.Passes.{IsPassOf, IsReaders, IsFresh, others_of}
 use Rattle.meter_workers.specs.declared.share.Share.{Share}

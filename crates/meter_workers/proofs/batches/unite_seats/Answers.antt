@@ -1,12 +1,9 @@
-use Rattle.std.proofs.Common.{◌≡◌, ◌+◌, ◌++◌, [], length, rules, ap, ◌∙◌, subst, arith, append-nil}
-use Rattle.std.specs.Prelude.{flat_map, IsPermutation}
-use Rattle.std.proofs.lemmas.List.Sorted.{IsPermutation-refl}
+use Rattle.std.proofs.Common.{◌≡◌, ◌+◌, ◌++◌, [], length, ap, ◌∙◌, arith, append-nil}
 use Rattle.batch_queue.specs.declared.queue.BatchQueue.{BatchQueue}
 use Rattle.batch_queue.specs.declared.queue.QueuePass.{QueuePass}
 use Rattle.batch_queue.specs.Passes.{IsPassOf, put_of, took_of, seats_of, others_of}
 use Rattle.meter_workers.proofs.Taken.{all_popped, popped_length}
 use Rattle.meter_workers.proofs.Crew.{took-one}
-use Rattle.meter_workers.proofs.batches.unite_seats.Given as given
 use Rattle.meter_workers.proofs.batches.unite_seats.Goals as goal
 
 abbrev Other : BatchQueue → QueuePass → Type 0

@@ -1,4 +1,4 @@
-use Rattle.std.proofs.Common.{◌≡◌, List, [], rules, sym, subst}
+use Rattle.std.proofs.Common.{[], rules, sym, subst}
 use Rattle.std.specs.Prelude.{All}
 use Rattle.cache_face.specs.Meaning.{IsFresh}
 use Rattle.meter_workers.specs.declared.share.Share.{Share}

@@ -1,5 +1,4 @@
-use Rattle.std.proofs.Common.{◌≡◌, ◌+◌, ◌++◌, ◌<◌, List, [], length, rules, arith}
-use Rattle.std.specs.Prelude.{IsPermutation}
+use Rattle.std.proofs.Common.{◌≡◌, ◌+◌, ◌++◌, [], length, rules, arith}
 use Rattle.std.proofs.lemmas.List.Sorted.{IsPermutation-trans, IsPermutation-sym, IsPermutation-append_left}
 use Rattle.meter_workers.proofs.Taken.{popped_length}
 use Rattle.meter_workers.proofs.Sharing.{popped, none-left, metered-permuted, moved-back}
