@@ -33,10 +33,9 @@ use meter_io::Source;
 use no_memory::NoMemory;
 use pcap_reader::RecordIndex;
 use std::alloc::Global;
-use std::mem;
 use std::sync::Wait;
-use std::thread;
 use std::thread::{Threads, join_mut};
+use std::{mem, thread};
 
 /// How a capture is metered in batches.
 #[derive(Clone, Copy, Debug)]
@@ -314,11 +313,18 @@ fn read_all<S: Source, C: FlowCache, G: Gate, R: Wait>(
 {
     let (mut reading, mut index) = Reading::begin(alloc, source, shared.size, limit)?;
     loop {
-        (reading, index) =
-            match hand_part(rt, alloc, shared, cache, gate, reader, (reading, index)) {
-                Ok(read) => read,
-                Err(NoMemory) => return Err(MeterFault::NoMemory),
-            };
+        (reading, index) = match hand_part(
+            rt,
+            alloc,
+            shared,
+            cache,
+            gate,
+            reader,
+            (reading, index),
+        ) {
+            Ok(read) => read,
+            Err(NoMemory) => return Err(MeterFault::NoMemory),
+        };
         if reading.is_last() {
             return Ok(reading.tail());
         }

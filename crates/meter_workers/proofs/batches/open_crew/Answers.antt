@@ -18,9 +18,10 @@ returns-clause-shares g c =
     let least = c.requires.passes.0 in
     let some' : 0 < length c.remove-share.new.self.items =
     (let len = c.remove-share.ensures.len in
-    omega (arith, told.many, least, len, c.remove-share.new.self.ok.0, c.in_ok-shares.shares.ok.0)) in
-    (first-of P _ _ told.shares (omega (arith, told.many, least)) c.remove-share.ensures.value,
-    first-of P _ _ (behind-first P _ _ told.shares c.remove-share.ensures.by_index.2) some' c.remove-last.ensures.value)
+    omega (arith, told.many, least, len, c.remove-share.new.self.ok.0, c.in_ok-shares.shares.ok.0)) in (
+      first-of P _ _ told.shares (omega (arith, told.many, least)) c.remove-share.ensures.value,
+      first-of P _ _ (behind-first P _ _ told.shares c.remove-share.ensures.by_index.2) some' c.remove-last.ensures.value,
+    )
 
 pub returns-clause-workers : goal.returns-clause-workers
 returns-clause-workers g c =
