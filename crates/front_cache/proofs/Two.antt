@@ -15,11 +15,6 @@ none_of_two Is one other first second zero low = first
 none_of_two Is one other first second (suc zero) low = second
 none_of_two Is one other first second (suc (suc place)) low = absurd (omega (arith, low))
 
--- and the first isn't, where none is
-pub first_is_not : (Is : Option Fragment → Type 0) (one other : Option Fragment) → HasNone Is (one ∷ other ∷ [])
-    → ¬ Is one
-first_is_not Is one other none = none 0 (omega arith)
-
 -- the lowest of two
 pub first_lowest : (Is : Option Fragment → Type 0) (one other : Option Fragment) → Is one
     → IsLowest Is (one ∷ other ∷ []) 0
@@ -65,29 +60,6 @@ module _ (limits : Timeouts) (one other : Option Fragment) (own : Fragment) wher
   -- an entry is opened, by one of the three rules
   abbrev pub Opens : ℕ → Type 0
   Opens entry = (how : How) × IsChoice limits (one ∷ other ∷ []) own how entry (entry_at (one ∷ other ∷ []) entry) own
-
-  pub anew_first : HasNone (CanJoin limits own) (one ∷ other ∷ []) → HasKey own.key one → Opens 0
-  anew_first none has = (
-    Replaced,
-    inl (record {
-      none_joins = none;
-      lowest = first_lowest (HasKey own.key) one other has;
-      out_is = refl;
-      anew = refl;
-    }),
-  )
-
-  pub anew_second : HasNone (CanJoin limits own) (one ∷ other ∷ []) → ¬ HasKey own.key one → HasKey own.key other
-      → Opens 1
-  anew_second none first has = (
-    Replaced,
-    inl (record {
-      none_joins = none;
-      lowest = second_lowest (HasKey own.key) one other first has;
-      out_is = refl;
-      anew = refl;
-    }),
-  )
 
 none_is : (entry : Option Fragment) → IsNone entry → entry ≡ None
 none_is None h = refl

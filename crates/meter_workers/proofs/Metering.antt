@@ -4,6 +4,9 @@ use Rattle.std.proofs.Common.{sym, ap, ◌∙◌, subst, arith, All}
 use Rattle.std.specs.Prelude.{Option, Result, Ok, Err, IfErr, IsErrAnd, flat_map, IsPermutation}
 use Rattle.std.specs.List.{AllZip}
 use Rattle.std.proofs.lemmas.List.{length-map}
+use Rattle.std.proofs.lemmas.List.Elements.{All-map}
+use Rattle.std.proofs.lemmas.List.Folds.{flat_map-map}
+use Rattle.std.proofs.lemmas.Slice.Zip.{AllZip-long}
 use Rattle.meter_io.specs.Reading.{TakesAtMost}
 use Rattle.flow_parts.specs.declared.timeouts.Timeouts.{Timeouts}
 use Rattle.cache_face.specs.Meaning.{PassMeans}
@@ -21,7 +24,7 @@ use Rattle.meter_workers.specs.Pieces.{pieces_of}
 use Rattle.meter_workers.specs.Shares.{IsShare, HaveMetered}
 use Rattle.meter_workers.specs.Working.{HasDrawn, HasWorked}
 use Rattle.meter_workers.proofs.Drawn.{covered, enough, pieces-each}
-use Rattle.meter_workers.proofs.Sharing.{zip-all, zip-second, zip-length, map-all, flat-mapped, grown}
+use Rattle.meter_workers.proofs.Sharing.{zip-all, zip-second, grown}
 
 -- ---- a part
 
@@ -42,7 +45,7 @@ all-drawn {X = X} {P = P} is_of shown limits pieces answers us vs draws are fini
     let S : W → W → Type 0 =
     λ o w. HasWorked {X = X} {P = P} is_of shown limits pieces answers o.share w.share w.seat in
     subst (All (HasDrawn pieces)) (sym are)
-    (map-all (HasDrawn pieces) (λ (w : W). w.seat) vs (zip-second (λ (w : W). HasDrawn pieces w.seat) S us vs
+    (All-map (HasDrawn pieces) (λ (w : W). w.seat) vs (zip-second (λ (w : W). HasDrawn pieces w.seat) S us vs
     (λ o w h. h.drawn) (zip-all (λ (w : W). w.state ≡ Finished) (λ o w. w.state ≡ Finished → S o w) S us vs
     (λ o w done step. step done) finished worked)))
 
@@ -77,7 +80,7 @@ part-metered {X = X} {P = P} is_of shown limits pieces answers before us vs shar
     let steps : AllZip T us vs = zip-all (λ (w : W). w.state ≡ Finished) (λ o w. w.state ≡ Finished → S o w) T us vs
     (λ o w done step. (step done).share) finished worked in
     let drawn : flat_map drawn_of draws ≡ flat_map (λ (w : W). drawn_of w.seat) vs =
-    ap (flat_map drawn_of) are ∙ flat-mapped drawn_of (λ (w : W). w.seat) vs in
+    ap (flat_map drawn_of) are ∙ flat_map-map drawn_of (λ (w : W). w.seat) vs in
     let all : IsPermutation answers (flat_map more vs) =
     subst (λ (l : List Answer). IsPermutation answers l)
     (ap (pieces_of size answers) drawn ∙ sym (pieces-each size answers (λ (w : W). drawn_of w.seat) vs))
@@ -93,7 +96,7 @@ pub still-many : {X P D : Type 0} (is_of : P → Type 0) (shown : P → PassMean
     → map (λ w. w.share) us ≡ shares → ds ≡ map f vs
     → HaveWorked {X = X} {P = P} is_of shown limits pieces answers us vs → length ds ≡ length shares
 still-many {X = X} {P = P} is_of shown limits pieces answers f us vs shares ds had has worked =
-    ap length has ∙ length-map vs f ∙ zip-length (λ (o w : Worker X DrawPass P). w.state ≡ Finished
+    ap length has ∙ length-map vs f ∙ AllZip-long (λ (o w : Worker X DrawPass P). w.state ≡ Finished
     → HasWorked {X = X} {P = P} is_of shown limits pieces answers o.share w.share w.seat) us vs worked
     ∙ sym (length-map us (λ (w : Worker X DrawPass P). w.share)) ∙ ap length had
 

@@ -1,13 +1,13 @@
 -- Records one after the other.
-use Rattle.std.proofs.Common.{◌≡◌, ℕ, ◌+◌, ◌-◌, ◌*◌, ◌<◌, ◌≤◌, ◌^◌, List, [], ◌∷◌, ◌++◌, length, get_or, take, drop}
-use Rattle.std.proofs.Common.{Some, None, sym, refl, ap, ◌∙◌, subst, arith, append_assoc, append-nil, length-drop}
+use Rattle.std.proofs.Common.{◌≡◌, ℕ, ◌+◌, ◌-◌, ◌<◌, ◌≤◌, ◌^◌, List, [], ◌∷◌, ◌++◌, length, get_or, take, drop}
+use Rattle.std.proofs.Common.{Some, None, sym, ap, ◌∙◌, subst, arith, append_assoc, append-nil, length-drop}
 use Rattle.std.specs.Prelude.{slice_range, slice_get, Option, Result, Ok, Err, IfOk, OnOk, IsPermutation}
 use Rattle.std.proofs.lemmas.List.{take_all, take_more, get_or-drop, length-append, drop-drop}
 use Rattle.std.proofs.Math.Seq.{take-add}
-use Rattle.std.proofs.lemmas.List.Elements.{All-push, All-append}
+use Rattle.std.proofs.lemmas.List.Elements.{All-push}
 use Rattle.std.proofs.lemmas.List.Sums.{sum_by-append}
-use Rattle.std.proofs.lemmas.List.Sorted.{IsPermutation-refl, IsPermutation-trans, IsPermutation-append_comm}
-use Rattle.std.proofs.lemmas.List.Sorted.{IsPermutation-append_left, IsPermutation-append_right}
+use Rattle.std.proofs.lemmas.List.Sorted.{IsPermutation-refl, IsPermutation-append_comm}
+use Rattle.std.proofs.lemmas.List.Sorted.{IsPermutation-append_left}
 use Rattle.std.proofs.lemmas.Option.{slice_get_within, get_or_from_slice_get}
 use Rattle.pcap_reader.specs.File.{CaptureFile}
 use Rattle.pcap_reader.specs.Records.{PacketRecord, records_of}
@@ -23,14 +23,13 @@ use Rattle.flow_parts.specs.Laws.{ReachesCounts}
 use Rattle.flow_parts.specs.Parts.{IsAlone}
 use Rattle.flow_parts.specs.Reaching.{Reaches}
 use Rattle.flow_parts.specs.Sharing.{SharesOut}
-use Rattle.capture_tally.specs.declared.tally.Tally.{Tally}
-use Rattle.capture_tally.specs.Tallies.{IsTallyOf, HasRoom}
+use Rattle.capture_tally.specs.Tallies.{IsTallyOf}
 use Rattle.cache_face.specs.Keeping.{packet_count}
 use Rattle.cache_face.specs.Meaning.{PassMeans}
 use Rattle.front_cache.specs.Fronts.{FrontMeans, open_in}
 use Rattle.capture_input.specs.Parts.{Answer, answers_from}
 use Rattle.meter_workers.specs.declared.share.Share.{Share}
-use Rattle.meter_workers.specs.Shares.{HasMetered, IsShare, AreSmall, HasLimits, open_of, put_by}
+use Rattle.meter_workers.specs.Shares.{HasMetered, AreSmall, HasLimits, open_of, put_by}
 
 -- ---- the answers to records
 
@@ -82,13 +81,6 @@ packets-few : (answers : List Answer) → length (packets_in answers) ≤ length
 packets-few [] = omega arith
 packets-few (Ok packet ∷ answers) = (let h = packets-few answers in omega (arith, h))
 packets-few (Err cause ∷ answers) = (let h = packets-few answers in omega (arith, h))
-
--- a tally of at most 2^32 records has room
-pub room-of : (tally : Tally) (answers : List Answer)
-    → ((tally : Tally) (answers : List Answer) → IsTallyOf tally answers → length answers < 2 ^ 38
-    → AreSmall (packets_in answers) → HasRoom tally)
-    → tally.captured < 2 ^ 38 → IsTallyOf tally answers → AreSmall (packets_in answers) → HasRoom tally
-room-of tally answers law few is small = law tally answers is (omega (arith, few, is.captured)) small
 
 -- ---- what was put in
 

@@ -1,10 +1,11 @@
 -- Shares that are emptied, united and listed.
-use Rattle.std.proofs.Common.{◌≡◌, ℕ, zero, suc, ◌+◌, ◌*◌, ◌<◌, ◌≤◌, ◌^◌, List, [], ◌∷◌, ◌++◌, length, map, get_or, None, refl, sym, ap}
+use Rattle.std.proofs.Common.{◌≡◌, ℕ, suc, ◌+◌, ◌<◌, ◌≤◌, ◌^◌, List, [], ◌∷◌, ◌++◌, length, map, get_or, None, refl, sym, ap}
 use Rattle.std.proofs.Common.{◌∙◌, subst, arith, append_assoc, append-nil, length-append, All}
-use Rattle.std.specs.Prelude.{Option, flat_map, IsPermutation}
+use Rattle.std.specs.Prelude.{flat_map, IsPermutation}
 use Rattle.std.specs.List.{AllZip}
 use Rattle.std.proofs.lemmas.Grind.{flat_map-append}
-use Rattle.std.proofs.lemmas.List.Elements.{All-append}
+use Rattle.std.proofs.lemmas.List.{map-append}
+use Rattle.std.proofs.lemmas.List.Elements.{All-append, All-cons, All-tail}
 use Rattle.std.proofs.lemmas.List.Sums.{sum_by-append}
 use Rattle.std.proofs.lemmas.List.Sorted.{IsPermutation-refl, IsPermutation-trans, IsPermutation-append_comm}
 use Rattle.std.proofs.lemmas.List.Sorted.{IsPermutation-append_left, IsPermutation-append_right, All-permutation}
@@ -13,14 +14,13 @@ use Rattle.packet_accept.specs.declared.packet.Packet.{Packet}
 use Rattle.packet_accept.specs.Packets.{packets_in}
 use Rattle.flow_parts.specs.declared.fragment.Fragment.{Fragment}
 use Rattle.flow_parts.specs.declared.timeouts.Timeouts.{Timeouts}
-use Rattle.flow_parts.specs.Laws.{StandsTogether, StandsPermuted, NothingIsShared}
+use Rattle.flow_parts.specs.Laws.{StandsTogether, StandsPermuted}
 use Rattle.flow_parts.specs.Sharing.{SharesOut}
 use Rattle.capture_tally.specs.declared.tally.Tally.{Tally}
 use Rattle.capture_tally.specs.Tallies.{IsTallyOf}
 use Rattle.cache_face.specs.Keeping.{packet_count}
-use Rattle.cache_face.specs.Meaning.{PassMeans, IsUnited, IsFresh}
+use Rattle.cache_face.specs.Meaning.{PassMeans, IsUnited}
 use Rattle.cache_face.specs.Notes.{Note}
-use Rattle.front_cache.specs.Fronts.{FrontMeans, open_in}
 use Rattle.capture_input.specs.Parts.{Answer}
 use Rattle.meter_workers.specs.declared.share.Share.{Share}
 use Rattle.meter_workers.specs.Shares.{HasMetered, HaveMetered, AreSmall, open_of, put_by}
@@ -36,26 +36,6 @@ room-out taken rest all out is room =
     let first : packet_count ((out ∷ []) ++ rest) ≡ 0 + out.packets + packet_count rest =
     sum_by-append (λ (f : Fragment). f.packets) (out ∷ []) rest in
     omega (arith, whole, both, first)
-
--- a share whose front was emptied into the cache
-pub metered-finished : {X P : Type 0} (shown : P → PassMeans) (limits : Timeouts) (answers : List Answer)
-    (old new : Share X P)
-    → (shown new.pass).note.taken ≡ put_by (shown old.pass) old.front → new.front ≡ None
-    → (old.parts.items ≡ (shown old.pass).note.handed → new.parts.items ≡ (shown new.pass).note.handed)
-    → new.tally ≡ old.tally → (shown new.pass).note.seats ≡ (shown old.pass).note.seats
-    → HasMetered {X = X} {P = P} shown limits answers old → HasMetered {X = X} {P = P} shown limits answers new
-metered-finished shown limits answers old new taken front keeps tally seats metered =
-    let put : put_by (shown new.pass) new.front ≡ put_by (shown old.pass) old.front =
-    ap (λ f. (shown new.pass).note.taken ++ open_of f) front ∙ append-nil (shown new.pass).note.taken ∙ taken in
-    record {
-      shared = subst (λ (l : List Fragment). SharesOut limits (packets_in answers) l) (sym put) metered.shared;
-      handed = keeps metered.handed;
-      tallied = subst (λ (t : Tally). IsTallyOf t answers) (sym tally) metered.tallied;
-      small = metered.small;
-      few = (let few = metered.few in let t = ap (λ (t : Tally). t.captured) tally in
-          subst (λ (n : ℕ). n ≤ (shown new.pass).note.seats * 2 ^ 32) (sym t)
-          (subst (λ (n : ℕ). old.tally.captured ≤ n * 2 ^ 32) (sym seats) few));
-    }
 
 -- two shares as one
 pub metered-both : {X P : Type 0} (shown : P → PassMeans) (limits : Timeouts) (done rest : List Answer)
@@ -122,6 +102,9 @@ metered-permuted shown limits answers others share stands permuted order perm me
 
 -- ---- lists of shares
 
+abbrev all-of : List (List Answer) → List Answer
+all-of lists = flat_map (λ (list : List Answer). list) lists
+
 zip-popped : {A B : Type 0} (R : A → B → Type 0) (us : List A) (ys : List B) (y : B) → AllZip R us (ys ++ y ∷ [])
     → (bs : List A) × (b : A) × (us ≡ bs ++ b ∷ []) × AllZip R bs ys × R b y
 zip-popped R [] [] y h = absurd h
@@ -137,12 +120,12 @@ pub popped : {S : Type 0} (Has : List Answer → S → Type 0) (answers : List A
     → (rest list : List Answer) × HaveMetered {S = S} Has rest ys × Has list x × IsPermutation answers (rest ++ list)
 popped Has answers xs ys x is have =
     let z = zip-popped Has have.lists ys x (subst (λ l. AllZip Has have.lists l) is have.each) in
-    let all : flat_map (λ (list : List Answer). list) have.lists ≡ flat_map (λ (list : List Answer). list) z.0 ++ z.1 =
-    ap (flat_map (λ (list : List Answer). list)) z.2 ∙ flat_map-append (λ (list : List Answer). list) z.0 (z.1 ∷ [])
-    ∙ ap (λ l. flat_map (λ (list : List Answer). list) z.0 ++ l) (append-nil z.1) in (
-      flat_map (λ (list : List Answer). list) z.0,
+    let all : all-of have.lists ≡ all-of z.0 ++ z.1 =
+    ap all-of z.2 ∙ flat_map-append (λ (list : List Answer). list) z.0 (z.1 ∷ [])
+    ∙ ap (λ l. all-of z.0 ++ l) (append-nil z.1) in (
+      all-of z.0,
       z.1,
-      record { lists = z.0; whole = IsPermutation-refl (flat_map (λ (list : List Answer). list) z.0); each = z.3 },
+      record { lists = z.0; whole = IsPermutation-refl (all-of z.0); each = z.3 },
       z.4,
       subst (λ l. IsPermutation answers l) all have.whole,
     )
@@ -159,29 +142,12 @@ none-left Has rest xs none have =
     no-lists Has rest have.lists (subst (λ l. AllZip Has have.lists l) none have.each) have.whole
 
 -- shares that have done nothing have metered no answers
-nothing-each : {S : Type 0} (Has : List Answer → S → Type 0) (xs : List S) → All (Has []) xs
-    → HaveMetered {S = S} Has [] xs
-nothing-each Has [] all = record { lists = []; whole = IsPermutation-refl []; each = tt }
-nothing-each Has (x ∷ xs) all =
-    let rest = nothing-each Has xs (λ k d inside. all (suc k) d (omega (arith, inside))) in
-    record {
-      lists = [] ∷ rest.lists;
-      whole = rest.whole;
-      each = (all 0 x (omega arith), rest.each);
-    }
-
 pub nothing-metered : {S : Type 0} (Has : List Answer → S → Type 0) (xs : List S) → All (Has []) xs
     → HaveMetered {S = S} Has [] xs
-nothing-metered = nothing-each
-
--- one more in front
-front-at : {X : Type 0} (P : X → Type 0) (xs : List X) (x : X) → P x → All P xs → (k : ℕ) (d : X)
-    → k < length (x ∷ xs) → P (get_or (x ∷ xs) k d)
-front-at P xs x px all zero d inside = px
-front-at P xs x px all (suc k) d inside = all k d (omega (arith, inside))
-
-pub all-front : {X : Type 0} (P : X → Type 0) (xs : List X) (x : X) → P x → All P xs → All P (x ∷ xs)
-all-front P xs x px all = λ k d inside. front-at P xs x px all k d inside
+nothing-metered Has [] all = record { lists = []; whole = IsPermutation-refl []; each = tt }
+nothing-metered Has (x ∷ xs) all =
+    let rest = nothing-metered Has xs (All-tail (Has []) x xs all) in
+    record { lists = [] ∷ rest.lists; whole = rest.whole; each = (all 0 x (omega arith), rest.each) }
 
 -- what holds at each place holds of the lists
 pub all-zip : {X : Type 0} (R : X → X → Type 0) (xs ys : List X) → length ys ≡ length xs
@@ -206,15 +172,7 @@ pub zip-second : {X : Type 0} (P : X → Type 0) (R : X → X → Type 0) (xs ys
 zip-second P R [] [] step h = λ k d inside. absurd (omega (arith, inside))
 zip-second P R [] (y ∷ ys) step h = absurd h
 zip-second P R (x ∷ xs) [] step h = absurd h
-zip-second P R (x ∷ xs) (y ∷ ys) step h = all-front P ys y (step x y h.0) (zip-second P R xs ys step h.1)
-
--- as many of one as of the other
-pub zip-length : {X Y : Type 0} (R : X → Y → Type 0) (xs : List X) (ys : List Y) → AllZip R xs ys
-    → length ys ≡ length xs
-zip-length R [] [] h = refl
-zip-length R [] (y ∷ ys) h = absurd h
-zip-length R (x ∷ xs) [] h = absurd h
-zip-length R (x ∷ xs) (y ∷ ys) h = ap suc (zip-length R xs ys h.1)
+zip-second P R (x ∷ xs) (y ∷ ys) step h = All-cons P y ys (step x y h.0) (zip-second P R xs ys step h.1)
 
 swapped : {Y : Type 0} (p q r : List Y) → IsPermutation (p ++ (q ++ r)) (q ++ (p ++ r))
 swapped p q r = subst (λ l. IsPermutation l (q ++ (p ++ r))) (append_assoc p q r)
@@ -227,9 +185,6 @@ grown-both a b c d =
     subst (λ l. IsPermutation l ((a ++ b) ++ (c ++ d))) (sym (append_assoc a c (b ++ d)))
     (subst (λ l. IsPermutation (a ++ (c ++ (b ++ d))) l) (sym (append_assoc a b (c ++ d)))
     (IsPermutation-append_right a (c ++ (b ++ d)) (b ++ (c ++ d)) (swapped c b d)))
-
-abbrev all-of : List (List Answer) → List Answer
-all-of lists = flat_map (λ (list : List Answer). list) lists
 
 grown-lists : {S W : Type 0} (Has : List Answer → S → Type 0) (share : W → S) (more : W → List Answer)
     (lists : List (List Answer)) (us vs : List W)
@@ -275,7 +230,7 @@ each-list Has [] (x ∷ xs) each = absurd each
 each-list Has (l ∷ lists) [] each = absurd each
 each-list Has (l ∷ lists) (x ∷ xs) each =
     let long = length-append l (all-of lists) in
-    all-front (λ x. (list : List Answer) × (length list ≤ length (all-of (l ∷ lists))) × Has list x) xs x
+    All-cons (λ x. (list : List Answer) × (length list ≤ length (all-of (l ∷ lists))) × Has list x) x xs
     (l, omega (arith, long), each.0)
     (λ k d inside. (let h = each-list Has lists xs each.1 k d inside in (h.0, (let le = h.1 in omega (arith, long, le)), h.2)))
 
@@ -291,22 +246,7 @@ each-metered Has answers xs have = λ k d inside.
 pub all-mapped : {W S : Type 0} (P : S → Type 0) (f : W → S) (ws : List W) → All P (map f ws) → All (λ w. P (f w)) ws
 all-mapped P f [] all = λ k d inside. absurd (omega (arith, inside))
 all-mapped P f (w ∷ ws) all =
-    all-front (λ v. P (f v)) ws w (all 0 (f w) (omega arith))
-    (all-mapped P f ws (λ k d inside. all (suc k) d (omega (arith, inside))))
-
-pub map-all : {W S : Type 0} (P : S → Type 0) (f : W → S) (ws : List W) → All (λ w. P (f w)) ws → All P (map f ws)
-map-all P f [] all = λ k d inside. absurd (omega (arith, inside))
-map-all P f (w ∷ ws) all =
-    all-front P (map f ws) (f w) (all 0 w (omega arith))
-    (map-all P f ws (λ k d inside. all (suc k) d (omega (arith, inside))))
-
-pub all-both : {W : Type 0} (P Q : W → Type 0) (ws : List W) → All P ws → All Q ws → All (λ w. P w × Q w) ws
-all-both P Q ws p q = λ k d inside. (p k d inside, q k d inside)
-
-pub flat-mapped : {W D Y : Type 0} (f : D → List Y) (g : W → D) (ws : List W)
-    → flat_map f (map g ws) ≡ flat_map (λ w. f (g w)) ws
-flat-mapped f g [] = refl
-flat-mapped f g (w ∷ ws) = ap (λ l. f (g w) ++ l) (flat-mapped f g ws)
+    All-cons (λ v. P (f v)) w ws (all 0 (f w) (omega arith)) (all-mapped P f ws (All-tail P (f w) (map f ws) all))
 
 -- what was the rest's is put to the others
 pub moved-back : {Y : Type 0} (answers rest done rest' list : List Y) → IsPermutation answers (rest ++ done)
@@ -317,13 +257,9 @@ moved-back answers rest done rest' list all some =
     (subst (λ l. IsPermutation l (rest' ++ (done ++ list))) (sym (append_assoc rest' list done))
     (IsPermutation-append_right rest' (list ++ done) (done ++ list) (IsPermutation-append_comm list done))))
 
-map-last : {W Y : Type 0} (f : W → Y) (ws : List W) (w : W) → map f (ws ++ w ∷ []) ≡ map f ws ++ f w ∷ []
-map-last f [] w = refl
-map-last f (v ∷ ws) w = ap (λ l. f v ∷ l) (map-last f ws w)
-
 -- one is taken off the end, and what is taken of it put to the front of the others
 pub moved-front : {W Y : Type 0} (f : W → Y) (ws ws' : List W) (w : W) (ys ys' all : List Y) → ws ≡ ws' ++ w ∷ []
     → ys' ≡ f w ∷ ys → map f ws ++ ys ≡ all → map f ws' ++ ys' ≡ all
 moved-front f ws ws' w ys ys' all taken put is =
     ap (λ l. map f ws' ++ l) put ∙ sym (append_assoc (map f ws') (f w ∷ []) ys)
-    ∙ ap (λ l. l ++ ys) (sym (ap (map f) taken ∙ map-last f ws' w)) ∙ is
+    ∙ ap (λ l. l ++ ys) (sym (ap (map f) taken ∙ map-append f ws' (w ∷ []))) ∙ is

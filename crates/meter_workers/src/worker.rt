@@ -55,7 +55,8 @@ pub(crate) fn seat_workers<C: FlowCache, T: Drop>(
     Ok(workers)
 }
 
-/// What the workers have done, and their seats, where all have finished. `NoMemory`: one ended without.
+/// What the workers have done, and their seats, where all have finished. `NoMemory`: memory was out, for one of them or
+/// here.
 pub(crate) fn unseat_workers<C: FlowCache, T: Drop>(
     alloc: Global,
     workers: Vec<Worker<C, T>>,

@@ -1,9 +1,5 @@
-use Rattle.std.proofs.Common.{◌≡◌, ◌++◌, List, [], ap, ◌∙◌, sym, subst}
-use Rattle.capture_input.specs.Parts.{Answer}
+use Rattle.std.proofs.Common.{[], ◌∙◌, sym}
 use Rattle.batch_queue.specs.Passes.{took_of}
-use Rattle.meter_workers.specs.declared.share.Share.{Share}
-use Rattle.meter_workers.specs.Shares.{IsShare}
-use Rattle.meter_workers.specs.Batched.{answers_in}
 use Rattle.meter_workers.proofs.Crew.{ready-nothing, taken-all}
 use Rattle.meter_workers.proofs.batches.work.Goals.{in-Ok, in-Err}
 use Rattle.meter_workers.proofs.batches.work.Goals as goal

@@ -1,4 +1,4 @@
-use Rattle.std.proofs.Common.{◌≡◌, ◌++◌, ◌∷◌, List, [], length, refl, sym, ap, subst, ◌∙◌, arith, append_assoc, append-nil}
+use Rattle.std.proofs.Common.{◌≡◌, ◌++◌, ◌∷◌, List, [], length, sym, ap, subst, ◌∙◌, arith, append_assoc, append-nil}
 use Rattle.std.specs.Prelude.{slice_range}
 use Rattle.pcap_reader.specs.File.{CaptureFile}
 use Rattle.pcap_reader.specs.Index.{Offsets}
@@ -10,7 +10,6 @@ use Rattle.meter_workers.specs.Shares.{IsShare}
 use Rattle.meter_workers.specs.Batched.{answers_of_batch, answers_in}
 use Rattle.meter_workers.proofs.Records.{answers-count, whole-range}
 use Rattle.meter_workers.proofs.Taking.{more-none, more-both, took-more, took-same, answers-more, ready-more, ready-same}
-use Rattle.meter_workers.proofs.batches.work_batches.Given as given
 use Rattle.meter_workers.proofs.batches.work_batches.Goals as goal
 
 pub loop-init : goal.loop-init

@@ -1,4 +1,4 @@
-use Rattle.std.proofs.Common.{◌≡◌, ◌≤◌, ◌++◌, List, []}
+use Rattle.std.proofs.Common.{◌++◌, List, []}
 use Rattle.batch_queue.specs.Passes.{IsPassOf, IsMore, took_of}
 use Rattle.batch_queue.specs.declared.batch.Batch.{Batch}
 use Rattle.capture_input.specs.Parts.{Answer}

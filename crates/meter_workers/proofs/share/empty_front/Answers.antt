@@ -1,4 +1,4 @@
-use Rattle.std.proofs.Common.{◌≡◌, ◌++◌, ◌∷◌, List, [], length, sym, ap, ◌∙◌, subst, arith, append_assoc, append-nil}
+use Rattle.std.proofs.Common.{◌++◌, ◌∷◌, [], length, sym, ap, ◌∙◌, arith, append_assoc}
 use Rattle.front_cache.specs.Fronts.{open_in}
 use Rattle.meter_workers.proofs.Sharing.{room-out}
 use Rattle.meter_workers.proofs.share.empty_front.Goals as goal

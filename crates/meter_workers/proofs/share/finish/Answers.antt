@@ -1,4 +1,4 @@
-use Rattle.std.proofs.Common.{◌≡◌, ◌++◌, ◌≤◌, ◌^◌, ap, subst, arith}
+use Rattle.std.proofs.Common.{◌++◌, ◌≤◌, ◌^◌, subst, arith}
 use Rattle.cache_face.specs.Keeping.{packet_count}
 use Rattle.meter_workers.specs.Shares.{open_of}
 use Rattle.meter_workers.proofs.Records.{put-few}

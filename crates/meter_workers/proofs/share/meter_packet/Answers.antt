@@ -1,7 +1,5 @@
-use Rattle.std.proofs.Common.{◌≡◌, ◌+◌, ◌++◌, ◌∷◌, ◌≤◌, ◌^◌, ℕ, List, [], sym, ap, arith, append-nil}
-use Rattle.front_cache.specs.Fronts.{FrontMeans, open_in}
+use Rattle.std.proofs.Common.{◌+◌, ◌∷◌, ◌≤◌, ◌^◌, [], sym, arith, append-nil}
 use Rattle.cache_face.specs.Keeping.{packet_count}
-use Rattle.meter_workers.specs.Shares.{open_of}
 use Rattle.meter_workers.proofs.Records.{reached-alone, reached-through, room-through, on-ok}
 use Rattle.meter_workers.proofs.share.meter_packet.Goals as goal
 

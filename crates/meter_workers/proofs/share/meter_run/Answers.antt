@@ -1,10 +1,9 @@
-use Rattle.std.proofs.Common.{◌≡◌, ◌+◌, ◌++◌, ◌∷◌, List, [], refl, sym, subst, ap, ◌∙◌, arith, append_assoc, append-nil}
+use Rattle.std.proofs.Common.{◌+◌, ◌++◌, List, refl, sym, subst, ap, ◌∙◌, arith, append_assoc, append-nil}
 use Rattle.std.specs.Prelude.{slice_range}
 use Rattle.capture_input.specs.Parts.{Answer, answers_by}
 use Rattle.meter_workers.specs.declared.share.Share.{Share}
 use Rattle.meter_workers.specs.Shares.{IsShare}
 use Rattle.meter_workers.proofs.Records.{range-none, range-both}
-use Rattle.meter_workers.proofs.share.meter_run.Given as given
 use Rattle.meter_workers.proofs.share.meter_run.Goals as goal
 
 pub loop-n-init : goal.loop-n-init

@@ -1,10 +1,10 @@
-use Rattle.std.proofs.Common.{◌≡◌, List, [], rules, sym, subst}
+use Rattle.std.proofs.Common.{[], rules, sym, subst}
 use Rattle.std.specs.Prelude.{All}
 use Rattle.cache_face.specs.Meaning.{IsFresh}
 use Rattle.meter_workers.specs.declared.share.Share.{Share}
 use Rattle.meter_workers.specs.Shares.{IsShare}
 use Rattle.meter_workers.proofs.Taken.{all_popped}
-use Rattle.meter_workers.proofs.Sharing.{all-front}
+use Rattle.std.proofs.lemmas.List.Elements.{All-cons}
 use Rattle.meter_workers.proofs.share.open_shares.Goals as goal
 
 pub loop-pass-preserved : goal.loop-pass-preserved
@@ -19,6 +19,6 @@ loop-pass-preserved g c =
       many = search rules;
       left = p.0;
       shares = subst (All Is) (sym c.in_ok-insert.ensures.items)
-          (all-front Is c.loop-pass.shares.items c.in_ok-open_share.field-0 c.in_ok-open_share.ensures
+          (All-cons Is c.in_ok-open_share.field-0 c.loop-pass.shares.items c.in_ok-open_share.ensures
           c.loop-pass.invariant.shares);
     }

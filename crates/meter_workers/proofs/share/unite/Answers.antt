@@ -1,6 +1,4 @@
-use Rattle.std.proofs.Common.{◌≡◌, ◌++◌, List, refl, rules}
-use Rattle.flow_parts.specs.declared.fragment.Fragment.{Fragment}
-use Rattle.meter_workers.specs.declared.share.Share.{Share}
+use Rattle.std.proofs.Common.{◌≡◌, ◌++◌, refl, rules}
 use Rattle.meter_workers.proofs.Sharing.{metered-both}
 use Rattle.meter_workers.proofs.share.unite.Goals as goal
 
