@@ -69,7 +69,8 @@ pub record IsStill (old new : QueuePass) : Type 0 where
   pub took : took_of new ≡ took_of old
 
 -- A reader that can hand on batches, and has handed on some answers; `the` is what the type of the cache means.
-pub record IsReading {X P : Type 0} (the : Ghosts X P) (cache : X) (queue : BatchQueue) (reader : Reader X P) : Type 0 where
+pub record IsReading {X P : Type 0} (the : Ghosts X P) (cache : X) (queue : BatchQueue)
+    (reader : Reader X P) : Type 0 where
   pub of : IsPassOf queue (reader_of reader.feed)
   pub puts : IsReaders (reader_of reader.feed)
   pub goes : IsOpen reader.feed

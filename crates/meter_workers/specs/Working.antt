@@ -2,11 +2,14 @@
 use Rattle.std.specs.Prelude.{◌≡◌, ℕ, ◌<◌, ◌≤◌, List, ◌++◌}
 use Rattle.flow_parts.specs.declared.timeouts.Timeouts.{Timeouts}
 use Rattle.cache_face.specs.Meaning.{PassMeans}
+use Rattle.cache_face.specs.declared.caches.FlowCache.{Ghosts}
 use Rattle.capture_input.specs.Parts.{Answer}
 use Rattle.work_pieces.specs.declared.pieces.Pieces.{Pieces}
 use Rattle.work_pieces.specs.declared.pieces.DrawPass.{DrawPass}
 use Rattle.work_pieces.specs.Passes.{IsPassOf, IsFresh, size_of, drawn_of, seats_of, nones_of}
 use Rattle.meter_workers.specs.declared.share.Share.{Share}
+use Rattle.meter_workers.specs.declared.worker.Worker.{Worker}
+use Rattle.meter_workers.specs.declared.worker.WorkState.TheVariants.{Finished}
 use Rattle.meter_workers.specs.Pieces.{pieces_of}
 use Rattle.meter_workers.specs.Shares.{IsShare}
 
@@ -31,3 +34,24 @@ pub record HasWorked {X P : Type 0} (is_of : P → Type 0) (shown : P → PassMe
   pub drawn : HasDrawn pieces draw
   pub share : (done : List Answer) → IsShare {X = X} {P = P} is_of shown limits done old
       → IsShare {X = X} {P = P} is_of shown limits (done ++ pieces_of (size_of pieces) answers (drawn_of draw)) new
+
+-- ---- the same by what the type of a cache means
+
+abbrev pub IsReadyOf : {X P : Type 0} → Ghosts X P → X → Pieces → ℕ → Share X P → DrawPass → Type 0
+IsReadyOf {X} {P} the cache pieces base share draw =
+    IsReady {X = X} {P = P} (the.is_of cache) the.shown (the.means cache).limits pieces base share draw
+
+abbrev pub HasWorkedOf : {X P : Type 0} → Ghosts X P → X → Pieces → List Answer → Share X P → Share X P → DrawPass
+    → Type 0
+HasWorkedOf {X} {P} the cache pieces answers old new draw =
+    HasWorked {X = X} {P = P} (the.is_of cache) the.shown (the.means cache).limits pieces answers old new draw
+
+-- A worker before a part.
+abbrev pub IsToDraw : {X P : Type 0} → Ghosts X P → X → Pieces → ℕ → Worker X DrawPass P → Type 0
+IsToDraw the cache pieces base worker = IsReadyOf the cache pieces base worker.share worker.seat
+
+-- A worker that, if it has finished, has worked.
+abbrev pub HasDrawnAll : {X P : Type 0} → Ghosts X P → X → Pieces → List Answer → Worker X DrawPass P
+    → Worker X DrawPass P → Type 0
+HasDrawnAll the cache pieces answers old new =
+    new.state ≡ Finished → HasWorkedOf the cache pieces answers old.share new.share new.seat

@@ -61,8 +61,8 @@ struct Memory {
     index: RecordIndex,
 }
 
-/// What the reader and the workers share beside the cache: the batches that were read, and the memory of those that were
-/// metered.
+/// What the reader and the workers share beside the cache: the batches that were read, and the memory of those that
+/// were metered.
 #[derive(Drop)]
 struct Shared {
     queue: BatchQueue,
@@ -97,8 +97,8 @@ impl Shared {
     }
 }
 
-/// Takes batches and meters each, until no more come and none is left. The gate is told of each batch before. A seat that
-/// stands for all took all batches that were put then.
+/// Takes batches and meters each, until no more come and none is left. The gate is told of each batch before. A seat
+/// that stands for all took all batches that were put then.
 fn work_batches<C: FlowCache, G: Gate, R: Wait>(
     rt: &R,
     shared: &Shared,
@@ -513,13 +513,13 @@ fn gather<C: FlowCache, G: Gate, R: Wait>(
 
 /// Meters a capture through a cache while it is read: the caller's thread reads it, in windows of so many bytes, into a
 /// queue of batches, and a thread for each worker takes them from it. The passes of the cache (3 to 64) are one for the
-/// reader, one for what is left in the queue at the end, and one for each worker; each has a front where fronts are asked
-/// for, which is emptied into the cache at the end.
+/// reader, one for what is left in the queue at the end, and one for each worker; each has a front where fronts are
+/// asked for, which is emptied into the cache at the end.
 ///
 /// The gate is told of each batch by its number, before it is metered: by a worker's number, counted from 0, by the
-/// number of workers where the reader meters it, and by that and one more at the end. What was put in through the united
-/// pass shares out the packets of the capture; `parts` are the fragments that it was handed; the tally is that of all
-/// records, and the source has nothing left. At most `room` + workers + 2 buffers of `size` bytes exist.
+/// number of workers where the reader meters it, and by that and one more at the end. What was put in through the
+/// united pass shares out the packets of the capture; `parts` are the fragments that it was handed; the tally is that
+/// of all records, and the source has nothing left. At most `room` + workers + 2 buffers of `size` bytes exist.
 ///
 /// Refusals in the order of [`MeterFault`]: where the input is no capture, of an unknown link type or damaged, it is
 /// read to its end first, so that `Failed` and `TooLarge` keep their place. `NoMemory` may come at any time. All

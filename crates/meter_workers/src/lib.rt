@@ -1,15 +1,15 @@
 //! Workers that meter a capture through one shared cache, each record once.
 //!
-//! One engine serves two ways to read. [`meter_windows`] reads a window of the capture, meters it by all workers at once,
-//! and reads the next: the records of a window are cut into pieces, which the workers draw ([`work_pieces`]).
+//! One engine serves two ways to read. [`meter_windows`] reads a window of the capture, meters it by all workers at
+//! once, and reads the next: the records of a window are cut into pieces, which the workers draw ([`work_pieces`]).
 //! [`meter_batches`] reads while workers meter: the reader hands whole windows on as batches of a queue
 //! ([`batch_queue`]), and meters one itself where the queue is full. [`meter_all`] meters a capture in memory.
 //!
 //! What a seat of the cache does is a share (`share.rt`): its pass of the cache, its front, where it has one, the
-//! fragments that the cache handed it, and the tally of its records. A share meters a run of records of a
-//! [`Part`]; a packet goes into the front, and what leaves it goes into the cache. At the end each front is emptied into
-//! the cache through its own pass, and the shares are united. `specs/Shares.antt` says what a share has done: what was
-//! put in shares out the packets of the records that it metered. So how many packets were put in is known from the tally
+//! fragments that the cache handed it, and the tally of its records. A share meters a run of records of a [`Part`]; a
+//! packet goes into the front, and what leaves it goes into the cache. At the end each front is emptied into the cache
+//! through its own pass, and the shares are united. `specs/Shares.antt` says what a share has done: what was put in
+//! shares out the packets of the records that it metered. So how many packets were put in is known from the tally
 //! alone, and nothing is said of the order of the records.
 //!
 //! Nothing on the packet's path is shared but the cache and the word that pieces are drawn from. Everything is generic

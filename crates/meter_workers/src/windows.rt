@@ -1,7 +1,7 @@
 //! A capture that is read in windows, each metered before the next is read.
 
-ghost use Rattle.std.specs.Prelude.{◌≡◌, ◌≢◌, ◌+◌, ◌++◌, ◌^◌, ◌<◌, ◌≤◌, [], List, ℕ, length, flat_map, All, IfOk, IfErr, IfSome};
-ghost use Rattle.std.specs.Prelude.{OnOk, IsPermutation};
+ghost use Rattle.std.specs.Prelude.{◌≡◌, ◌≢◌, ◌+◌, ◌++◌, ◌^◌, ◌<◌, ◌≤◌, [], List, ℕ, length, flat_map, All};
+ghost use Rattle.std.specs.Prelude.{IfOk, IfErr, IfSome, OnOk, IsPermutation};
 ghost use Rattle.std.specs.List.{AllZip};
 ghost use Rattle.std.specs.declared.option.Option.{Option};
 ghost use Rattle.meter_io.specs.Sides.{side};
@@ -17,8 +17,9 @@ ghost use Rattle.capture_input.specs.Giving.{HasGiven, IsReadWhole, part_in, bas
 ghost use Rattle.work_pieces.specs.Dealing.{EachOnce};
 ghost use Rattle.work_pieces.specs.Passes.{IsPassOf, IsFresh, count_of, size_of, number_of, seats_in, drawn_of};
 ghost use Rattle.meter_workers.specs.Pieces.{pieces_of};
-ghost use Rattle.meter_workers.specs.Shares.{HasMetered, HaveMetered, IsShare};
-ghost use Rattle.meter_workers.specs.Working.{IsReady, HasDrawn, HasWorked};
+ghost use Rattle.meter_workers.specs.Shares.{HaveMetered};
+ghost use Rattle.meter_workers.specs.Seats.{IsShareOf};
+ghost use Rattle.meter_workers.specs.Working.{HasDrawn, IsReadyOf, HasWorkedOf, IsToDraw, HasDrawnAll};
 ghost use Rattle.meter_workers.specs.Whole.{IsMeteredWhole};
 
 use crate::gate::Gate;
@@ -72,11 +73,10 @@ fn work_through<C: FlowCache, G: Gate>(
     draw: &mut DrawPass,
     share: &mut Share<C>,
 ) -> Result<(), NoMemory>
-    requires ready { IsReady (C.is_of cache.now) C.shown (C.means cache.now).limits pieces.now part.now.base share.old
-        draw.old }
+    requires ready { IsReadyOf C.FlowCache cache.now pieces.now part.now.base share.old draw.old }
     requires whole { count_of pieces.now ≡ length part.now.index.now.offsets }
-    ensures worked { OnOk result (HasWorked (C.is_of cache.now) C.shown (C.means cache.now).limits pieces.now
-        (answers_by part.now) share.old share.new draw.new) }
+    ensures worked { OnOk result (HasWorkedOf C.FlowCache cache.now pieces.now (answers_by part.now) share.old share.new
+        draw.new) }
 {
     while let Some(piece) = pieces.draw(draw) {
         gate.reach(number, piece.number);
@@ -93,12 +93,10 @@ fn work<C: FlowCache, G: Gate>(
     gate: &G,
     worker: &mut Worker<C, DrawPass>,
 )
-    requires ready { IsReady (C.is_of cache.now) C.shown (C.means cache.now).limits pieces.now part.now.base
-        worker.old.share worker.old.seat }
+    requires ready { IsToDraw C.FlowCache cache.now pieces.now part.now.base worker.old }
     requires whole { count_of pieces.now ≡ length part.now.index.now.offsets }
     ensures ended { worker.new.state ≢ WorkState.Going }
-    ensures worked { worker.new.state ≡ WorkState.Finished → HasWorked (C.is_of cache.now) C.shown
-        (C.means cache.now).limits pieces.now (answers_by part.now) worker.old.share worker.new.share worker.new.seat }
+    ensures worked { HasDrawnAll C.FlowCache cache.now pieces.now (answers_by part.now) worker.old worker.new }
 {
     let end = work_through(
         part,
@@ -125,12 +123,11 @@ fn work_all<C: FlowCache, G: Gate, R: Threads + Sync>(
     workers: &mut [Worker<C, DrawPass>],
 )
     requires some { 0 < length workers.old }
-    requires ready { All (λ w. IsReady (C.is_of cache.now) C.shown (C.means cache.now).limits pieces.now part.now.base
-        w.share w.seat) workers.old }
+    requires ready { All (IsToDraw C.FlowCache cache.now pieces.now part.now.base) workers.old }
     requires whole { count_of pieces.now ≡ length part.now.index.now.offsets }
     ensures ended { All (λ w. w.state ≢ WorkState.Going) workers.new }
-    ensures worked { AllZip (λ o w. w.state ≡ WorkState.Finished → HasWorked (C.is_of cache.now) C.shown
-        (C.means cache.now).limits pieces.now (answers_by part.now) o.share w.share w.seat) workers.old workers.new }
+    ensures worked { AllZip (HasDrawnAll C.FlowCache cache.now pieces.now (answers_by part.now)) workers.old
+        workers.new }
 {
     let count = workers.len();
     thread::for_each_mut(
@@ -138,13 +135,11 @@ fn work_all<C: FlowCache, G: Gate, R: Threads + Sync>(
         workers,
         count,
         &|_, w: &mut Worker<C, DrawPass>|
-            requires ready { IsReady (C.is_of cache.now) C.shown (C.means cache.now).limits pieces.now part.now.base
-                w.old.share w.old.seat }
+            requires ready { IsToDraw C.FlowCache cache.now pieces.now part.now.base w.old }
             requires whole { count_of pieces.now ≡ length part.now.index.now.offsets }
             ensures ended { w.new.state ≢ WorkState.Going }
-            ensures worked { w.new.state ≡ WorkState.Finished → HasWorked (C.is_of cache.entry.now) C.shown
-                (C.means cache.entry.now).limits pieces.entry.now (answers_by part.entry.now) w.old.share w.new.share
-                w.new.seat }
+            ensures worked { HasDrawnAll C.FlowCache cache.entry.now pieces.entry.now (answers_by part.entry.now) w.old
+                w.new }
         { work(part, pieces, cache, gate, w) },
     );
 }
@@ -159,12 +154,11 @@ fn run_workers<C: FlowCache, G: Gate, R: Threads + Sync>(
     mut workers: Vec<Worker<C, DrawPass>>,
 ) -> Vec<Worker<C, DrawPass>>
     requires some { 0 < length workers.items }
-    requires ready { All (λ w. IsReady (C.is_of cache.now) C.shown (C.means cache.now).limits pieces.now part.now.base
-        w.share w.seat) workers.items }
+    requires ready { All (IsToDraw C.FlowCache cache.now pieces.now part.now.base) workers.items }
     requires whole { count_of pieces.now ≡ length part.now.index.now.offsets }
     ensures ended { All (λ w. w.state ≢ WorkState.Going) result.items }
-    ensures worked { AllZip (λ o w. w.state ≡ WorkState.Finished → HasWorked (C.is_of cache.now) C.shown
-        (C.means cache.now).limits pieces.now (answers_by part.now) o.share w.share w.seat) workers.items result.items }
+    ensures worked { AllZip (HasDrawnAll C.FlowCache cache.now pieces.now (answers_by part.now)) workers.items
+        result.items }
 {
     work_all(rt, part, pieces, cache, gate, workers.as_mut_slice());
     workers
@@ -199,12 +193,11 @@ fn meter_part<C: FlowCache, G: Gate, R: Threads + Sync>(
 ) -> Result<Vec<Share<C>>, NoMemory>
     requires piece { (0 < piece) × (piece ≤ 65536) }
     requires some { (0 < length shares.items) × (length shares.items ≤ 64) }
-    requires metered { (before : List Answer) × (length before ≤ part.now.base) × HaveMetered (IsShare
-        (C.is_of cache.now) C.shown (C.means cache.now).limits) before shares.items }
+    requires metered { (before : List Answer) × (length before ≤ part.now.base)
+        × HaveMetered (IsShareOf C.FlowCache cache.now) before shares.items }
     ensures many { IfOk result (λ r. length r.items ≡ length shares.items) }
-    ensures metered { (before : List Answer) → HaveMetered (IsShare (C.is_of cache.now) C.shown
-        (C.means cache.now).limits) before shares.items → IfOk result (λ r. HaveMetered (IsShare (C.is_of cache.now) C.shown
-        (C.means cache.now).limits) (before ++ answers_by part.now) r.items) }
+    ensures metered { (before : List Answer) → HaveMetered (IsShareOf C.FlowCache cache.now) before shares.items
+        → IfOk result (λ r. HaveMetered (IsShareOf C.FlowCache cache.now) (before ++ answers_by part.now) r.items) }
 {
     let seats = shares.len();
     let (pieces, draws) = Pieces::open(alloc, part.index.count(), piece, seats)?;
@@ -233,15 +226,16 @@ fn meter_parts<S: Source, C: FlowCache, G: Gate, R: Threads + Sync>(
     requires base { base_in first.0 ≡ 0 }
     requires given { (before : Option (List ℕ)) × (limit : ℕ) × HasGiven before (S.left source.old) limit first.0
         (answers_from 0 (part_in first.0)) }
-    requires shares { All (IsShare (C.is_of cache.now) C.shown (C.means cache.now).limits []) shares.items }
+    requires shares { All (IsShareOf C.FlowCache cache.now []) shares.items }
     ensures many { IfOk result (λ r. length r.0.items ≡ length shares.items) }
     ensures metered { (before : Option (List ℕ)) (limit : ℕ)
         → HasGiven before (S.left source.old) limit first.0 (answers_from 0 (part_in first.0))
         → IfOk result (λ r. (answers : List Answer) × IsReadWhole before (S.left source.new) limit answers r.1
-        × HaveMetered (IsShare (C.is_of cache.now) C.shown (C.means cache.now).limits) answers r.0.items) }
+        × HaveMetered (IsShareOf C.FlowCache cache.now) answers r.0.items) }
     ensures refused { (before : Option (List ℕ)) (limit : ℕ)
         → HasGiven before (S.left source.old) limit first.0 (answers_from 0 (part_in first.0))
-        → IfErr result (λ fault. IsRefused (side_from before (side S.left S.faults source.old source.new)) limit fault) }
+        → IfErr result
+        (λ fault. IsRefused (side_from before (side S.left S.faults source.old source.new)) limit fault) }
     ensures faults { HasFaults (side S.left S.faults source.old source.new) result }
 {
     let (mut reading, mut index) = first;
@@ -259,11 +253,11 @@ fn meter_parts<S: Source, C: FlowCache, G: Gate, R: Threads + Sync>(
     }
 }
 
-/// Meters a capture that is read in windows, through a cache, by one worker for each of its passes (1 to 64). Each window
-/// is metered, by all workers at once, before the next is read; what is left behind the last record of a window begins
-/// the next one. The memory of the window and of its index is taken once. Where fronts are asked for, each worker has
-/// one across all windows, and only what leaves it goes into the cache; behind the last window each front is emptied
-/// into the cache through its own pass.
+/// Meters a capture that is read in windows, through a cache, by one worker for each of its passes (1 to 64). Each
+/// window is metered, by all workers at once, before the next is read; what is left behind the last record of a window
+/// begins the next one. The memory of the window and of its index is taken once. Where fronts are asked for, each
+/// worker has one across all windows, and only what leaves it goes into the cache; behind the last window each front is
+/// emptied into the cache through its own pass.
 ///
 /// The records of a window are cut into pieces; the gate is told of each piece, by its number within the window. What
 /// was put in through the united pass shares out the packets of the capture; `parts` are the fragments that it was
@@ -331,12 +325,12 @@ pub(crate) fn gather_all<C: FlowCache>(all: Share<C>, tail: u64) -> Gathered<C>
     }
 }
 
-/// Meters a capture that is in memory, as its first and only part, through a cache, by one worker for each of its passes
-/// (1 to 64), all at once, without fronts.
+/// Meters a capture that is in memory, as its first and only part, through a cache, by one worker for each of its
+/// passes (1 to 64), all at once, without fronts.
 ///
 /// The records are cut into pieces of `piece` records (1 to 65,536); the gate is told of each piece. What was put in
-/// through the united pass shares out the packets of the part; `parts` are the fragments that it was handed, in the order
-/// of its note; the tally is that of all records.
+/// through the united pass shares out the packets of the part; `parts` are the fragments that it was handed, in the
+/// order of its note; the tally is that of all records.
 ///
 /// `NoMemory`: out of memory. Nothing of the capture is said then.
 pub fn meter_all<C: FlowCache, G: Gate, R: Threads + Sync>(
