@@ -190,8 +190,15 @@ share-ignored shown limits answers answer cause share share' together is room ta
       tallied = next;
       small = subst AreSmall (sym here) metered.small;
       few = (let seats = ap (λ p. (shown p).note.seats) pass in
-          omega (arith, next.captured, metered.tallied.captured, length-append answers (answer ∷ []), room, single,
-          seats));
+          omega (
+            arith,
+            next.captured,
+            metered.tallied.captured,
+            length-append answers (answer ∷ []),
+            room,
+            single,
+            seats,
+          ));
     }
 
 -- what several facts say of a value together

@@ -89,8 +89,16 @@ metered-both shown limits done rest one other both stands together united none n
       small = subst AreSmall (sym (together done rest))
           (All-append (λ p. p.octets < 2 ^ 24) (packets_in done) (packets_in rest) first.small second.small);
       few = (let few = first.few in let few' = second.few in
-          omega (arith, few, few', seats, tallied.captured, first.tallied.captured, second.tallied.captured,
-          length-append done rest));
+          omega (
+            arith,
+            few,
+            few',
+            seats,
+            tallied.captured,
+            first.tallied.captured,
+            second.tallied.captured,
+            length-append done rest,
+          ));
     }
 
 -- the order of the answers plays no part
@@ -131,8 +139,7 @@ popped Has answers xs ys x is have =
     let z = zip-popped Has have.lists ys x (subst (λ l. AllZip Has have.lists l) is have.each) in
     let all : flat_map (λ (list : List Answer). list) have.lists ≡ flat_map (λ (list : List Answer). list) z.0 ++ z.1 =
     ap (flat_map (λ (list : List Answer). list)) z.2 ∙ flat_map-append (λ (list : List Answer). list) z.0 (z.1 ∷ [])
-    ∙ ap (λ l. flat_map (λ (list : List Answer). list) z.0 ++ l) (append-nil z.1) in
-    (
+    ∙ ap (λ l. flat_map (λ (list : List Answer). list) z.0 ++ l) (append-nil z.1) in (
       flat_map (λ (list : List Answer). list) z.0,
       z.1,
       record { lists = z.0; whole = IsPermutation-refl (flat_map (λ (list : List Answer). list) z.0); each = z.3 },
@@ -236,8 +243,7 @@ grown-lists Has share more [] (u ∷ us) vs steps each = absurd each
 grown-lists Has share more [] [] (v ∷ vs) steps each = absurd steps
 grown-lists Has share more (l ∷ lists) (u ∷ us) [] steps each = absurd steps
 grown-lists Has share more (l ∷ lists) (u ∷ us) (v ∷ vs) steps each =
-    let rest = grown-lists Has share more lists us vs steps.1 each.1 in
-    (
+    let rest = grown-lists Has share more lists us vs steps.1 each.1 in (
       (l ++ more v) ∷ rest.0,
       (steps.0 l each.0, rest.1),
       IsPermutation-trans _ ((l ++ more v) ++ (all-of lists ++ flat_map more vs)) _

@@ -33,10 +33,9 @@ use meter_io::Source;
 use no_memory::NoMemory;
 use pcap_reader::RecordIndex;
 use std::alloc::Global;
-use std::mem;
 use std::sync::Wait;
-use std::thread;
 use std::thread::{Threads, join_mut};
+use std::{mem, thread};
 
 /// How a capture is metered in batches.
 #[derive(Clone, Copy, Debug)]
@@ -314,11 +313,18 @@ fn read_all<S: Source, C: FlowCache, G: Gate, R: Wait>(
 {
     let (mut reading, mut index) = Reading::begin(alloc, source, shared.size, limit)?;
     loop {
-        (reading, index) =
-            match hand_part(rt, alloc, shared, cache, gate, reader, (reading, index)) {
-                Ok(read) => read,
-                Err(NoMemory) => return Err(MeterFault::NoMemory),
-            };
+        (reading, index) = match hand_part(
+            rt,
+            alloc,
+            shared,
+            cache,
+            gate,
+            reader,
+            (reading, index),
+        ) {
+            Ok(read) => read,
+            Err(NoMemory) => return Err(MeterFault::NoMemory),
+        };
         if reading.is_last() {
             return Ok(reading.tail());
         }
@@ -326,33 +332,8 @@ fn read_all<S: Source, C: FlowCache, G: Gate, R: Wait>(
     }
 }
 
-/// Reads a capture, and says then, however that ended, that no more batches come.
-fn read_and_end<S: Source, C: FlowCache, G: Gate, R: Wait>(
-    rt: &R,
-    alloc: Global,
-    source: &mut S,
-    shared: &Shared,
-    cache: &C,
-    gate: &G,
-    reader: &mut Reader<C>,
-    limit: u64,
-) -> Result<u64, MeterFault>
-    requires limit { limit ≤ 2 ^ 30 }
-    requires own { IsPassOf shared.now.queue (reader_of reader.old.feed) × IsReaders (reader_of reader.old.feed)
-        × IsOpen reader.old.feed }
-    requires fresh { IsFresh (reader_of reader.old.feed) × (reader.old.next ≡ 0) }
-    requires share { IsShareOf C.FlowCache cache.now [] reader.old.share }
-    ensures read { IfOk result (λ tail. HasReadAll C.FlowCache cache.now shared.now.queue (S.left source.old)
-        (S.left source.new) limit reader.old reader.new tail) }
-    ensures refused { IfErr result (λ fault. IsRefused (side S.left S.faults source.old source.new) limit fault) }
-    ensures faults { HasFaults (side S.left S.faults source.old source.new) result }
-{
-    let end = read_all(rt, alloc, source, shared, cache, gate, reader, limit);
-    shared.queue.end(&mut reader.feed);
-    end
-}
-
-/// The reader and all workers at once. The workers, once they have worked, and how the reader ended.
+/// The reader and all workers at once. However the reader ends, it says then that no more batches come. The workers,
+/// once they have worked, and how the reader ended.
 fn run_both<S: Source, C: FlowCache, G: Gate, R: Threads + Wait + Sync>(
     rt: &R,
     alloc: Global,
@@ -398,7 +379,11 @@ fn run_both<S: Source, C: FlowCache, G: Gate, R: Threads + Wait + Sync>(
             ensures refused { IfErr result
                 (λ fault. IsRefused (side S.left S.faults source.entry.now source.exit.now) limit fault) }
             ensures faults { HasFaults (side S.left S.faults source.entry.now source.exit.now) result }
-        { read_and_end(rt, alloc, source, shared, cache, gate, reader, limit) },
+        {
+            let end = read_all(rt, alloc, source, shared, cache, gate, reader, limit);
+            shared.queue.end(&mut reader.feed);
+            end
+        },
     )
 }
 

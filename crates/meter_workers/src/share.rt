@@ -16,7 +16,8 @@ use cache_face::FlowCache;
 use capture_input::Part;
 use capture_tally::{Tally, order_law, room_law};
 use flow_parts::laws::{
-    reaching_goes_on, reaching_shares_out, sharing_out_counts, sharing_out_goes_on, sharing_out_stands,
+    reaching_goes_on, reaching_shares_out, sharing_out_counts, sharing_out_goes_on,
+    sharing_out_stands,
 };
 use flow_parts::{Fragment, Timeouts};
 use front_cache::Front;

@@ -290,16 +290,7 @@ pub fn meter_windows<S: Source, C: FlowCache, G: Gate, R: Threads + Sync>(
         return Err(MeterFault::NoMemory);
     };
     let first = Reading::begin(alloc, source, windows.size, windows.limit)?;
-    let (shares, tail) = meter_parts(
-        rt,
-        alloc,
-        source,
-        first,
-        cache,
-        shares,
-        windows.piece,
-        gate,
-    )?;
+    let (shares, tail) = meter_parts(rt, alloc, source, first, cache, shares, windows.piece, gate)?;
     match unite_all(cache, shares) {
         Ok(all) => Ok(gather_all(all, tail)),
         Err(NoMemory) => Err(MeterFault::NoMemory),

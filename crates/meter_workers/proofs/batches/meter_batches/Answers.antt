@@ -13,9 +13,10 @@ pub gather-requires-clause-many : goal.gather-requires-clause-many
 gather-requires-clause-many g c κs within =
     let read = if-ok c.run_both-workers.result.1 _ c.in_ok-tail.tail c.in_ok-tail.was c.run_both-workers.ensures.read in
     let same = c.run_both-workers.ensures.same in
-    let others = c.in-Ok.ensures.others in
-    (read.still.others ∙ others.0 ∙ sym same,
-    (let many = others.1 in let most = c.requires.passes.1 in omega (arith, same, many, most)))
+    let others = c.in-Ok.ensures.others in (
+      read.still.others ∙ others.0 ∙ sym same,
+      (let many = others.1 in let most = c.requires.passes.1 in omega (arith, same, many, most)),
+    )
 
 pub returns-in-Ok-gather-clause-metered : goal.returns-in-Ok-gather-clause-metered
 returns-in-Ok-gather-clause-metered g c =

@@ -22,10 +22,11 @@ returns-clause-shares g c =
     let rest = c.remove-share.new.self.items in
     let some' : 0 < length rest =
     (let len = c.remove-share.ensures.len in
-    omega (arith, many, least, len, c.remove-share.new.self.ok.0, c.in_ok-shares.shares.ok.0)) in
-    (first-of P all c.remove-share.result told.shares some c.remove-share.ensures.value,
-    first-of P rest c.remove-last.result (behind-first P all rest told.shares c.remove-share.ensures.by_index.2) some'
-    c.remove-last.ensures.value)
+    omega (arith, many, least, len, c.remove-share.new.self.ok.0, c.in_ok-shares.shares.ok.0)) in (
+      first-of P all c.remove-share.result told.shares some c.remove-share.ensures.value,
+      first-of P rest c.remove-last.result (behind-first P all rest told.shares c.remove-share.ensures.by_index.2) some'
+          c.remove-last.ensures.value,
+    )
 
 pub returns-clause-workers : goal.returns-clause-workers
 returns-clause-workers g c =

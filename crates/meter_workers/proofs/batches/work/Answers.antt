@@ -19,17 +19,17 @@ work_batches-end-requires-clause-ready g c κs within =
 pub returns : goal.returns
 returns g c = record {
   worked = elim c.match-end.branch [
-  in-Ok w ↦ (
-    λ going. absurd (let e = sym w.worker-is ∙ going in cc),
-    λ finished.
-        (let did = w.in-Ok.ensures.did in
-        taken-all g.C.FlowCache c.args.cache.now c.args.shared.now.queue c.args.worker.now.share
-        c.work_batches-end.new.share c.args.worker.now.seat c.work_batches-end.new.seat did.0 c.requires.ready
-        c.work_batches-end.ensures.own did.1 did.2),
-  )
-  | in-Err w ↦ (
-    λ going. absurd (let e = sym w.worker-is ∙ going in cc),
-    λ finished. absurd (let e = sym w.worker-is ∙ finished in cc),
-  )
-];
+    | in-Ok w ↦ (
+      λ going. absurd (let e = sym w.worker-is ∙ going in cc),
+      λ finished.
+          (let did = w.in-Ok.ensures.did in
+          taken-all g.C.FlowCache c.args.cache.now c.args.shared.now.queue c.args.worker.now.share
+          c.work_batches-end.new.share c.args.worker.now.seat c.work_batches-end.new.seat did.0 c.requires.ready
+          c.work_batches-end.ensures.own did.1 did.2),
+    )
+    | in-Err w ↦ (
+      λ going. absurd (let e = sym w.worker-is ∙ going in cc),
+      λ finished. absurd (let e = sym w.worker-is ∙ finished in cc),
+    )
+  ];
 }

@@ -20,8 +20,11 @@ loop-init g c =
     record {
       of = c.requires.own;
       ready = c.requires.ready;
-      did = ([], more-none c.args.seat.now,
-      λ done share. subst (λ (l : List Answer). Has l c.args.share.now) (sym (append-nil done)) share);
+      did = (
+        [],
+        more-none c.args.seat.now,
+        λ done share. subst (λ (l : List Answer). Has l c.args.share.now) (sym (append-nil done)) share,
+      );
     }
 
 pub meter_run-requires-clause-share : goal.meter_run-requires-clause-share

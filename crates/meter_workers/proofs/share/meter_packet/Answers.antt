@@ -18,23 +18,31 @@ put_in-requires-clause-room g c κs within =
 pub returns-in-Some-take_in-clause-reached : goal.returns-in-Some-take_in-clause-reached
 returns-in-Some-take_in-clause-reached g c =
     let told = c.in-Some-take_in.ensures.reached in
-    on-ok c.put_in.result (told.0, told.1,
-    reached-through _ told.0 _ _ (c.in-Some-take_in.out ∷ []) c.args.front.now c.in-Some.front c.take_in.new.self
-    c.reaching_goes_on.ensures.onward c.reaching_goes_on.ensures.permuted c.reaching_goes_on.ensures.together
-    c.requires.seated.front_is c.in-Some.is told.2 c.put_in.ensures.taken)
+    on-ok c.put_in.result (
+      told.0,
+      told.1,
+      reached-through _ told.0 _ _ (c.in-Some-take_in.out ∷ []) c.args.front.now c.in-Some.front c.take_in.new.self
+          c.reaching_goes_on.ensures.onward c.reaching_goes_on.ensures.permuted c.reaching_goes_on.ensures.together
+          c.requires.seated.front_is c.in-Some.is told.2 c.put_in.ensures.taken,
+    )
 
 pub returns-in-None-take_in-clause-reached : goal.returns-in-None-take_in-clause-reached
 returns-in-None-take_in-clause-reached g c =
     let told = c.in-None-take_in.ensures.reached in
-    let taken = (g.C.FlowCache.shown c.args.pass.now).note.taken in
-    (told.0, told.1,
-    reached-through _ told.0 _ _ [] c.args.front.now c.in-Some.front c.take_in.new.self
-    c.reaching_goes_on.ensures.onward c.reaching_goes_on.ensures.permuted c.reaching_goes_on.ensures.together
-    c.requires.seated.front_is c.in-Some.is told.2 (sym (append-nil taken)))
+    let taken = (g.C.FlowCache.shown c.args.pass.now).note.taken in (
+      told.0,
+      told.1,
+      reached-through _ told.0 _ _ [] c.args.front.now c.in-Some.front c.take_in.new.self
+          c.reaching_goes_on.ensures.onward c.reaching_goes_on.ensures.permuted c.reaching_goes_on.ensures.together
+          c.requires.seated.front_is c.in-Some.is told.2 (sym (append-nil taken)),
+    )
 
 pub returns-in-None-clause-reached : goal.returns-in-None-clause-reached
 returns-in-None-clause-reached g c =
-    on-ok c.put_in-in-None.result (c.of.result, c.of.ensures.alone,
-    reached-alone _ c.of.result _ _ c.args.front.now c.reaching_goes_on.ensures.onward
-    c.reaching_goes_on.ensures.permuted c.reaching_goes_on.ensures.together c.in-None.is
-    c.put_in-in-None.ensures.taken)
+    on-ok c.put_in-in-None.result (
+      c.of.result,
+      c.of.ensures.alone,
+      reached-alone _ c.of.result _ _ c.args.front.now c.reaching_goes_on.ensures.onward
+          c.reaching_goes_on.ensures.permuted c.reaching_goes_on.ensures.together c.in-None.is
+          c.put_in-in-None.ensures.taken,
+    )

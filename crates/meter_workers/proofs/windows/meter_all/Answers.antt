@@ -26,8 +26,7 @@ meter_part-requires-clause-metered g c κs within =
 pub unite_all-requires-clause-metered : goal.unite_all-requires-clause-metered
 unite_all-requires-clause-metered g c κs within =
     let Has : List Answer → S g → Type 0 =
-    IsShare (g.C.FlowCache.is_of c.args.cache.now) g.C.FlowCache.shown (g.C.FlowCache.means c.args.cache.now).limits in
-    (
+    IsShare (g.C.FlowCache.is_of c.args.cache.now) g.C.FlowCache.shown (g.C.FlowCache.means c.args.cache.now).limits in (
       [] ++ answers_by c.args.part.now,
       c.in_ok-shares-2.ensures.metered []
           (nothing-metered {S = S g} Has c.in_ok-shares.shares.items c.in_ok-shares.ensures.shares),

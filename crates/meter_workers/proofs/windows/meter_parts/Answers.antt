@@ -25,12 +25,12 @@ loop-shares-init g c =
       part = c.requires.part;
       few = c.requires.few;
       read = λ before limit given. (
-            [],
-            c.requires.base,
-            subst (λ (n : ℕ). HasGiven before (g.S.Source.left c.args.source.now) limit first
-                (answers_from n (part_in first))) (sym c.requires.base) given,
-            nothing-metered {S = S g} Has c.args.shares.items c.requires.shares,
-          );
+        [],
+        c.requires.base,
+        subst (λ (n : ℕ). HasGiven before (g.S.Source.left c.args.source.now) limit first
+            (answers_from n (part_in first))) (sym c.requires.base) given,
+        nothing-metered {S = S g} Has c.args.shares.items c.requires.shares,
+      );
       quiet = refl;
     }
 
@@ -61,8 +61,7 @@ returns-then-is_last-clause-metered g c = λ before limit given.
     let r = c.loop-shares.invariant.read before limit given in
     let part : List Answer = answers_from (base_in reading) (part_in reading) in
     let same : answers_by c.part-part.result ≡ part =
-    (λ i. answers_from (c.part-part.ensures.base i) (c.part-part.ensures.file i)) in
-    (
+    (λ i. answers_from (c.part-part.ensures.base i) (c.part-part.ensures.file i)) in (
       r.0 ++ part,
       c.tail.ensures before (g.S.Source.left c.loop-shares.source) limit (r.0 ++ part) r.2
           (c.is_last.ensures.0 c.if-is_last.true),
@@ -105,8 +104,7 @@ loop-shares-preserved g c =
       few = next.few;
       read = λ before limit given.
           (let r = c.loop-shares.invariant.read before limit given in
-          let told = next.given before limit (r.0 ++ part) r.2 in
-          (
+          let told = next.given before limit (r.0 ++ part) r.2 in (
             r.0 ++ part,
             told.0,
             told.1,

@@ -30,9 +30,10 @@ loop-draw-init g c =
 
 pub meter_run-requires-clause-share : goal.meter_run-requires-clause-share
 meter_run-requires-clause-share g c κs within =
-    let r = c.requires.ready in
-    (r.done ++ pieces_of (size_of c.args.pieces.now) (answers_by c.args.part.now) (drawn_of c.loop-draw.draw),
-    c.loop-draw.invariant.share r.done r.is)
+    let r = c.requires.ready in (
+      r.done ++ pieces_of (size_of c.args.pieces.now) (answers_by c.args.part.now) (drawn_of c.loop-draw.draw),
+      c.loop-draw.invariant.share r.done r.is,
+    )
 
 pub meter_run-requires-clause-room : goal.meter_run-requires-clause-room
 meter_run-requires-clause-room g c κs within =
