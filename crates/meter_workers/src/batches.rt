@@ -17,7 +17,7 @@ ghost use Rattle.batch_queue.specs.Passes.{seats_of, others_of, reader_of, IsOpe
 ghost use Rattle.batch_queue.specs.declared.batch.Batch.{Batch};
 ghost use Rattle.meter_workers.specs.Seats.{IsShareOf, AreSharesOf};
 ghost use Rattle.meter_workers.specs.Batched.{answers_of_batch, answers_in, IsReadyFor, IsToTake, HasTakenAll};
-ghost use Rattle.meter_workers.specs.Batched.{IsReading, HandsOn, IsReaderAt, HasHandedOn, HasReadAll};
+ghost use Rattle.meter_workers.specs.Batched.{IsToRead, IsReading, HandsOn, IsReaderAt, HasHandedOn, HasReadAll};
 ghost use Rattle.meter_workers.specs.Whole.{IsMeteredWhole};
 
 use crate::gate::Gate;
@@ -302,10 +302,7 @@ fn read_all<S: Source, C: FlowCache, G: Gate, R: Wait>(
     limit: u64,
 ) -> Result<u64, MeterFault>
     requires limit { limit ≤ 2 ^ 30 }
-    requires own { IsPassOf shared.now.queue (reader_of reader.old.feed) × IsReaders (reader_of reader.old.feed)
-        × IsOpen reader.old.feed }
-    requires fresh { IsFresh (reader_of reader.old.feed) × (reader.old.next ≡ 0) }
-    requires share { IsShareOf C.FlowCache cache.now [] reader.old.share }
+    requires reading { IsToRead C.FlowCache cache.now shared.now.queue reader.old }
     ensures read { IfOk result (λ tail. HasReadAll C.FlowCache cache.now shared.now.queue (S.left source.old)
         (S.left source.new) limit reader.old reader.new tail) }
     ensures refused { IfErr result (λ fault. IsRefused (side S.left S.faults source.old source.new) limit fault) }
@@ -346,10 +343,7 @@ fn run_both<S: Source, C: FlowCache, G: Gate, R: Threads + Wait + Sync>(
     limit: u64,
 ) -> (Vec<Worker<C, QueuePass>>, Result<u64, MeterFault>)
     requires limit { limit ≤ 2 ^ 30 }
-    requires own { IsPassOf shared.now.queue (reader_of reader.old.feed) × IsReaders (reader_of reader.old.feed)
-        × IsOpen reader.old.feed }
-    requires fresh { IsFresh (reader_of reader.old.feed) × (reader.old.next ≡ 0) }
-    requires share { IsShareOf C.FlowCache cache.now [] reader.old.share }
+    requires reading { IsToRead C.FlowCache cache.now shared.now.queue reader.old }
     requires some { 0 < length workers.items }
     requires ready { All (IsToTake C.FlowCache cache.now shared.now.queue) workers.items }
     ensures same { length result.0.items ≡ length workers.items }
@@ -370,10 +364,7 @@ fn run_both<S: Source, C: FlowCache, G: Gate, R: Threads + Wait + Sync>(
         { run_workers(rt, alloc, shared, cache, gate, &mut workers) },
         &mut || -> Result<u64, MeterFault>
             requires limit { limit ≤ 2 ^ 30 }
-            requires own { IsPassOf shared.now.queue (reader_of reader.now.feed)
-                × IsReaders (reader_of reader.now.feed) × IsOpen reader.now.feed }
-            requires fresh { IsFresh (reader_of reader.now.feed) × (reader.now.next ≡ 0) }
-            requires share { IsShareOf C.FlowCache cache.now [] reader.now.share }
+            requires reading { IsToRead C.FlowCache cache.now shared.now.queue reader.now }
             ensures read { IfOk result (λ tail. HasReadAll C.FlowCache cache.entry.now shared.entry.now.queue
                 (S.left source.entry.now) (S.left source.exit.now) limit reader.entry.now reader.exit.now tail) }
             ensures refused { IfErr result
