@@ -1,11 +1,11 @@
 -- A part after the other is handed on.
-use Rattle.std.proofs.Common.{◌≡◌, ◌+◌, ◌++◌, List, [], length, refl, sym, ap, ◌∙◌, subst, arith}
+use Rattle.std.proofs.Common.{◌≡◌, ◌+◌, ◌++◌, [], length, refl, ◌∙◌, subst, arith}
 use Rattle.std.specs.Prelude.{Result, Ok, Err, IfErr, IsErrAnd}
 use Rattle.meter_io.specs.Sides.{side}
 use Rattle.capture_input.specs.declared.fault.MeterFault.{MeterFault}
 use Rattle.capture_input.specs.Refusals.{IsRefused}
-use Rattle.capture_input.specs.Parts.{Answer, answers_from}
-use Rattle.capture_input.specs.Giving.{HasGiven, base_in, part_in}
+use Rattle.capture_input.specs.Parts.{answers_from}
+use Rattle.capture_input.specs.Giving.{base_in, part_in}
 use Rattle.batch_queue.specs.Passes.{put_of, reader_of}
 use Rattle.meter_workers.proofs.Taking.{handed-none, still-none, still-again, ready-later}
 use Rattle.meter_workers.proofs.Handing.{ready-first, given-first, given-few, base-next, refused-from}
