@@ -36,8 +36,7 @@ pub loaded_more : (set place slot me : ℕ) (known : Seat) (past : History)
     (loaded_past me (root_of set place) place slot known past)
 loaded_more set place slot me known past is_set is_seen before k lt = dite (ℕ_discrete k place)
     (λ (here : k ≡ place). (let is : slot_at now place ≡ slot = ap (λ s. unwrap_or (slot_under s) 0) is_set in
-    subst At (sym here)
-    (
+    subst At (sym here) (
       is_set ∙ ap (λ n. shield.Set n) (sym is),
       subst (λ n. has now.seen n ≡ true) (sym is) is_seen,
       (
@@ -61,8 +60,10 @@ loaded_more set place slot me known past is_set is_seen before k lt = dite (ℕ_
   where
     now : Seat
     now = loaded_seat place slot known
+
     new : History
     new = loaded_past me (root_of set place) place slot known past
+
     At : ℕ → Type 0
     At n = (shield_at now n ≡ shield.Set (slot_at now n)) × (has now.seen (slot_at now n) ≡ true)
         × ((shown_at new.loads (root_of set n) ≡ Some (slot_at now n))

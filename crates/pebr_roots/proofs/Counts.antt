@@ -72,6 +72,7 @@ passed_few shape known force other result x y h = by (is_passable known h.status
     forced : (b : Bool) → is_passable known h.status ≡ false → force ≡ b → HasMade 2 x y
     forced true is e = let all = h.ejected is e in made_two _ _ x y all.2
     forced false is e = made_in 1 2 x y (omega arith) (made_one _ x y (h.held_up is e).1)
+
     by : (b : Bool) → is_passable known h.status ≡ b → HasMade 2 x y
     by true is = made_in 1 2 x y (omega arith) (made_one _ x y (h.passed is).1)
     by false is = forced force is refl
@@ -96,13 +97,12 @@ more_on x y z h k = (h.0 + k.0, made_on h.0 k.0 x y z h.1 k.1)
 module _ (shape : Shape) (known : Seat) (force : Bool) (me : ℕ) where
   passing : (js : List ℕ) (x y : List Op)
       → AreMade (ButFor me (λ j. HasPassed shape known force j true)) js x y → More x y
-  passing js x y all =
-      (
-        2 * length js,
-        made_each (ButFor me (λ j. HasPassed shape known force j true)) 2 js x y
-            (λ j l r. but_few me 2 j (λ k. HasPassed shape known force k true) l r
-            (λ p q. passed_few shape known force j true p q)) all,
-      )
+  passing js x y all = (
+    2 * length js,
+    made_each (ButFor me (λ j. HasPassed shape known force j true)) 2 js x y
+        (λ j l r. but_few me 2 j (λ k. HasPassed shape known force k true) l r
+        (λ p q. passed_few shape known force j true p q)) all,
+  )
 
   scanned_few : (n j : ℕ) (x y : List Op) → n ≡ 1 * length (range_with_len 0 shape.shields)
       → HasScannedSome shape j shape.shields x y → HasMade n x y
@@ -112,13 +112,12 @@ module _ (shape : Shape) (known : Seat) (force : Bool) (me : ℕ) where
 
   scanning : (n : ℕ) (js : List ℕ) (x y : List Op) → n ≡ 1 * length (range_with_len 0 shape.shields)
       → AreMade (ButFor me (λ j. HasScannedSome shape j shape.shields)) js x y → More x y
-  scanning n js x y is all =
-      (
-        n * length js,
-        made_each (ButFor me (λ j. HasScannedSome shape j shape.shields)) n js x y
-            (λ j l r. but_few me n j (λ k. HasScannedSome shape k shape.shields) l r
-            (λ p q. scanned_few n j p q is)) all,
-      )
+  scanning n js x y is all = (
+    n * length js,
+    made_each (ButFor me (λ j. HasScannedSome shape j shape.shields)) n js x y
+        (λ j l r. but_few me n j (λ k. HasScannedSome shape k shape.shields) l r
+        (λ p q. scanned_few n j p q is)) all,
+  )
 
 -- a whole collection only adds operations
 pub collection_more : (shape : Shape) (force : Bool) (me : ℕ) (known : Seat) (ended : Bool) (past past' : History)

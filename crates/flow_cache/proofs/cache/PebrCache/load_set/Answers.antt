@@ -31,10 +31,20 @@ loop-place-preserved c =
           ∙ ap (λ (s : Seat). record s { seen = k.seen; shields = k.shields }) before.known;
       past =
           subst (λ (y : History). y ≡ record (past_by old) {
-            last = y.last; steps = y.steps; loads = y.loads; reads = y.reads; shown = y.shown }) (sym c.load.ensures.past)
+            last = y.last;
+            steps = y.steps;
+            loads = y.loads;
+            reads = y.reads;
+            shown = y.shown;
+          }) (sym c.load.ensures.past)
           refl
           ∙ ap (λ (y : History). record y {
-            last = p.last; steps = p.steps; loads = p.loads; reads = p.reads; shown = p.shown }) before.past;
+            last = p.last;
+            steps = p.steps;
+            loads = p.loads;
+            reads = p.reads;
+            shown = p.shown;
+          }) before.past;
       loaded = subst (λ (s : Seat). AreLoaded c.args.set (place + 1) s p) (sym c.load.ensures.known)
           (subst (λ (y : History). AreLoaded c.args.set (place + 1) (loaded_seat place c.load.result (known_by old)) y)
           (sym c.load.ensures.past)
