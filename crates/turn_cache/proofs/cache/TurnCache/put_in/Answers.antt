@@ -7,7 +7,7 @@ use Rattle.cache_face.specs.declared.metered.How.TheVariants.{PassedBy}
 use Rattle.cache_face.specs.Meaning.{IsAnswer}
 use Rattle.cache_face.specs.Tries.{HasLost}
 use Rattle.turn_cache.specs.Hands.{Hand, entries_of}
-use Rattle.turn_cache.specs.Moves.{Sat, filled_hand, after_tries, passed_by}
+use Rattle.turn_cache.specs.Moves.{Sat, filled_hand, after_tries}
 use Rattle.turn_cache.specs.Shown.{means_of, IsTryOf}
 use Rattle.turn_cache.proofs.Answering.{answered, lost_at, lost_before, hand_means}
 use Rattle.turn_cache.proofs.cache.TurnCache.put_in.Goals as goal
