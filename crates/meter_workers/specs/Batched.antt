@@ -68,8 +68,19 @@ pub record IsStill (old new : QueuePass) : Type 0 where
   pub others : others_of new ≡ others_of old
   pub took : took_of new ≡ took_of old
 
--- A reader that can hand on batches, and has handed on some answers; `the` is what the type of the cache means.
-pub record IsReading {X P : Type 0} (the : Ghosts X P) (cache : X) (queue : BatchQueue) (reader : Reader X P) : Type 0 where
+-- A reader that has read nothing; `the` is what the type of the cache means.
+pub record IsToRead {X P : Type 0} (the : Ghosts X P) (cache : X) (queue : BatchQueue)
+    (reader : Reader X P) : Type 0 where
+  pub of : IsPassOf queue (reader_of reader.feed)
+  pub puts : IsReaders (reader_of reader.feed)
+  pub goes : IsOpen reader.feed
+  pub fresh : IsFresh (reader_of reader.feed)
+  pub first : reader.next ≡ 0
+  pub share : IsShare {X = X} {P = P} (the.is_of cache) the.shown (the.means cache).limits [] reader.share
+
+-- A reader that can hand on batches, and has handed on some answers.
+pub record IsReading {X P : Type 0} (the : Ghosts X P) (cache : X) (queue : BatchQueue)
+    (reader : Reader X P) : Type 0 where
   pub of : IsPassOf queue (reader_of reader.feed)
   pub puts : IsReaders (reader_of reader.feed)
   pub goes : IsOpen reader.feed

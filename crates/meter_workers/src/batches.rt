@@ -17,7 +17,7 @@ ghost use Rattle.batch_queue.specs.Passes.{seats_of, others_of, reader_of, IsOpe
 ghost use Rattle.batch_queue.specs.declared.batch.Batch.{Batch};
 ghost use Rattle.meter_workers.specs.Seats.{IsShareOf, AreSharesOf};
 ghost use Rattle.meter_workers.specs.Batched.{answers_of_batch, answers_in, IsReadyFor, IsToTake, HasTakenAll};
-ghost use Rattle.meter_workers.specs.Batched.{IsReading, HandsOn, IsReaderAt, HasHandedOn, HasReadAll};
+ghost use Rattle.meter_workers.specs.Batched.{IsToRead, IsReading, HandsOn, IsReaderAt, HasHandedOn, HasReadAll};
 ghost use Rattle.meter_workers.specs.Whole.{IsMeteredWhole};
 
 use crate::gate::Gate;
@@ -60,8 +60,8 @@ struct Memory {
     index: RecordIndex,
 }
 
-/// What the reader and the workers share beside the cache: the batches that were read, and the memory of those that were
-/// metered.
+/// What the reader and the workers share beside the cache: the batches that were read, and the memory of those that
+/// were metered.
 #[derive(Drop)]
 struct Shared {
     queue: BatchQueue,
@@ -96,8 +96,8 @@ impl Shared {
     }
 }
 
-/// Takes batches and meters each, until no more come and none is left. The gate is told of each batch before. A seat that
-/// stands for all took all batches that were put then.
+/// Takes batches and meters each, until no more come and none is left. The gate is told of each batch before. A seat
+/// that stands for all took all batches that were put then.
 fn work_batches<C: FlowCache, G: Gate, R: Wait>(
     rt: &R,
     shared: &Shared,
@@ -302,10 +302,7 @@ fn read_all<S: Source, C: FlowCache, G: Gate, R: Wait>(
     limit: u64,
 ) -> Result<u64, MeterFault>
     requires limit { limit ≤ 2 ^ 30 }
-    requires own { IsPassOf shared.now.queue (reader_of reader.old.feed) × IsReaders (reader_of reader.old.feed)
-        × IsOpen reader.old.feed }
-    requires fresh { IsFresh (reader_of reader.old.feed) × (reader.old.next ≡ 0) }
-    requires share { IsShareOf C.FlowCache cache.now [] reader.old.share }
+    requires reading { IsToRead C.FlowCache cache.now shared.now.queue reader.old }
     ensures read { IfOk result (λ tail. HasReadAll C.FlowCache cache.now shared.now.queue (S.left source.old)
         (S.left source.new) limit reader.old reader.new tail) }
     ensures refused { IfErr result (λ fault. IsRefused (side S.left S.faults source.old source.new) limit fault) }
@@ -332,33 +329,8 @@ fn read_all<S: Source, C: FlowCache, G: Gate, R: Wait>(
     }
 }
 
-/// Reads a capture, and says then, however that ended, that no more batches come.
-fn read_and_end<S: Source, C: FlowCache, G: Gate, R: Wait>(
-    rt: &R,
-    alloc: Global,
-    source: &mut S,
-    shared: &Shared,
-    cache: &C,
-    gate: &G,
-    reader: &mut Reader<C>,
-    limit: u64,
-) -> Result<u64, MeterFault>
-    requires limit { limit ≤ 2 ^ 30 }
-    requires own { IsPassOf shared.now.queue (reader_of reader.old.feed) × IsReaders (reader_of reader.old.feed)
-        × IsOpen reader.old.feed }
-    requires fresh { IsFresh (reader_of reader.old.feed) × (reader.old.next ≡ 0) }
-    requires share { IsShareOf C.FlowCache cache.now [] reader.old.share }
-    ensures read { IfOk result (λ tail. HasReadAll C.FlowCache cache.now shared.now.queue (S.left source.old)
-        (S.left source.new) limit reader.old reader.new tail) }
-    ensures refused { IfErr result (λ fault. IsRefused (side S.left S.faults source.old source.new) limit fault) }
-    ensures faults { HasFaults (side S.left S.faults source.old source.new) result }
-{
-    let end = read_all(rt, alloc, source, shared, cache, gate, reader, limit);
-    shared.queue.end(&mut reader.feed);
-    end
-}
-
-/// The reader and all workers at once. The workers, once they have worked, and how the reader ended.
+/// The reader and all workers at once. However the reader ends, it says then that no more batches come. The workers,
+/// once they have worked, and how the reader ended.
 fn run_both<S: Source, C: FlowCache, G: Gate, R: Threads + Wait + Sync>(
     rt: &R,
     alloc: Global,
@@ -371,10 +343,7 @@ fn run_both<S: Source, C: FlowCache, G: Gate, R: Threads + Wait + Sync>(
     limit: u64,
 ) -> (Vec<Worker<C, QueuePass>>, Result<u64, MeterFault>)
     requires limit { limit ≤ 2 ^ 30 }
-    requires own { IsPassOf shared.now.queue (reader_of reader.old.feed) × IsReaders (reader_of reader.old.feed)
-        × IsOpen reader.old.feed }
-    requires fresh { IsFresh (reader_of reader.old.feed) × (reader.old.next ≡ 0) }
-    requires share { IsShareOf C.FlowCache cache.now [] reader.old.share }
+    requires reading { IsToRead C.FlowCache cache.now shared.now.queue reader.old }
     requires some { 0 < length workers.items }
     requires ready { All (IsToTake C.FlowCache cache.now shared.now.queue) workers.items }
     ensures same { length result.0.items ≡ length workers.items }
@@ -395,16 +364,17 @@ fn run_both<S: Source, C: FlowCache, G: Gate, R: Threads + Wait + Sync>(
         { run_workers(rt, alloc, shared, cache, gate, &mut workers) },
         &mut || -> Result<u64, MeterFault>
             requires limit { limit ≤ 2 ^ 30 }
-            requires own { IsPassOf shared.now.queue (reader_of reader.now.feed)
-                × IsReaders (reader_of reader.now.feed) × IsOpen reader.now.feed }
-            requires fresh { IsFresh (reader_of reader.now.feed) × (reader.now.next ≡ 0) }
-            requires share { IsShareOf C.FlowCache cache.now [] reader.now.share }
+            requires reading { IsToRead C.FlowCache cache.now shared.now.queue reader.now }
             ensures read { IfOk result (λ tail. HasReadAll C.FlowCache cache.entry.now shared.entry.now.queue
                 (S.left source.entry.now) (S.left source.exit.now) limit reader.entry.now reader.exit.now tail) }
             ensures refused { IfErr result
                 (λ fault. IsRefused (side S.left S.faults source.entry.now source.exit.now) limit fault) }
             ensures faults { HasFaults (side S.left S.faults source.entry.now source.exit.now) result }
-        { read_and_end(rt, alloc, source, shared, cache, gate, reader, limit) },
+        {
+            let end = read_all(rt, alloc, source, shared, cache, gate, reader, limit);
+            shared.queue.end(&mut reader.feed);
+            end
+        },
     )
 }
 
@@ -519,13 +489,13 @@ fn gather<C: FlowCache, G: Gate, R: Wait>(
 
 /// Meters a capture through a cache while it is read: the caller's thread reads it, in windows of so many bytes, into a
 /// queue of batches, and a thread for each worker takes them from it. The passes of the cache (3 to 64) are one for the
-/// reader, one for what is left in the queue at the end, and one for each worker; each has a front where fronts are asked
-/// for, which is emptied into the cache at the end.
+/// reader, one for what is left in the queue at the end, and one for each worker; each has a front where fronts are
+/// asked for, which is emptied into the cache at the end.
 ///
 /// The gate is told of each batch by its number, before it is metered: by a worker's number, counted from 0, by the
-/// number of workers where the reader meters it, and by that and one more at the end. What was put in through the united
-/// pass shares out the packets of the capture; `parts` are the fragments that it was handed; the tally is that of all
-/// records, and the source has nothing left. At most `room` + workers + 2 buffers of `size` bytes exist.
+/// number of workers where the reader meters it, and by that and one more at the end. What was put in through the
+/// united pass shares out the packets of the capture; `parts` are the fragments that it was handed; the tally is that
+/// of all records, and the source has nothing left. At most `room` + workers + 2 buffers of `size` bytes exist.
 ///
 /// Refusals in the order of [`MeterFault`]: where the input is no capture, of an unknown link type or damaged, it is
 /// read to its end first, so that `Failed` and `TooLarge` keep their place. `NoMemory` may come at any time. All

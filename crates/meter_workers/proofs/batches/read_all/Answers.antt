@@ -1,11 +1,11 @@
 -- A part after the other is handed on.
-use Rattle.std.proofs.Common.{◌≡◌, ◌+◌, ◌++◌, List, [], length, refl, sym, ap, ◌∙◌, subst, arith}
+use Rattle.std.proofs.Common.{◌≡◌, ◌+◌, ◌++◌, [], length, refl, ◌∙◌, subst, arith}
 use Rattle.std.specs.Prelude.{Result, Ok, Err, IfErr, IsErrAnd}
 use Rattle.meter_io.specs.Sides.{side}
 use Rattle.capture_input.specs.declared.fault.MeterFault.{MeterFault}
 use Rattle.capture_input.specs.Refusals.{IsRefused}
-use Rattle.capture_input.specs.Parts.{Answer, answers_from}
-use Rattle.capture_input.specs.Giving.{HasGiven, base_in, part_in}
+use Rattle.capture_input.specs.Parts.{answers_from}
+use Rattle.capture_input.specs.Giving.{base_in, part_in}
 use Rattle.batch_queue.specs.Passes.{put_of, reader_of}
 use Rattle.meter_workers.proofs.Taking.{handed-none, still-none, still-again, ready-later}
 use Rattle.meter_workers.proofs.Handing.{ready-first, given-first, given-few, base-next, refused-from}
@@ -23,24 +23,24 @@ loop-read-init g c =
     let told = c.in_ok-reading.ensures in
     let pass = reader_of c.args.reader.now.feed in
     let share = c.args.reader.now.share in
-    let none = c.requires.fresh.0.1 in
+    let none = c.requires.reading.fresh.1 in
     record {
       part = told.part;
       few = told.few;
-      low = (let n = c.requires.fresh.1 in omega (arith, n));
+      low = (let n = c.requires.reading.first in omega (arith, n));
       size = told.first.1;
-      of = c.requires.own.0;
-      «open» = c.requires.own.2;
-      still = still-none pass c.requires.own.1;
+      of = c.requires.reading.of;
+      «open» = c.requires.reading.goes;
+      still = still-none pass c.requires.reading.puts;
       ready = ready-first is_of g.C.FlowCache.shown limits c.args.reader.now.next (base_in c.in_ok-reading.reading)
-          (put_of pass) share none c.requires.share;
+          (put_of pass) share none c.requires.reading.share;
       quiet = told.faults;
       done = (
         [],
         told.first.0,
         given-first (g.S.Source.left c.args.source.now) (g.S.Source.left c.begin.new.source) c.args.limit
             c.in_ok-reading.reading told.first.0 told.given,
-        handed-none is_of g.C.FlowCache.shown limits (put_of pass) share none c.requires.share,
+        handed-none is_of g.C.FlowCache.shown limits (put_of pass) share none c.requires.reading.share,
       );
     }
 

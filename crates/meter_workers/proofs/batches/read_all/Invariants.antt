@@ -1,5 +1,5 @@
 -- The records of the parts so far were handed on, and the part that was read last comes next.
-use Rattle.std.proofs.Common.{◌≡◌, ◌≤◌, ◌<◌, ◌+◌, ◌^◌, ◌++◌, ℕ, List, length}
+use Rattle.std.proofs.Common.{◌≡◌, ◌≤◌, ◌<◌, ◌+◌, ◌^◌, ◌++◌, List, length}
 use Rattle.pcap_reader.specs.Index.{IsIndexOf}
 use Rattle.capture_input.specs.Parts.{Answer, answers_from}
 use Rattle.capture_input.specs.Giving.{HasGiven, part_in, base_in, size_in, left_in}
