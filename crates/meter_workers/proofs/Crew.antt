@@ -1,5 +1,6 @@
 -- What the reader, the workers and the drain have done together.
-use Rattle.std.proofs.Common.{◌≡◌, ℕ, ◌<◌, ◌+◌, List, [], ◌∷◌, ◌++◌, length, get_or, map, take, drop, refl, sym, ap, ◌∙◌, subst, arith}
+use Rattle.std.proofs.Common.{◌≡◌, ℕ, ◌<◌, ◌+◌, List, [], ◌∷◌, ◌++◌, length, get_or, map, take, drop, refl, sym, ap}
+use Rattle.std.proofs.Common.{◌∙◌, subst, arith}
 use Rattle.std.proofs.Common.{append_assoc, append-nil}
 use Rattle.std.specs.Prelude.{flat_map, All, IfOk, IsPermutation, Result, Ok}
 use Rattle.std.specs.List.{AllZip}
@@ -8,7 +9,8 @@ use Rattle.std.proofs.lemmas.List.{length-map}
 use Rattle.std.proofs.lemmas.List.Elements.{All-tail}
 use Rattle.std.proofs.lemmas.List.Folds.{flat_map-map}
 use Rattle.std.proofs.lemmas.List.Sorted.{IsPermutation-refl, IsPermutation-trans, IsPermutation-sym}
-use Rattle.std.proofs.lemmas.List.Sorted.{IsPermutation-append_comm, IsPermutation-append_left, IsPermutation-append_right}
+use Rattle.std.proofs.lemmas.List.Sorted.{IsPermutation-append_comm, IsPermutation-append_left}
+use Rattle.std.proofs.lemmas.List.Sorted.{IsPermutation-append_right}
 use Rattle.std.proofs.lemmas.Slice.Zip.{all_zipped_more}
 use Rattle.packet_accept.proofs.Permuted.{flat_map-permutation}
 use Rattle.cache_face.specs.declared.caches.FlowCache.{Ghosts}
@@ -104,7 +106,8 @@ pub gathered : {W S : Type 0} (Has : List Answer → S → Type 0) (share : W �
     → IsPermutation (flat_map took_of seats) took → all ≡ took ++ more → IsPermutation put all
     → Has (answers_in more) last
     → HaveMetered {S = S} Has answers both
-gathered {W} {S} Has share seat ws answers own put took more all seats shares one both reader last done shares_are seats_are
+gathered {W} {S} Has share seat ws answers own put took more all seats shares one both reader last done shares_are
+    seats_are
     one_is both_is whole read taken all_is put_all drained =
     let list = λ (w : W). answers_in (took_of (seat w)) in
     let theirs : List Answer = flat_map list ws in
@@ -121,7 +124,8 @@ gathered {W} {S} Has share seat ws answers own put took more all seats shares on
     (flat_map-permutation answers_of_batch (flat_map took_of seats) took taken) in
     let of_all : IsPermutation (answers_in put) (theirs ++ left) =
     IsPermutation-trans _ (answers_in all) _ (flat_map-permutation answers_of_batch put all put_all)
-    (subst (λ l. IsPermutation l (theirs ++ left)) (sym (ap answers_in all_is ∙ flat_map-append answers_of_batch took more))
+    (subst (λ l. IsPermutation l (theirs ++ left)) (sym (ap answers_in all_is ∙ flat_map-append answers_of_batch took
+    more))
     (IsPermutation-append_left left (answers_in took) theirs (IsPermutation-sym _ _ of_workers))) in
     let turned : IsPermutation (own ++ (theirs ++ left)) ((theirs ++ own) ++ left) =
     subst (λ l. IsPermutation l ((theirs ++ own) ++ left)) (append_assoc own theirs left)

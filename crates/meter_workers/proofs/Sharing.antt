@@ -1,5 +1,6 @@
 -- Shares that are emptied, united and listed.
-use Rattle.std.proofs.Common.{◌≡◌, ℕ, suc, ◌+◌, ◌<◌, ◌≤◌, ◌^◌, List, [], ◌∷◌, ◌++◌, length, map, get_or, None, refl, sym, ap}
+use Rattle.std.proofs.Common.{◌≡◌, ℕ, suc, ◌+◌, ◌<◌, ◌≤◌, ◌^◌, List, [], ◌∷◌, ◌++◌, length, map, get_or, None, refl}
+use Rattle.std.proofs.Common.{sym, ap}
 use Rattle.std.proofs.Common.{◌∙◌, subst, arith, append_assoc, append-nil, length-append, All}
 use Rattle.std.specs.Prelude.{flat_map, IsPermutation}
 use Rattle.std.specs.List.{AllZip}
@@ -232,7 +233,15 @@ each-list Has (l ∷ lists) (x ∷ xs) each =
     let long = length-append l (all-of lists) in
     All-cons (λ x. (list : List Answer) × (length list ≤ length (all-of (l ∷ lists))) × Has list x) x xs
     (l, omega (arith, long), each.0)
-    (λ k d inside. (let h = each-list Has lists xs each.1 k d inside in (h.0, (let le = h.1 in omega (arith, long, le)), h.2)))
+    (λ k d inside. (let h = each-list Has lists xs each.1 k d inside in (
+      h.0,
+      (let le = h.1 in omega (
+        arith,
+        long,
+        le,
+      )),
+      h.2,
+    )))
 
 -- each share metered some of the answers
 pub each-metered : {S : Type 0} (Has : List Answer → S → Type 0) (answers : List Answer) (xs : List S)

@@ -33,8 +33,10 @@ unite_all-requires-clause-metered g c κs within =
       (crew-gathered g.C.FlowCache c.args.cache.now crew.shared.queue crew.workers.items c.requires.handed.0 crew.reader
           c.in_ok-shares.seats.items c.into_pass.result c.unite_seats-seat.result c.work_batches.new.seat d.did.0
           c.in_ok-shares.shares.items c.push.new.self.items c.push-2.new.self.items crew.last c.work_batches.new.share
-          c.requires.workers told.finished told.shares told.seats c.in_ok-push.ensures.items c.in_ok-push-2.ensures.items
-          (r.1, r.2, r.3, c.requires.many.0) c.requires.handed.1 c.into_pass.ensures (u.reader, u.same, u.took) d.did.1 d.all
+          c.requires.workers told.finished told.shares told.seats c.in_ok-push.ensures.items
+          c.in_ok-push-2.ensures.items
+          (r.1, r.2, r.3, c.requires.many.0) c.requires.handed.1 c.into_pass.ensures (u.reader, u.same, u.took)
+          d.did.1 d.all
           c.requires.last d.did.2),
     )
 

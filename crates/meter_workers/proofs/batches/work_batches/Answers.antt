@@ -9,7 +9,8 @@ use Rattle.meter_workers.specs.declared.share.Share.{Share}
 use Rattle.meter_workers.specs.Shares.{IsShare}
 use Rattle.meter_workers.specs.Batched.{answers_of_batch, answers_in}
 use Rattle.meter_workers.proofs.Records.{answers-count, whole-range}
-use Rattle.meter_workers.proofs.Taking.{more-none, more-both, took-more, took-same, answers-more, ready-more, ready-same}
+use Rattle.meter_workers.proofs.Taking.{more-none, more-both, took-more, took-same, answers-more, ready-more}
+use Rattle.meter_workers.proofs.Taking.{ready-same}
 use Rattle.meter_workers.proofs.batches.work_batches.Goals as goal
 
 pub loop-init : goal.loop-init
