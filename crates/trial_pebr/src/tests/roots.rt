@@ -7,6 +7,7 @@ ghost use Rattle.pebr_core.specs.declared.kinds.ShieldAt.TheVariants as shield;
 ghost use Rattle.pebr_core.specs.Frames.{fresh_count};
 ghost use Rattle.pebr_shields.specs.declared.checked.Checked.TheVariants as checked;
 ghost use Rattle.pebr_roots.specs.Under.{is_valid_at};
+ghost use Rattle.pebr_roots.specs.Orders.{HasMade};
 ghost use Rattle.pebr_roots.specs.Passes.{shape_at, known_by, operations_by, number_by, count_by_pass, IsOf, IsSame};
 ghost use Rattle.pebr_roots.specs.Passes.{IsUnitedPass, IsOpenedPass};
 
@@ -251,7 +252,7 @@ fn collect_by_force(roots: &Roots<Free>, pass: &mut RootPass<Free>) -> Collected
     requires down { IsTrue (list_all is_down (known_by pass.old).shields) }
     requires two { ((shape_at roots.now).seats ≡ 2) × ((shape_at roots.now).shields ≡ 1) }
     ensures same { IsSame roots.now pass.old pass.new }
-    ensures operations { length (operations_by pass.new) ≤ length (operations_by pass.old) + 7 }
+    ensures operations { HasMade 7 (operations_by pass.old) (operations_by pass.new) }
     ensures left { result.left ≤ 1 }
 {
     roots.collect(pass, true)
