@@ -1,7 +1,5 @@
 //! A protocol that always keeps.
 
-ghost use Rattle.std.specs.Prelude.{ℕ};
-
 use pebr_words::RootProtocol;
 
 /// A protocol that always keeps, with notes without content.

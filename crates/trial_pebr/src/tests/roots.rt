@@ -1,14 +1,13 @@
 //! Two passes on one thread.
 
-ghost use Rattle.std.specs.Prelude.{◌≡◌, ◌<◌, ◌≤◌, ◌+◌, ℕ, IsTrue, IfOk, true, false, length};
+ghost use Rattle.std.specs.Prelude.{◌≡◌, ◌≤◌, ℕ, IsTrue, IfOk, true, false};
 ghost use Rattle.std.specs.List.{list_all};
 ghost use Rattle.pebr_core.specs.State.{has, is_out, is_down, shield_at};
 ghost use Rattle.pebr_core.specs.declared.kinds.ShieldAt.TheVariants as shield;
-ghost use Rattle.pebr_core.specs.Frames.{fresh_count};
 ghost use Rattle.pebr_shields.specs.declared.checked.Checked.TheVariants as checked;
 ghost use Rattle.pebr_roots.specs.Under.{is_valid_at};
 ghost use Rattle.pebr_roots.specs.Orders.{HasMade};
-ghost use Rattle.pebr_roots.specs.Passes.{shape_at, known_by, operations_by, number_by, count_by_pass, IsOf, IsSame};
+ghost use Rattle.pebr_roots.specs.Passes.{shape_at, known_by, operations_by, count_by_pass, IsOf, IsSame};
 ghost use Rattle.pebr_roots.specs.Passes.{IsUnitedPass, IsOpenedPass};
 
 use crate::tests::free::Free;

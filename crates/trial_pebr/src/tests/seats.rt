@@ -1,7 +1,7 @@
 //! A reader that pins between Advance and Look.
 
-ghost use Rattle.std.specs.Prelude.{◌≡◌, ◌≢◌, ◌<◌, ℕ, IsTrue, IfOk, true, false};
-ghost use Rattle.pebr_core.specs.Steps.{is_shielded, is_scanning};
+ghost use Rattle.std.specs.Prelude.{◌≡◌, ◌<◌, ℕ, IsTrue, IfOk, true, false};
+ghost use Rattle.pebr_core.specs.Steps.{is_scanning};
 ghost use Rattle.pebr_core.specs.declared.kinds.ShieldAt.TheVariants as shield;
 ghost use Rattle.pebr_core.specs.State.{has, is_out, shield_at, slot_count, scan_of};
 ghost use Rattle.pebr_words.specs.Seats.{IsAt, IsStill, IsUnited, IsOpenedSeat, shape_of, known_of, number_of};
