@@ -66,8 +66,8 @@ fn files_of(alloc: Global) -> Result<Vec<Held>, Fail> {
     Ok(files)
 }
 
-/// A command line, the status, the line that is noted, and what is written: nothing, or a stream of this record, where it
-/// has one.
+/// A command line, the status, the line that is noted, and what is written: nothing, or a stream of this record; or of
+/// none, where that is empty.
 type Row = (&'static str, u8, &'static str, Option<&'static str>);
 
 static ROWS: [Row; 18] = [
