@@ -1,0 +1,58 @@
+//! Streams octet by octet, and what is written of them joined.
+
+use crate::files::{Held, HeldFiles};
+use join_program::run_join;
+use meter_io::MemSink;
+use samples::octets_of;
+use std::alloc::Global;
+use std::test::Fail;
+
+mod refused;
+mod splits;
+
+/// The message with the templates, behind its length and export time.
+const TEMPLATES: &str = "00000000 00000001 0002 0064 \
+    0100000b 00080004 000c0004 00070002 000b0002 00040001 00060002 00020008 00010008 00980008 00990008 00880001 \
+    0101000b 001b0010 001c0010 00070002 000b0002 00040001 00060002 00020008 00010008 00980008 00990008 00880001";
+
+/// The header of a message of one record of IPv4 behind its export time, and of its set.
+const ONE: &str = "00000000 00000001 0100 0034";
+
+/// How a run ended, what it wrote, and what it noted.
+#[derive(Drop)]
+struct Ran {
+    status: u8,
+    output: Vec<u8>,
+    notes: Vec<u8>,
+}
+
+/// Joins files by a command line with single spaces between its words.
+fn join(alloc: Global, line: &str, files: &[Held]) -> Result<Ran, Fail> {
+    let mut words = Vec::new(alloc);
+    for word in line.split(' ') {
+        words.push(String::from_str(alloc, word)?)?;
+    }
+    let mut opener = HeldFiles::new(files);
+    let mut output = MemSink::open(alloc, 65_536, 1000, &[])?;
+    let mut notes = MemSink::open(alloc, 1000, 1000, &[])?;
+    let status = run_join(
+        alloc,
+        words.as_slice(),
+        &mut opener,
+        &mut output,
+        &mut notes,
+    );
+    Ok(Ran {
+        status: status.code(),
+        output: output.held().to_vec(alloc)?,
+        notes: notes.held().to_vec(alloc)?,
+    })
+}
+
+/// The stream of one record, with its export time.
+fn stream_of_one(alloc: Global, time: &str, record: &str) -> Result<Vec<u8>, Fail> {
+    octets_of(
+        alloc,
+        &["000a0074", time, TEMPLATES, "000a0044", time, ONE, record],
+    )
+}
