@@ -24,11 +24,6 @@ MEMORY = ("NoMemory", "AllocError", "AllocFailed")
 # Calls of the standard library and of the toolchain's crates that fail for want of memory alone.
 ALLOCATES = {"push", "extend_from_slice", "with_capacity", "of_words", "collect", "to_vec", "reserve"}
 
-# An arm that isn't reached, which no clause says yet: a worker that is still at work when all have ended.
-KNOWN = {
-    ("meter_workers/src/worker.rt", "WorkState::Going | WorkState::NoMemory => return Err(NoMemory),"),
-}
-
 PLANTED_RIGHT = """
 fn a() -> Result<(), NoMemory> { match b() { Ok(()) => Ok(()), Err(NoMemory) => Err(NoMemory), } }
 fn c() -> Status { match d() { Err(Words::NoMemory) => Status::NoMemory, Err(Words::Bad) => Status::Usage, Ok(s) => s, } }
@@ -235,15 +230,11 @@ def main(words):
         print(f"no sources below {top}", file=sys.stderr)
         return 2
     found = list(sources.wrong())
-    known = [(name, text) for name, _, text in found if (name, text) in KNOWN]
-    for name, text in known:
-        print(f"known, and not reached: {name}: {text}")
-    told = [it for it in found if (it[0], it[2]) not in KNOWN]
-    for name, line, text in told:
+    for name, line, text in found:
         print(f"{name}:{line}: no want of memory: {text}")
-    if not told:
+    if not found:
         print(f"want of memory comes from an allocation alone: {len(paths)} files")
-    return 1 if told else 0
+    return 1 if found else 0
 
 
 if __name__ == "__main__":
