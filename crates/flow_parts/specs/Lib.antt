@@ -5,6 +5,7 @@ pub mod Joining
 pub mod Laws
 pub mod Parts
 pub mod PartWith
+pub mod Pieces
 pub mod Reaching
 pub mod Sharing
 pub mod Union

@@ -13,7 +13,9 @@
 
 mod fragment;
 pub mod laws;
+mod part_list;
 mod timeouts;
 
 pub use fragment::Fragment;
+pub use part_list::PartList;
 pub use timeouts::Timeouts;
