@@ -1,18 +1,20 @@
 //! The acceptance of a record.
 
-ghost use Rattle.std.specs.Prelude.{◌≡◌, ◌*◌, ◌^◌, ◌<◌, ℕ, Ok, Some, IsOk, IfOk};
+ghost use Rattle.std.specs.Prelude.{◌≡◌, ◌*◌, ◌^◌, ◌<◌, ℕ, Ok, Some, IsOk, IfOk, drop};
 ghost use Rattle.link_types.specs.Links.{IsKnownLink};
 ghost use Rattle.flow_key.specs.KeyWith.{key_with};
-ghost use Rattle.packet_headers.specs.Link.{IsIpVersion};
+ghost use Rattle.packet_headers.specs.Link.{IsIpVersion, link_part};
+ghost use Rattle.packet_headers.specs.Shown.{link_shown};
 ghost use Rattle.pcap_reader.specs.Views.{file_of, record_read};
 ghost use Rattle.packet_accept.specs.Key.{Headers, key_fields};
 ghost use Rattle.packet_accept.specs.Acceptance.{accepted_packet, headers_of, time_of};
 ghost use Rattle.packet_accept.specs.Shown.{headers_shown};
 
-use crate::headers::{HeaderViews, headers_of};
+use crate::headers::{HeaderViews, headers_behind};
 use crate::ignored::Ignored;
 use crate::packet::Packet;
 use flow_key::FlowKey;
+use packet_headers::LinkView;
 use pcap_reader::{Capture, Record};
 
 /// The packet that a record of the capture gives, with the number `n`, or the first cause for which the record is
@@ -47,7 +49,7 @@ pub fn accept(capture: &Capture<'_>, rec: &Record<'_>, n: u64) -> Result<Packet,
 /// The same for a record of frames with this link type, 1, 101 or 113, whose fractions of a second are nanoseconds or
 /// microseconds.
 #[inline]
-#[tactic(auto, unfolding(crate::specs::Acceptance::accepted_packet))]
+#[tactic(auto, unfolding(crate::specs::Acceptance::accepted_packet, crate::specs::Acceptance::headers_of))]
 pub fn accept_linked(link: u32, nanos: bool, rec: &Record<'_>, n: u64) -> Result<Packet, Ignored>
     requires { IsKnownLink link }
     ensures answer { result ≡ accepted_packet link nanos (record_read rec.now) n }
@@ -59,14 +61,48 @@ pub fn accept_linked(link: u32, nanos: bool, rec: &Record<'_>, n: u64) -> Result
     ensures seconds { IfOk result (λ packet. packet.time < 1000 * 2 ^ 32) }
 {
     let time = time_of(nanos, rec.seconds, rec.fraction)?;
-    let headers = headers_of(link, rec)?;
-    Ok(Packet {
+    let frame = LinkView::of(link, rec.captured)?;
+    let headers = headers_behind(&frame, rec)?;
+    Ok(packet_of(headers, time, n))
+}
+
+/// The same for a record whose link part was read before, as `frame`: it is not read again.
+#[inline]
+#[tactic(auto, unfolding(crate::specs::Acceptance::accepted_packet))]
+pub fn accept_behind(
+    frame: &LinkView<'_>,
+    nanos: bool,
+    rec: &Record<'_>,
+    n: u64,
+) -> Result<Packet, Ignored>
+    requires version { IsIpVersion frame.now.version }
+    requires rest { frame.now.rest.now ≡ drop frame.now.offset rec.now.captured.now }
+    ensures answer { (link : ℕ) → link_part link rec.now.captured.now ≡ Ok (link_shown frame.now)
+        → result ≡ accepted_packet link nanos (record_read rec.now) n }
+{
+    let time = time_of(nanos, rec.seconds, rec.fraction)?;
+    let headers = headers_behind(frame, rec)?;
+    Ok(packet_of(headers, time, n))
+}
+
+/// The packet of these headers, with this time and number.
+#[inline]
+fn packet_of(headers: HeaderViews<'_>, time: u64, n: u64) -> Packet
+    requires version { IsIpVersion headers.ip.version }
+    requires narrow { headers.ip.version ≡ 4 → (headers.ip.source < 2 ^ 32) × (headers.ip.destination < 2 ^ 32) }
+    ensures number { result.number ≡ n }
+    ensures key { key_with (key_fields (headers_shown headers.entry)) ≡ Some result.key }
+    ensures time { result.time ≡ time }
+    ensures octets { result.octets ≡ headers.entry.ip.octets }
+    ensures flags { result.flags ≡ headers.entry.transport.flags }
+{
+    Packet {
         number: n,
         key: key_of(headers),
         time,
         octets: headers.ip.octets,
         flags: headers.transport.flags,
-    })
+    }
 }
 
 /// The time in whole milliseconds, of seconds and a fraction in nanoseconds or microseconds.

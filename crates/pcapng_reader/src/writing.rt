@@ -17,7 +17,7 @@ use crate::record::PngRecord;
 use link_types::LinkType;
 use meter_io::{Failed, Sink, write_all};
 use octets::{Endianness, append};
-use packet_accept::accept_linked;
+use packet_accept::accept_behind;
 use packet_headers::LinkView;
 use pcap_reader::Record;
 
@@ -42,12 +42,12 @@ fn raw_of<'a>(linked: &PngRecord<'a>) -> Option<Record<'a>>
     if LinkType::of(linked.link).is_none() {
         return None;
     }
-    if accept_linked(linked.link, true, &linked.rec, 0).is_err() {
-        return None;
-    }
     let Ok(frame) = LinkView::of(linked.link, linked.rec.captured) else {
         return None;
     };
+    if accept_behind(&frame, true, &linked.rec, 0).is_err() {
+        return None;
+    }
     let original = u64::from(linked.rec.original).saturating_sub(frame.offset as u64);
     Some(Record {
         seconds: linked.rec.seconds,
