@@ -2,10 +2,8 @@
 
 ghost use Rattle.std.specs.Prelude.{◌≡◌, ◌^◌, ◌<◌, ℕ, Ok, Err, IfOk, IfErr, drop};
 ghost use Rattle.packet_headers.specs.Link.{IsIpVersion, link_part};
-ghost use Rattle.packet_headers.specs.Ip.{ip_part};
-ghost use Rattle.packet_headers.specs.Shown.{link_shown, ip_shown};
+ghost use Rattle.packet_headers.specs.Shown.{link_shown};
 ghost use Rattle.pcap_reader.specs.Views.{record_read};
-ghost use Rattle.packet_accept.specs.Cause.{or_cause};
 ghost use Rattle.packet_accept.specs.Acceptance.{headers_of};
 ghost use Rattle.packet_accept.specs.Shown.{headers_shown};
 
@@ -40,21 +38,7 @@ pub fn headers_behind<'a>(
     ensures bounded { IfOk result (λ views. views.ip.octets < 2 ^ 24) }
 {
     let original = u64::from(rec.original).saturating_sub(frame.offset as u64);
-    let ip = ip_of(frame.version, frame.rest, original)?;
+    let ip = IpView::of(frame.version, frame.rest, original)?;
     let transport = transport_of(&ip)?;
     Ok(HeaderViews { ip, transport })
-}
-
-/// The IP packet of this version at the front of `rest`.
-#[inline]
-fn ip_of(version: u8, rest: &[u8], original: u64) -> Result<IpView<'_>, Ignored>
-    requires { IsIpVersion version }
-    ensures fields { IfOk result (λ view. or_cause (ip_part version rest.now original) ≡ Ok (ip_shown view)) }
-    ensures fault { IfErr result (λ cause. or_cause (ip_part version rest.now original) ≡ Err cause) }
-    ensures version { IfOk result (λ view. view.version ≡ version) }
-    ensures narrow { IfOk result (λ view. view.version ≡ 4 → (view.source < 2 ^ 32) × (view.destination < 2 ^ 32)) }
-    ensures bounded { IfOk result (λ view. view.octets < 2 ^ 24) }
-{
-    let view = IpView::of(version, rest, original)?;
-    Ok(view)
 }

@@ -9,11 +9,11 @@ use crate::fault::HeaderFault;
 use link_types::LinkType;
 use octets::u16_at;
 
-/// The place of the type in the header of Ethernet.
-const ETHERNET_TYPE: usize = 12;
+/// The offset of the type in the header of Ethernet.
+const ETHERNET_TYPE_OFFSET: usize = 12;
 
-/// The place of the type in the header of Linux cooked version 1.
-const COOKED_TYPE: usize = 14;
+/// The offset of the type in the header of Linux cooked version 1.
+const COOKED_TYPE_OFFSET: usize = 14;
 
 /// The type of a customer tag.
 const CUSTOMER_TAG: u16 = 0x8100;
@@ -62,9 +62,9 @@ impl<'a> LinkView<'a> {
         ensures never_bad_header { result ≢ Err HeaderFault.BadHeader }
     {
         match LinkType::of(link) {
-            Some(LinkType::Ethernet) => typed_link(captured, ETHERNET_TYPE),
+            Some(LinkType::Ethernet) => typed_link(captured, ETHERNET_TYPE_OFFSET),
             Some(LinkType::RawIp) => raw_link(captured),
-            Some(LinkType::LinuxCooked) => typed_link(captured, COOKED_TYPE),
+            Some(LinkType::LinuxCooked) => typed_link(captured, COOKED_TYPE_OFFSET),
             None => unreachable!(),
         }
     }

@@ -19,7 +19,7 @@
 //!
 //! A step is one load, store or compare and exchange of one word. [`Core::step`] makes one,
 //! [`replay`] a list. Each core is sound: [`start_is_sound`], [`steps_are_safe`] and
-//! [`runs_are_safe`] say so of every state. The tests of all this stand in `schedule_text`, where they don't prove the
+//! [`runs_are_safe`] say so of every state. The tests of all this stand in `trial_layers`, where they don't prove the
 //! core a second time.
 #![tactic(auto)]
 
