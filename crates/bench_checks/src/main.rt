@@ -27,15 +27,10 @@ use crate::lists::tell_lists;
 use crate::pace::tell_pace;
 use crate::threads::tell_threads;
 use crate::windows::tell_windows;
-use std::env;
+use command_words::words_of;
 use std::process::ExitCode;
 use std::thread::Threads;
 use std::time::Clock;
-
-/// The words behind the program's name.
-fn words_of(rt: &HostRuntime) -> Option<Vec<String>> {
-    env::args(rt).ok()?.skip(1).collect(rt.alloc()).ok()
-}
 
 /// Does what the first of the words says. The threads and the clock are those of the runtime, as `main` has it.
 fn tell<R: Threads + Clock + Sync>(rt: &R, host: &HostRuntime, words: &[String]) -> ExitCode {
@@ -53,7 +48,7 @@ fn tell<R: Threads + Clock + Sync>(rt: &R, host: &HostRuntime, words: &[String])
 
 fn main(rt: HostRuntime) -> ExitCode {
     match words_of(&rt) {
-        Some(words) => tell(&rt, &rt, words.as_slice()),
-        None => ExitCode::from(2),
+        Ok(words) => tell(&rt, &rt, words.as_slice()),
+        Err(_) => ExitCode::from(2),
     }
 }

@@ -6,13 +6,15 @@
 //!
 //! The words are cut by the kit's `clap`, by a command with these options and nothing else: no subcommand, help or
 //! version. What is proved of `clap` is what its walk does with such words; `proofs/` shows that this is the grammar.
-//! The word `--` and the digits are this crate's own.
+//! The word `--` and the digits are this crate's own. [`words_of`] gives the words of the command line.
 #![tactic(auto)]
 
+mod host;
 mod number;
 mod reading;
 mod rule;
 
+pub use host::words_of;
 pub use no_memory::NoMemory;
 pub use reading::{OptionsError, values_of};
 pub use rule::OptionRule;

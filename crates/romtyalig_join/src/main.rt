@@ -4,36 +4,22 @@
 
 mod host_files;
 
+use command_words::{OptionsError, words_of};
 use host_files::HostFiles;
 use join_program::{JoinStatus, run_join};
 use meter_io::StdSink;
-use std::alloc::{AllocError, Global};
-use std::env;
-use std::io::ErrorKind;
+use std::alloc::Global;
 use std::process::ExitCode;
-
-/// The words behind the program's name. A word that isn't UTF-8 is a faulty command line; out of memory is what the
-/// error says it is.
-fn words_of(rt: &HostRuntime) -> Result<Vec<String>, JoinStatus> {
-    match env::args(rt) {
-        Ok(words) => words
-            .skip(1)
-            .collect(rt.alloc())
-            .map_err(|_error: AllocError| JoinStatus::NoMemory),
-        Err(error) if error.kind() == ErrorKind::OutOfMemory => Err(JoinStatus::NoMemory),
-        Err(_) => Err(JoinStatus::Usage),
-    }
-}
 
 fn main(rt: HostRuntime) -> ExitCode {
     let alloc: Global = rt.alloc();
     let mut output = StdSink::new(rt.stdout());
     let mut notes = StdSink::new(rt.stderr());
-    let words = match words_of(&rt) {
-        Ok(words) => words,
-        Err(status) => return ExitCode::from(status.code()),
-    };
     let mut files = HostFiles::new(&rt);
-    let status = run_join(alloc, words.as_slice(), &mut files, &mut output, &mut notes);
+    let status = match words_of(&rt) {
+        Ok(words) => run_join(alloc, words.as_slice(), &mut files, &mut output, &mut notes),
+        Err(OptionsError::NotOptions) => JoinStatus::Usage,
+        Err(OptionsError::NoMemory) => JoinStatus::NoMemory,
+    };
     ExitCode::from(status.code())
 }

@@ -2,27 +2,19 @@
 //! capture while it reads it.
 #![tactic(auto)]
 
+use command_words::{OptionsError, words_of};
 use flow_cache::PebrCaches;
-use meter_io::{StdSink, StdSource};
+use meter_io::{Sink, StdSink, StdSource};
 use meter_program::Status;
 use meter_workers::OpenGate;
 use pipe_program::{pipe_line, run_pipe};
-use std::alloc::{AllocError, Global};
-use std::env;
-use std::io::ErrorKind;
+use std::alloc::Global;
 use std::process::ExitCode;
 
-/// The words behind the program's name. A word that isn't UTF-8 is a faulty command line; out of memory is what the
-/// error says it is.
-fn words_of(rt: &HostRuntime) -> Result<Vec<String>, Status> {
-    match env::args(rt) {
-        Ok(words) => words
-            .skip(1)
-            .collect(rt.alloc())
-            .map_err(|_error: AllocError| Status::NoMemory),
-        Err(error) if error.kind() == ErrorKind::OutOfMemory => Err(Status::NoMemory),
-        Err(_) => Err(Status::Usage),
-    }
+/// Notes the line of a refusal.
+fn refuse<N: Sink>(notes: &mut N, status: Status) -> Status {
+    let _noted = pipe_line(notes, &status);
+    status
 }
 
 fn main(rt: HostRuntime) -> ExitCode {
@@ -30,22 +22,19 @@ fn main(rt: HostRuntime) -> ExitCode {
     let mut input = StdSource::new(rt.stdin());
     let mut output = StdSink::new(rt.stdout());
     let mut notes = StdSink::new(rt.stderr());
-    let words = match words_of(&rt) {
-        Ok(words) => words,
-        Err(status) => {
-            let _noted = pipe_line(&mut notes, &status);
-            return ExitCode::from(status.code());
-        }
+    let status = match words_of(&rt) {
+        Ok(words) => run_pipe(
+            &rt,
+            alloc,
+            words.as_slice(),
+            &mut input,
+            &mut output,
+            &mut notes,
+            &mut PebrCaches::new(),
+            &OpenGate,
+        ),
+        Err(OptionsError::NotOptions) => refuse(&mut notes, Status::Usage),
+        Err(OptionsError::NoMemory) => refuse(&mut notes, Status::NoMemory),
     };
-    let status = run_pipe(
-        &rt,
-        alloc,
-        words.as_slice(),
-        &mut input,
-        &mut output,
-        &mut notes,
-        &mut PebrCaches::new(),
-        &OpenGate,
-    );
     ExitCode::from(status.code())
 }
