@@ -1,6 +1,6 @@
 -- The code's own: records in buckets, and places in them. No law speaks of these.
-use Rattle.std.specs.Prelude.{◌≡◌, ℕ, ◌<◌, List, [], ◌∷◌, Option, Some, None, slice_get, slice_index_or, length, flat_map}
-use Rattle.std.specs.Prelude.{All, IsPermutation}
+use Rattle.std.specs.Prelude.{◌≡◌, ℕ, suc, List, [], ◌∷◌, Option, Some, None, slice_get, length, flat_map}
+use Rattle.std.specs.Prelude.{All, IsPermutation, ⊤}
 use Rattle.std.specs.Option.{option_cmp}
 use Rattle.std.specs.Ordering.{nat_cmp, ordering_then}
 use Rattle.std.specs.declared.cmp.Ordering.{Ordering}
@@ -22,10 +22,14 @@ Bucket = Vec FlowRecord Global
 abbrev pub records_of : List Bucket → List FlowRecord
 records_of buckets = flat_map (λ (b : Bucket). b.items) buckets
 
+-- Each record of a bucket has a key of the bucket's number, of so many buckets; the first bucket has the number i.
+abbrev pub LieFrom : ℕ → ℕ → List Bucket → Type 0
+LieFrom n i [] = ⊤
+LieFrom n i (b ∷ buckets) = All (λ (r : FlowRecord). set_number r.part.key n ≡ i) b.items × LieFrom n (suc i) buckets
+
 -- Each record lies in the bucket that its key is of.
 abbrev pub AreByKey : List Bucket → Type 0
-AreByKey buckets = (i : ℕ) (d : Bucket) → i < length buckets
-    → All (λ (r : FlowRecord). set_number r.part.key (length buckets) ≡ i) (slice_index_or buckets i d).items
+AreByKey buckets = LieFrom (length buckets) 0 buckets
 
 -- The fragments lie in the buckets that their keys are of.
 pub record AreDealt (parts : List Fragment) (buckets : List Bucket) : Type 0 where

@@ -54,9 +54,9 @@ fn count_of(pieces: &[Vec<Fragment>]) -> usize {
 
 /// How many buckets are made for so many fragments: a power of two, about one for each 4,096 of them.
 fn bucket_count(fragments: usize) -> usize
-    ensures { (1 ≤ result) × (result ≤ 1024) }
+    ensures { 1 ≤ result }
 {
-    (fragments / BUCKET).min(MOST_BUCKETS).next_power_of_two()
+    (fragments / BUCKET).clamp(1, MOST_BUCKETS).next_power_of_two()
 }
 
 /// Counts to which buckets the fragments of a piece will be dealt.

@@ -35,12 +35,12 @@ pub fn settle_all<R: Threads + Sync>(
             requires packets { sum_by (λ (f : Fragment). f.packets) (parts_of bucket.old.items) < 2 ^ 64 }
             requires octets { sum_by (λ (f : Fragment). f.octets) (parts_of bucket.old.items) < 2 ^ 64 }
             ensures { AreSettled timeouts.entry.now clock bucket.old.items bucket.new.items }
-        { settle(bucket, timeouts, clock) },
+        { settle_bucket(bucket, timeouts, clock) },
     );
 }
 
 /// Sorts the records of a bucket by key, joins those that are joinable, and gives each its reason.
-fn settle(bucket: &mut Vec<FlowRecord>, timeouts: &Timeouts, clock: u64)
+fn settle_bucket(bucket: &mut Vec<FlowRecord>, timeouts: &Timeouts, clock: u64)
     requires packets { sum_by (λ (f : Fragment). f.packets) (parts_of bucket.old.items) < 2 ^ 64 }
     requires octets { sum_by (λ (f : Fragment). f.octets) (parts_of bucket.old.items) < 2 ^ 64 }
     ensures { AreSettled timeouts.now clock bucket.old.items bucket.new.items }
