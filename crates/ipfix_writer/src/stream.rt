@@ -10,7 +10,7 @@ use crate::message::{TEMPLATE_MESSAGE_LENGTH, encode_template_message};
 use crate::messages::append_messages;
 use meter_io::{Failed, Sink};
 use no_memory::NoMemory;
-use record_ledger::FlowRecord;
+use record_ledger::{FlowRecord, RecordList};
 use std::alloc::Global;
 
 /// Writes the whole stream of these records by a fresh emitter, and tells how many messages it has, the one with the
@@ -19,7 +19,7 @@ use std::alloc::Global;
 /// `Failed` comes only where the sink's count of faults rose; the sink then took a beginning of the stream.
 pub fn emit_all<K: Sink>(
     emitter: Emitter,
-    records: &[FlowRecord],
+    records: &RecordList,
     sink: &mut K,
 ) -> Result<u64, Failed>
     requires { emitter.phase ≡ Phase.Fresh }
@@ -34,8 +34,8 @@ pub fn emit_all<K: Sink>(
         Ok(()) => {}
         Err(Failed) => return Err(Failed),
     }
-    for flow in records {
-        match emitter.record(flow, sink) {
+    for place in 0..records.len() {
+        match emitter.record(records.get(place), sink) {
             Ok(()) => {}
             Err(Failed) => return Err(Failed),
         }

@@ -46,12 +46,12 @@ use Rattle.record_ledger.proofs.Reaching.{grouped, grouped_start}
 use Rattle.record_ledger.proofs.Rising.{gathering_total, written_total, written_weak, keys_tie, rises_from_sorted}
 
 -- R holds of each record and the next one, where that has its key
-abbrev Beside : (FlowRecord → Option Fragment → Type 0) → List FlowRecord → Type 0
+abbrev pub Beside : (FlowRecord → Option Fragment → Type 0) → List FlowRecord → Type 0
 Beside R [] = Unit {0}
 Beside R (r ∷ rest) = R r (next_of_key r.part (map part_of rest)) × Beside R rest
 
 module _ (limits : Timeouts) where
-  beside_reasons : (clock : ℕ) (T : List FlowRecord) (W : List Fragment) → map part_of T ≡ W
+  pub beside_reasons : (clock : ℕ) (T : List FlowRecord) (W : List Fragment) → map part_of T ≡ W
       → ((k : ℕ) (d : FlowRecord) → k < length T
       → (get_or T k d).reason ≡ reason_of limits clock (get_or T k d).part
       (next_of_key (get_or T k d).part (drop (k + 1) W)))
@@ -78,7 +78,7 @@ module _ (limits : Timeouts) where
   apart_next r n true h = h
   apart_next r n false h = tt
 
-  beside_apart : (T : List FlowRecord) → NoneJoinable limits (map part_of T) → Beside (StandsApart limits) T
+  pub beside_apart : (T : List FlowRecord) → NoneJoinable limits (map part_of T) → Beside (StandsApart limits) T
   beside_apart [] h = tt
   beside_apart (r ∷ []) h = (tt, tt)
   beside_apart (r ∷ n ∷ T) h = (
@@ -118,7 +118,7 @@ module _ (limits : Timeouts) where
   less_next f g a b apart Equal e h = absurd (apart (ties_join f g a b e))
   less_next f g a b apart Greater e h = less_from_greater gathering_total f g e
 
-  strictly : (W : List Fragment) → Rises NotAfter W → NoneJoinable limits W
+  pub strictly : (W : List Fragment) → Rises NotAfter W → NoneJoinable limits W
       → All (λ f. f.last - f.first ≤ limits.active) W → Rises (λ a b. key_then_last a b ≡ Less) W
   strictly [] h k s = tt
   strictly (f ∷ []) h k s = (All-nil (λ b. key_then_last f b ≡ Less), tt)
@@ -138,7 +138,7 @@ pub same_keys : (key : FlowKey) (a b : FlowRecord) → has_key key a ≡ true �
     → key_order a.part.key b.part.key ≡ Equal
 same_keys key a b e f = keys_tie a.part.key b.part.key (key_from_test key a e ∙ sym (key_from_test key b f))
 
-none_left : (key : FlowKey) (xs : List FlowRecord) → All (λ m. has_key key m ≡ false) xs → of_key key xs ≡ []
+pub none_left : (key : FlowKey) (xs : List FlowRecord) → All (λ m. has_key key m ≡ false) xs → of_key key xs ≡ []
 none_left key [] h = refl
 none_left key (x ∷ xs) h =
     ap (λ b. cond b (x ∷ of_key key xs) (of_key key xs)) (h 0 x (omega arith))
@@ -190,7 +190,7 @@ module _ (R : FlowRecord → Option Fragment → Type 0) where
   keyed_at key r rest false e h k = k
 
   -- in a list that is sorted by key, the next record of a key is the next one of the list, where that has the key
-  keyed : (T : List FlowRecord) → Rises NotAfter (map part_of T) → Beside R T → (key : FlowKey)
+  pub keyed : (T : List FlowRecord) → Rises NotAfter (map part_of T) → Beside R T → (key : FlowKey)
       → EachWithNext R (of_key key T)
   keyed [] h b key = tt
   keyed (r ∷ T) h b key = keyed_at key r T (has_key key r) refl
@@ -199,7 +199,7 @@ module _ (R : FlowRecord → Option Fragment → Type 0) where
       (keyed T h.1 b.1 key)
 
 -- the records of one key rise by their last times, in either order
-up_gathered : (key : FlowKey) (T : List FlowRecord) → Rises (λ (a b : FlowRecord). key_then_last a.part b.part ≡ Less) T
+pub up_gathered : (key : FlowKey) (T : List FlowRecord) → Rises (λ (a b : FlowRecord). key_then_last a.part b.part ≡ Less) T
     → Rises (λ (a b : FlowRecord). a.part.last < b.part.last) (of_key key T)
 up_gathered key T h = rises_filter (has_key key) (λ (a b : FlowRecord). key_then_last a.part b.part ≡ Less)
     (λ (a b : FlowRecord). a.part.last < b.part.last)
@@ -214,7 +214,7 @@ up_written key L h = rises_filter (has_key key) (λ (a b : FlowRecord). written_
     (first_less (nat_cmp a.part.last b.part.last) (key_order a.part.key b.part.key) (same_keys key a b e f) l)) L h
 
 -- what differs by key and last time differs in the written order
-no_tie : (a b : FlowRecord) → key_then_last a.part b.part ≡ Less → (q : Ordering) → written_order a b ≡ q
+pub no_tie : (a b : FlowRecord) → key_then_last a.part b.part ≡ Less → (q : Ordering) → written_order a b ≡ q
     → is_eq q ≡ false
 no_tie a b l Less e = refl
 no_tie a b l Greater e = refl
@@ -226,22 +226,27 @@ no_tie a b l Equal e =
     let never : Less ≡ Equal = sym l ∙ tie in
     cc
 
--- the records sorted by key and last time, and in the written order
-module _ (T L : List FlowRecord) (perm : IsPermutation T L)
-    (up : Rises (λ (a b : FlowRecord). key_then_last a.part b.part ≡ Less) T)
+-- the two differ in the written order
+abbrev pub Untied : FlowRecord → FlowRecord → Type 0
+Untied a b = is_eq (written_order a b) ≡ false
+
+-- the first ends before the other
+abbrev pub Before : FlowRecord → FlowRecord → Type 0
+Before a b = a.part.last < b.part.last
+
+-- records without ties, of which those of each key rise, and the same in the written order
+module _ (T L : List FlowRecord) (perm : IsPermutation T L) (apart : Rises Untied T)
+    (up : (key : FlowKey) → Rises Before (of_key key T))
     (sorted : IsSortedBy (λ (a b : FlowRecord). is_lt (written_order a b)) L) where
   written : Rises (λ (a b : FlowRecord). written_order a b ≡ Less) L
   written = rises_distinct written_total L
       (rises_from_sorted (λ (a b : FlowRecord). is_lt (written_order a b)) written_weak L sorted)
       (IsDistinct-IsPermutation (λ (a b : FlowRecord). is_eq (written_order a b)) (tie_flips written_total) T L perm
-      (distinct_from_rises (λ (a b : FlowRecord). is_eq (written_order a b)) T
-      (rises_weaker (λ (a b : FlowRecord). key_then_last a.part b.part ≡ Less)
-      (λ (a b : FlowRecord). is_eq (written_order a b) ≡ false)
-      (λ a b l. no_tie a b l (written_order a b) refl) T up)))
+      (distinct_from_rises (λ (a b : FlowRecord). is_eq (written_order a b)) T apart))
 
   same_of_key : (key : FlowKey) → of_key key T ≡ of_key key L
-  same_of_key key = same_rising (λ (a b : FlowRecord). a.part.last < b.part.last) (λ a b l m. omega arith)
-      (of_key key T) (of_key key L) (up_gathered key T up) (up_written key L written)
+  same_of_key key = same_rising Before (λ a b l m. omega arith)
+      (of_key key T) (of_key key L) (up key) (up_written key L written)
       (λ z c. let k = filter_contains (has_key key) T z c in
       contains_filter (has_key key) L z (Contains-permutation T L z perm k.0) k.1)
       (λ z c. let k = filter_contains (has_key key) L z c in
@@ -303,33 +308,26 @@ by_own_clock limits packets clock L at = (
 )
 
 -- the records are lawful for whatever packets the parts share out, by any clock
-pub lawful_by : (limits : Timeouts) (clock : Option ℕ) (parts W : List Fragment) (T L : List FlowRecord)
-    → map part_of T ≡ W → Reaches limits parts W
-    → Rises NotAfter W → NoneJoinable limits W
-    → ((k : ℕ) (d : FlowRecord) → k < length T
-    → (get_or T k d).reason ≡ reason_of limits (unwrap_or clock 0) (get_or T k d).part
-    (next_of_key (get_or T k d).part (drop (k + 1) W)))
+pub lawful_by : (limits : Timeouts) (clock : Option ℕ) (parts : List Fragment) (T L : List FlowRecord)
+    → Reaches limits parts (map part_of T)
+    → (All (λ f. f.last - f.first ≤ limits.active) (map part_of T)
+    → Rises Untied T × ((key : FlowKey) → Rises Before (of_key key T)))
+    → ((key : FlowKey) → EachWithNext (StandsApart limits) (of_key key T))
+    → ((key : FlowKey) → EachWithNext (HasReason limits (unwrap_or clock 0)) (of_key key T))
     → IsPermutation T L → IsSortedBy (λ (a b : FlowRecord). is_lt (written_order a b)) L
     → (packets : List Packet) → SharesOut limits packets parts → IsLawfulBy limits clock packets L
-lawful_by limits clock parts W T L e r rises apart reasons perm sorted packets shares =
-    let shares' : SharesOut limits packets W = shared limits packets parts W r shares in
-    let up = rises_unmap part_of (λ a b. key_then_last a b ≡ Less) T
-    (subst (Rises (λ a b. key_then_last a b ≡ Less)) (sym e)
-    (strictly limits W rises apart (short_at limits shares'.heaps W shares'.each))) in
-    let rises' = subst (Rises NotAfter) (sym e) rises in
-    let same = same_of_key T L perm up sorted in
+lawful_by limits clock parts T L r strict apart reasons perm sorted packets shares =
+    let shares' : SharesOut limits packets (map part_of T) = shared limits packets parts (map part_of T) r shares in
+    let up = strict (short_at limits shares'.heaps (map part_of T) shares'.each) in
+    let same = same_of_key T L perm up.0 up.1 sorted in
     record {
       shared = permuted limits packets packets (map part_of T) (map part_of L) (IsPermutation-refl packets)
-          (IsPermutation-map part_of T L perm)
-          (subst (SharesOut limits packets) (sym e) shares');
+          (IsPermutation-map part_of T L perm) shares';
       ordered = sorted;
-      apart = λ key. subst (EachWithNext (StandsApart limits)) (same key)
-          (keyed (StandsApart limits) T rises' (beside_apart limits T (subst (NoneJoinable limits) (sym e) apart)) key);
+      apart = λ key. subst (EachWithNext (StandsApart limits)) (same key) (apart key);
       reasons = λ c is key. subst (λ n. EachWithNext (HasReason limits n) (of_key key L))
           (ap (λ o. unwrap_or o 0) is)
-          (subst (EachWithNext (HasReason limits (unwrap_or clock 0))) (same key)
-          (keyed (HasReason limits (unwrap_or clock 0)) T rises'
-          (beside_reasons limits (unwrap_or clock 0) T W e reasons) key));
+          (subst (EachWithNext (HasReason limits (unwrap_or clock 0))) (same key) (reasons key));
     }
 
 -- lawful lists have no ties
@@ -386,11 +384,11 @@ pub no_ties : HasNoTies
 no_ties limits packets L lawful = pairs_from_rises (λ (a b : FlowRecord). written_order a b ≡ Less) L
     (rises_written limits (λ c. IsClock packets (Some c)) packets L lawful)
 
-not_true : (b : Bool) → (b ≡ true → ⊥) → b ≡ false
+pub not_true : (b : Bool) → (b ≡ true → ⊥) → b ≡ false
 not_true true h = absurd (h refl)
 not_true false h = refl
 
-untied : (r s : FlowRecord) → r.part.key ≢ s.part.key → (q : Ordering) → written_order r s ≡ q → is_eq q ≡ false
+pub untied : (r s : FlowRecord) → r.part.key ≢ s.part.key → (q : Ordering) → written_order r s ≡ q → is_eq q ≡ false
 untied r s n Less e = refl
 untied r s n Greater e = refl
 untied r s n Equal e = absurd (n (tied_keys r.part.key s.part.key

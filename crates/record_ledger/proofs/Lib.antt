@@ -1,4 +1,5 @@
 pub mod Alone
+pub mod Dealt
 pub mod Gathered
 pub mod InPlace
 pub mod Keyed
@@ -6,7 +7,9 @@ pub mod Lying
 pub mod Made
 pub mod Matched
 pub mod Meeting
+pub mod Placed
 pub mod Reaching
 pub mod Rising
+pub mod Settled
 pub mod Stacking
 pub mod Unique

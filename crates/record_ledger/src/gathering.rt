@@ -1,21 +1,21 @@
 //! Gathering: fragments as the lawful list of flow records.
 
-ghost use Rattle.std.specs.Prelude.{◌≡◌, ◌<◌, ◌^◌, List, All, IfOk, sum_by};
+ghost use Rattle.std.specs.Prelude.{◌<◌, ◌^◌, List, All, IfOk, sum_by};
 ghost use Rattle.packet_accept.specs.declared.packet.Packet.{Packet};
 ghost use Rattle.flow_parts.specs.declared.fragment.Fragment.{Fragment};
 ghost use Rattle.flow_parts.specs.Sharing.{SharesOut};
 ghost use Rattle.record_ledger.specs.Regrouping.{Regroups};
 ghost use Rattle.packet_accept.specs.Clock.{IsClock};
-ghost use Rattle.record_ledger.specs.Lawful.{parts_of, IsLawful, IsLawfulBy};
+ghost use Rattle.record_ledger.specs.Lawful.{IsLawful, IsLawfulBy};
 ghost use Rattle.record_ledger.specs.Sessions.{IsSessions, IsUncut, AreRecordsOf};
 
-use crate::joining::join_neighbours;
-use crate::orders::{sort_by_key, sort_by_last};
-use crate::reasons::give_reasons;
-use crate::record::FlowRecord;
-use flow_parts::{Fragment, Timeouts};
+use crate::dealing::deal;
+use crate::record_list::RecordList;
+use crate::settling::settle_all;
+use flow_parts::{PartList, Timeouts};
 use no_memory::NoMemory;
 use std::alloc::Global;
+use std::thread::Threads;
 
 /// Gathers fragments into flow records.
 ///
@@ -28,47 +28,35 @@ use std::alloc::Global;
 /// time of the latest packet of all, in milliseconds; `None` without a packet. It is taken as given, also where `parts`
 /// are but some of the fragments: those of some keys, of which all are there.
 ///
-/// It takes the time of sorting. Beside `parts` it holds the list of records alone: the parts are copied into it, and
-/// it is sorted, joined and sorted again in place.
+/// The fragments are dealt to buckets by their keys, and `threads` threads at most sort, join and give reasons there.
+/// It takes the time of sorting. Each piece of `parts` is let go as soon as its fragments are dealt, so about the list of
+/// records is held alone, and 16 bytes for each of them.
 ///
 /// # Errors
 ///
-/// [`NoMemory`] where there is no memory for as many records as parts.
-pub fn gather(
+/// [`NoMemory`] where there is no memory for as many records as parts and for their places, and where a bucket would
+/// have more than 2^32 records.
+pub fn gather<R: Threads + Sync>(
+    rt: &R,
     alloc: Global,
-    parts: &[Fragment],
+    parts: PartList,
     timeouts: Timeouts,
     clock: Option<u64>,
-) -> Result<Vec<FlowRecord>, NoMemory>
-    requires packets { sum_by (λ (f : Fragment). f.packets) parts.now < 2 ^ 64 }
-    requires octets { sum_by (λ (f : Fragment). f.octets) parts.now < 2 ^ 64 }
-    ensures regroups { IfOk result (λ records. Regroups parts.now records.items) }
-    ensures lawful_by { IfOk result (λ records. (packets : List Packet) → SharesOut timeouts packets parts.now
-        → IsLawfulBy timeouts clock packets records.items) }
-    ensures lawful { IfOk result (λ records. (packets : List Packet) → SharesOut timeouts packets parts.now
-        → IsClock packets clock → IsLawful timeouts packets records.items) }
-    ensures sessions { IfOk result (λ records. (packets : List Packet) → SharesOut timeouts packets parts.now
+    threads: usize,
+) -> Result<RecordList, NoMemory>
+    requires threads { 0 < threads }
+    requires packets { sum_by (λ (f : Fragment). f.packets) parts < 2 ^ 64 }
+    requires octets { sum_by (λ (f : Fragment). f.octets) parts < 2 ^ 64 }
+    ensures regroups { IfOk result (λ records. Regroups parts records) }
+    ensures lawful_by { IfOk result (λ records. (packets : List Packet) → SharesOut timeouts packets parts
+        → IsLawfulBy timeouts clock packets records) }
+    ensures lawful { IfOk result (λ records. (packets : List Packet) → SharesOut timeouts packets parts
+        → IsClock packets clock → IsLawful timeouts packets records) }
+    ensures sessions { IfOk result (λ records. (packets : List Packet) → SharesOut timeouts packets parts
         → IsClock packets clock → (sessions : List (List Packet)) → IsSessions timeouts.idle packets sessions
-        → All (IsUncut timeouts) sessions → AreRecordsOf timeouts packets sessions records.items) }
+        → All (IsUncut timeouts) sessions → AreRecordsOf timeouts packets sessions records) }
 {
-    let mut records = as_records(alloc, parts)?;
-    sort_by_key(&mut records);
-    join_neighbours(&mut records, &timeouts);
-    give_reasons(&mut records, &timeouts, clock.unwrap_or(0));
-    sort_by_last(&mut records);
-    Ok(records)
-}
-
-/// A record for each part, in the same order, with no reason yet.
-fn as_records(alloc: Global, parts: &[Fragment]) -> Result<Vec<FlowRecord>, NoMemory>
-    ensures { IfOk result (λ records. parts_of records.items ≡ parts.now) }
-{
-    let mut records = Vec::with_capacity(alloc, parts.len())?;
-    for part in parts {
-        records.push(FlowRecord {
-            part: *part,
-            reason: 0,
-        })?;
-    }
-    Ok(records)
+    let mut buckets = deal(alloc, parts)?;
+    settle_all(rt, &mut buckets, &timeouts, clock.unwrap_or(0), threads);
+    RecordList::in_order(alloc, buckets)
 }

@@ -6,19 +6,26 @@
 //! list of packets that the fragments share out. Where neither the active time-out nor a packet that ends its flow cuts
 //! a session, there is one lawful list: that of the sessions' records (`specs/Sessions.antt`).
 //!
-//! All work is done in the list that is given: it is sorted by key, its front is the stack of what is joined, and it is
-//! sorted again.
+//! The fragments are dealt to buckets by their keys, so that all fragments of one key lie in one bucket. Threads settle
+//! the buckets: each is sorted by key, its front is the stack of what is joined, and its records get their reasons. A
+//! [`RecordList`] leaves the records there and holds their order beside them, as small places.
 //!
 //! [`laws`] holds laws about lawful lists, as contracts.
 #![tactic(auto)]
 
+mod dealing;
 mod gathering;
 mod joining;
 pub mod laws;
 mod orders;
+mod place;
+mod placing;
 mod reasons;
 mod record;
+mod record_list;
+mod settling;
 
 pub use gathering::gather;
 pub use no_memory::NoMemory;
 pub use record::{ACTIVE_TIMEOUT, END_OF_FLOW, FORCED_END, FlowRecord, IDLE_TIMEOUT};
+pub use record_list::RecordList;

@@ -1,9 +1,13 @@
-//! The two orders that records are sorted by.
+//! The order that records are sorted by before they are joined, and that of their places.
 
-ghost use Rattle.std.specs.Prelude.{◌≡◌, IsPermutation, IsSorted};
-ghost use Rattle.record_ledger.specs.Order.{key_then_last, written_order};
+ghost use Rattle.std.specs.Prelude.{◌≡◌, IsPermutation, IsSorted, option_copied};
+ghost use Rattle.std.specs.Option.{option_cmp};
+ghost use Rattle.flow_key.specs.Key.{key_order};
+ghost use Rattle.record_ledger.specs.Order.{key_then_last};
+ghost use Rattle.record_ledger.specs.Buckets.{place_order, record_at};
 ghost use Rattle.record_ledger.specs.declared.record.FlowRecord.{FlowRecord};
 
+use crate::place::Place;
 use crate::record::FlowRecord;
 use std::cmp::Ordering;
 
@@ -15,12 +19,13 @@ pub fn sort_by_key(records: &mut Vec<FlowRecord>)
     records.sort_unstable_by(|one, other| by_key(one, other));
 }
 
-/// Sorts records into the written order: by last time, then by key.
-pub fn sort_by_last(records: &mut Vec<FlowRecord>)
-    ensures permutation { IsPermutation records.old.items records.new.items }
-    ensures order { IsSorted written_order records.new.items }
+/// Sorts places into the written order of their records: by last time, which is in the place, and only where two tie by
+/// the keys, which are looked up in the buckets.
+pub fn sort_places(buckets: &[Vec<FlowRecord>], order: &mut Vec<Place>)
+    ensures permutation { IsPermutation order.old.items order.new.items }
+    ensures order { IsSorted (place_order buckets.now) order.new.items }
 {
-    records.sort_unstable_by(|one, other| by_last(one, other));
+    order.sort_unstable_by(|one, other| by_place(buckets, one, other));
 }
 
 /// How two records stand by key, then by last time.
@@ -31,12 +36,33 @@ fn by_key(one: &FlowRecord, other: &FlowRecord) -> Ordering
     keys.then(one.part.last.cmp(&other.part.last))
 }
 
-/// How two records stand in the written order.
-fn by_last(one: &FlowRecord, other: &FlowRecord) -> Ordering
-    ensures { result ≡ written_order one.now other.now }
+/// How two places stand by last time, then by the keys of their records.
+fn by_place(buckets: &[Vec<FlowRecord>], one: &Place, other: &Place) -> Ordering
+    ensures { result ≡ place_order buckets.now one.now other.now }
 {
-    match one.part.last.cmp(&other.part.last) {
-        Ordering::Equal => one.part.key.order(&other.part.key),
+    match one.last.cmp(&other.last) {
+        Ordering::Equal => by_found(record_at(buckets, one), record_at(buckets, other)),
         apart => apart,
     }
+}
+
+/// How two records stand by key, where there are both.
+fn by_found(one: Option<&FlowRecord>, other: Option<&FlowRecord>) -> Ordering
+    ensures { result ≡ option_cmp (λ (r s : FlowRecord). key_order r.part.key s.part.key) (option_copied one.entry)
+        (option_copied other.entry) }
+{
+    match (one, other) {
+        (Some(one), Some(other)) => one.part.key.order(&other.part.key),
+        (Some(_), None) => Ordering::Greater,
+        (None, Some(_)) => Ordering::Less,
+        (None, None) => Ordering::Equal,
+    }
+}
+
+/// The record at a place, where there is one.
+fn record_at<'a>(buckets: &'a [Vec<FlowRecord>], place: &Place) -> Option<&'a FlowRecord>
+    ensures { option_copied result ≡ record_at buckets.now place.now }
+{
+    let bucket = buckets.get(place.bucket as usize)?;
+    bucket.get(place.at as usize)
 }

@@ -1,9 +1,8 @@
 //! The reasons of records that stand by key and last time.
 
-ghost use Rattle.std.specs.Prelude.{◌≡◌, ℕ, ◌+◌, ◌<◌, drop, length, slice_index_or};
-ghost use Rattle.record_ledger.specs.declared.record.FlowRecord.{FlowRecord};
+ghost use Rattle.std.specs.Prelude.{◌≡◌};
 ghost use Rattle.record_ledger.specs.Lawful.{parts_of, reason_of};
-ghost use Rattle.record_ledger.specs.Steps.{next_of_key};
+ghost use Rattle.record_ledger.specs.Steps.{next_of_key, HasReasons};
 
 use crate::record::{ACTIVE_TIMEOUT, END_OF_FLOW, FORCED_END, FlowRecord, IDLE_TIMEOUT};
 use flow_parts::{Fragment, Timeouts};
@@ -11,9 +10,7 @@ use flow_parts::{Fragment, Timeouts};
 /// Gives each record its reason.
 pub fn give_reasons(records: &mut [FlowRecord], timeouts: &Timeouts, clock: u64)
     ensures parts { parts_of records.new ≡ parts_of records.old }
-    ensures reasons { (k : ℕ) (d : FlowRecord) → k < length records.new → (slice_index_or records.new k d).reason
-        ≡ reason_of timeouts.now clock (slice_index_or records.new k d).part
-        (next_of_key (slice_index_or records.new k d).part (drop (k + 1) (parts_of records.new))) }
+    ensures reasons { HasReasons timeouts.now clock records.new }
 {
     for place in 0..records.len() {
         let part = records[place].part;

@@ -1,17 +1,19 @@
 //! Worked examples of gathering, as tables.
 
-ghost use Rattle.std.specs.Prelude.{◌+◌, ◌<◌, ◌≤◌, ◌^◌, IsTrue, sum_by};
+ghost use Rattle.std.specs.Prelude.{◌≡◌, ◌+◌, ◌<◌, ◌≤◌, ◌^◌, IsTrue, IfOk, sum_by};
 ghost use Rattle.flow_parts.specs.declared.fragment.Fragment.{Fragment};
 ghost use Rattle.flow_parts.specs.Joining.{TakesIn};
 
 use flow_key::FlowKey;
-use flow_parts::{Fragment, Timeouts};
+use flow_parts::{Fragment, PartList, Timeouts};
+use no_memory::NoMemory;
 use packet_accept::Packet;
 use record_ledger::gather;
 use samples::udp_key;
 use std::alloc::Global;
 use std::process::Abort;
 use std::test::Fail;
+use std::thread::Threads;
 
 /// The fragment of one packet of 28 octets from this port at this time.
 fn one_packet(source_port: u16, time: u64) -> Fragment {
@@ -46,12 +48,24 @@ fn are_few(parts: &[Fragment]) -> bool
     true
 }
 
-/// Gathers packets of these ports and times, and compares port, packets, first, last and reason of each record.
+/// The fragments as a list in pieces.
+fn in_pieces(alloc: Global, parts: &[Fragment]) -> Result<PartList, NoMemory>
+    ensures { IfOk result (λ list. list ≡ parts.now) }
+{
+    let mut list = PartList::new(alloc);
+    list.add_piece(parts.to_vec(alloc)?)?;
+    Ok(list)
+}
+
+/// What a record is to have: port, packets, first, last and reason.
+type Wanted = (u16, u64, u64, u64, u8);
+
+/// Gathers packets of these ports and times on one thread and on four, and compares each record.
 fn expect(
-    rt: &impl Abort,
+    rt: &(impl Abort + Threads + Sync),
     alloc: Global,
     packets: &[(u16, u64)],
-    records: &[(u16, u64, u64, u64, u8)],
+    records: &[Wanted],
 ) -> Result<(), Fail> {
     let mut parts = Vec::new(alloc);
     for (port, time) in packets {
@@ -59,9 +73,29 @@ fn expect(
     }
     let clock = packets.iter().map(|packet| packet.1).max();
     assert!(rt; are_few(&parts));
-    let gathered = gather(alloc, &parts, Timeouts::new(300, 1800), clock)?;
+    expect_on(rt, alloc, &parts, clock, records, 1)?;
+    expect_on(rt, alloc, &parts, clock, records, 4)
+}
+
+/// Gathers fragments on so many threads, and compares each record.
+fn expect_on(
+    rt: &(impl Abort + Threads + Sync),
+    alloc: Global,
+    parts: &[Fragment],
+    clock: Option<u64>,
+    records: &[Wanted],
+    threads: usize,
+) -> Result<(), Fail>
+    requires threads { 0 < threads }
+    requires packets { sum_by (λ (f : Fragment). f.packets) parts.now < 2 ^ 64 }
+    requires octets { sum_by (λ (f : Fragment). f.octets) parts.now < 2 ^ 64 }
+{
+    let list = in_pieces(alloc, parts)?;
+    let gathered = gather(rt, alloc, list, Timeouts::new(300, 1800), clock, threads)?;
     assert!(rt; gathered.len() == records.len());
-    for (found, wanted) in gathered.iter().zip(records) {
+    for (place, wanted) in records.iter().enumerate() {
+        assert!(rt; place < gathered.len());
+        let found = gathered.get(place);
         assert!(rt; found.part.key.source_port == wanted.0);
         assert!(rt; found.part.packets == wanted.1);
         assert!(rt; found.part.first == wanted.2 && found.part.last == wanted.3);
@@ -171,10 +205,12 @@ fn joins_again_below(rt: HostRuntime) -> Result<(), Fail> {
     ];
     assert!(rt; !timeouts.joinable(&parts[0], &parts[1]));
     assert!(rt; are_few(&parts));
-    let gathered = gather(rt.alloc(), &parts, timeouts, Some(800_001))?;
+    let list = in_pieces(rt.alloc(), &parts)?;
+    let gathered = gather(&rt, rt.alloc(), list, timeouts, Some(800_001), 4)?;
     assert!(rt; gathered.len() == 1);
+    let found = gathered.get(0);
     assert!(rt;
-        gathered[0].part
+        found.part
             == Fragment {
                 key: udp_key(4000),
                 packets: 6,
@@ -184,7 +220,7 @@ fn joins_again_below(rt: HostRuntime) -> Result<(), Fail> {
                 flags: 2
             }
     );
-    assert!(rt; gathered[0].reason == 1);
+    assert!(rt; found.reason == 1);
     Ok(())
 }
 
@@ -203,11 +239,14 @@ fn web_exchange(rt: HostRuntime) -> Result<(), Fail> {
         sent_fragment(request(), start + 90, 40, 0x004),
     ];
     assert!(rt; are_few(&parts));
+    let list = in_pieces(rt.alloc(), &parts)?;
     let records = gather(
+        &rt,
         rt.alloc(),
-        &parts,
+        list,
         Timeouts::new(300, 1800),
         Some(start + 90),
+        4,
     )?;
     assert!(rt; records.len() == 4);
     let wanted = [
@@ -216,7 +255,9 @@ fn web_exchange(rt: HostRuntime) -> Result<(), Fail> {
         (response(), 3, 1612, 0x01A, start + 50, start + 80, 4),
         (request(), 4, 304, 0x01E, start + 30, start + 90, 3),
     ];
-    for (found, (key, packets, octets, flags, first, last, reason)) in records.iter().zip(wanted) {
+    for (place, (key, packets, octets, flags, first, last, reason)) in wanted.into_iter().enumerate() {
+        assert!(rt; place < records.len());
+        let found = records.get(place);
         assert!(rt;
             found.part.key == key && found.part.packets == packets && found.part.octets == octets
         );
@@ -229,7 +270,7 @@ fn web_exchange(rt: HostRuntime) -> Result<(), Fail> {
 /// Takes packets of these times and flags of one key in file order, each into the latest fragment where it fits,
 /// gathers them, and compares packets, first, last and reason of each record.
 fn check_ends(
-    rt: &impl Abort,
+    rt: &(impl Abort + Threads + Sync),
     alloc: Global,
     key: FlowKey,
     packets: &[(u64, u16)],
@@ -259,9 +300,12 @@ fn check_ends(
     }
     let clock = packets.iter().map(|packet| packet.0).max();
     assert!(rt; are_few(&parts));
-    let gathered = gather(alloc, &parts, timeouts, clock)?;
+    let list = in_pieces(alloc, &parts)?;
+    let gathered = gather(rt, alloc, list, timeouts, clock, 4)?;
     assert!(rt; gathered.len() == records.len());
-    for (found, wanted) in gathered.iter().zip(records) {
+    for (place, wanted) in records.iter().enumerate() {
+        assert!(rt; place < gathered.len());
+        let found = gathered.get(place);
         assert!(rt; found.part.packets == wanted.0);
         assert!(rt; found.part.first == wanted.1 && found.part.last == wanted.2);
         assert!(rt; found.reason == wanted.3);

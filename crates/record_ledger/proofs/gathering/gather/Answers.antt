@@ -1,105 +1,51 @@
--- The parts as records, sorted, joined, with their reasons, and sorted into the written order.
-use Rattle.std.proofs.Common.{◌≡◌, ℕ, ◌+◌, ◌<◌, List, ◌++◌, length, get_or, take, drop, refl, sym, ap, ◌∙◌, subst}
-use Rattle.std.proofs.Common.{arith, IsPermutation}
-use Rattle.std.proofs.lemmas.List.{take_at, length-map}
-use Rattle.std.proofs.lemmas.List.Sorted.{IsPermutation-map}
+-- The fragments are dealt, the buckets are settled, and their records are put into the written order.
+use Rattle.std.proofs.Common.{◌≡◌, List, IfOk, length, sym, ap, subst, arith, IsPermutation}
+use Rattle.std.specs.Prelude.{IsSorted}
+use Rattle.std.specs.List.{AllZip}
+use Rattle.std.proofs.lemmas.Result.{IfOk-weaker}
+use Rattle.std.proofs.lemmas.List.Sorted.{sum_by-IsPermutation}
 use Rattle.flow_parts.specs.declared.fragment.Fragment.{Fragment}
-use Rattle.flow_parts.specs.declared.timeouts.Timeouts.{Timeouts}
-use Rattle.record_ledger.specs.declared.record.FlowRecord.{FlowRecord}
-use Rattle.record_ledger.specs.Lawful.{parts_of, reason_of}
-use Rattle.flow_parts.specs.Reaching.{Reaches}
-use Rattle.record_ledger.specs.Steps.{Rises, NotAfter, NoneJoinable, next_of_key}
-use Rattle.flow_parts.specs.Reaching.Reaches.{moved, onward}
-use Rattle.record_ledger.proofs.Gathered.{regrouped, lawful_by, by_own_clock}
-use Rattle.record_ledger.proofs.Keyed.{part_of, rises_of_map}
+use Rattle.flow_parts.proofs.Permuted.{AllZip-length}
+use Rattle.record_ledger.specs.Lawful.{parts_of}
+use Rattle.record_ledger.specs.Order.{written_order}
+use Rattle.record_ledger.specs.Buckets.{Bucket, records_of}
+use Rattle.record_ledger.proofs.Gathered.{by_own_clock}
 use Rattle.record_ledger.proofs.Matched.{lawful_are_sessions}
-use Rattle.flow_parts.proofs.Reaching.{same_packets, same_octets}
-use Rattle.record_ledger.proofs.Rising.{by_key_weak, rises_from_sorted}
+use Rattle.record_ledger.proofs.Settled.{both_ok, given_back, Settled, all_regroup, all_lawful}
 use Rattle.record_ledger.proofs.gathering.gather.Goals as goal
 
--- the parts, as records that were sorted
-sorted_parts : (limits : Timeouts) (parts : List Fragment) (made sorted : List FlowRecord) → parts_of made ≡ parts
-    → IsPermutation made sorted → Reaches limits parts (parts_of sorted)
-sorted_parts limits parts made sorted e perm =
-    moved parts (parts_of sorted)
-    (subst (λ fs. IsPermutation fs (parts_of sorted)) e (IsPermutation-map part_of made sorted perm))
-
--- and joined, with their reasons
-joined_parts : (limits : Timeouts) (parts : List Fragment) (made sorted joined lent given : List FlowRecord)
-    → parts_of made ≡ parts → IsPermutation made sorted
-    → Reaches limits (parts_of sorted) (parts_of joined) → lent ≡ joined → parts_of given ≡ parts_of lent
-    → Reaches limits parts (parts_of given)
-joined_parts limits parts made sorted joined lent given e perm reached same parts_same =
-    subst (Reaches limits parts) (sym (parts_same ∙ ap parts_of same))
-    (onward parts (parts_of sorted) (parts_of joined) (sorted_parts limits parts made sorted e perm) reached)
-
--- a lent list that is given back is what it became
-given_back : (n : ℕ) (joined lent given written : List FlowRecord) → n ≡ length joined → lent ≡ joined
-    → parts_of given ≡ parts_of lent
-    → IsPermutation (take n (given ++ drop (length given) joined)) written → IsPermutation given written
-given_back n joined lent given written long same parts_same perm =
-    let len : length given ≡ n =
-    omega (arith, ap length parts_same, ap length same, length-map given part_of, length-map lent part_of) in
-    subst (λ z. IsPermutation z written) (take_at given (drop (length given) joined) n len) perm
-
-pub join_neighbours-requires-clause-packets : goal.join_neighbours-requires-clause-packets
-join_neighbours-requires-clause-packets c =
-    let same = same_packets c.args.timeouts c.args.parts.now (parts_of c.sort_by_key.new.records.items)
-    (sorted_parts c.args.timeouts c.args.parts.now c.in_ok-records.records.items c.sort_by_key.new.records.items
-    c.in_ok-records.ensures c.sort_by_key.ensures.permutation) in
-    omega (arith, c.requires.packets)
-
-pub join_neighbours-requires-clause-octets : goal.join_neighbours-requires-clause-octets
-join_neighbours-requires-clause-octets c =
-    let same = same_octets c.args.timeouts c.args.parts.now (parts_of c.sort_by_key.new.records.items)
-    (sorted_parts c.args.timeouts c.args.parts.now c.in_ok-records.records.items c.sort_by_key.new.records.items
-    c.in_ok-records.ensures c.sort_by_key.ensures.permutation) in
-    omega (arith, c.requires.octets)
-
-pub join_neighbours-requires-clause-sorted : goal.join_neighbours-requires-clause-sorted
-join_neighbours-requires-clause-sorted c = rises_of_map part_of NotAfter c.sort_by_key.new.records.items
-    (rises_from_sorted _ by_key_weak c.sort_by_key.new.records.items c.sort_by_key.ensures.order)
-
 pub returns-clause-regroups : goal.returns-clause-regroups
-returns-clause-regroups c =
-    let given : List FlowRecord = c.give_reasons.new.records in
-    let written : List FlowRecord = c.sort_by_last.new.records.items in
-    regrouped c.args.timeouts c.args.parts.now (parts_of given) given written refl
-    (joined_parts c.args.timeouts c.args.parts.now c.in_ok-records.records.items c.sort_by_key.new.records.items
-    c.join_neighbours.new.records.items c.deref_mut.result.now given
-    c.in_ok-records.ensures c.sort_by_key.ensures.permutation c.join_neighbours.ensures.reached
-    c.deref_mut.ensures.value c.give_reasons.ensures.parts)
-    (given_back _ c.join_neighbours.new.records.items c.deref_mut.result.now given written
-    c.join_neighbours.new.records.ok.0 c.deref_mut.ensures.value c.give_reasons.ensures.parts
-    c.sort_by_last.ensures.permutation)
+returns-clause-regroups g c =
+    let old = c.in_ok-buckets.buckets in
+    let new : List Bucket = c.settle_all.new.buckets in
+    let R : Bucket → Bucket → Type 0 = Settled c.args.timeouts c.unwrap_or.result in
+    let lent : c.deref_mut.result.now ≡ old.items = c.deref_mut.ensures.value in
+    let same = given_back old.len old.items c.deref_mut.result.now new old.ok.0 lent
+    (AllZip-length R c.deref_mut.result.now new c.settle_all.ensures) in
+    let settled : AllZip R old.items new = subst (λ l. AllZip R l new) lent c.settle_all.ensures in
+    IfOk-weaker c.in_order.result _ _ (λ L perm.
+    all_regroup c.args.timeouts c.unwrap_or.result c.args.parts old.items new c.in_ok-buckets.ensures settled L
+    (subst (λ l. IsPermutation (records_of l) L) same perm))
+    c.in_order.ensures.permutation
 
 pub returns-clause-lawful_by : goal.returns-clause-lawful_by
-returns-clause-lawful_by c =
-    let given : List FlowRecord = c.give_reasons.new.records in
-    let written : List FlowRecord = c.sort_by_last.new.records.items in
-    let same : parts_of c.join_neighbours.new.records.items ≡ parts_of given =
-    sym (c.give_reasons.ensures.parts ∙ ap parts_of c.deref_mut.ensures.value) in
-    λ packets shares. lawful_by c.args.timeouts c.args.clock c.args.parts.now (parts_of given) given written refl
-    (joined_parts c.args.timeouts c.args.parts.now c.in_ok-records.records.items c.sort_by_key.new.records.items
-    c.join_neighbours.new.records.items c.deref_mut.result.now given
-    c.in_ok-records.ensures c.sort_by_key.ensures.permutation c.join_neighbours.ensures.reached
-    c.deref_mut.ensures.value c.give_reasons.ensures.parts)
-    (subst (Rises NotAfter) same c.join_neighbours.ensures.sorted)
-    (subst (NoneJoinable c.args.timeouts) same c.join_neighbours.ensures.apart)
-    (subst (λ n. (k : ℕ) (d : FlowRecord) → k < length given → (get_or given k d).reason
-    ≡ reason_of c.args.timeouts n (get_or given k d).part
-    (next_of_key (get_or given k d).part (drop (k + 1) (parts_of given))))
-    c.unwrap_or.ensures c.give_reasons.ensures.reasons)
-    (given_back _ c.join_neighbours.new.records.items c.deref_mut.result.now given written
-    c.join_neighbours.new.records.ok.0 c.deref_mut.ensures.value c.give_reasons.ensures.parts
-    c.sort_by_last.ensures.permutation)
-    c.sort_by_last.ensures.order packets shares
+returns-clause-lawful_by g c =
+    let old = c.in_ok-buckets.buckets in
+    let new : List Bucket = c.settle_all.new.buckets in
+    let R : Bucket → Bucket → Type 0 = Settled c.args.timeouts c.unwrap_or.result in
+    let lent : c.deref_mut.result.now ≡ old.items = c.deref_mut.ensures.value in
+    let same = given_back old.len old.items c.deref_mut.result.now new old.ok.0 lent
+    (AllZip-length R c.deref_mut.result.now new c.settle_all.ensures) in
+    let settled : AllZip R old.items new = subst (λ l. AllZip R l new) lent c.settle_all.ensures in
+    both_ok c.in_order.result c.in_order.ensures.permutation c.in_order.ensures.order (λ L perm sorted packets shares.
+    all_lawful c.args.timeouts c.unwrap_or.result c.args.parts old.items new c.in_ok-buckets.ensures settled
+    c.args.clock L c.unwrap_or.ensures
+    (subst (λ l. IsPermutation (records_of l) L) same perm) sorted packets shares)
 
 pub returns-clause-lawful : goal.returns-clause-lawful
-returns-clause-lawful c = λ packets shares at.
-    (by_own_clock c.args.timeouts packets c.args.clock c.sort_by_last.new.records.items at).0
-    (returns-clause-lawful_by c packets shares)
+returns-clause-lawful g c = IfOk-weaker c.in_order.result _ _ (λ L lawful packets shares at.
+    (by_own_clock c.args.timeouts packets c.args.clock L at).0 (lawful packets shares)) (returns-clause-lawful_by g c)
 
 pub returns-clause-sessions : goal.returns-clause-sessions
-returns-clause-sessions c = λ packets shares at sessions is uncut.
-    lawful_are_sessions c.args.timeouts packets sessions is uncut _ (returns-clause-lawful c packets shares at)
+returns-clause-sessions g c = IfOk-weaker c.in_order.result _ _ (λ L lawful packets shares at sessions is uncut.
+    lawful_are_sessions c.args.timeouts packets sessions is uncut L (lawful packets shares at)) (returns-clause-lawful g c)

@@ -1,0 +1,195 @@
+-- Places of records in buckets, and their order.
+use Rattle.std.proofs.Common.{◌≡◌, ℕ, zero, suc, ◌+◌, ◌<◌, Bool, false, Option, Some, None, List, [], ◌∷◌, ◌++◌, length, get_or}
+use Rattle.std.proofs.Common.{take, refl, sym, ap, ◌∙◌, subst, arith, add-one, append-nil, append_assoc, All}
+use Rattle.std.proofs.Common.{IsPermutation}
+use Rattle.std.specs.Prelude.{slice_get, IsSorted}
+use Rattle.std.specs.Cmp.{IsTotalOrder, IsStrictWeakOrder}
+use Rattle.std.specs.List.{AllZip}
+use Rattle.std.specs.List.Sorted.{IsSortedBy}
+use Rattle.std.specs.Option.{option_cmp}
+use Rattle.std.specs.Ordering.{is_lt, nat_cmp, ordering_then, ordering_reverse}
+use Rattle.std.specs.declared.cmp.Ordering.{Ordering}
+use Rattle.std.specs.declared.cmp.Ordering.TheVariants.{Less, Equal, Greater}
+use Rattle.std.proofs.Math.Seq.{take-suc}
+use Rattle.std.proofs.lemmas.Cmp.{nat_cmp_total, on_total, then_total}
+use Rattle.std.proofs.lemmas.Grind.{flat_map-append}
+use Rattle.std.proofs.lemmas.Option.{slice_get_read, slice_get_within, get_or_from_slice_get}
+use Rattle.std.proofs.lemmas.List.Elements.{All-cons, All-nil, All-head, All-tail}
+use Rattle.std.proofs.lemmas.List.Sorted.{ranks_by}
+use Rattle.flow_key.specs.Key.{key_order}
+use Rattle.flow_key.proofs.KeyOrder.{key_order_total}
+use Rattle.flow_parts.proofs.Permuted.{AllZip-append, AllZip-permutation}
+use Rattle.record_ledger.specs.declared.record.FlowRecord.{FlowRecord}
+use Rattle.record_ledger.specs.declared.place.Place.{Place}
+use Rattle.record_ledger.specs.Order.{written_order}
+use Rattle.record_ledger.specs.Steps.{Rises}
+use Rattle.record_ledger.proofs.Rising.{rises_from_sorted}
+use Rattle.record_ledger.specs.Buckets.{Bucket, item_at, record_at, IsPlaceOf, IsPlace, listed, records_at, place_order, records_of}
+
+sorted_more : {X : Type 0} (lt : X → X → Bool) (x : X) (xs : List X) → All (λ y. lt y x ≡ false) xs → IsSortedBy lt xs
+    → (k : ℕ) (d : X) → k + 1 < length (x ∷ xs) → lt (get_or (x ∷ xs) (k + 1) d) (get_or (x ∷ xs) k d) ≡ false
+sorted_more lt x xs all up zero d l = all 0 d (omega arith)
+sorted_more lt x xs all up (suc k) d l =
+    let e : suc (k + 1) ≡ suc k + 1 = omega arith in
+    subst (λ n. lt (get_or (x ∷ xs) n d) (get_or xs k d) ≡ false) e (up k d (omega arith) (omega arith))
+
+-- a rising list is sorted
+pub sorted_from_rises : {X : Type 0} (lt : X → X → Bool) (xs : List X) → Rises (λ x y. lt y x ≡ false) xs
+    → IsSortedBy lt xs
+sorted_from_rises lt [] up = λ k d low l. absurd (omega arith)
+sorted_from_rises lt (x ∷ xs) up = λ k d low l. sorted_more lt x xs up.0 (sorted_from_rises lt xs up.1) k d l
+
+-- a bucket and a place in it
+pub in_bucket : (o : Option Bucket) (at : ℕ) (r : FlowRecord) → item_at o at ≡ Some r
+    → (b : Bucket) × (o ≡ Some b) × (slice_get b.items at ≡ Some r)
+in_bucket None at r e = absurd (cc)
+in_bucket (Some b) at r e = (b, refl, e)
+
+pub some_at : {X : Type 0} (xs : List X) (i : ℕ) → i < length xs
+    → (x : X) × (slice_get xs i ≡ Some x) × (x ≡ get_or xs i x)
+some_at [] i l = absurd (omega arith)
+some_at (x ∷ xs) zero l = (x, refl, refl)
+some_at (x ∷ xs) (suc i) l = some_at xs i (omega arith)
+
+-- the order of records by key, and of none before any, is total
+options_total : IsTotalOrder (option_cmp (λ (r s : FlowRecord). key_order r.part.key s.part.key))
+options_total = record { antisymm = back; trans = onward; congr = alike }
+  where
+    o : IsTotalOrder (λ (r s : FlowRecord). key_order r.part.key s.part.key)
+    o = on_total (λ (r : FlowRecord). r.part.key) key_order_total
+    O : Option FlowRecord → Option FlowRecord → Ordering
+    O = option_cmp (λ (r s : FlowRecord). key_order r.part.key s.part.key)
+    back : (p q : Option FlowRecord) → O p q ≡ ordering_reverse (O q p)
+    back None None = refl
+    back None (Some s) = refl
+    back (Some r) None = refl
+    back (Some r) (Some s) = o.antisymm r s
+    onward : (p q t : Option FlowRecord) → O p q ≡ Less → O q t ≡ Less → O p t ≡ Less
+    onward None None t e f = absurd (cc)
+    onward None (Some s) None e f = absurd (cc)
+    onward None (Some s) (Some u) e f = refl
+    onward (Some r) None t e f = absurd (cc)
+    onward (Some r) (Some s) None e f = absurd (cc)
+    onward (Some r) (Some s) (Some u) e f = o.trans r s u e f
+    alike : (p q t : Option FlowRecord) → O p q ≡ Equal → O p t ≡ O q t
+    alike None None t e = refl
+    alike None (Some s) t e = absurd (cc)
+    alike (Some r) None t e = absurd (cc)
+    alike (Some r) (Some s) None e = refl
+    alike (Some r) (Some s) (Some u) e = o.congr r s u e
+
+module _ (bs : List Bucket) where
+  -- one more record of a bucket has its place
+  pub more_placed : (before : List FlowRecord) (n i : ℕ) (b : Bucket) (r : FlowRecord) (ps qs : List Place) (p : Place)
+      → slice_get bs n ≡ Some b → i < length b.items → r ≡ get_or b.items i r
+      → p.bucket ≡ n → p.at ≡ i → p.last ≡ r.part.last → qs ≡ ps ++ p ∷ []
+      → AllZip (IsPlaceOf bs) (before ++ take i b.items) ps → AllZip (IsPlaceOf bs) (before ++ take (i + 1) b.items) qs
+  more_placed before n i b r ps qs p e l is eb ea el eq h =
+      let here : record_at bs p ≡ Some r =
+      ap (λ m. item_at (slice_get bs m) p.at) eb ∙ ap (λ o. item_at o p.at) e ∙ ap (slice_get b.items) ea
+      ∙ slice_get_read b.items (length b.items) i r refl l is in
+      let more : (before ++ take i b.items) ++ r ∷ [] ≡ before ++ take (i + 1) b.items =
+      append_assoc before (take i b.items) (r ∷ [])
+      ∙ ap (λ z. before ++ z) (ap (λ f. take i b.items ++ f ∷ []) is ∙ sym (take-suc b.items i r l)
+      ∙ ap (λ n. take n b.items) (sym (add-one i))) in
+      subst (λ l. AllZip (IsPlaceOf bs) l qs) more
+      (subst (AllZip (IsPlaceOf bs) ((before ++ take i b.items) ++ r ∷ [])) (sym eq)
+      (AllZip-append (IsPlaceOf bs) (before ++ take i b.items) ps (r ∷ []) (p ∷ []) h
+      (record { here = here; last = el }, tt)))
+
+  -- the records of one more bucket
+  pub bucket_taken : (i : ℕ) (b : Bucket) → i < length bs → b ≡ get_or bs i b
+      → records_of (take i bs) ++ b.items ≡ records_of (take (i + 1) bs)
+  bucket_taken i b l is =
+      ap (λ z. records_of (take i bs) ++ z) (sym (append-nil b.items))
+      ∙ sym (flat_map-append (λ (v : Bucket). v.items) (take i bs) (b ∷ []))
+      ∙ ap records_of (ap (λ f. take i bs ++ f ∷ []) is ∙ sym (take-suc bs i b l)
+      ∙ ap (λ n. take n bs) (sym (add-one i)))
+
+  places_total : IsTotalOrder (place_order bs)
+  places_total = then_total (on_total (λ (p : Place). p.last) nat_cmp_total)
+      (on_total (record_at bs) options_total)
+
+  pub places_weak : IsStrictWeakOrder (λ (p q : Place). is_lt (place_order bs p q))
+  places_weak = ranks_by places_total (λ (p : Place). p)
+
+  pub are_places : (rs : List FlowRecord) (ps : List Place) → AllZip (IsPlaceOf bs) rs ps → All (IsPlace bs) ps
+  are_places [] [] h = All-nil (IsPlace bs)
+  are_places [] (p ∷ ps) h = absurd h
+  are_places (r ∷ rs) [] h = absurd h
+  are_places (r ∷ rs) (p ∷ ps) h = All-cons (IsPlace bs) p ps (r, h.0.here) (are_places rs ps h.1)
+
+  -- the records at the places of records are these
+  pub read : (rs : List FlowRecord) (ps : List Place) → AllZip (IsPlaceOf bs) rs ps → records_at bs ps ≡ rs
+  read [] [] h = refl
+  read [] (p ∷ ps) h = absurd h
+  read (r ∷ rs) [] h = absurd h
+  read (r ∷ rs) (p ∷ ps) h =
+      ap (λ o. listed o ++ records_at bs ps) h.0.here ∙ ap (λ l. r ∷ l) (read rs ps h.1)
+
+  -- places stand as their records do
+  same_order : (r s : FlowRecord) (p q : Place) → IsPlaceOf bs r p → IsPlaceOf bs s q
+      → place_order bs p q ≡ written_order r s
+  same_order r s p q h k = λ i. ordering_then (nat_cmp (h.last i) (k.last i))
+      (option_cmp (λ (r s : FlowRecord). key_order r.part.key s.part.key) (h.here i) (k.here i))
+
+  after_all : (r : FlowRecord) (p : Place) → IsPlaceOf bs r p → (rs : List FlowRecord) (ps : List Place)
+      → AllZip (IsPlaceOf bs) rs ps → All (λ q. is_lt (place_order bs q p) ≡ false) ps
+      → All (λ s. is_lt (written_order s r) ≡ false) rs
+  after_all r p h [] [] z k = All-nil (λ s. is_lt (written_order s r) ≡ false)
+  after_all r p h [] (q ∷ ps) z k = absurd z
+  after_all r p h (s ∷ rs) [] z k = absurd z
+  after_all r p h (s ∷ rs) (q ∷ ps) z k =
+      All-cons (λ s. is_lt (written_order s r) ≡ false) s rs
+      (sym (ap is_lt (same_order s r q p z.0 h)) ∙ All-head (λ q. is_lt (place_order bs q p) ≡ false) q ps k)
+      (after_all r p h rs ps z.1 (All-tail (λ q. is_lt (place_order bs q p) ≡ false) q ps k))
+
+  pub in_written_order : (rs : List FlowRecord) (ps : List Place) → AllZip (IsPlaceOf bs) rs ps
+      → Rises (λ p q. is_lt (place_order bs q p) ≡ false) ps → Rises (λ r s. is_lt (written_order s r) ≡ false) rs
+  in_written_order [] [] z up = tt
+  in_written_order [] (p ∷ ps) z up = absurd z
+  in_written_order (r ∷ rs) [] z up = absurd z
+  in_written_order (r ∷ rs) (p ∷ ps) z up = (after_all r p z.0 rs ps z.1 up.0, in_written_order rs ps z.1 up.1)
+
+  -- there are as many records as places
+  pub as_many : (ps : List Place) → All (IsPlace bs) ps → length (records_at bs ps) ≡ length ps
+  as_many [] h = refl
+  as_many (p ∷ ps) h =
+      ap (λ o. length (listed o ++ records_at bs ps)) (All-head (IsPlace bs) p ps h).1
+      ∙ ap suc (as_many ps (All-tail (IsPlace bs) p ps h))
+
+  pub record_of : (ps : List Place) (k : ℕ) (p : Place) (r d : FlowRecord) → All (IsPlace bs) ps → k < length ps
+      → record_at bs (get_or ps k p) ≡ Some r → get_or (records_at bs ps) k d ≡ r
+  record_of [] k p r d h l e = absurd (omega arith)
+  record_of (q ∷ ps) zero p r d h l e = ap (λ o. get_or (listed o ++ records_at bs ps) 0 d) e
+  record_of (q ∷ ps) (suc k) p r d h l e =
+      ap (λ o. get_or (listed o ++ records_at bs ps) (suc k) d) (All-head (IsPlace bs) q ps h).1
+      ∙ record_of ps k p r d (All-tail (IsPlace bs) q ps h) (omega arith) e
+
+  -- what is found in the buckets at a place of a record
+  pub found : (p : Place) (r : FlowRecord) → record_at bs p ≡ Some r
+      → (p.bucket < length bs) × ((b : Bucket) → b ≡ get_or bs p.bucket b
+      → (p.at < length b.items) × ((s : FlowRecord) → s ≡ get_or b.items p.at s → s ≡ r))
+  found p r e =
+      let v = in_bucket (slice_get bs p.bucket) p.at r e in (
+        slice_get_within bs p.bucket v.0 v.1,
+        λ b is.
+            let same : v.0 ≡ b = sym (is ∙ get_or_from_slice_get bs p.bucket v.0 b v.1) in
+            let at : slice_get b.items p.at ≡ Some r = subst (λ (b : Bucket). slice_get b.items p.at ≡ Some r) same v.2 in
+            (slice_get_within b.items p.at r at, λ s here. here ∙ get_or_from_slice_get b.items p.at r s at),
+      )
+
+  -- the places of all records, sorted
+  pub all_sorted : (ps qs : List Place) → AllZip (IsPlaceOf bs) (records_of bs) ps → IsPermutation ps qs
+      → IsSorted (place_order bs) qs
+      → All (IsPlace bs) qs × IsPermutation (records_of bs) (records_at bs qs) × IsSorted written_order (records_at bs qs)
+  all_sorted ps qs z perm sorted =
+      let y = AllZip-permutation (IsPlaceOf bs) (records_of bs) ps qs z perm in
+      let same : records_at bs qs ≡ y.0 = read y.0 qs y.2 in (
+        are_places y.0 qs y.2,
+        subst (IsPermutation (records_of bs)) (sym same) y.1,
+        subst (IsSorted written_order) (sym same)
+            (sorted_from_rises (λ r s. is_lt (written_order r s)) y.0
+            (in_written_order y.0 qs y.2
+            (rises_from_sorted (λ p q. is_lt (place_order bs p q)) places_weak qs sorted))),
+      )

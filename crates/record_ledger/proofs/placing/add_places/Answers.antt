@@ -1,0 +1,45 @@
+-- Each turn adds the place of one more record.
+use Rattle.std.proofs.Common.{◌≡◌, ◌++◌, ◌<◌, Some, length, take, get_or, refl, sym, ap, ◌∙◌, subst, arith, append-nil}
+use Rattle.std.specs.Prelude.{slice_get}
+use Rattle.std.specs.List.{AllZip}
+use Rattle.std.proofs.lemmas.List.{take_all}
+use Rattle.std.proofs.lemmas.Option.{get_or_from_slice_get}
+use Rattle.record_ledger.specs.Buckets.{Bucket, IsPlaceOf}
+use Rattle.record_ledger.proofs.Placed.{more_placed}
+use Rattle.record_ledger.proofs.placing.add_places.Goals as goal
+
+pub loop-at-init : goal.loop-at-init
+loop-at-init c =
+    let B : Bucket = c.index-buckets-bucket.result in
+    record {
+      number = c.in_ok-number.ensures;
+      end = λ b e. c.len-at-end.ensures ∙ B.ok.0
+          ∙ ap (λ (v : Bucket). length v.items)
+          (c.index-buckets-bucket.is ∙ get_or_from_slice_get c.args.buckets.now c.args.bucket b B e);
+      placed = λ before b e h. subst (λ l. AllZip (IsPlaceOf c.args.buckets.now) l c.args.order.now.items)
+          (sym (append-nil before)) h;
+    }
+
+pub loop-at-preserved : goal.loop-at-preserved
+loop-at-preserved c =
+    let B : Bucket = c.index-buckets-bucket-in-loop-at.result in
+    record {
+      number = c.loop-at.invariant.number;
+      end = c.loop-at.invariant.end;
+      placed = λ before b e h.
+          let same : B ≡ b = c.index-buckets-bucket-in-loop-at.is
+          ∙ get_or_from_slice_get c.args.buckets.now c.args.bucket b B e in
+          let low : c.loop-at.at < length b.items =
+          (let end = c.loop-at.invariant.end b e in omega (arith, c.loop-at-test.true, end)) in
+          more_placed c.args.buckets.now before c.args.bucket c.loop-at.at b c.index.result.now c.loop-at.order.items
+          c.push.new.self.items _ e low
+          (subst (λ (v : Bucket). c.index.result.now ≡ get_or v.items c.loop-at.at c.index.result.now) same c.index.ensures)
+          c.in_ok-number.ensures c.in_ok-number_of.ensures refl c.in_ok-push.ensures.items
+          (c.loop-at.invariant.placed before b e h);
+    }
+
+pub returns : goal.returns
+returns c = λ before b e h.
+    subst (λ l. AllZip (IsPlaceOf c.args.buckets.now) (before ++ l) c.loop-at.order.items)
+    (take_all c.loop-at.at b.items (let end = c.loop-at.invariant.end b e in omega (arith, c.loop-at-test.false, end)))
+    (c.loop-at.invariant.placed before b e h)

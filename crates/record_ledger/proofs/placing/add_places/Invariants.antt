@@ -1,0 +1,16 @@
+-- The places of the records so far.
+use Rattle.std.proofs.Common.{◌≡◌, ◌++◌, List, Some, take, length}
+use Rattle.std.specs.Prelude.{slice_get}
+use Rattle.std.specs.List.{AllZip}
+use Rattle.record_ledger.specs.declared.record.FlowRecord.{FlowRecord}
+use Rattle.record_ledger.specs.Buckets.{Bucket, IsPlaceOf}
+use Rattle.record_ledger.proofs.placing.add_places.Given as goal
+
+abbrev pub invariant-loop-at : goal.invariant-loop-at
+invariant-loop-at l = record {
+  number : l.number ≡ l.bucket;
+  end : (b : Bucket) → slice_get l.buckets l.bucket ≡ Some b → l.at-end ≡ length b.items;
+  placed : (before : List FlowRecord) (b : Bucket) → slice_get l.buckets l.bucket ≡ Some b
+      → AllZip (IsPlaceOf l.buckets) before l.fn.order.items
+      → AllZip (IsPlaceOf l.buckets) (before ++ take l.at b.items) l.order.items;
+}

@@ -1,0 +1,75 @@
+-- The code's own: records in buckets, and places in them. No law speaks of these.
+use Rattle.std.specs.Prelude.{◌≡◌, ℕ, suc, List, [], ◌∷◌, Option, Some, None, slice_get, length, flat_map}
+use Rattle.std.specs.Prelude.{All, IsPermutation, ⊤}
+use Rattle.std.specs.Option.{option_cmp}
+use Rattle.std.specs.Ordering.{nat_cmp, ordering_then}
+use Rattle.std.specs.declared.cmp.Ordering.{Ordering}
+use Rattle.std.specs.declared.vec.Vec.{Vec}
+use Rattle.std.specs.declared.alloc.Global.{Global}
+use Rattle.flow_key.specs.Key.{set_number, key_order}
+use Rattle.flow_parts.specs.declared.fragment.Fragment.{Fragment}
+use Rattle.flow_parts.specs.declared.timeouts.Timeouts.{Timeouts}
+use Rattle.flow_parts.specs.Reaching.{Reaches}
+use Rattle.record_ledger.specs.declared.record.FlowRecord.{FlowRecord}
+use Rattle.record_ledger.specs.declared.place.Place.{Place}
+use Rattle.record_ledger.specs.Lawful.{parts_of, reason_of}
+use Rattle.record_ledger.specs.Steps.{Rises, NotAfter, NoneJoinable, HasReasons}
+
+abbrev pub Bucket : Type 0
+Bucket = Vec FlowRecord Global
+
+-- The records of some buckets, one bucket after the other.
+abbrev pub records_of : List Bucket → List FlowRecord
+records_of buckets = flat_map (λ (b : Bucket). b.items) buckets
+
+-- Each record of a bucket has a key of the bucket's number, of so many buckets; the first bucket has the number i.
+abbrev pub LieFrom : ℕ → ℕ → List Bucket → Type 0
+LieFrom n i [] = ⊤
+LieFrom n i (b ∷ buckets) = All (λ (r : FlowRecord). set_number r.part.key n ≡ i) b.items × LieFrom n (suc i) buckets
+
+-- Each record lies in the bucket that its key is of.
+abbrev pub AreByKey : List Bucket → Type 0
+AreByKey buckets = LieFrom (length buckets) 0 buckets
+
+-- The fragments lie in the buckets that their keys are of.
+pub record AreDealt (parts : List Fragment) (buckets : List Bucket) : Type 0 where
+  pub whole : IsPermutation parts (parts_of (records_of buckets))
+  pub by_key : AreByKey buckets
+
+-- The records of a bucket, sorted, joined and given their reasons.
+pub record AreSettled (limits : Timeouts) (clock : ℕ) (before after : List FlowRecord) : Type 0 where
+  pub reached : Reaches limits (parts_of before) (parts_of after)
+  pub sorted : Rises NotAfter (parts_of after)
+  pub apart : NoneJoinable limits (parts_of after)
+  pub reasons : HasReasons limits clock after
+
+-- The record at a place of a bucket, if there are both.
+abbrev pub item_at : Option Bucket → ℕ → Option FlowRecord
+item_at None at = None
+item_at (Some b) at = slice_get b.items at
+
+-- The record at a place of some buckets, if there is one.
+abbrev pub record_at : List Bucket → Place → Option FlowRecord
+record_at buckets place = item_at (slice_get buckets place.bucket) place.at
+
+-- The place is that of the record, with its last time.
+pub record IsPlaceOf (buckets : List Bucket) (r : FlowRecord) (place : Place) : Type 0 where
+  pub here : record_at buckets place ≡ Some r
+  pub last : place.last ≡ r.part.last
+
+-- There is a record at the place.
+abbrev pub IsPlace : List Bucket → Place → Type 0
+IsPlace buckets place = (r : FlowRecord) × (record_at buckets place ≡ Some r)
+
+abbrev pub listed : Option FlowRecord → List FlowRecord
+listed None = []
+listed (Some r) = r ∷ []
+
+-- The records at some places, in the order of these.
+abbrev pub records_at : List Bucket → List Place → List FlowRecord
+records_at buckets order = flat_map (λ (place : Place). listed (record_at buckets place)) order
+
+-- How two places stand: by their last times, then by the keys of their records.
+abbrev pub place_order : List Bucket → Place → Place → Ordering
+place_order buckets one other = ordering_then (nat_cmp one.last other.last)
+    (option_cmp (λ (r s : FlowRecord). key_order r.part.key s.part.key) (record_at buckets one) (record_at buckets other))

@@ -1,0 +1,113 @@
+//! Dealing: fragments as records into buckets, by their keys.
+
+ghost use Rattle.std.specs.Prelude.{◌≡◌, [], ◌≤◌, ◌<◌, ◌∷◌, ◌++◌, IfOk, OnOk, length, IsPermutation};
+ghost use Rattle.flow_parts.specs.declared.fragment.Fragment.{Fragment};
+ghost use Rattle.flow_parts.specs.Pieces.{items_of};
+ghost use Rattle.record_ledger.specs.Lawful.{parts_of};
+ghost use Rattle.record_ledger.specs.Buckets.{records_of, AreByKey, AreDealt};
+
+use crate::record::FlowRecord;
+use flow_parts::{Fragment, PartList};
+use no_memory::NoMemory;
+use std::alloc::Global;
+
+/// About how many fragments a bucket is made for.
+const BUCKET: usize = 4096;
+
+/// The most buckets that are made.
+const MOST_BUCKETS: usize = 1024;
+
+/// Fragments as records, with no reason yet, each in the bucket that its key is of.
+///
+/// The fragments of a piece are let go as soon as they are dealt.
+pub fn deal(alloc: Global, parts: PartList) -> Result<Vec<Vec<FlowRecord>>, NoMemory>
+    ensures { IfOk result (λ buckets. AreDealt parts buckets.items) }
+{
+    let mut pieces = parts.into_pieces()?;
+    let mut buckets = buckets_for(alloc, &pieces)?;
+    while let Some(piece) = pieces.pop() {
+        deal_piece(&piece, &mut buckets)?;
+    }
+    Ok(buckets)
+}
+
+/// Empty buckets, each with room for the fragments of these pieces that will be dealt to it.
+fn buckets_for(alloc: Global, pieces: &[Vec<Fragment>]) -> Result<Vec<Vec<FlowRecord>>, NoMemory>
+    ensures some { IfOk result (λ buckets. 1 ≤ length buckets.items) }
+    ensures none { IfOk result (λ buckets. records_of buckets.items ≡ []) }
+{
+    let mut counts = vec![in alloc; 0usize; bucket_count(count_of(pieces))]?;
+    for piece in pieces {
+        count_piece(piece, &mut counts);
+    }
+    empty_buckets(alloc, &counts)
+}
+
+/// How many fragments the pieces have.
+fn count_of(pieces: &[Vec<Fragment>]) -> usize {
+    let mut count = 0usize;
+    for piece in pieces {
+        count = count.saturating_add(piece.len());
+    }
+    count
+}
+
+/// How many buckets are made for so many fragments: a power of two, about one for each 4,096 of them.
+fn bucket_count(fragments: usize) -> usize
+    ensures { 1 ≤ result }
+{
+    (fragments / BUCKET).clamp(1, MOST_BUCKETS).next_power_of_two()
+}
+
+/// Counts to which buckets the fragments of a piece will be dealt.
+fn count_piece(piece: &[Fragment], counts: &mut [usize])
+    requires { 1 ≤ length counts.old }
+    ensures { length counts.new ≡ length counts.old }
+{
+    for part in piece {
+        let bucket = part.key.set_of(counts.len() as u64) as usize;
+        counts[bucket] = counts[bucket].saturating_add(1);
+    }
+}
+
+/// A bucket for each count, with room for so many records.
+fn empty_buckets(alloc: Global, counts: &[usize]) -> Result<Vec<Vec<FlowRecord>>, NoMemory>
+    ensures many { IfOk result (λ buckets. length buckets.items ≡ length counts.now) }
+    ensures none { IfOk result (λ buckets. records_of buckets.items ≡ []) }
+{
+    let mut buckets = Vec::with_capacity(alloc, counts.len())?;
+    for count in counts {
+        buckets.push(Vec::with_capacity(alloc, *count)?)?;
+    }
+    Ok(buckets)
+}
+
+/// Deals the fragments of a piece.
+fn deal_piece(piece: &[Fragment], buckets: &mut [Vec<FlowRecord>]) -> Result<(), NoMemory>
+    requires { 1 ≤ length buckets.old }
+    ensures many { length buckets.new ≡ length buckets.old }
+    ensures whole { OnOk result (IsPermutation (piece.now ++ parts_of (records_of buckets.old))
+        (parts_of (records_of buckets.new))) }
+    ensures by_key { OnOk result (AreByKey buckets.old → AreByKey buckets.new) }
+{
+    for part in piece {
+        deal_part(part, buckets)?;
+    }
+    Ok(())
+}
+
+/// Deals a fragment.
+fn deal_part(part: &Fragment, buckets: &mut [Vec<FlowRecord>]) -> Result<(), NoMemory>
+    requires { 1 ≤ length buckets.old }
+    ensures many { length buckets.new ≡ length buckets.old }
+    ensures whole { OnOk result (IsPermutation (part.now ∷ parts_of (records_of buckets.old))
+        (parts_of (records_of buckets.new))) }
+    ensures by_key { OnOk result (AreByKey buckets.old → AreByKey buckets.new) }
+{
+    let bucket = part.key.set_of(buckets.len() as u64) as usize;
+    buckets[bucket].push(FlowRecord {
+        part: *part,
+        reason: 0,
+    })?;
+    Ok(())
+}

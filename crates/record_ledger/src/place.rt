@@ -1,0 +1,12 @@
+//! Where a record lies in buckets.
+
+/// Where a record lies in buckets, and the time of its last packet, by which places are sorted.
+#[derive(Clone, Copy, Debug)]
+pub struct Place {
+    /// The time of the record's last packet, in milliseconds since 1970.
+    pub last: u64,
+    /// The number of the bucket, from 0.
+    pub bucket: u32,
+    /// The place in the bucket, from 0.
+    pub at: u32,
+}

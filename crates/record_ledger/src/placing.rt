@@ -1,0 +1,65 @@
+//! The places of records in buckets.
+
+ghost use Rattle.std.specs.Prelude.{◌≡◌, ◌++◌, ◌<◌, List, ℕ, Some, IfOk, OnOk, length, slice_get};
+ghost use Rattle.std.specs.List.{AllZip};
+ghost use Rattle.record_ledger.specs.declared.record.FlowRecord.{FlowRecord};
+ghost use Rattle.record_ledger.specs.Buckets.{Bucket, records_of, IsPlaceOf};
+
+use crate::place::Place;
+use crate::record::FlowRecord;
+use no_memory::NoMemory;
+use std::alloc::Global;
+
+/// The places of all records of some buckets, one bucket after the other.
+///
+/// `NoMemory` also where a bucket has more than 2^32 records, or where there are more than 2^32 buckets.
+pub fn places_of(alloc: Global, buckets: &[Vec<FlowRecord>]) -> Result<Vec<Place>, NoMemory>
+    ensures { IfOk result (λ order. AllZip (IsPlaceOf buckets.now) (records_of buckets.now) order.items) }
+{
+    let mut order = Vec::with_capacity(alloc, count_of(buckets))?;
+    for bucket in 0..buckets.len() {
+        add_places(buckets, bucket, &mut order)?;
+    }
+    Ok(order)
+}
+
+/// How many records the buckets have, for the room that their places take.
+fn count_of(buckets: &[Vec<FlowRecord>]) -> usize {
+    let mut count = 0usize;
+    for bucket in buckets {
+        count = count.saturating_add(bucket.len());
+    }
+    count
+}
+
+/// Adds the places of the records of one bucket.
+fn add_places(
+    buckets: &[Vec<FlowRecord>],
+    bucket: usize,
+    order: &mut Vec<Place>,
+) -> Result<(), NoMemory>
+    requires { bucket < length buckets.now }
+    ensures { OnOk result ((before : List FlowRecord) (b : Bucket) → slice_get buckets.now bucket ≡ Some b
+        → AllZip (IsPlaceOf buckets.now) before order.old.items
+        → AllZip (IsPlaceOf buckets.now) (before ++ b.items) order.new.items) }
+{
+    let number = number_of(bucket)?;
+    for at in 0..buckets[bucket].len() {
+        order.push(Place {
+            last: buckets[bucket][at].part.last,
+            bucket: number,
+            at: number_of(at)?,
+        })?;
+    }
+    Ok(())
+}
+
+/// The number in 32 bits; `NoMemory` where it has more.
+fn number_of(place: usize) -> Result<u32, NoMemory>
+    ensures { IfOk result (λ number. number ≡ place) }
+{
+    match u32::try_from(place) {
+        Ok(number) => Ok(number),
+        Err(_) => Err(NoMemory),
+    }
+}

@@ -1,0 +1,62 @@
+//! Records in the written order, held in buckets.
+
+ghost use Rattle.std.specs.Prelude.{◌≡◌, ◌<◌, length, slice_index_or, IsPermutation, IsSorted, IfOk};
+ghost use Rattle.record_ledger.specs.Buckets.{records_of};
+ghost use Rattle.record_ledger.specs.Order.{written_order};
+
+use crate::orders::sort_places;
+use crate::place::Place;
+use crate::placing::places_of;
+use crate::record::FlowRecord;
+use no_memory::NoMemory;
+use std::alloc::Global;
+use std::marker::Model;
+
+/// Records in the written order: by last time, then by key. Contracts see it as the list.
+///
+/// The records stay in the buckets that they were gathered in; the order is that of 16 bytes for each, beside them.
+#[derive(Drop)]
+pub struct RecordList {
+    buckets: Vec<Vec<FlowRecord>>,
+    order: Vec<Place>,
+}
+
+impl Model for RecordList {
+    ghost use Rattle.std.specs.Prelude.{List, All};
+    ghost use Rattle.record_ledger.specs.declared.record.FlowRecord as declared;
+    ghost use Rattle.record_ledger.specs.Buckets.{records_at, IsPlace};
+
+    ghost Value = { List declared.FlowRecord };
+
+    ghost view = { λ s. records_at s.buckets.items s.order.items };
+
+    ghost invariant = { λ s. All (IsPlace s.buckets.items) s.order.items };
+}
+
+impl RecordList {
+    /// The records of some buckets, put into the written order.
+    pub(crate) fn in_order(alloc: Global, buckets: Vec<Vec<FlowRecord>>) -> Result<RecordList, NoMemory>
+        ensures permutation { IfOk result (λ records. IsPermutation (records_of buckets.items) records) }
+        ensures order { IfOk result (λ records. IsSorted written_order records) }
+    {
+        let mut order = places_of(alloc, &buckets)?;
+        sort_places(&buckets, &mut order);
+        Ok(RecordList { buckets, order })
+    }
+
+    /// How many records there are.
+    pub fn len(&self) -> usize
+        ensures { result ≡ length self.now }
+    {
+        self.order.len()
+    }
+
+    /// The record at a place of the list, from 0.
+    pub fn get(&self, place: usize) -> &FlowRecord
+        requires { place < length self.now }
+        ensures { result.now ≡ slice_index_or self.now place result.now }
+    {
+        let place = self.order[place];
+        &self.buckets[place.bucket as usize][place.at as usize]
+    }
+}
