@@ -516,7 +516,7 @@ pub fn meter_batches<S: Source, C: FlowCache, G: Gate, R: Threads + Wait + Sync>
     ensures metered { IfOk result
         (λ r. IsMeteredWhole (side S.left S.faults source.old source.new) batches.limit (C.means cache.now).limits
         (C.shown r.pass).note.taken r.tally r.tail) }
-    ensures parts { IfOk result (λ r. IsPermutation (C.shown r.pass).note.handed r.parts.items) }
+    ensures parts { IfOk result (λ r. IsPermutation (C.shown r.pass).note.handed r.parts) }
     ensures refused { IfErr result
         (λ fault. IsRefused (side S.left S.faults source.old source.new) batches.limit fault) }
     ensures faults { HasFaults (side S.left S.faults source.old source.new) result }

@@ -28,7 +28,7 @@ use crate::worker::{WorkState, Worker, seat_workers, unseat_workers};
 use cache_face::FlowCache;
 use capture_input::{MeterFault, Part, Reading};
 use capture_tally::Tally;
-use flow_parts::{Fragment, Timeouts};
+use flow_parts::{PartList, Timeouts};
 use meter_io::Source;
 use no_memory::NoMemory;
 use pcap_reader::RecordIndex;
@@ -58,7 +58,7 @@ pub struct Windows {
 #[derive(Drop)]
 pub struct Gathered<C: FlowCache> {
     pub pass: C::Pass,
-    pub parts: Vec<Fragment>,
+    pub parts: PartList,
     pub tally: Tally,
     pub tail: u64,
 }
@@ -283,7 +283,7 @@ pub fn meter_windows<S: Source, C: FlowCache, G: Gate, R: Threads + Sync>(
     ensures metered { IfOk result
         (λ r. IsMeteredWhole (side S.left S.faults source.old source.new) windows.limit (C.means cache.now).limits
         (C.shown r.pass).note.taken r.tally r.tail) }
-    ensures parts { IfOk result (λ r. IsPermutation (C.shown r.pass).note.handed r.parts.items) }
+    ensures parts { IfOk result (λ r. IsPermutation (C.shown r.pass).note.handed r.parts) }
     ensures refused { IfErr result
         (λ fault. IsRefused (side S.left S.faults source.old source.new) windows.limit fault) }
     ensures faults { HasFaults (side S.left S.faults source.old source.new) result }
@@ -301,7 +301,7 @@ pub fn meter_windows<S: Source, C: FlowCache, G: Gate, R: Threads + Sync>(
 
 /// What all shares did together, with so many bytes left behind the last record.
 pub(crate) fn gather_all<C: FlowCache>(all: Share<C>, tail: u64) -> Gathered<C>
-    ensures { (result.pass ≡ all.pass) × (result.parts.items ≡ all.parts.items) × (result.tally ≡ all.tally)
+    ensures { (result.pass ≡ all.pass) × (result.parts ≡ all.parts) × (result.tally ≡ all.tally)
         × (result.tail ≡ tail) }
 {
     let Share {
@@ -341,7 +341,7 @@ pub fn meter_all<C: FlowCache, G: Gate, R: Threads + Sync>(
     ensures own { IfOk result (λ r. C.is_of cache.now r.pass × ((C.shown r.pass).note.seats ≡ length passes.items)) }
     ensures shared { IfOk result (λ r. SharesOut (C.means cache.now).limits (packets_in (answers_by part.now))
         (C.shown r.pass).note.taken) }
-    ensures parts { IfOk result (λ r. r.parts.items ≡ (C.shown r.pass).note.handed) }
+    ensures parts { IfOk result (λ r. r.parts ≡ (C.shown r.pass).note.handed) }
     ensures tally { IfOk result (λ r. IsTallyOf r.tally (answers_by part.now)) }
 {
     let shares = open_shares(alloc, cache, passes, None)?;
