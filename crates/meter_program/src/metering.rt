@@ -22,7 +22,7 @@ use std::alloc::Global;
 use std::thread::Threads;
 
 /// The bytes of a capture that are held at a time.
-const WINDOW: usize = 1 << 22;
+const WINDOW: usize = 1 << 20;
 
 /// What is known of a capture whose packets a cache has metered: its tally, and how many bytes are left behind its last
 /// record.

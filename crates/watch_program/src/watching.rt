@@ -165,8 +165,8 @@ fn total_behind(
         ..
     } = gathered;
     let pass = cache.unite(others, pass);
-    caches.close(alloc, cache, pass, parts)?;
-    Ok(total_of(caches.metered()))
+    let parts = caches.close(alloc, cache, pass, parts)?;
+    total_of(parts)
 }
 
 /// Meters the capture that these bytes are by so many workers, asks meanwhile for the flows of its first accepted
