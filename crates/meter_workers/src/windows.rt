@@ -114,37 +114,6 @@ fn work<C: FlowCache, G: Gate>(
     };
 }
 
-/// All workers at once.
-fn work_all<C: FlowCache, G: Gate, R: Threads + Sync>(
-    rt: &R,
-    part: &Part<'_>,
-    pieces: &Pieces,
-    cache: &C,
-    gate: &G,
-    workers: &mut [Worker<C, DrawPass>],
-)
-    requires some { 0 < length workers.old }
-    requires ready { All (IsToDraw C.FlowCache cache.now pieces.now part.now.base) workers.old }
-    requires whole { count_of pieces.now ≡ length part.now.index.now.offsets }
-    ensures ended { All (λ w. w.state ≢ WorkState.Going) workers.new }
-    ensures worked { AllZip (HasDrawnAll C.FlowCache cache.now pieces.now (answers_by part.now)) workers.old
-        workers.new }
-{
-    let count = workers.len();
-    thread::for_each_mut(
-        rt,
-        workers,
-        count,
-        &|_, w: &mut Worker<C, DrawPass>|
-            requires ready { IsToDraw C.FlowCache cache.now pieces.now part.now.base w.old }
-            requires whole { count_of pieces.now ≡ length part.now.index.now.offsets }
-            ensures ended { w.new.state ≢ WorkState.Going }
-            ensures worked { HasDrawnAll C.FlowCache cache.entry.now pieces.entry.now (answers_by part.entry.now) w.old
-                w.new }
-        { work(part, pieces, cache, gate, w) },
-    );
-}
-
 /// The workers, once they have worked, all at once.
 fn run_workers<C: FlowCache, G: Gate, R: Threads + Sync>(
     rt: &R,
@@ -161,7 +130,19 @@ fn run_workers<C: FlowCache, G: Gate, R: Threads + Sync>(
     ensures worked { AllZip (HasDrawnAll C.FlowCache cache.now pieces.now (answers_by part.now)) workers.items
         result.items }
 {
-    work_all(rt, part, pieces, cache, gate, workers.as_mut_slice());
+    let count = workers.len();
+    thread::for_each_mut(
+        rt,
+        workers.as_mut_slice(),
+        count,
+        &|_, w: &mut Worker<C, DrawPass>|
+            requires ready { IsToDraw C.FlowCache cache.now pieces.now part.now.base w.old }
+            requires whole { count_of pieces.now ≡ length part.now.index.now.offsets }
+            ensures ended { w.new.state ≢ WorkState.Going }
+            ensures worked { HasDrawnAll C.FlowCache cache.entry.now pieces.entry.now (answers_by part.entry.now) w.old
+                w.new }
+        { work(part, pieces, cache, gate, w) },
+    );
     workers
 }
 
@@ -304,16 +285,10 @@ pub(crate) fn gather_all<C: FlowCache>(all: Share<C>, tail: u64) -> Gathered<C>
     ensures { (result.pass ≡ all.pass) × (result.parts ≡ all.parts) × (result.tally ≡ all.tally)
         × (result.tail ≡ tail) }
 {
-    let Share {
-        pass,
-        parts,
-        tally,
-        front: _,
-    } = all;
     Gathered {
-        pass,
-        parts,
-        tally,
+        pass: all.pass,
+        parts: all.parts,
+        tally: all.tally,
         tail,
     }
 }

@@ -116,7 +116,10 @@ fn meter_source<R: Threads + Sync, S: Source, G: Gate>(
         Ok(gathered) => gathered,
         Err(fault) => return Ok(Err(fault)),
     };
-    let parts = in_one(alloc, caches.close(alloc, cache, gathered.pass, gathered.parts)?)?;
+    let parts = in_one(
+        alloc,
+        caches.close(alloc, cache, gathered.pass, gathered.parts)?,
+    )?;
     if !are_few(parts.as_slice()) {
         return Err(Fail::from("more packets than there are"));
     }

@@ -119,7 +119,10 @@ fn meter_capture<G: Gate, R: Threads + Wait + Sync>(
         Ok(gathered) => gathered,
         Err(fault) => return Ok(Err(fault)),
     };
-    let parts = in_one(alloc, caches.close(alloc, cache, gathered.pass, gathered.parts)?)?;
+    let parts = in_one(
+        alloc,
+        caches.close(alloc, cache, gathered.pass, gathered.parts)?,
+    )?;
     let mut packets = 0u64;
     let mut octets = 0u64;
     for part in parts.as_slice() {
