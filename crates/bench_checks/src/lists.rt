@@ -13,12 +13,13 @@ ghost use Rattle.flow_cache.specs.Shown as inner;
 ghost use Rattle.bench_checks.specs.Looked.{means_of, shown_of, IsOf};
 
 use crate::asking::{Asked, ask_all};
+use crate::counts::counts_of;
 use crate::keys::keys_of;
 use crate::looked::{LookedCache, LookedPass};
 use cache_face::{Caches, FlowCache, NoMemory};
 use flow_cache::{PebrCaches, PebrPass};
 use flow_key::FlowKey;
-use flow_parts::{Fragment, Timeouts};
+use flow_parts::Timeouts;
 use meter_io::{Source, StdSource, read_all};
 use meter_workers::{Gathered, OpenGate, Part, meter_all};
 use pcap_reader::{CAPTURE_LIMIT, Capture, RecordIndex};
@@ -163,17 +164,6 @@ fn at_once<R: Threads + Sync>(
     )
 }
 
-/// The packets and the octets of some fragments, added to those of others.
-fn add_counts(parts: &[Fragment], packets: u64, octets: u64) -> (u64, u64) {
-    let mut packets = packets;
-    let mut octets = octets;
-    for part in parts {
-        packets = packets.wrapping_add(part.packets);
-        octets = octets.wrapping_add(part.octets);
-    }
-    (packets, octets)
-}
-
 /// Closes the cache with the passes of who metered and of who asked, and adds up what it handed out and kept.
 fn close_cache(
     alloc: Global,
@@ -196,11 +186,12 @@ fn close_cache(
     let pass = cache.unite(pass, LookedPass { inner: own, most });
     let most = pass.most;
     let entries = cache.close(alloc, pass).ok()?;
-    let (packets, octets) = add_counts(parts.as_slice(), 0, 0);
-    let (packets, octets) = add_counts(entries.as_slice(), packets, octets);
+    let mut parts = parts;
+    parts.add_piece(entries).ok()?;
+    let counts = counts_of(parts)?;
     Some(Came {
-        packets,
-        octets,
+        packets: counts.packets,
+        octets: counts.octets,
         most,
         bound: 32 + 4 * seats,
         held,

@@ -14,6 +14,7 @@
 #![tactic(auto)]
 
 mod asking;
+mod counts;
 mod keys;
 mod lists;
 mod looked;

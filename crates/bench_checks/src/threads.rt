@@ -4,8 +4,9 @@
 
 ghost use Rattle.std.specs.Prelude.{◌<◌, ◌≤◌, ◌^◌, length};
 
+use crate::counts::{Counts, counts_of};
 use cache_face::Caches;
-use flow_parts::{Fragment, Timeouts};
+use flow_parts::Timeouts;
 use meter_io::{Source, StdSink, StdSource, read_all, write_all};
 use meter_workers::{OpenGate, Part, meter_all};
 use pcap_reader::{CAPTURE_LIMIT, Capture};
@@ -13,26 +14,6 @@ use std::alloc::Global;
 use std::process::ExitCode;
 use std::thread::Threads;
 use turn_cache::TurnCaches;
-
-/// How many packets and octets there are.
-#[derive(Clone, Copy, PartialEq, Eq, Debug)]
-struct Counts {
-    packets: u64,
-    octets: u64,
-}
-
-/// Those of all fragments.
-fn counts_of(parts: &[Fragment]) -> Counts {
-    let mut counts = Counts {
-        packets: 0,
-        octets: 0,
-    };
-    for part in parts {
-        counts.packets = counts.packets.wrapping_add(part.packets);
-        counts.octets = counts.octets.wrapping_add(part.octets);
-    }
-    counts
-}
 
 /// Whether the fragments have the packets and the octets of the tally, and none where the capture isn't metered.
 fn is_whole<R: Threads + Sync>(rt: &R, alloc: Global, bytes: &[u8]) -> Option<bool>
@@ -48,14 +29,14 @@ fn is_whole<R: Threads + Sync>(rt: &R, alloc: Global, bytes: &[u8]) -> Option<bo
         base: 0,
     };
     let gathered = meter_all(rt, alloc, &part, &cache, passes, 64, &OpenGate).ok()?;
-    caches
+    let parts = caches
         .close(alloc, cache, gathered.pass, gathered.parts)
         .ok()?;
     let tallied = Counts {
         packets: gathered.tally.accepted,
         octets: gathered.tally.octets,
     };
-    Some(counts_of(caches.metered()) == tallied && tallied.packets > 0)
+    Some(counts_of(parts)? == tallied && tallied.packets > 0)
 }
 
 /// What becomes of the bytes of a source.

@@ -13,7 +13,7 @@ ghost use Rattle.cache_face.specs.Notes.{note_with};
 ghost use Rattle.cache_face.specs.Tries.{HasLost};
 
 use crate::metered::Metered;
-use flow_parts::{Fragment, Timeouts};
+use flow_parts::{Fragment, PartList, Timeouts};
 use no_memory::NoMemory;
 use packet_accept::Packet;
 use std::alloc::Global;
@@ -92,10 +92,11 @@ pub trait FlowCache: Sync + Drop {
             → SharesOut (means self).limits packets (entries.items ++ (shown pass).note.handed)) };
 }
 
-/// Who opens and closes caches. It keeps the fragments of the last cache that it closed.
+/// Who opens and closes caches.
 pub trait Caches {
     type Cache: FlowCache;
 
+    // The fragments of the last cache that was closed: those that were handed out, and its entries.
     ghost metered: { Self → List Fragment };
 
     /// A cache of so many sets, 1 to 65,536, and a pass for each of 1 to 64 seats. The fragments of the last cache
@@ -120,20 +121,21 @@ pub trait Caches {
         ensures unlost { IfOk result (λ r. All (λ pass. Self.Cache.lost pass ≡ []) r.1.items) }
         ensures kept { metered self.new ≡ metered self.old };
 
-    /// Closes a cache with the pass for all its seats and the fragments that this was handed. Without memory these and
-    /// the entries are given up.
+    /// Closes a cache with the pass for all its seats and the fragments that this was handed, and gives its fragments
+    /// away: those that were handed out, and its entries behind them. Nothing is copied. Without memory they are given
+    /// up.
     fn close(
         &mut self,
         alloc: Global,
         cache: Self::Cache,
         pass: <Self::Cache as FlowCache>::Pass,
-        handed: Vec<Fragment>,
-    ) -> Result<(), NoMemory>
+        handed: PartList,
+    ) -> Result<PartList, NoMemory>
         requires own { Self.Cache.is_of cache pass }
         requires all { (Self.Cache.shown pass).note.seats ≡ (Self.Cache.means cache).seats }
-        requires handed { IsPermutation handed.items (Self.Cache.shown pass).note.handed }
+        requires handed { IsPermutation handed (Self.Cache.shown pass).note.handed }
         ensures entries { OnOk result ((entries : List Fragment)
-            × IsPermutation (metered self.new) (handed.items ++ entries)
+            × IsPermutation (metered self.new) (handed ++ entries)
             × Reaches (Self.Cache.means cache).limits (Self.Cache.shown pass).note.taken
             (entries ++ (Self.Cache.shown pass).note.handed)) }
         ensures reached { OnOk result
@@ -141,9 +143,6 @@ pub trait Caches {
         ensures shared { OnOk result ((packets : List Packet)
             → SharesOut (Self.Cache.means cache).limits packets (Self.Cache.shown pass).note.taken
             → SharesOut (Self.Cache.means cache).limits packets (metered self.new)) }
+        ensures given { IfOk result (λ parts. parts ≡ metered self.new) }
         ensures kept { OnErr result (metered self.new ≡ metered self.old) };
-
-    /// The fragments of the last cache that was closed: those that were handed out, and its entries.
-    fn metered(&self) -> &[Fragment]
-        ensures { result.now ≡ metered self.now };
 }

@@ -4,7 +4,7 @@
 //! pass of its own: a [`FlowCache`]'s `meter_part` puts a fragment, of one packet or of several, into an entry of the
 //! set of its key, and may hand a fragment out; `meter` does this with the fragment of one packet. A pass means what it
 //! has done (`specs/Notes.antt`): the fragments that were put in through it, and those that it was handed. [`Caches`]
-//! opens and closes caches, and keeps the fragments of the last one in a [`MeteredList`].
+//! opens and closes caches, and gives away the fragments of each; contracts know those of the last by a [`LastClosed`].
 //!
 //! What becomes of a fragment is one choice over the four entries of its set (`specs/Choice.antt`), which [`choose`]
 //! makes for any cache. What a cache keeps is said once (`specs/Keeping.antt`): its entries and all fragments that were
@@ -16,12 +16,12 @@
 
 mod caches;
 mod choice;
+mod last_closed;
 pub mod laws;
 mod metered;
-mod metered_list;
 
 pub use caches::{Caches, FlowCache};
 pub use choice::{Choice, choose};
+pub use last_closed::LastClosed;
 pub use metered::{How, Metered};
-pub use metered_list::MeteredList;
 pub use no_memory::NoMemory;

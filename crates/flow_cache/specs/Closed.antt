@@ -1,8 +1,8 @@
--- What is kept of the cache that was closed last.
+-- What is known of the cache that was closed last.
 use Rattle.std.specs.Prelude.{List}
 use Rattle.flow_parts.specs.declared.fragment.Fragment.{Fragment}
 use Rattle.flow_cache.specs.declared.face.PebrCaches.{PebrCaches}
 
 -- Its fragments: those that were handed out, and its entries. None before the first.
 abbrev pub metered_by : PebrCaches → List Fragment
-metered_by caches = caches.metered
+metered_by caches = caches.closed

@@ -15,8 +15,8 @@ ghost use Rattle.pebr_words.specs.Pasts.{Lost};
 
 use crate::cache::{PebrCache, PebrPass};
 use crate::stop::Never;
-use cache_face::{Caches, FlowCache, Metered, MeteredList, NoMemory};
-use flow_parts::{Fragment, Timeouts};
+use cache_face::{Caches, FlowCache, LastClosed, Metered, NoMemory};
+use flow_parts::{Fragment, PartList, Timeouts};
 use std::alloc::Global;
 
 impl FlowCache for PebrCache {
@@ -66,7 +66,7 @@ impl FlowCache for PebrCache {
 /// Opens and closes caches without turns.
 #[derive(Drop)]
 pub struct PebrCaches {
-    metered: MeteredList,
+    closed: LastClosed,
 }
 
 impl PebrCaches {
@@ -75,7 +75,7 @@ impl PebrCaches {
         ensures { ⟦<PebrCaches as Caches>⟧.metered result ≡ [] }
     {
         PebrCaches {
-            metered: MeteredList::new(),
+            closed: LastClosed::new(),
         }
     }
 }
@@ -100,13 +100,9 @@ impl Caches for PebrCaches {
         alloc: Global,
         cache: PebrCache,
         pass: PebrPass,
-        handed: Vec<Fragment>,
-    ) -> Result<(), NoMemory> {
+        handed: PartList,
+    ) -> Result<PartList, NoMemory> {
         let entries = cache.entries(alloc, pass)?;
-        self.metered.keep(handed, entries)
-    }
-
-    fn metered(&self) -> &[Fragment] {
-        self.metered.parts()
+        self.closed.closed_with(handed, entries)
     }
 }

@@ -40,6 +40,11 @@ impl PartList {
         }
     }
 
+    /// Where the list takes its memory.
+    pub fn allocator(&self) -> &Global {
+        self.last.allocator()
+    }
+
     /// Adds a fragment at the end. Nothing is copied; one call in 4,096 allocates.
     pub fn push(&mut self, alloc: Global, part: Fragment) -> Result<(), NoMemory>
         ensures { OnOk result (self.new ≡ self.old ++ (part ∷ [])) }

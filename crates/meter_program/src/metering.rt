@@ -11,8 +11,8 @@ use crate::settings::Settings;
 use crate::status::Status;
 use cache_face::Caches;
 use capture_tally::Tally;
-use flow_parts::Timeouts;
 use flow_parts::laws::sharing_out_counts;
+use flow_parts::{Fragment, PartList, Timeouts};
 use meter_io::Source;
 use meter_workers::{Gate, Windows, meter_windows};
 use no_memory::NoMemory;
@@ -22,7 +22,7 @@ use std::alloc::Global;
 use std::thread::Threads;
 
 /// The bytes of a capture that are held at a time.
-const WINDOW: usize = 1 << 22;
+const WINDOW: usize = 1 << 20;
 
 /// What is known of a capture whose packets a cache has metered: its tally, and how many bytes are left behind its last
 /// record.
@@ -40,7 +40,8 @@ pub struct Gathered {
     pub tail: u64,
 }
 
-/// Meters the capture that the input gives through a cache, by all workers at once, and closes the cache.
+/// Meters the capture that the input gives through a cache, by all workers at once, and closes the cache. The fragments
+/// that it gave, and what is known of the capture.
 fn meter_input<R: Threads + Sync, S: Source, M: Caches, G: Gate>(
     rt: &R,
     alloc: Global,
@@ -49,9 +50,10 @@ fn meter_input<R: Threads + Sync, S: Source, M: Caches, G: Gate>(
     input: &mut S,
     caches: &mut M,
     gate: &G,
-) -> Result<CaptureCount, Status>
+) -> Result<(PartList, CaptureCount), Status>
     ensures kept { IfOk result
-        (λ r. IsReadAndKept (side S.left S.faults input.old input.new) limits (M.metered caches.new) r.tally r.tail) }
+        (λ r. IsReadAndKept (side S.left S.faults input.old input.new) limits (M.metered caches.new) r.1.tally r.1.tail) }
+    ensures given { IfOk result (λ r. r.0 ≡ M.metered caches.new) }
     ensures refused { IfErr result (λ status. MeterRefuses (side S.left S.faults input.old input.new) status) }
 {
     let (cache, passes) = caches.open(alloc, settings.sets, settings.workers, limits)?;
@@ -69,50 +71,63 @@ fn meter_input<R: Threads + Sync, S: Source, M: Caches, G: Gate>(
         },
         gate,
     )?;
-    caches.close(alloc, cache, done.pass, done.parts)?;
-    Ok(CaptureCount {
+    let parts = caches.close(alloc, cache, done.pass, done.parts)?;
+    let counted = CaptureCount {
         tally: done.tally,
         tail: done.tail,
-    })
+    };
+    Ok((parts, counted))
 }
 
-/// Gathers the fragments that caches kept, which have so many packets and octets, into records.
-fn records_of<M: Caches>(
+/// The fragments of a list, copied into one piece.
+fn in_one(alloc: Global, parts: PartList) -> Result<Vec<Fragment>, NoMemory>
+    ensures { IfOk result (λ all. all.items ≡ parts) }
+{
+    let pieces = parts.into_pieces()?;
+    let mut all = Vec::new(alloc);
+    for piece in pieces.as_slice() {
+        all.extend_from_slice(piece.as_slice())?;
+    }
+    Ok(all)
+}
+
+/// Gathers fragments, which have so many packets and octets, into records.
+fn records_of(
     alloc: Global,
-    caches: &M,
+    parts: PartList,
     limits: Timeouts,
     clock: Option<u64>,
     packets: u64,
     octets: u64,
 ) -> Result<Vec<FlowRecord>, NoMemory>
-    requires packets { sum_by (λ (f : Fragment). f.packets) (M.metered caches.now) ≡ packets }
-    requires octets { sum_by (λ (f : Fragment). f.octets) (M.metered caches.now) ≡ octets }
-    ensures { IfOk result (λ records. AreGathered limits (M.metered caches.now) clock records.items) }
+    requires packets { sum_by (λ (f : Fragment). f.packets) parts ≡ packets }
+    requires octets { sum_by (λ (f : Fragment). f.octets) parts ≡ octets }
+    ensures { IfOk result (λ records. AreGathered limits parts clock records.items) }
 {
-    let records = gather(alloc, caches.metered(), limits, clock)?;
+    let parts = in_one(alloc, parts)?;
+    let records = gather(alloc, parts.as_slice(), limits, clock)?;
     Ok(records)
 }
 
-/// Gathers the fragments that caches kept of a capture that was metered into the capture's records.
+/// Gathers the fragments that a cache gave of a capture that was metered into the capture's records.
 ///
 /// `NoMemory` where there is no room for them.
-pub fn gathered_of<M: Caches>(
+pub fn gathered_of(
     alloc: Global,
-    caches: &M,
+    parts: PartList,
     limits: Timeouts,
     counted: CaptureCount,
 ) -> Result<Gathered, NoMemory>
-    requires { (capture : List ℕ) × IsKept limits capture (M.metered caches.now) counted.tally counted.tail }
+    requires { (capture : List ℕ) × IsKept limits capture parts counted.tally counted.tail }
     ensures { IfOk result (λ g. (idle active : ℕ) (capture : List ℕ) → limits.idle ≡ 1000 * idle
-        → limits.active ≡ 1000 * active
-        → IsKept limits capture (M.metered caches.now) counted.tally counted.tail
-        → IsGathered idle active capture (M.metered caches.now) g.records.items g.tally g.tail) }
+        → limits.active ≡ 1000 * active → IsKept limits capture parts counted.tally counted.tail
+        → IsGathered idle active capture parts g.records.items g.tally g.tail) }
 {
     sharing_out_counts();
     let CaptureCount { tally, tail } = counted;
     let records = records_of(
         alloc,
-        caches,
+        parts,
         limits,
         tally.clock,
         tally.accepted,
@@ -140,7 +155,7 @@ pub fn gathered_from<R: Threads + Sync, S: Source, M: Caches, G: Gate>(
     ensures refused { IfErr result (λ status. MeterRefuses (side S.left S.faults input.old input.new) status) }
 {
     let limits = Timeouts::new(settings.idle, settings.active);
-    let counted = meter_input(rt, alloc, settings, limits, input, caches, gate)?;
-    let gathered = gathered_of(alloc, caches, limits, counted)?;
+    let (parts, counted) = meter_input(rt, alloc, settings, limits, input, caches, gate)?;
+    let gathered = gathered_of(alloc, parts, limits, counted)?;
     Ok(gathered)
 }

@@ -136,7 +136,7 @@ pub share-packet : {X P : Type 0} (shown : P → PassMeans) (limits : Timeouts)
     → StandsOpened → StandsReached
     → answer ≡ Ok packet → packet.octets < 2 ^ 24 → share.tally.captured < 2 ^ 32
     → ((earlier : List Answer) → IsTallyOf share.tally earlier → IsTallyOf share'.tally (earlier ++ answer ∷ []))
-    → (share.parts.items ≡ (shown share.pass).note.handed → share'.parts.items ≡ (shown share'.pass).note.handed)
+    → (share.parts ≡ (shown share.pass).note.handed → share'.parts ≡ (shown share'.pass).note.handed)
     → IsAlone packet own
     → Reaches limits (own ∷ put_by (shown share.pass) share.front) (put_by (shown share'.pass) share'.front)
     → (shown share'.pass).note.seats ≡ 1
@@ -164,7 +164,7 @@ pub share-ignored : {X P : Type 0} (shown : P → PassMeans) (limits : Timeouts)
     → ((one two : List Answer) → packets_in (one ++ two) ≡ packets_in one ++ packets_in two)
     → answer ≡ Err cause → share.tally.captured < 2 ^ 32
     → ((earlier : List Answer) → IsTallyOf share.tally earlier → IsTallyOf share'.tally (earlier ++ answer ∷ []))
-    → share'.parts.items ≡ share.parts.items → share'.pass ≡ share.pass → share'.front ≡ share.front
+    → share'.parts ≡ share.parts → share'.pass ≡ share.pass → share'.front ≡ share.front
     → (shown share.pass).note.seats ≡ 1
     → HasMetered {X = X} {P = P} shown limits answers share
     → HasMetered {X = X} {P = P} shown limits (answers ++ answer ∷ []) share'

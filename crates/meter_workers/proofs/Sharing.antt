@@ -44,7 +44,7 @@ pub metered-both : {X P : Type 0} (shown : P → PassMeans) (limits : Timeouts) 
     → StandsTogether → ((a b : List Answer) → packets_in (a ++ b) ≡ packets_in a ++ packets_in b)
     → IsUnited (shown one.pass) (shown other.pass) (shown both.pass)
     → one.front ≡ None → other.front ≡ None → both.front ≡ None
-    → both.parts.items ≡ one.parts.items ++ other.parts.items
+    → both.parts ≡ one.parts ++ other.parts
     → ((a b : List Answer) → IsTallyOf one.tally a → IsTallyOf other.tally b → IsTallyOf both.tally (a ++ b))
     → HasMetered {X = X} {P = P} shown limits done one → HasMetered {X = X} {P = P} shown limits rest other
     → HasMetered {X = X} {P = P} shown limits (done ++ rest) both

@@ -36,7 +36,7 @@ AreSmall packets = All (λ p. p.octets < 2 ^ 24) packets
 pub record HasMetered {X P : Type 0} (shown : P → PassMeans) (limits : Timeouts) (answers : List Answer)
     (share : Share X P) : Type 0 where
   pub shared : SharesOut limits (packets_in answers) (put_by (shown share.pass) share.front)
-  pub handed : share.parts.items ≡ (shown share.pass).note.handed
+  pub handed : share.parts ≡ (shown share.pass).note.handed
   pub tallied : IsTallyOf share.tally answers
   pub small : AreSmall (packets_in answers)
   pub few : share.tally.captured ≤ (shown share.pass).note.seats * 2 ^ 32

@@ -162,31 +162,6 @@ fn work<C: FlowCache, G: Gate, R: Wait>(
     };
 }
 
-/// All workers at once.
-fn work_all<C: FlowCache, G: Gate, R: Threads + Wait + Sync>(
-    rt: &R,
-    shared: &Shared,
-    cache: &C,
-    gate: &G,
-    workers: &mut [Worker<C, QueuePass>],
-)
-    requires some { 0 < length workers.old }
-    requires ready { All (IsToTake C.FlowCache cache.now shared.now.queue) workers.old }
-    ensures same { length workers.new ≡ length workers.old }
-    ensures worked { All (HasTakenAll C.FlowCache cache.now shared.now.queue) workers.new }
-{
-    let count = workers.len();
-    thread::for_each_mut(
-        rt,
-        workers,
-        count,
-        &|_, w: &mut Worker<C, QueuePass>|
-            requires ready { IsToTake C.FlowCache cache.now shared.now.queue w.old }
-            ensures worked { HasTakenAll C.FlowCache cache.entry.now shared.entry.now.queue w.new }
-        { work(rt, shared, cache, gate, w) },
-    );
-}
-
 /// All workers work at once. The workers, once they have worked; none are left where they stood.
 fn run_workers<C: FlowCache, G: Gate, R: Threads + Wait + Sync>(
     rt: &R,
@@ -202,7 +177,16 @@ fn run_workers<C: FlowCache, G: Gate, R: Threads + Wait + Sync>(
     ensures worked { All (HasTakenAll C.FlowCache cache.now shared.now.queue) result.items }
 {
     let mut crew = mem::replace(workers, Vec::new(alloc));
-    work_all(rt, shared, cache, gate, crew.as_mut_slice());
+    let count = crew.len();
+    thread::for_each_mut(
+        rt,
+        crew.as_mut_slice(),
+        count,
+        &|_, w: &mut Worker<C, QueuePass>|
+            requires ready { IsToTake C.FlowCache cache.now shared.now.queue w.old }
+            ensures worked { HasTakenAll C.FlowCache cache.entry.now shared.entry.now.queue w.new }
+        { work(rt, shared, cache, gate, w) },
+    );
     crew
 }
 
@@ -516,7 +500,7 @@ pub fn meter_batches<S: Source, C: FlowCache, G: Gate, R: Threads + Wait + Sync>
     ensures metered { IfOk result
         (λ r. IsMeteredWhole (side S.left S.faults source.old source.new) batches.limit (C.means cache.now).limits
         (C.shown r.pass).note.taken r.tally r.tail) }
-    ensures parts { IfOk result (λ r. IsPermutation (C.shown r.pass).note.handed r.parts.items) }
+    ensures parts { IfOk result (λ r. IsPermutation (C.shown r.pass).note.handed r.parts) }
     ensures refused { IfErr result
         (λ fault. IsRefused (side S.left S.faults source.old source.new) batches.limit fault) }
     ensures faults { HasFaults (side S.left S.faults source.old source.new) result }

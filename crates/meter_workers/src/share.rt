@@ -19,7 +19,7 @@ use flow_parts::laws::{
     reaching_goes_on, reaching_shares_out, sharing_out_counts, sharing_out_goes_on,
     sharing_out_stands,
 };
-use flow_parts::{Fragment, Timeouts};
+use flow_parts::{Fragment, PartList, Timeouts};
 use front_cache::Front;
 use no_memory::NoMemory;
 use packet_accept::{Packet, accept, packets_law};
@@ -31,7 +31,7 @@ use std::alloc::Global;
 pub struct Share<C: FlowCache> {
     pub pass: C::Pass,
     pub front: Option<Front>,
-    pub parts: Vec<Fragment>,
+    pub parts: PartList,
     pub tally: Tally,
 }
 
@@ -39,7 +39,7 @@ pub struct Share<C: FlowCache> {
 fn put_in<C: FlowCache>(
     cache: &C,
     pass: &mut C::Pass,
-    parts: &mut Vec<Fragment>,
+    parts: &mut PartList,
     part: &Fragment,
 ) -> Result<(), NoMemory>
     requires own { C.is_of cache.now pass.old }
@@ -49,12 +49,13 @@ fn put_in<C: FlowCache>(
     ensures own { C.is_of cache.now pass.new }
     ensures single { (C.shown pass.new).note.seats ≡ 1 }
     ensures taken { (C.shown pass.new).note.taken ≡ (C.shown pass.old).note.taken ++ part.now ∷ [] }
-    ensures handed { OnOk result (parts.old.items ≡ (C.shown pass.old).note.handed
-        → parts.new.items ≡ (C.shown pass.new).note.handed) }
+    ensures handed { OnOk result (parts.old ≡ (C.shown pass.old).note.handed
+        → parts.new ≡ (C.shown pass.new).note.handed) }
 {
     let metered = cache.meter_part(pass, part);
     if let Some(fragment) = metered.out {
-        parts.push(fragment)?;
+        let alloc = *parts.allocator();
+        parts.push(alloc, fragment)?;
     }
     Ok(())
 }
@@ -64,7 +65,7 @@ fn meter_packet<C: FlowCache>(
     cache: &C,
     pass: &mut C::Pass,
     front: &mut Option<Front>,
-    parts: &mut Vec<Fragment>,
+    parts: &mut PartList,
     packet: &Packet,
 ) -> Result<(), NoMemory>
     requires seated { IsSeatOf C.FlowCache cache.now pass.old front.old }
@@ -73,8 +74,8 @@ fn meter_packet<C: FlowCache>(
     ensures seated { OnOk result (IsSeatOf C.FlowCache cache.now pass.new front.new) }
     ensures reached { OnOk result ((own : Fragment) × IsAlone packet.now own × Reaches (C.means cache.now).limits
         (own ∷ put_by (C.shown pass.old) front.old) (put_by (C.shown pass.new) front.new)) }
-    ensures handed { OnOk result (parts.old.items ≡ (C.shown pass.old).note.handed
-        → parts.new.items ≡ (C.shown pass.new).note.handed) }
+    ensures handed { OnOk result (parts.old ≡ (C.shown pass.old).note.handed
+        → parts.new ≡ (C.shown pass.new).note.handed) }
 {
     reaching_goes_on();
     reaching_shares_out();
@@ -161,7 +162,7 @@ fn open_share<C: FlowCache>(
     Ok(Share {
         pass,
         front,
-        parts: Vec::new(alloc),
+        parts: PartList::new(alloc),
         tally: Tally::new(),
     })
 }
@@ -190,7 +191,7 @@ pub(crate) fn open_shares<C: FlowCache>(
 fn empty_front<C: FlowCache>(
     cache: &C,
     pass: &mut C::Pass,
-    parts: &mut Vec<Fragment>,
+    parts: &mut PartList,
     front: Front,
 ) -> Result<(), NoMemory>
     requires own { C.is_of cache.now pass.old }
@@ -199,8 +200,8 @@ fn empty_front<C: FlowCache>(
     ensures own { OnOk result (C.is_of cache.now pass.new) }
     ensures single { OnOk result ((C.shown pass.new).note.seats ≡ 1) }
     ensures taken { OnOk result ((C.shown pass.new).note.taken ≡ (C.shown pass.old).note.taken ++ open_in front) }
-    ensures handed { OnOk result (parts.old.items ≡ (C.shown pass.old).note.handed
-        → parts.new.items ≡ (C.shown pass.new).note.handed) }
+    ensures handed { OnOk result (parts.old ≡ (C.shown pass.old).note.handed
+        → parts.new ≡ (C.shown pass.new).note.handed) }
 {
     let mut front = front;
     while let Some(out) = front.take_out() {
@@ -256,7 +257,7 @@ pub(crate) fn unite<C: FlowCache>(
     room_law();
     sharing_out_stands();
     let mut parts = share.parts;
-    parts.extend_from_slice(other.parts.as_slice())?;
+    parts.append(other.parts)?;
     Ok(Share {
         pass: cache.unite(share.pass, other.pass),
         front: None,

@@ -28,7 +28,7 @@ use crate::worker::{WorkState, Worker, seat_workers, unseat_workers};
 use cache_face::FlowCache;
 use capture_input::{MeterFault, Part, Reading};
 use capture_tally::Tally;
-use flow_parts::{Fragment, Timeouts};
+use flow_parts::{PartList, Timeouts};
 use meter_io::Source;
 use no_memory::NoMemory;
 use pcap_reader::RecordIndex;
@@ -58,7 +58,7 @@ pub struct Windows {
 #[derive(Drop)]
 pub struct Gathered<C: FlowCache> {
     pub pass: C::Pass,
-    pub parts: Vec<Fragment>,
+    pub parts: PartList,
     pub tally: Tally,
     pub tail: u64,
 }
@@ -114,37 +114,6 @@ fn work<C: FlowCache, G: Gate>(
     };
 }
 
-/// All workers at once.
-fn work_all<C: FlowCache, G: Gate, R: Threads + Sync>(
-    rt: &R,
-    part: &Part<'_>,
-    pieces: &Pieces,
-    cache: &C,
-    gate: &G,
-    workers: &mut [Worker<C, DrawPass>],
-)
-    requires some { 0 < length workers.old }
-    requires ready { All (IsToDraw C.FlowCache cache.now pieces.now part.now.base) workers.old }
-    requires whole { count_of pieces.now ≡ length part.now.index.now.offsets }
-    ensures ended { All (λ w. w.state ≢ WorkState.Going) workers.new }
-    ensures worked { AllZip (HasDrawnAll C.FlowCache cache.now pieces.now (answers_by part.now)) workers.old
-        workers.new }
-{
-    let count = workers.len();
-    thread::for_each_mut(
-        rt,
-        workers,
-        count,
-        &|_, w: &mut Worker<C, DrawPass>|
-            requires ready { IsToDraw C.FlowCache cache.now pieces.now part.now.base w.old }
-            requires whole { count_of pieces.now ≡ length part.now.index.now.offsets }
-            ensures ended { w.new.state ≢ WorkState.Going }
-            ensures worked { HasDrawnAll C.FlowCache cache.entry.now pieces.entry.now (answers_by part.entry.now) w.old
-                w.new }
-        { work(part, pieces, cache, gate, w) },
-    );
-}
-
 /// The workers, once they have worked, all at once.
 fn run_workers<C: FlowCache, G: Gate, R: Threads + Sync>(
     rt: &R,
@@ -161,7 +130,19 @@ fn run_workers<C: FlowCache, G: Gate, R: Threads + Sync>(
     ensures worked { AllZip (HasDrawnAll C.FlowCache cache.now pieces.now (answers_by part.now)) workers.items
         result.items }
 {
-    work_all(rt, part, pieces, cache, gate, workers.as_mut_slice());
+    let count = workers.len();
+    thread::for_each_mut(
+        rt,
+        workers.as_mut_slice(),
+        count,
+        &|_, w: &mut Worker<C, DrawPass>|
+            requires ready { IsToDraw C.FlowCache cache.now pieces.now part.now.base w.old }
+            requires whole { count_of pieces.now ≡ length part.now.index.now.offsets }
+            ensures ended { w.new.state ≢ WorkState.Going }
+            ensures worked { HasDrawnAll C.FlowCache cache.entry.now pieces.entry.now (answers_by part.entry.now) w.old
+                w.new }
+        { work(part, pieces, cache, gate, w) },
+    );
     workers
 }
 
@@ -283,7 +264,7 @@ pub fn meter_windows<S: Source, C: FlowCache, G: Gate, R: Threads + Sync>(
     ensures metered { IfOk result
         (λ r. IsMeteredWhole (side S.left S.faults source.old source.new) windows.limit (C.means cache.now).limits
         (C.shown r.pass).note.taken r.tally r.tail) }
-    ensures parts { IfOk result (λ r. IsPermutation (C.shown r.pass).note.handed r.parts.items) }
+    ensures parts { IfOk result (λ r. IsPermutation (C.shown r.pass).note.handed r.parts) }
     ensures refused { IfErr result
         (λ fault. IsRefused (side S.left S.faults source.old source.new) windows.limit fault) }
     ensures faults { HasFaults (side S.left S.faults source.old source.new) result }
@@ -301,19 +282,13 @@ pub fn meter_windows<S: Source, C: FlowCache, G: Gate, R: Threads + Sync>(
 
 /// What all shares did together, with so many bytes left behind the last record.
 pub(crate) fn gather_all<C: FlowCache>(all: Share<C>, tail: u64) -> Gathered<C>
-    ensures { (result.pass ≡ all.pass) × (result.parts.items ≡ all.parts.items) × (result.tally ≡ all.tally)
+    ensures { (result.pass ≡ all.pass) × (result.parts ≡ all.parts) × (result.tally ≡ all.tally)
         × (result.tail ≡ tail) }
 {
-    let Share {
-        pass,
-        parts,
-        tally,
-        front: _,
-    } = all;
     Gathered {
-        pass,
-        parts,
-        tally,
+        pass: all.pass,
+        parts: all.parts,
+        tally: all.tally,
         tail,
     }
 }
@@ -341,7 +316,7 @@ pub fn meter_all<C: FlowCache, G: Gate, R: Threads + Sync>(
     ensures own { IfOk result (λ r. C.is_of cache.now r.pass × ((C.shown r.pass).note.seats ≡ length passes.items)) }
     ensures shared { IfOk result (λ r. SharesOut (C.means cache.now).limits (packets_in (answers_by part.now))
         (C.shown r.pass).note.taken) }
-    ensures parts { IfOk result (λ r. r.parts.items ≡ (C.shown r.pass).note.handed) }
+    ensures parts { IfOk result (λ r. r.parts ≡ (C.shown r.pass).note.handed) }
     ensures tally { IfOk result (λ r. IsTallyOf r.tally (answers_by part.now)) }
 {
     let shares = open_shares(alloc, cache, passes, None)?;

@@ -1,6 +1,6 @@
 //! Metering a capture in batches through one cache, and gathering what the cache gave.
 
-ghost use Rattle.std.specs.Prelude.{IfOk, IfErr};
+ghost use Rattle.std.specs.Prelude.{◌≡◌, IfOk, IfErr};
 ghost use Rattle.meter_io.specs.Sides.{IsUntouched, side};
 ghost use Rattle.meter_program.specs.Metering.{IsReadAndKept, IsReadAndGathered};
 ghost use Rattle.meter_program.specs.Outcome.{MeterRefuses, Ends};
@@ -9,7 +9,7 @@ ghost use Rattle.pipe_program.specs.Words.{as_meter, piping_of};
 
 use crate::settings::PipeSettings;
 use cache_face::Caches;
-use flow_parts::Timeouts;
+use flow_parts::{PartList, Timeouts};
 use meter_io::{Sink, Source};
 use meter_program::{CaptureCount, Gathered, Status, gathered_of, write_stream};
 use meter_workers::{Batches, Gate, meter_batches};
@@ -22,7 +22,7 @@ use std::thread::Threads;
 const OTHER_SEATS: usize = 2;
 
 /// Meters the capture that the input gives through a cache, by the reader and all workers at once, and closes the
-/// cache.
+/// cache. The fragments that it gave, and what is known of the capture.
 fn meter_input<R: Threads + Wait + Sync, S: Source, M: Caches, G: Gate>(
     rt: &R,
     alloc: Global,
@@ -31,9 +31,10 @@ fn meter_input<R: Threads + Wait + Sync, S: Source, M: Caches, G: Gate>(
     input: &mut S,
     caches: &mut M,
     gate: &G,
-) -> Result<CaptureCount, Status>
+) -> Result<(PartList, CaptureCount), Status>
     ensures kept { IfOk result
-        (λ r. IsReadAndKept (side S.left S.faults input.old input.new) limits (M.metered caches.new) r.tally r.tail) }
+        (λ r. IsReadAndKept (side S.left S.faults input.old input.new) limits (M.metered caches.new) r.1.tally r.1.tail) }
+    ensures given { IfOk result (λ r. r.0 ≡ M.metered caches.new) }
     ensures refused { IfErr result (λ status. MeterRefuses (side S.left S.faults input.old input.new) status) }
 {
     let seats = settings.workers + OTHER_SEATS;
@@ -52,11 +53,12 @@ fn meter_input<R: Threads + Wait + Sync, S: Source, M: Caches, G: Gate>(
         },
         gate,
     )?;
-    caches.close(alloc, cache, done.pass, done.parts)?;
-    Ok(CaptureCount {
+    let parts = caches.close(alloc, cache, done.pass, done.parts)?;
+    let counted = CaptureCount {
         tally: done.tally,
         tail: done.tail,
-    })
+    };
+    Ok((parts, counted))
 }
 
 /// The records of the capture that the input gives, metered through a cache of `caches`, or why there are none.
@@ -74,8 +76,8 @@ fn gathered_from<R: Threads + Wait + Sync, S: Source, M: Caches, G: Gate>(
     ensures refused { IfErr result (λ status. MeterRefuses (side S.left S.faults input.old input.new) status) }
 {
     let limits = Timeouts::new(settings.idle, settings.active);
-    let counted = meter_input(rt, alloc, settings, limits, input, caches, gate)?;
-    let gathered = gathered_of(alloc, caches, limits, counted)?;
+    let (parts, counted) = meter_input(rt, alloc, settings, limits, input, caches, gate)?;
+    let gathered = gathered_of(alloc, parts, limits, counted)?;
     Ok(gathered)
 }
 

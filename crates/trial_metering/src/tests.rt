@@ -10,7 +10,7 @@ ghost use Rattle.flow_parts.specs.declared.fragment.Fragment.{Fragment};
 
 use cache_face::Caches;
 use capture_tally::Tally;
-use flow_parts::{Fragment, Timeouts};
+use flow_parts::{Fragment, PartList, Timeouts};
 use meter_io::Source;
 use meter_workers::{Gate, MeterFault, Windows, meter_windows};
 use record_ledger::{FlowRecord, gather};
@@ -73,6 +73,16 @@ fn are_few(parts: &[Fragment]) -> bool
     true
 }
 
+/// The fragments of a list, copied into one piece.
+fn in_one(alloc: Global, parts: PartList) -> Result<Vec<Fragment>, Fail> {
+    let pieces = parts.into_pieces()?;
+    let mut all = Vec::new(alloc);
+    for piece in pieces.as_slice() {
+        all.extend_from_slice(piece.as_slice())?;
+    }
+    Ok(all)
+}
+
 /// Meters what a source gives, and gathers the records.
 fn meter_source<R: Threads + Sync, S: Source, G: Gate>(
     rt: &R,
@@ -106,11 +116,14 @@ fn meter_source<R: Threads + Sync, S: Source, G: Gate>(
         Ok(gathered) => gathered,
         Err(fault) => return Ok(Err(fault)),
     };
-    caches.close(alloc, cache, gathered.pass, gathered.parts)?;
-    if !are_few(caches.metered()) {
+    let parts = in_one(
+        alloc,
+        caches.close(alloc, cache, gathered.pass, gathered.parts)?,
+    )?;
+    if !are_few(parts.as_slice()) {
         return Err(Fail::from("more packets than there are"));
     }
-    let records = gather(alloc, caches.metered(), limits, gathered.tally.clock)?;
+    let records = gather(alloc, parts.as_slice(), limits, gathered.tally.clock)?;
     Ok(Ok(Outcome {
         records,
         tally: gathered.tally,

@@ -4,8 +4,8 @@ ghost use Rattle.std.specs.Prelude.{◌≡◌, []};
 ghost use Rattle.turn_cache.specs.Shown.{means_of, shown_of, lost_of, IsOf, IsTryOf, LostTry};
 
 use crate::cache::{TurnCache, TurnPass};
-use cache_face::{Caches, FlowCache, Metered, MeteredList, NoMemory};
-use flow_parts::{Fragment, Timeouts};
+use cache_face::{Caches, FlowCache, LastClosed, Metered, NoMemory};
+use flow_parts::{Fragment, PartList, Timeouts};
 use std::alloc::Global;
 
 impl FlowCache for TurnCache {
@@ -39,7 +39,7 @@ impl FlowCache for TurnCache {
 /// Opens and closes caches with one turn for each set.
 #[derive(Drop)]
 pub struct TurnCaches {
-    metered: MeteredList,
+    closed: LastClosed,
 }
 
 impl TurnCaches {
@@ -48,7 +48,7 @@ impl TurnCaches {
         ensures { ⟦<TurnCaches as Caches>⟧.metered result ≡ [] }
     {
         TurnCaches {
-            metered: MeteredList::new(),
+            closed: LastClosed::new(),
         }
     }
 }
@@ -56,7 +56,7 @@ impl TurnCaches {
 impl Caches for TurnCaches {
     type Cache = TurnCache;
 
-    ghost metered = { λ s. s.metered };
+    ghost metered = { λ s. s.closed };
 
     fn open(
         &mut self,
@@ -73,13 +73,9 @@ impl Caches for TurnCaches {
         alloc: Global,
         cache: TurnCache,
         pass: TurnPass,
-        handed: Vec<Fragment>,
-    ) -> Result<(), NoMemory> {
+        handed: PartList,
+    ) -> Result<PartList, NoMemory> {
         let entries = cache.entries(alloc, pass)?;
-        self.metered.keep(handed, entries)
-    }
-
-    fn metered(&self) -> &[Fragment] {
-        self.metered.parts()
+        self.closed.closed_with(handed, entries)
     }
 }

@@ -66,7 +66,7 @@ fn meter_bytes<R: Threads + Sync, G: Gate>(
     ensures packets { IfOk result
         (λ r. IsCaptureOf (λ file. SharesOut (means_of cache.now).limits (packets_of file) (shown_of r.pass).note.taken)
         bytes.now) }
-    ensures parts { IfOk result (λ r. r.parts.items ≡ (shown_of r.pass).note.handed) }
+    ensures parts { IfOk result (λ r. r.parts ≡ (shown_of r.pass).note.handed) }
     ensures tally { IfOk result (λ r. IsCaptureOf (λ file. IsTallyOf r.tally (answers_of file)) bytes.now) }
 {
     let Ok(capture) = Capture::open(bytes) else {
@@ -107,7 +107,7 @@ fn at_once<R: Threads + Sync, G: Gate>(
     ensures packets { IfOk result.1
         (λ r. IsCaptureOf (λ file. SharesOut (means_of cache.now).limits (packets_of file) (shown_of r.pass).note.taken)
         bytes.now) }
-    ensures parts { IfOk result.1 (λ r. r.parts.items ≡ (shown_of r.pass).note.handed) }
+    ensures parts { IfOk result.1 (λ r. r.parts ≡ (shown_of r.pass).note.handed) }
     ensures tally { IfOk result.1 (λ r. IsCaptureOf (λ file. IsTallyOf r.tally (answers_of file)) bytes.now) }
 {
     let number = passes.len();
@@ -130,7 +130,7 @@ fn at_once<R: Threads + Sync, G: Gate>(
             ensures packets { IfOk result
                 (λ r. IsCaptureOf (λ file. SharesOut (means_of cache.entry.now).limits (packets_of file)
                 (shown_of r.pass).note.taken) bytes.entry.now) }
-            ensures parts { IfOk result (λ r. r.parts.items ≡ (shown_of r.pass).note.handed) }
+            ensures parts { IfOk result (λ r. r.parts ≡ (shown_of r.pass).note.handed) }
             ensures tally { IfOk result
                 (λ r. IsCaptureOf (λ file. IsTallyOf r.tally (answers_of file)) bytes.entry.now) }
         { meter_bytes(rt, alloc, bytes, index, cache, passes, gate) },
@@ -151,7 +151,7 @@ fn total_behind(
     requires seats { (shown_of gathered.pass).note.seats + 1 ≡ (means_of cache).seats }
     requires packets { IsCaptureOf (λ file. SharesOut (means_of cache).limits (packets_of file)
         (shown_of gathered.pass).note.taken) bytes.now }
-    requires parts { gathered.parts.items ≡ (shown_of gathered.pass).note.handed }
+    requires parts { gathered.parts ≡ (shown_of gathered.pass).note.handed }
     requires tally { IsCaptureOf (λ file. IsTallyOf gathered.tally (answers_of file)) bytes.now }
     ensures { IfOk result
         (λ total. IsCaptureOf (λ file. (total.0 ≡ length (packets_of file)) × (total.1 ≡ octets_of (packets_of file)))
@@ -165,8 +165,8 @@ fn total_behind(
         ..
     } = gathered;
     let pass = cache.unite(others, pass);
-    caches.close(alloc, cache, pass, parts)?;
-    Ok(total_of(caches.metered()))
+    let parts = caches.close(alloc, cache, pass, parts)?;
+    total_of(parts)
 }
 
 /// Meters the capture that these bytes are by so many workers, asks meanwhile for the flows of its first accepted

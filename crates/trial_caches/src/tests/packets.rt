@@ -108,7 +108,6 @@ fn one_set_and_one_seat(rt: HostRuntime) {
     ];
     let alloc = rt.alloc();
     let mut caches = PebrCaches::new();
-    assert!(rt; caches.metered().is_empty());
     let (cache, mut passes) = caches
         .open(alloc, 1, 1, Timeouts::new(300, 1800))
         .expect(&rt, "memory");

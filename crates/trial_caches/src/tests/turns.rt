@@ -4,7 +4,7 @@ ghost use Rattle.std.specs.Prelude.{◌≡◌, ◌+◌, ◌<◌, ◌≤◌, ◌^
 ghost use Rattle.cache_face.specs.Keeping.{packet_count};
 
 use cache_face::{Caches, FlowCache, How, Metered};
-use flow_parts::{Fragment, Timeouts};
+use flow_parts::{Fragment, PartList, Timeouts};
 use packet_accept::Packet;
 use samples::udp_key;
 use std::alloc::Global;
@@ -117,6 +117,16 @@ fn octets_of(parts: &[Fragment]) -> u64 {
     octets
 }
 
+/// The fragments of a list, copied into one piece.
+fn in_one(alloc: Global, parts: PartList) -> Result<Vec<Fragment>, Fail> {
+    let pieces = parts.into_pieces()?;
+    let mut all = Vec::new(alloc);
+    for piece in pieces.as_slice() {
+        all.extend_from_slice(piece.as_slice())?;
+    }
+    Ok(all)
+}
+
 /// Flows 1 to 4 through one pass, and flow 5 through another, which is handed flow 2's fragment and finds flow 1's
 /// entry. The fragments at the end have the six packets of 40 octets.
 fn keeps_what_two_passes_metered<C: Caches + Drop>(
@@ -137,15 +147,14 @@ fn keeps_what_two_passes_metered<C: Caches + Drop>(
     assert!(rt; keep(&cache, &mut other, &mut others, 4, 5, 9)? == How::Replaced);
     assert!(rt; keep(&cache, &mut other, &mut others, 5, 1, 11)? == How::Joined);
     assert!(rt; handed.is_empty() && others.len() == 1 && packets_of(&others, 2) == 1);
-    handed.extend_from_slice(others.as_slice())?;
+    let mut list = PartList::new(alloc);
+    list.add_piece(handed)?;
+    list.add_piece(others)?;
     let pass = cache.unite(one, other);
-    caches
-        .close(alloc, cache, pass, handed)
-        .expect(rt, "memory");
-    let parts = caches.metered();
-    assert!(rt; parts.len() == 5 && octets_of(parts) == 240 && packets_of(parts, 1) == 2);
-    assert!(rt; packets_of(parts, 2) == 1 && packets_of(parts, 3) == 1);
-    assert!(rt; packets_of(parts, 4) == 1 && packets_of(parts, 5) == 1);
+    let parts = in_one(alloc, caches.close(alloc, cache, pass, list)?)?;
+    assert!(rt; parts.len() == 5 && octets_of(&parts) == 240 && packets_of(&parts, 1) == 2);
+    assert!(rt; packets_of(&parts, 2) == 1 && packets_of(&parts, 3) == 1);
+    assert!(rt; packets_of(&parts, 4) == 1 && packets_of(&parts, 5) == 1);
     Ok(())
 }
 
@@ -156,7 +165,5 @@ fn one_set_and_one_seat(rt: HostRuntime) {
 
 #[test]
 fn one_set_and_two_seats(rt: HostRuntime) -> Result<(), Fail> {
-    let caches = TurnCaches::new();
-    assert!(rt; caches.metered().is_empty());
-    keeps_what_two_passes_metered(&rt, rt.alloc(), caches)
+    keeps_what_two_passes_metered(&rt, rt.alloc(), TurnCaches::new())
 }

@@ -5,6 +5,7 @@ mod rows;
 ghost use Rattle.std.specs.Prelude.{◌≡◌, ◌≤◌, ◌^◌, length, All, IfOk, IsPermutation};
 ghost use Rattle.cache_face.specs.Meaning.{IsFresh};
 
+use super::in_one;
 use cache_face::{Caches, FlowCache};
 use capture_tally::Tally;
 use flow_parts::Timeouts;
@@ -61,7 +62,7 @@ fn run<S: Source, C: FlowCache, G: Gate, R: Threads + Wait + Sync>(
     requires passes { (3 ≤ length passes.items) × (length passes.items ≤ 64)
         × All (λ p. C.is_of cache.now p × IsFresh (C.shown p)) passes.items }
     ensures own { IfOk result (λ r. C.is_of cache.now r.pass × ((C.shown r.pass).note.seats ≡ length passes.items)) }
-    ensures parts { IfOk result (λ r. IsPermutation (C.shown r.pass).note.handed r.parts.items) }
+    ensures parts { IfOk result (λ r. IsPermutation (C.shown r.pass).note.handed r.parts) }
 {
     let Setting {
         room,
@@ -118,10 +119,13 @@ fn meter_capture<G: Gate, R: Threads + Wait + Sync>(
         Ok(gathered) => gathered,
         Err(fault) => return Ok(Err(fault)),
     };
-    caches.close(alloc, cache, gathered.pass, gathered.parts)?;
+    let parts = in_one(
+        alloc,
+        caches.close(alloc, cache, gathered.pass, gathered.parts)?,
+    )?;
     let mut packets = 0u64;
     let mut octets = 0u64;
-    for part in caches.metered() {
+    for part in parts.as_slice() {
         packets = packets.saturating_add(part.packets);
         octets = octets.saturating_add(part.octets);
     }

@@ -4,4 +4,4 @@ use Rattle.bench_checks.proofs.windows.meter_source.Goals as goal
 
 pub close-requires-clause-handed : goal.close-requires-clause-handed
 close-requires-clause-handed g c = IsPermutation-sym c.in-Ok.gathered.pass.seat.me.0.note.handed
-    c.in-Ok.gathered.parts.items c.in-Ok.ensures.parts
+    c.in-Ok.gathered.parts c.in-Ok.ensures.parts

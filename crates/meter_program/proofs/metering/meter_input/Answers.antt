@@ -5,7 +5,7 @@ use Rattle.meter_program.proofs.metering.meter_input.Goals as goal
 
 pub close-requires-clause-handed : goal.close-requires-clause-handed
 close-requires-clause-handed g c =
-    IsPermutation-sym (g.M.Cache.FlowCache.shown c.in_ok-done.done.pass).note.handed c.in_ok-done.done.parts.items
+    IsPermutation-sym (g.M.Cache.FlowCache.shown c.in_ok-done.done.pass).note.handed c.in_ok-done.done.parts
     c.in_ok-done.ensures.parts
 
 pub returns-clause-kept : goal.returns-clause-kept

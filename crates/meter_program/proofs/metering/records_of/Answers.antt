@@ -1,10 +1,13 @@
 use Rattle.std.proofs.Common.{subst}
+use Rattle.flow_parts.specs.declared.fragment.Fragment.{Fragment}
+use Rattle.std.specs.Prelude.{List}
 use Rattle.meter_program.specs.Metering.{AreGathered}
 use Rattle.meter_program.proofs.metering.records_of.Goals as goal
 
 pub returns : goal.returns
-returns g c =
-    subst (λ metered. AreGathered c.args.limits metered c.args.clock c.in_ok-records.records.items) c.metered.ensures
+returns c =
+    subst (λ (parts : List Fragment). AreGathered c.args.limits parts c.args.clock c.in_ok-records.records.items)
+    c.in_ok-parts.ensures
     (record {
       regroups = c.in_ok-records.ensures.regroups;
       lawful = c.in_ok-records.ensures.lawful;

@@ -35,5 +35,5 @@ returns-in-Ok-gather-clause-parts g c =
     let same = c.gather_all.ensures in
     let parts = same.1 ∙ (c.in-Ok-gather.ensures.metered read.answers read.handed).handed
     ∙ sym (ap (λ p. (g.C.FlowCache.shown p).note.handed) same.0) in
-    subst (λ (l : List Fragment). IsPermutation l c.gather_all.result.parts.items) parts
-    (IsPermutation-refl c.gather_all.result.parts.items)
+    subst (λ (l : List Fragment). IsPermutation l c.gather_all.result.parts) parts
+    (IsPermutation-refl c.gather_all.result.parts)

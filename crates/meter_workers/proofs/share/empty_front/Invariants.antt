@@ -8,8 +8,8 @@ invariant-loop-out g l = record {
   single : (g.C.FlowCache.shown l.pass).note.seats ≡ 1;
   taken : (g.C.FlowCache.shown l.pass).note.taken ++ open_in l.front
       ≡ (g.C.FlowCache.shown l.initial.pass).note.taken ++ open_in l.fn.front;
-  handed : l.initial.parts.items ≡ (g.C.FlowCache.shown l.initial.pass).note.handed
-      → l.parts.items ≡ (g.C.FlowCache.shown l.pass).note.handed;
+  handed : l.initial.parts ≡ (g.C.FlowCache.shown l.initial.pass).note.handed
+      → l.parts ≡ (g.C.FlowCache.shown l.pass).note.handed;
 }
 
 abbrev pub decreases-loop-out : goal.decreases-loop-out

@@ -4,7 +4,7 @@ use Rattle.meter_workers.proofs.share.unite.Goals as goal
 
 pub returns-clause-metered : goal.returns-clause-metered
 returns-clause-metered g c = λ done rest one other.
-    let grown : c.extend_from_slice.new.self.items ≡ c.args.share.parts.items ++ c.args.other.parts.items =
+    let grown : c.append.new.self ≡ c.args.share.parts ++ c.args.other.parts =
     search rules in
     metered-both {X = g.row.C.Denot} {P = g.row.C-Pass.Denot} g.C.FlowCache.shown
     (g.C.FlowCache.means c.args.cache.now).limits done rest c.args.share c.args.other _

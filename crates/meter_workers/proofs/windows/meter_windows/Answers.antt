@@ -30,10 +30,10 @@ returns-in-Ok-unite_all-clause-parts g c =
     c.in_ok-first.ensures.given in
     let all = c.in-Ok-unite_all.ensures.metered told.0 told.2 in
     let same = c.gather_all.ensures in
-    let parts : c.gather_all.result.parts.items ≡ (g.C.FlowCache.shown c.gather_all.result.pass).note.handed =
+    let parts : c.gather_all.result.parts ≡ (g.C.FlowCache.shown c.gather_all.result.pass).note.handed =
     same.1 ∙ all.handed ∙ ap (λ (p : g.row.C-Pass.Denot). (g.C.FlowCache.shown p).note.handed) (sym same.0) in
-    subst (λ (l : List Fragment). IsPermutation l c.gather_all.result.parts.items) parts
-    (IsPermutation-refl c.gather_all.result.parts.items)
+    subst (λ (l : List Fragment). IsPermutation l c.gather_all.result.parts) parts
+    (IsPermutation-refl c.gather_all.result.parts)
 
 pub returns-in-Err-clause-refused : goal.returns-in-Err-clause-refused
 returns-in-Err-clause-refused g c =

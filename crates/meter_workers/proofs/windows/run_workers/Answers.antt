@@ -1,4 +1,4 @@
-use Rattle.std.proofs.Common.{◌≡◌, All, rules, refl, List, length, sym, subst}
+use Rattle.std.proofs.Common.{◌≡◌, All, get_or, rules, refl, List, length, sym, subst}
 use Rattle.std.specs.Prelude.{◌≢◌}
 use Rattle.std.specs.List.{AllZip}
 use Rattle.work_pieces.specs.declared.pieces.DrawPass.{DrawPass}
@@ -7,6 +7,7 @@ use Rattle.meter_workers.specs.declared.worker.Worker.{Worker}
 use Rattle.meter_workers.specs.declared.worker.WorkState.TheVariants.{Going, Finished}
 use Rattle.meter_workers.specs.Working.{HasWorked}
 use Rattle.meter_workers.proofs.Drawn.{taken_back}
+use Rattle.meter_workers.proofs.Sharing.{all-zip}
 use Rattle.meter_workers.proofs.windows.run_workers.Goals as goal
 
 pub returns-clause-worked : goal.returns-clause-worked
@@ -16,15 +17,12 @@ returns-clause-worked g c =
     λ o w. w.state ≡ Finished → HasWorked {X = g.row.C.Denot} {P = g.row.C-Pass.Denot}
     (g.C.FlowCache.is_of c.args.cache.now) g.C.FlowCache.shown (g.C.FlowCache.means c.args.cache.now).limits
     c.args.pieces.now (answers_by c.args.part.now) o.share w.share w.seat in
+    let new : List W = c.for_each_mut.new.s in
     let same : c.as_mut_slice.result.now ≡ c.args.workers.items = search rules in
+    let long : length new ≡ length c.as_mut_slice.result.now = search rules in
+    let each : AllZip R c.as_mut_slice.result.now new = all-zip R c.as_mut_slice.result.now new long (λ i d lt.
+    let k = (c.for_each_mut.ensures i d lt).1 in
+    subst (λ o. R o (get_or new i d)) k.argument_is (subst (λ w. R k.argument.now w) k.left k.call.1)) in
     subst (λ (l : List W). AllZip R c.args.workers.items l)
-    (sym (taken_back c.args.workers.len (length c.work_all.new.workers) c.args.workers.items c.work_all.new.workers
-    (search rules) refl))
-    (subst (λ (l : List W). AllZip R l c.work_all.new.workers) same c.work_all.ensures.worked)
-
-pub returns-clause-ended : goal.returns-clause-ended
-returns-clause-ended g c =
-    let W : Type 0 = Worker g.row.C.Denot DrawPass g.row.C-Pass.Denot in
-    subst (λ (l : List W). All (λ w. w.state ≢ Going) l)
-    (sym (taken_back c.args.workers.len (length c.work_all.new.workers) c.args.workers.items c.work_all.new.workers
-    (search rules) refl)) c.work_all.ensures.ended
+    (sym (taken_back c.args.workers.len (length new) c.args.workers.items new (search rules) refl))
+    (subst (λ (l : List W). AllZip R l new) same each)

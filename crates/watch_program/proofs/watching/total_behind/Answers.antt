@@ -10,7 +10,7 @@ use Rattle.watch_program.proofs.watching.total_behind.Goals as goal
 
 pub close-requires-clause-handed : goal.close-requires-clause-handed
 close-requires-clause-handed c =
-    handed-same c.args.gathered.parts.items (shown_of c.args.gathered.pass) (shown_of c.args.pass)
+    handed-same c.args.gathered.parts (shown_of c.args.gathered.pass) (shown_of c.args.pass)
     (shown_of c.unite-pass.result) c.unite-pass.ensures.united
     c.requires.pass.1 c.requires.parts
 
@@ -18,30 +18,30 @@ pub total_of-requires-clause-packets : goal.total_of-requires-clause-packets
 total_of-requires-clause-packets c =
     let counts = counted c.args.bytes.now (means_of c.args.cache).limits (shown_of c.args.gathered.pass)
     (shown_of c.args.pass) (shown_of c.unite-pass.result)
-    (metered_by c.close.new.self) c.metered.result.now
+    (metered_by c.close.new.self) c.in_ok-parts.parts
     c.sharing_out_counts.ensures.counts c.unite-pass.ensures.united
-    c.requires.pass.1 c.requires.packets c.in_ok-close.ensures.shared c.metered.ensures in
-    let fits = (tallied c.args.bytes.now c.metered.result.now c.args.gathered.tally counts c.requires.tally).0 in
+    c.requires.pass.1 c.requires.packets c.in_ok-parts.ensures.shared c.in_ok-parts.ensures.given in
+    let fits = (tallied c.args.bytes.now c.in_ok-parts.parts c.args.gathered.tally counts c.requires.tally).0 in
     omega (arith, fits)
 
 pub total_of-requires-clause-octets : goal.total_of-requires-clause-octets
 total_of-requires-clause-octets c =
     let counts = counted c.args.bytes.now (means_of c.args.cache).limits (shown_of c.args.gathered.pass)
     (shown_of c.args.pass) (shown_of c.unite-pass.result)
-    (metered_by c.close.new.self) c.metered.result.now
+    (metered_by c.close.new.self) c.in_ok-parts.parts
     c.sharing_out_counts.ensures.counts c.unite-pass.ensures.united
-    c.requires.pass.1 c.requires.packets c.in_ok-close.ensures.shared c.metered.ensures in
-    let fits = (tallied c.args.bytes.now c.metered.result.now c.args.gathered.tally counts c.requires.tally).1 in
+    c.requires.pass.1 c.requires.packets c.in_ok-parts.ensures.shared c.in_ok-parts.ensures.given in
+    let fits = (tallied c.args.bytes.now c.in_ok-parts.parts c.args.gathered.tally counts c.requires.tally).1 in
     omega (arith, fits)
 
 pub returns : goal.returns
 returns c =
     let counts = counted c.args.bytes.now (means_of c.args.cache).limits (shown_of c.args.gathered.pass)
     (shown_of c.args.pass) (shown_of c.unite-pass.result)
-    (metered_by c.close.new.self) c.metered.result.now
+    (metered_by c.close.new.self) c.in_ok-parts.parts
     c.sharing_out_counts.ensures.counts c.unite-pass.ensures.united
-    c.requires.pass.1 c.requires.packets c.in_ok-close.ensures.shared c.metered.ensures in
-    and-so (capture_file c.args.bytes.now) (HasCounts c.metered.result.now)
+    c.requires.pass.1 c.requires.packets c.in_ok-parts.ensures.shared c.in_ok-parts.ensures.given in
+    and-so (capture_file c.args.bytes.now) (HasCounts c.in_ok-parts.parts)
     (λ file. (c.total_of.result.0 ≡ length (packets_of file)) × (c.total_of.result.1 ≡ octets_of (packets_of file)))
     counts
     (λ file has. (c.total_of.ensures.packets ∙ has.0, c.total_of.ensures.octets ∙ has.1))

@@ -25,27 +25,27 @@ pub returns-clause-reached : goal.returns-clause-reached
 returns-clause-reached c =
     let note = (shown_of c.args.pass).note in
     let limits = c.args.cache.timeouts in
-    on_ok_weaker c.keep.result
-    (λ is. handed_reached limits note.taken c.in_ok-entries.entries.items note.handed c.args.handed.items _
-    c.requires.handed is c.in_ok-entries.ensures) c.keep.ensures.kept
+    on_ok_weaker c.closed_with.result
+    (λ is. handed_reached limits note.taken c.in_ok-entries.entries.items note.handed c.args.handed _
+    c.requires.handed is c.in_ok-entries.ensures) c.closed_with.ensures.closed
 
 pub returns-clause-shared : goal.returns-clause-shared
 returns-clause-shared c =
     let note = (shown_of c.args.pass).note in
     let limits = c.args.cache.timeouts in
-    on_ok_weaker c.keep.result
+    on_ok_weaker c.closed_with.result
     (λ is packets shares. shared limits packets note.taken _
-    (handed_reached limits note.taken c.in_ok-entries.entries.items note.handed c.args.handed.items _
-    c.requires.handed is c.in_ok-entries.ensures) shares) c.keep.ensures.kept
+    (handed_reached limits note.taken c.in_ok-entries.entries.items note.handed c.args.handed _
+    c.requires.handed is c.in_ok-entries.ensures) shares) c.closed_with.ensures.closed
 
 pub returns-clause-entries : goal.returns-clause-entries
 returns-clause-entries c =
     let entries = c.in_ok-entries.entries.items in
-    let all = c.args.handed.items ++ entries in
-    on_ok_weaker c.keep.result
+    let all = c.args.handed ++ entries in
+    on_ok_weaker c.closed_with.result
     (λ is. (
       entries,
       subst (λ (ps : List Fragment). IsPermutation ps all) (sym is)
           (IsPermutation-refl all),
       c.in_ok-entries.ensures,
-    )) c.keep.ensures.kept
+    )) c.closed_with.ensures.closed

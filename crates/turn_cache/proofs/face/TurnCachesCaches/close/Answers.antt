@@ -23,15 +23,15 @@ pub returns-clause-reached : goal.returns-clause-reached
 returns-clause-reached c =
     let note = c.args.pass.seat.me.0.note in
     let limits = c.args.cache.timeouts in
-    on_ok_weaker c.keep.result
-    (λ is. handed_reached limits note.taken c.in_ok-entries.entries.items note.handed c.args.handed.items _
-    c.requires.handed is c.in_ok-entries.ensures.reached) c.keep.ensures.kept
+    on_ok_weaker c.closed_with.result
+    (λ is. handed_reached limits note.taken c.in_ok-entries.entries.items note.handed c.args.handed _
+    c.requires.handed is c.in_ok-entries.ensures.reached) c.closed_with.ensures.closed
 
 pub returns-clause-shared : goal.returns-clause-shared
 returns-clause-shared c =
     let note = c.args.pass.seat.me.0.note in
     let limits = c.args.cache.timeouts in
-    on_ok_weaker c.keep.result
+    on_ok_weaker c.closed_with.result
     (λ is packets shares. shared limits packets note.taken _
-    (handed_reached limits note.taken c.in_ok-entries.entries.items note.handed c.args.handed.items _
-    c.requires.handed is c.in_ok-entries.ensures.reached) shares) c.keep.ensures.kept
+    (handed_reached limits note.taken c.in_ok-entries.entries.items note.handed c.args.handed _
+    c.requires.handed is c.in_ok-entries.ensures.reached) shares) c.closed_with.ensures.closed
