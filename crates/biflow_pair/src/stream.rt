@@ -1,16 +1,13 @@
 //! A stream of flow records as a stream of biflows.
 
-ghost use Rattle.std.specs.Prelude.{◌≡◌, ◌≤◌, ◌<◌, ◌^◌, ◌++◌, [], ◌∷◌, ℕ, List, Some, OnOk, IfOk, IfErr};
-ghost use Rattle.ipfix_reader.specs.Flows.{flows_in};
+ghost use Rattle.std.specs.Prelude.{◌≡◌, ◌≤◌, ◌<◌, ◌^◌, ℕ, List, IfOk, IfErr};
 ghost use Rattle.biflow_pair.specs.BiLayout.{IsBiLayout};
-ghost use Rattle.biflow_pair.specs.declared.stream.PairError.TheVariants.{NoMemory as OutOfMemory};
-ghost use Rattle.biflow_pair.specs.Pairing.{greatest_last, IsPaired, IsFirstOther, IsOtherError, PairingFails};
+ghost use Rattle.biflow_pair.specs.Pairing.{greatest_last, IsPaired, PairingFails};
 
 use crate::biflow::Biflow;
 use crate::encoding::bi_layout;
 use crate::pairing::pair;
-use ipfix_model::DataRecord;
-use ipfix_reader::{StreamError, StreamFault, flow_of, read_stream};
+use ipfix_reader::{FlowsError, StreamFault, read_flows};
 use no_memory::NoMemory;
 use record_ledger::FlowRecord;
 use std::alloc::Global;
@@ -24,39 +21,6 @@ pub enum PairError {
     NotFlows(u64),
     /// Out of memory.
     NoMemory,
-}
-
-impl From<NoMemory> for PairError {
-    ghost from_gives = { λ _ error. error ≡ OutOfMemory };
-
-    fn from(_error: NoMemory) -> PairError {
-        PairError::NoMemory
-    }
-}
-
-/// The flow records that data records are.
-fn flows_of(alloc: Global, records: &[DataRecord]) -> Result<Vec<FlowRecord>, PairError>
-    ensures flows { IfOk result (λ flows. flows_in records.now ≡ Some flows.items) }
-    ensures other { IfErr result (IsOtherError records.now) }
-{
-    let mut flows = Vec::new(alloc);
-    let mut place = 0;
-    while place < records.len() {
-        match flow_of(&records[place]) {
-            Some(flow) => add_flow(&mut flows, flow)?,
-            None => return Err(PairError::NotFlows(place as u64)),
-        }
-        place += 1;
-    }
-    Ok(flows)
-}
-
-/// Adds a flow record.
-fn add_flow(flows: &mut Vec<FlowRecord>, flow: FlowRecord) -> Result<(), NoMemory>
-    ensures { OnOk result (flows.new.items ≡ flows.old.items ++ flow ∷ []) }
-{
-    flows.push(flow)?;
-    Ok(())
 }
 
 /// The greatest last time of flow records, and 0 of none.
@@ -88,14 +52,11 @@ pub fn pairs_of(alloc: Global, stream: &[u8], idle: u64) -> Result<Paired, PairE
         → IsBiLayout size p.seconds p.pairs.items written → IsPaired idle size stream.now written) }
     ensures cause { IfErr result (PairingFails stream.now) }
 {
-    let records = match read_stream(alloc, stream) {
-        Ok(records) => records,
-        Err(StreamError::Fault(fault)) => return Err(PairError::NotStream(fault)),
-        Err(StreamError::NoMemory) => return Err(PairError::NoMemory),
-    };
-    let flows = match flows_of(alloc, records.as_slice()) {
+    let flows = match read_flows(alloc, stream) {
         Ok(flows) => flows,
-        Err(error) => return Err(error),
+        Err(FlowsError::NotStream(fault)) => return Err(PairError::NotStream(fault)),
+        Err(FlowsError::NotFlows(place)) => return Err(PairError::NotFlows(place)),
+        Err(FlowsError::NoMemory) => return Err(PairError::NoMemory),
     };
     let Ok(pairs) = pair(alloc, flows.as_slice(), idle) else {
         return Err(PairError::NoMemory);
