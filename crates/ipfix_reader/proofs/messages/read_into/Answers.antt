@@ -1,5 +1,5 @@
 -- From nothing that is read to what was read.
-use Rattle.std.proofs.Common.{[], Ok, Err}
+use Rattle.std.proofs.Common.{[]}
 use Rattle.ipfix_reader.proofs.MessageSteps.{decode-read, decode-refused}
 use Rattle.ipfix_reader.proofs.Takings.{when-ok, weaken-err}
 use Rattle.ipfix_reader.proofs.messages.read_into.Goals as goal

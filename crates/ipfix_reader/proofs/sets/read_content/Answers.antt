@@ -1,5 +1,5 @@
 -- What is in a set, by its number.
-use Rattle.std.proofs.Common.{◌≡◌, ◌∙◌, ◌+◌, ℕ, Ok, List, sym, ap, arith}
+use Rattle.std.proofs.Common.{◌∙◌, Ok, List, sym, ap, arith}
 use Rattle.ipfix_model.specs.declared.values.DataRecord.{DataRecord}
 use Rattle.octets.specs.Outcome.{◌>>=◌}
 use Rattle.ipfix_reader.specs.Known.{Templates}
