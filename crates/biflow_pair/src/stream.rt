@@ -1,6 +1,7 @@
 //! A stream of flow records as a stream of biflows.
 
-ghost use Rattle.std.specs.Prelude.{◌≡◌, ◌≤◌, ◌<◌, ◌^◌, ℕ, List, IfOk, IfErr};
+ghost use Rattle.std.specs.Prelude.{◌≡◌, ◌≤◌, ◌<◌, ◌^◌, ℕ, List, Some, IfOk, IfErr};
+ghost use Rattle.ipfix_reader.specs.Flows.{flows_of};
 ghost use Rattle.biflow_pair.specs.BiLayout.{IsBiLayout};
 ghost use Rattle.biflow_pair.specs.Pairing.{greatest_last, IsPaired, PairingFails};
 
@@ -41,28 +42,40 @@ pub struct Paired {
     pub seconds: u32,
 }
 
+/// The flow records of a stream, which is let go once they are read.
+fn flows_in(alloc: Global, stream: Vec<u8>) -> Result<Vec<FlowRecord>, PairError>
+    ensures flows { IfOk result (λ flows. flows_of stream.items ≡ Some flows.items) }
+    ensures cause { IfErr result (PairingFails stream.items) }
+{
+    match read_flows(alloc, stream.as_slice()) {
+        Ok(flows) => Ok(flows),
+        Err(FlowsError::NotStream(fault)) => Err(PairError::NotStream(fault)),
+        Err(FlowsError::NotFlows(place)) => Err(PairError::NotFlows(place)),
+        Err(FlowsError::NoMemory) => Err(PairError::NoMemory),
+    }
+}
+
 /// The biflows of the flow records that a stream has, paired with this idle time-out, in milliseconds up to 86,400,000.
-/// The export time is the greatest last time, in whole seconds and 32 bits.
+/// The export time is the greatest last time, in whole seconds and 32 bits. The stream is let go once its records are
+/// read, and the records once they are paired.
 ///
 /// `NotStream` has the stream's first fault. `NotFlows` has the place of the first data record that is no flow record,
 /// where the stream has no fault.
-pub fn pairs_of(alloc: Global, stream: &[u8], idle: u64) -> Result<Paired, PairError>
+pub fn pairs_of(alloc: Global, stream: Vec<u8>, idle: u64) -> Result<Paired, PairError>
     requires { idle ≤ 86400000 }
     ensures paired { IfOk result (λ p. (size : ℕ) (written : List ℕ) → size ≤ 65535
-        → IsBiLayout size p.seconds p.pairs.items written → IsPaired idle size stream.now written) }
-    ensures cause { IfErr result (PairingFails stream.now) }
+        → IsBiLayout size p.seconds p.pairs.items written → IsPaired idle size stream.items written) }
+    ensures cause { IfErr result (PairingFails stream.items) }
 {
-    let flows = match read_flows(alloc, stream) {
+    let flows = match flows_in(alloc, stream) {
         Ok(flows) => flows,
-        Err(FlowsError::NotStream(fault)) => return Err(PairError::NotStream(fault)),
-        Err(FlowsError::NotFlows(place)) => return Err(PairError::NotFlows(place)),
-        Err(FlowsError::NoMemory) => return Err(PairError::NoMemory),
-    };
-    let Ok(pairs) = pair(alloc, flows.as_slice(), idle) else {
-        return Err(PairError::NoMemory);
+        Err(error) => return Err(error),
     };
     let seconds = (greatest_last(flows.as_slice()) / 1000 % (1 << 32)) as u32;
-    Ok(Paired { pairs, seconds })
+    match pair(alloc, flows, idle) {
+        Ok(pairs) => Ok(Paired { pairs, seconds }),
+        Err(NoMemory) => Err(PairError::NoMemory),
+    }
 }
 
 /// The stream of the biflows of the flow records that a stream has: they are paired by [`pairs_of`], and laid out in
@@ -71,14 +84,14 @@ pub fn pairs_of(alloc: Global, stream: &[u8], idle: u64) -> Result<Paired, PairE
 /// The errors are those of [`pairs_of`].
 pub fn pair_stream(
     alloc: Global,
-    stream: &[u8],
+    stream: Vec<u8>,
     idle: u64,
     size: usize,
 ) -> Result<Vec<u8>, PairError>
     requires idle { idle ≤ 86400000 }
     requires size { (308 ≤ size) × (size < 2 ^ 16) }
-    ensures paired { IfOk result (λ written. IsPaired idle size stream.now written.items) }
-    ensures cause { IfErr result (PairingFails stream.now) }
+    ensures paired { IfOk result (λ written. IsPaired idle size stream.items written.items) }
+    ensures cause { IfErr result (PairingFails stream.items) }
 {
     let paired = match pairs_of(alloc, stream, idle) {
         Ok(paired) => paired,

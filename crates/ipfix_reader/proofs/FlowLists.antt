@@ -1,5 +1,5 @@
 -- The flow records of the records that were taken so far.
-use Rattle.std.proofs.Common.{◌≡◌, ◌≢◌, ◌<◌, ℕ, zero, suc, true, false, List, [], ◌∷◌, ◌++◌, length, get_or, Option, Some}
+use Rattle.std.proofs.Common.{◌≡◌, ◌≢◌, ◌<◌, ℕ, zero, suc, Bool, true, false, List, [], ◌∷◌, ◌++◌, length, get_or, Option, Some}
 use Rattle.std.proofs.Common.{None, Ok, option_map, refl, sym, ap, subst, ◌∙◌, arith, append_assoc, length-append}
 use Rattle.std.specs.Option.{option_and_then}
 use Rattle.std.specs.Result.{result_ok}
@@ -8,7 +8,7 @@ use Rattle.ipfix_model.specs.declared.values.DataRecord.{DataRecord}
 use Rattle.ipfix_reader.specs.Messages.{decode}
 use Rattle.ipfix_reader.specs.Flows.{flow, flows_in, flows_of}
 use Rattle.ipfix_reader.specs.Others.{IsFirstOther}
-use Rattle.ipfix_reader.specs.Taking.{HasBegun, HasFlows}
+use Rattle.ipfix_reader.specs.Taking.{HasFlows}
 
 none_some : (flows : List FlowRecord) → ◌≡◌ {A = Option (List FlowRecord)} None (Some flows) → ⊥
 none_some flows e = cc
@@ -109,6 +109,11 @@ pub first-other : (records : List DataRecord) (flows : List FlowRecord) → HasF
 first-other records flows begun =
     subst (λ (rs : List DataRecord). IsFirstOther rs (length flows)) (sym begun.whole)
     (first-of begun.front begun.behind begun.one flows begun.flows_are begun.other)
+
+-- before the first record
+pub flows-none : (flows : List FlowRecord) (other : Bool) → flows ≡ [] → other ≡ false → HasFlows flows other []
+flows-none flows other are is =
+    subst (λ (b : Bool). HasFlows flows b []) (sym is) (ap (λ (fs : List FlowRecord). Some fs) (sym are))
 
 -- the flow records of a whole stream
 pub flows-whole : (bytes : List ℕ) (records : List DataRecord) (flows : List FlowRecord) → decode bytes ≡ Ok records

@@ -1,5 +1,5 @@
 -- Data records that are no flow records.
-use Rattle.std.specs.Prelude.{◌≡◌, ◌≢◌, ℕ, ◌<◌, List, length, Some, None, Ok, Err, ⊤, slice_index_or}
+use Rattle.std.specs.Prelude.{◌≡◌, ◌≢◌, ℕ, ◌<◌, List, length, None, Ok, Err, ⊤, slice_index_or}
 use Rattle.ipfix_model.specs.declared.values.DataRecord.{DataRecord}
 use Rattle.ipfix_reader.specs.declared.flows.FlowsError.{FlowsError}
 use Rattle.ipfix_reader.specs.declared.flows.FlowsError.TheVariants.{NotStream, NotFlows, NoMemory}

@@ -1,6 +1,6 @@
 //! What takes the data records of a stream, one behind the other.
 
-ghost use Rattle.std.specs.Prelude.{◌≡◌, ◌++◌, [], ◌∷◌, List, OnOk};
+ghost use Rattle.std.specs.Prelude.{◌≡◌, ◌++◌, [], ◌∷◌, List, OnOk, false};
 
 use crate::flow::flow_of;
 use ipfix_model::DataRecord;

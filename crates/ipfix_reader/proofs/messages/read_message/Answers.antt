@@ -1,5 +1,5 @@
 -- A message's step.
-use Rattle.std.proofs.Common.{◌∙◌, sym, ap, arith}
+use Rattle.std.proofs.Common.{◌∙◌, sym, ap}
 use Rattle.ipfix_reader.specs.Part.{behind}
 use Rattle.ipfix_reader.specs.Cursors.{part_of}
 use Rattle.ipfix_reader.specs.Taking.{contents_of, progress_of}

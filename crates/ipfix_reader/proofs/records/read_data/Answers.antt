@@ -25,8 +25,8 @@ returns-in-Err-clause-fault g c = λ before taken.
     let way = c.records.invariant.left before taken in
     fault_of-same _ _ _ way.reads (c.in-Err.ensures.fault way.after way.taken)
 
-pub returns-in-Ok-clause-ok : goal.returns-in-Ok-clause-ok
-returns-in-Ok-clause-ok g c = λ before taken.
+pub returns-in-Ok-check_padding-clause-ok : goal.returns-in-Ok-check_padding-clause-ok
+returns-in-Ok-check_padding-clause-ok g c = λ before taken.
     taken-same _ before _ _ _ _
     (λ after. data_records-end _ _ _ after (part_of c.records.rest) c.args.known.now.takes_bytes (omega arith)
     ∙ padded after (part_of c.records.rest) c.in-Ok-check_padding.ensures.ok)

@@ -1,5 +1,5 @@
 -- A set's step.
-use Rattle.std.proofs.Common.{◌∙◌, sym, ap, arith}
+use Rattle.std.proofs.Common.{◌∙◌, sym, ap}
 use Rattle.ipfix_reader.specs.Part.{behind}
 use Rattle.ipfix_reader.specs.Cursors.{part_of}
 use Rattle.ipfix_reader.proofs.SetSteps.{message_sets-bad, set-read, set-refused}

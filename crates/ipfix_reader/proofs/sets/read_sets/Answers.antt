@@ -1,5 +1,5 @@
 -- Set by set, to the end.
-use Rattle.std.proofs.Common.{◌+◌, refl, arith}
+use Rattle.std.proofs.Common.{refl, arith}
 use Rattle.ipfix_reader.specs.Cursors.{part_of}
 use Rattle.ipfix_reader.proofs.Items.{fault_of-same}
 use Rattle.ipfix_reader.proofs.SetSteps.{message_sets-end}
