@@ -9,13 +9,17 @@ use record_ledger::FlowRecord;
 use std::alloc::Global;
 
 /// What takes the data records of a stream, in their order.
-pub(crate) trait RecordTaker {
+///
+/// `has_taken` is for it to say: what it is to be once it has taken these records.
+pub trait RecordTaker {
     ghost use Rattle.ipfix_model.specs.declared.values.DataRecord.{DataRecord};
 
     /// It has taken these records.
     ghost has_taken: { Self → List DataRecord → Type 0 };
 
     /// Takes one record more.
+    ///
+    /// `NoMemory` where the room for what it keeps of it can't be had.
     fn take(&mut self, rec: DataRecord) -> Result<(), NoMemory>
         ensures { OnOk result ((before : List DataRecord) → has_taken self.old before
             → has_taken self.new (before ++ rec ∷ [])) };

@@ -1,5 +1,6 @@
 -- What a run means, by what its words ask for and by its status.
 use Rattle.std.specs.Prelude.{◌≡◌, ◌⊎◌, ◌≤◌, ◌<◌, ◌^◌, ℕ, List, [], ◌++◌, length, take, Option, Some, None, Err, ⊤}
+use Rattle.std.specs.Prelude.{slice_index_or}
 use Rattle.std.specs.List.{AllZip}
 use Rattle.meter_io.specs.Causes.{Rose}
 use Rattle.meter_io.specs.Reading.{TakesAtMost}
