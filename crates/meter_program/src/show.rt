@@ -38,13 +38,7 @@ pub fn show<S: Source, K: Sink, N: Sink>(
         Err(StreamError::Fault(fault)) => return Status::NotStream(fault),
         Err(StreamError::NoMemory) => return Status::NoMemory,
     };
-    match write_and_count(
-        output,
-        notes,
-        lines.text.as_slice(),
-        "records",
-        lines.count,
-    ) {
+    match write_and_count(output, notes, lines.text.as_slice(), "records", lines.count) {
         Ok(()) => Status::Done,
         Err(Failed) => Status::WriteFault,
     }

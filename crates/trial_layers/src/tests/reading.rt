@@ -381,7 +381,10 @@ fn a_message_may_hold_28_records(rt: HostRuntime) -> Result<(), Fail> {
 fn the_first_other_record_is_told(rt: HostRuntime) -> Result<(), Fail> {
     let other = "000a0024 00000002 00000002 00000001 0002000c 01000001 00520001 01000008 61626364";
     let flows = ["000a0074 M 0100 0064", UDP, UDP];
-    let bytes = bytes_of(rt.alloc(), &[TEMPLATES, flows[0], flows[1], flows[2], other])?;
+    let bytes = bytes_of(
+        rt.alloc(),
+        &[TEMPLATES, flows[0], flows[1], flows[2], other],
+    )?;
     assert_eq!(rt;
         read_flows(rt.alloc(), bytes.as_slice()).err(),
         Some(FlowsError::NotFlows(2))

@@ -52,9 +52,12 @@ loop-n-preserved g c =
 pub returns-clause-whole : goal.returns-clause-whole
 returns-clause-whole g c =
     let records = records_at c.args.capture.now.bytes.now c.args.index.now in
-    let all : length records ≤ c.loop-n.n = omega
-    (arith, length-map c.args.index.now (record_at c.args.capture.now.bytes.now), c.count-n-end.ensures,
-    c.loop-n-test.false) in
+    let all : length records ≤ c.loop-n.n = omega (
+      arith,
+      length-map c.args.index.now (record_at c.args.capture.now.bytes.now),
+      c.count-n-end.ensures,
+      c.loop-n-test.false,
+    ) in
     on-ok c.write_out.result _ _
     (λ (taken : Appends (g.K.Sink.held c.loop-n.output) (g.K.Sink.held c.write_out.new.sink) c.loop-n.out).
     subst (Appends (g.K.Sink.held c.args.output.now) (g.K.Sink.held c.write_out.new.sink))
