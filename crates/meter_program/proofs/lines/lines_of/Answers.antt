@@ -7,7 +7,7 @@ use Rattle.meter_program.proofs.lines.lines_of.Goals as goal
 
 pub returns-in-Ok-clause-lines : goal.returns-in-Ok-clause-lines
 returns-in-Ok-clause-lines c =
-    let way = c.in-Ok.ensures.taken (lines-none _ _ c.new.ensures refl) in
+    let way = c.in-Ok.ensures.taken (lines-none _ _ c.new.ensures.items refl) in
     record {
       records = way.0;
       decoded = way.2;
@@ -16,4 +16,4 @@ returns-in-Ok-clause-lines c =
     }
 
 pub returns-in-Err-clause-fault : goal.returns-in-Err-clause-fault
-returns-in-Err-clause-fault c = c.in-Err.ensures.fault (lines-none _ _ c.new.ensures refl)
+returns-in-Err-clause-fault c = c.in-Err.ensures.fault (lines-none _ _ c.new.ensures.items refl)

@@ -5,4 +5,4 @@ use Rattle.meter_program.proofs.lines.LinesRecordTaker.take.Goals as goal
 
 pub returns : goal.returns
 returns c = λ before has.
-    lines-more _ _ _ _ before c.args.rec has c.in_ok-append_line.ensures (omega arith) c.saturating_add.ensures
+    lines-more _ _ _ _ before c.args.rec has c.in_ok-append_line.ensures (omega arith) c.saturating_add-self.ensures
