@@ -12,7 +12,7 @@ use Rattle.biflow_pair.specs.declared.status.PairStatus.{PairStatus}
 use Rattle.biflow_pair.specs.declared.status.PairStatus.TheVariants.{Done, ReadFault, Usage, WriteFault, TooLarge}
 use Rattle.biflow_pair.specs.declared.status.PairStatus.TheVariants.{NoMemory, NotStream, NotFlows}
 use Rattle.biflow_pair.specs.Outcome.{Ends, IsValid, limit}
-use Rattle.biflow_pair.specs.Pairing.{IsFirstOther}
+use Rattle.ipfix_reader.specs.Others.{IsFirstOther}
 use Rattle.biflow_pair.specs.Words.{Asked}
 use Rattle.biflow_pair.proofs.Whole.{flows-decode, each-flow}
 

@@ -1,6 +1,7 @@
 pub mod Keys
 pub mod Taking
 pub mod Order
+pub mod OnePairing
 pub mod Linking
 pub mod Mating
 pub mod BiRecords

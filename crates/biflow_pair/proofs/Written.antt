@@ -13,11 +13,9 @@ layout-of size seconds first bytes given pairs first_is given_is stream =
     (subst (λ f. IsStream encode_biflow size seconds f given bytes) first_is stream)
 
 -- and it is the answer to the stream that was read
-pub answer-of : (idle size seconds : ℕ) (first made bytes read read' : List ℕ) (given pairs : List Biflow)
+pub answer-of : (idle size seconds : ℕ) (first made bytes read : List ℕ) (given pairs : List Biflow)
     → ((n : ℕ) (written : List ℕ) → n ≤ 65535 → IsBiLayout n seconds pairs written → IsPaired idle n read written)
-    → size ≤ 65535 → read ≡ read' → first ≡ made → made ≡ bi_template_message seconds → given ≡ pairs
-    → IsStream encode_biflow size seconds first given bytes → IsPaired idle size read' bytes
-answer-of idle size seconds first made bytes read read' given pairs paired small read_is first_is made_is given_is
-    stream =
-    subst (λ b. IsPaired idle size b bytes) read_is
-    (paired size bytes small (layout-of size seconds first bytes given pairs (first_is ∙ made_is) given_is stream))
+    → size ≤ 65535 → first ≡ made → made ≡ bi_template_message seconds → given ≡ pairs
+    → IsStream encode_biflow size seconds first given bytes → IsPaired idle size read bytes
+answer-of idle size seconds first made bytes read given pairs paired small first_is made_is given_is stream =
+    paired size bytes small (layout-of size seconds first bytes given pairs (first_is ∙ made_is) given_is stream)

@@ -3,6 +3,7 @@ use Rattle.std.specs.Prelude.{◌≡◌, ◌≤◌, ◌+◌, ℕ, All, List, Som
 use Rattle.flow_key.specs.Fields.{fields_of}
 use Rattle.record_ledger.specs.declared.record.FlowRecord.{FlowRecord}
 use Rattle.biflow_pair.specs.declared.biflow.Biflow.{Biflow}
+use Rattle.biflow_pair.specs.Pairs.{ArePairs}
 use Rattle.biflow_pair.specs.BiLayout.{IsBiLayout, bi_template_records, bi_template_message}
 use Rattle.biflow_pair.specs.BiFlows.{reverse_of, biflows_of}
 
@@ -13,6 +14,11 @@ IsReverseOf forward (Some reverse) = fields_of reverse.part.key ≡ reverse_of (
 
 abbrev pub AreBiflows : List Biflow → Type 0
 AreBiflows pairs = All (λ (pair : Biflow). IsReverseOf pair.forward pair.reverse) pairs
+
+-- The pairs of flow records are one list.
+abbrev pub ArePairedOnce : Type 0
+ArePairedOnce = (idle : ℕ) (records : List FlowRecord) (one other : List Biflow) → ArePairs idle records one
+    → ArePairs idle records other → one ≡ other
 
 -- The layout of biflows decodes to these biflows.
 abbrev pub ReadsBack : Type 0

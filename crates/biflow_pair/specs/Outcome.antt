@@ -1,15 +1,15 @@
 -- What a run means, by what its words ask for and by its status.
-use Rattle.std.specs.Prelude.{ℕ, ◌≡◌, ◌⊎◌, ◌*◌, ◌≤◌, ◌^◌, List, length, Option, Some, None, Ok, Err, ⊤}
+use Rattle.std.specs.Prelude.{ℕ, ◌≡◌, ◌⊎◌, ◌*◌, ◌≤◌, ◌^◌, List, length, Option, Some, None, Err, ⊤}
 use Rattle.meter_io.specs.Sides.{Side, HasFailed, IsUntouched, IsRead, IsTooLarge, IsBroken, IsWrong, HasTaken}
 use Rattle.meter_io.specs.Sides.{HasBegun}
 use Rattle.record_ledger.specs.declared.record.FlowRecord.{FlowRecord}
-use Rattle.ipfix_model.specs.declared.values.DataRecord.{DataRecord}
 use Rattle.ipfix_reader.specs.Messages.{decode}
 use Rattle.ipfix_reader.specs.Flows.{flows_of}
+use Rattle.ipfix_reader.specs.Others.{HasOther}
 use Rattle.biflow_pair.specs.declared.status.PairStatus.{PairStatus}
 use Rattle.biflow_pair.specs.declared.status.PairStatus.TheVariants.{Done, ReadFault, Usage, WriteFault, TooLarge}
 use Rattle.biflow_pair.specs.declared.status.PairStatus.TheVariants.{NoMemory, NotStream, NotFlows}
-use Rattle.biflow_pair.specs.Pairing.{IsPaired, IsFirstOther}
+use Rattle.biflow_pair.specs.Pairing.{IsPaired}
 use Rattle.biflow_pair.specs.Words.{Asked}
 
 -- The most bytes of a stream.
@@ -36,10 +36,6 @@ pub record IsCutOff (asked : Asked) (input output : Side) : Type 0 where
   pub answer : IsAnswer asked bytes written
   pub begun : HasBegun output written
   pub cause : HasFailed output
-
--- The bytes are a stream whose record at this place is the first that is no flow record.
-abbrev pub HasOther : ℕ → List ℕ → Type 0
-HasOther place bytes = (records : List DataRecord) × (decode bytes ≡ Ok records) × IsFirstOther records place
 
 -- Why a command refuses with a status; never with the others.
 abbrev pub Refuses : Side → PairStatus → Type 0

@@ -1,10 +1,9 @@
 -- What a stream of flow records becomes as a stream of biflows.
-use Rattle.std.specs.Prelude.{◌≡◌, ◌≢◌, ℕ, ◌<◌, ◌/◌, ◌%◌, ◌^◌, max, List, [], ◌∷◌, length, Some, None, Ok, Err}
-use Rattle.std.specs.Prelude.{slice_index_or, IsPermutation}
+use Rattle.std.specs.Prelude.{◌≡◌, ℕ, ◌/◌, ◌%◌, ◌^◌, max, List, [], ◌∷◌, Some, Err, IsPermutation}
 use Rattle.record_ledger.specs.declared.record.FlowRecord.{FlowRecord}
-use Rattle.ipfix_model.specs.declared.values.DataRecord.{DataRecord}
 use Rattle.ipfix_reader.specs.Messages.{decode}
-use Rattle.ipfix_reader.specs.Flows.{flow, flows_of}
+use Rattle.ipfix_reader.specs.Flows.{flows_of}
+use Rattle.ipfix_reader.specs.Others.{HasOther}
 use Rattle.biflow_pair.specs.declared.biflow.Biflow.{Biflow}
 use Rattle.biflow_pair.specs.declared.stream.PairError.{PairError}
 use Rattle.biflow_pair.specs.declared.stream.PairError.TheVariants.{NotStream, NotFlows, NoMemory}
@@ -32,22 +31,9 @@ pub record IsPaired (idle size : ℕ) (stream written : List ℕ) : Type 0 where
   pub layout : IsBiLayout size (bi_export_time flows) pairs written
   pub decoded : biflows_of written ≡ Some pairs
 
--- The record at this place is the first that is no flow record.
-pub record IsFirstOther (records : List DataRecord) (place : ℕ) : Type 0 where
-  pub inside : place < length records
-  pub other : (d : DataRecord) → flow (slice_index_or records place d) ≡ None
-  pub before : (k : ℕ) (d : DataRecord) → k < place → flow (slice_index_or records k d) ≢ None
-
--- Why data records aren't all flow records: the one at this place is the first that is none; or memory is out.
-abbrev pub IsOtherError : List DataRecord → PairError → Type 0
-IsOtherError records (NotFlows place) = IsFirstOther records place
-IsOtherError records NoMemory = Unit {0}
-IsOtherError records (NotStream fault) = ⊥
-
 -- Why a stream isn't paired: it has this fault; or it has none, and the record at this place is the first that is no
 -- flow record; or memory is out.
 abbrev pub PairingFails : List ℕ → PairError → Type 0
 PairingFails stream (NotStream fault) = decode stream ≡ Err fault
-PairingFails stream (NotFlows place) = (records : List DataRecord) × (decode stream ≡ Ok records)
-    × IsFirstOther records place
+PairingFails stream (NotFlows place) = HasOther place stream
 PairingFails stream NoMemory = Unit {0}

@@ -1,6 +1,13 @@
 //! Laws of streams of biflows, as contracts. The calls do nothing.
 
-ghost use Rattle.biflow_pair.specs.BiLaws.{ReadsBack, IsOneBiLayout, HasTemplateSetLength, HasTemplateMessageLength};
+ghost use Rattle.biflow_pair.specs.BiLaws.{ArePairedOnce, ReadsBack, IsOneBiLayout};
+ghost use Rattle.biflow_pair.specs.BiLaws.{HasTemplateSetLength, HasTemplateMessageLength};
+
+/// The pairs of flow records are one list: whoever orders the records by first time, last time and key, with ties in their
+/// order, and takes pairs out from the front, gets this one.
+pub fn pairs_are_one()
+    ensures { ArePairedOnce }
+{}
 
 /// The layout of biflows is one list of bytes, and it decodes to these biflows where each reverse flow has the reverse
 /// key.

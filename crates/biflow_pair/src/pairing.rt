@@ -23,23 +23,25 @@ use std::cmp::Ordering;
 /// most `idle` milliseconds, up to 86,400,000. Both are taken out, and so on with the rest. So each record is the
 /// forward or the reverse one of exactly one biflow.
 ///
-/// `NoMemory` where the room for the records, the places of their keys or the biflows can't be had.
-pub fn pair(alloc: Global, records: &[FlowRecord], idle: u64) -> Result<Vec<Biflow>, NoMemory>
+/// The records are put in order where they stand, and let go once they are paired.
+///
+/// `NoMemory` where the room for putting them in order, the places of their keys or the biflows can't be had.
+pub fn pair(alloc: Global, records: Vec<FlowRecord>, idle: u64) -> Result<Vec<Biflow>, NoMemory>
     requires { idle ≤ 86400000 }
-    ensures pairs { IfOk result (λ pairs. ArePairs idle records.now pairs.items) }
-    ensures each_once { IfOk result (λ pairs. IsPermutation records.now (members pairs.items)) }
+    ensures pairs { IfOk result (λ pairs. ArePairs idle records.items pairs.items) }
+    ensures each_once { IfOk result (λ pairs. IsPermutation records.items (members pairs.items)) }
 {
-    let ordered = in_order(alloc, records)?;
+    let ordered = in_order(records)?;
     pair_ordered(alloc, ordered.as_slice(), idle)
 }
 
 /// The records in the order of first time, last time and key. Ties keep their order.
-fn in_order(alloc: Global, records: &[FlowRecord]) -> Result<Vec<FlowRecord>, NoMemory>
-    ensures permutation { IfOk result (λ ordered. IsPermutation records.now ordered.items) }
+fn in_order(records: Vec<FlowRecord>) -> Result<Vec<FlowRecord>, NoMemory>
+    ensures permutation { IfOk result (λ ordered. IsPermutation records.items ordered.items) }
     ensures sorted { IfOk result (λ ordered. IsSorted by_start ordered.items) }
-    ensures stable { IfOk result (λ ordered. IsStable by_start records.now ordered.items) }
+    ensures stable { IfOk result (λ ordered. IsStable by_start records.items ordered.items) }
 {
-    let mut ordered = records.to_vec(alloc)?;
+    let mut ordered = records;
     ordered.sort_by(|one, other| by_start(one, other))?;
     Ok(ordered)
 }

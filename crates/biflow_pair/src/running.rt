@@ -36,7 +36,7 @@ fn pair_input<S: Source, K: Sink>(
         Err(ReadError::NoMemory) => return PairStatus::NoMemory,
     };
     let idle = 1000 * settings.idle as u64;
-    let paired = match pairs_of(alloc, stream.as_slice(), idle) {
+    let paired = match pairs_of(alloc, stream, idle) {
         Ok(paired) => paired,
         Err(PairError::NotStream(fault)) => return PairStatus::NotStream(fault),
         Err(PairError::NotFlows(place)) => return PairStatus::NotFlows(place),

@@ -1,16 +1,14 @@
 //! A stream of flow records as a stream of biflows.
 
-ghost use Rattle.std.specs.Prelude.{◌≡◌, ◌≤◌, ◌<◌, ◌^◌, ◌++◌, [], ◌∷◌, ℕ, List, Some, OnOk, IfOk, IfErr};
-ghost use Rattle.ipfix_reader.specs.Flows.{flows_in};
+ghost use Rattle.std.specs.Prelude.{◌≡◌, ◌≤◌, ◌<◌, ◌^◌, ℕ, List, Some, IfOk, IfErr};
+ghost use Rattle.ipfix_reader.specs.Flows.{flows_of};
 ghost use Rattle.biflow_pair.specs.BiLayout.{IsBiLayout};
-ghost use Rattle.biflow_pair.specs.declared.stream.PairError.TheVariants.{NoMemory as OutOfMemory};
-ghost use Rattle.biflow_pair.specs.Pairing.{greatest_last, IsPaired, IsFirstOther, IsOtherError, PairingFails};
+ghost use Rattle.biflow_pair.specs.Pairing.{greatest_last, IsPaired, PairingFails};
 
 use crate::biflow::Biflow;
 use crate::encoding::bi_layout;
 use crate::pairing::pair;
-use ipfix_model::DataRecord;
-use ipfix_reader::{StreamError, StreamFault, flow_of, read_stream};
+use ipfix_reader::{FlowsError, StreamFault, read_flows};
 use no_memory::NoMemory;
 use record_ledger::FlowRecord;
 use std::alloc::Global;
@@ -24,39 +22,6 @@ pub enum PairError {
     NotFlows(u64),
     /// Out of memory.
     NoMemory,
-}
-
-impl From<NoMemory> for PairError {
-    ghost from_gives = { λ _ error. error ≡ OutOfMemory };
-
-    fn from(_error: NoMemory) -> PairError {
-        PairError::NoMemory
-    }
-}
-
-/// The flow records that data records are.
-fn flows_of(alloc: Global, records: &[DataRecord]) -> Result<Vec<FlowRecord>, PairError>
-    ensures flows { IfOk result (λ flows. flows_in records.now ≡ Some flows.items) }
-    ensures other { IfErr result (IsOtherError records.now) }
-{
-    let mut flows = Vec::new(alloc);
-    let mut place = 0;
-    while place < records.len() {
-        match flow_of(&records[place]) {
-            Some(flow) => add_flow(&mut flows, flow)?,
-            None => return Err(PairError::NotFlows(place as u64)),
-        }
-        place += 1;
-    }
-    Ok(flows)
-}
-
-/// Adds a flow record.
-fn add_flow(flows: &mut Vec<FlowRecord>, flow: FlowRecord) -> Result<(), NoMemory>
-    ensures { OnOk result (flows.new.items ≡ flows.old.items ++ flow ∷ []) }
-{
-    flows.push(flow)?;
-    Ok(())
 }
 
 /// The greatest last time of flow records, and 0 of none.
@@ -77,31 +42,40 @@ pub struct Paired {
     pub seconds: u32,
 }
 
+/// The flow records of a stream, which is let go once they are read.
+fn flows_in(alloc: Global, stream: Vec<u8>) -> Result<Vec<FlowRecord>, PairError>
+    ensures flows { IfOk result (λ flows. flows_of stream.items ≡ Some flows.items) }
+    ensures cause { IfErr result (PairingFails stream.items) }
+{
+    match read_flows(alloc, stream.as_slice()) {
+        Ok(flows) => Ok(flows),
+        Err(FlowsError::NotStream(fault)) => Err(PairError::NotStream(fault)),
+        Err(FlowsError::NotFlows(place)) => Err(PairError::NotFlows(place)),
+        Err(FlowsError::NoMemory) => Err(PairError::NoMemory),
+    }
+}
+
 /// The biflows of the flow records that a stream has, paired with this idle time-out, in milliseconds up to 86,400,000.
-/// The export time is the greatest last time, in whole seconds and 32 bits.
+/// The export time is the greatest last time, in whole seconds and 32 bits. The stream is let go once its records are
+/// read, and the records once they are paired.
 ///
 /// `NotStream` has the stream's first fault. `NotFlows` has the place of the first data record that is no flow record,
 /// where the stream has no fault.
-pub fn pairs_of(alloc: Global, stream: &[u8], idle: u64) -> Result<Paired, PairError>
+pub fn pairs_of(alloc: Global, stream: Vec<u8>, idle: u64) -> Result<Paired, PairError>
     requires { idle ≤ 86400000 }
     ensures paired { IfOk result (λ p. (size : ℕ) (written : List ℕ) → size ≤ 65535
-        → IsBiLayout size p.seconds p.pairs.items written → IsPaired idle size stream.now written) }
-    ensures cause { IfErr result (PairingFails stream.now) }
+        → IsBiLayout size p.seconds p.pairs.items written → IsPaired idle size stream.items written) }
+    ensures cause { IfErr result (PairingFails stream.items) }
 {
-    let records = match read_stream(alloc, stream) {
-        Ok(records) => records,
-        Err(StreamError::Fault(fault)) => return Err(PairError::NotStream(fault)),
-        Err(StreamError::NoMemory) => return Err(PairError::NoMemory),
-    };
-    let flows = match flows_of(alloc, records.as_slice()) {
+    let flows = match flows_in(alloc, stream) {
         Ok(flows) => flows,
         Err(error) => return Err(error),
     };
-    let Ok(pairs) = pair(alloc, flows.as_slice(), idle) else {
-        return Err(PairError::NoMemory);
-    };
     let seconds = (greatest_last(flows.as_slice()) / 1000 % (1 << 32)) as u32;
-    Ok(Paired { pairs, seconds })
+    match pair(alloc, flows, idle) {
+        Ok(pairs) => Ok(Paired { pairs, seconds }),
+        Err(NoMemory) => Err(PairError::NoMemory),
+    }
 }
 
 /// The stream of the biflows of the flow records that a stream has: they are paired by [`pairs_of`], and laid out in
@@ -110,14 +84,14 @@ pub fn pairs_of(alloc: Global, stream: &[u8], idle: u64) -> Result<Paired, PairE
 /// The errors are those of [`pairs_of`].
 pub fn pair_stream(
     alloc: Global,
-    stream: &[u8],
+    stream: Vec<u8>,
     idle: u64,
     size: usize,
 ) -> Result<Vec<u8>, PairError>
     requires idle { idle ≤ 86400000 }
     requires size { (308 ≤ size) × (size < 2 ^ 16) }
-    ensures paired { IfOk result (λ written. IsPaired idle size stream.now written.items) }
-    ensures cause { IfErr result (PairingFails stream.now) }
+    ensures paired { IfOk result (λ written. IsPaired idle size stream.items written.items) }
+    ensures cause { IfErr result (PairingFails stream.items) }
 {
     let paired = match pairs_of(alloc, stream, idle) {
         Ok(paired) => paired,

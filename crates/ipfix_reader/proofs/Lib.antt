@@ -6,3 +6,5 @@ pub mod RecordSteps
 pub mod SetSteps
 pub mod MessageSteps
 pub mod FlowFields
+pub mod Takings
+pub mod FlowLists

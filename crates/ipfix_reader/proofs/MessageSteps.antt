@@ -128,9 +128,9 @@ decode-refused bytes error is =
     fault_behind (stream_messages nothing_read (record { at = 0; bytes = bytes }))
     (λ (read : Progress). Ok read.contents.records) error is
 
--- the number is the same where its parts are
-pub number-same : (number sequence sequence' all all' old old' : ℕ) → number ≡ (sequence + (all - old)) % 2 ^ 32
-    → sequence ≡ sequence' → all ≡ all' → old ≡ old' → number ≡ (sequence' + (all' - old')) % 2 ^ 32
-number-same number sequence sequence' all all' old old' is sequence_is all_is old_is =
-    is ∙ ap (λ n. (n + (all - old)) % 2 ^ 32) sequence_is ∙ ap (λ n. (sequence' + (n - old)) % 2 ^ 32) all_is
-    ∙ ap (λ n. (sequence' + (all' - n)) % 2 ^ 32) old_is
+-- the number of the next message, by the count of the records that were taken
+pub number-counted : (number sequence sequence' count all old : ℕ) → number ≡ (sequence + count) % 2 ^ 32
+    → sequence ≡ sequence' → all ≡ old + count → number ≡ (sequence' + (all - old)) % 2 ^ 32
+number-counted number sequence sequence' count all old is sequence_is counted =
+    let count_is : count ≡ all - old = omega (arith, counted) in
+    is ∙ ap (λ n. (n + count) % 2 ^ 32) sequence_is ∙ ap (λ n. (sequence' + n) % 2 ^ 32) count_is

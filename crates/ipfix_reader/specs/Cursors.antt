@@ -9,10 +9,6 @@ use Rattle.ipfix_reader.specs.declared.cursor.Cursor.{Cursor}
 use Rattle.ipfix_reader.specs.Part.{Part, are_zeros}
 use Rattle.ipfix_reader.specs.Values.{Values}
 use Rattle.ipfix_reader.specs.Specifiers.{Fields}
-use Rattle.ipfix_reader.specs.Known.{Templates, Sequences}
-use Rattle.ipfix_reader.specs.Messages.{Progress}
-use Rattle.ipfix_reader.specs.Sets.{Contents}
-use Rattle.ipfix_model.specs.declared.values.DataRecord.{DataRecord}
 use Rattle.ipfix_model.specs.declared.fields.FieldSpec.{FieldSpec}
 use Rattle.ipfix_model.specs.declared.templates.Template.{Template}
 
@@ -27,12 +23,6 @@ fields_shown read = record { fields = (read.0).items; rest = part_of read.1 }
 
 abbrev pub template_shown : Template × Cursor → Fields
 template_shown read = record { fields = (read.0).fields; rest = part_of read.1 }
-
-abbrev pub contents_of : Templates → Vec DataRecord → Contents
-contents_of table records = record { templates = table; records = records.items }
-
-abbrev pub progress_of : Templates → Vec DataRecord → Sequences → Progress
-progress_of table records sequences = record { contents = contents_of table records; sequences = sequences }
 
 -- What the check of the padding says.
 pub record IsPaddingChecked (part : Part) (result : Result (Unit {0}) StreamError) : Type 0 where

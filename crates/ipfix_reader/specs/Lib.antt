@@ -13,4 +13,6 @@ pub mod FlowFields
 pub mod FlowWith
 pub mod Numbers
 pub mod Flows
+pub mod Others
+pub mod Taking
 pub mod Laws

@@ -1,8 +1,9 @@
 //! What can be wrong with a stream.
 
 ghost use Rattle.std.specs.Prelude.{◌≡◌};
-ghost use Rattle.ipfix_reader.specs.declared.fault.StreamError.TheVariants.{NoMemory};
+ghost use Rattle.ipfix_reader.specs.declared.fault.StreamError.TheVariants.{NoMemory as OutOfMemory};
 
+use no_memory::NoMemory;
 use std::alloc::{AllocError, AllocFailed};
 
 /// The first fault of a stream of messages, in their order. `at` is an offset in the stream: that of the message, the
@@ -38,7 +39,7 @@ pub enum StreamError {
 }
 
 impl From<AllocError> for StreamError {
-    ghost from_gives = { λ _ error. error ≡ NoMemory };
+    ghost from_gives = { λ _ error. error ≡ OutOfMemory };
 
     fn from(_error: AllocError) -> StreamError {
         StreamError::NoMemory
@@ -46,9 +47,17 @@ impl From<AllocError> for StreamError {
 }
 
 impl<T: Drop> From<AllocFailed<T>> for StreamError {
-    ghost from_gives = { λ _ error. error ≡ NoMemory };
+    ghost from_gives = { λ _ error. error ≡ OutOfMemory };
 
     fn from(_error: AllocFailed<T>) -> StreamError {
+        StreamError::NoMemory
+    }
+}
+
+impl From<NoMemory> for StreamError {
+    ghost from_gives = { λ _ error. error ≡ OutOfMemory };
+
+    fn from(_error: NoMemory) -> StreamError {
         StreamError::NoMemory
     }
 }

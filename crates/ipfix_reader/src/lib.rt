@@ -5,7 +5,8 @@
 //! of records and padding, and a record a list of values, each as long as its header or its template says. Templates
 //! and expected sequence numbers are kept by observation domain.
 //!
-//! [`flow_of`] is the flow record that a data record is, where it is one.
+//! [`read_into`] keeps no data record: each is taken as it is read, by a [`RecordTaker`]. [`flow_of`] is the flow record
+//! that a data record is, where it is one, and [`read_flows`] gives those of a stream, by such a taker.
 //!
 //! A [`Cursor`](cursor::Cursor) is a part of the stream with its offset; each layer reads from one, and nothing is
 //! copied but the values.
@@ -14,14 +15,18 @@
 mod cursor;
 mod fault;
 mod flow;
+mod flows;
 mod known;
 pub mod laws;
 mod messages;
 mod records;
 mod sets;
 mod specifiers;
+mod taking;
 mod values;
 
 pub use fault::{StreamError, StreamFault};
 pub use flow::flow_of;
-pub use messages::{STREAM_LIMIT, read_stream};
+pub use flows::{FlowsError, read_flows};
+pub use messages::{STREAM_LIMIT, read_into, read_stream};
+pub use taking::RecordTaker;

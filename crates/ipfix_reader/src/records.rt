@@ -1,16 +1,19 @@
 //! The records of a set, up to the padding at its end.
 
-ghost use Rattle.std.specs.Prelude.{◌≡◌, ◌<◌, ◌≤◌, IfOk, IfErr, OnOk, Ok, length, vec_len};
+ghost use Rattle.std.specs.Prelude.{◌≡◌, ◌+◌, ◌<◌, ◌≤◌, IfOk, IfErr, OnOk, Ok, List, length};
+ghost use Rattle.ipfix_model.specs.declared.values.DataRecord.{DataRecord};
 ghost use Rattle.ipfix_model.specs.Fields.{least_length};
 ghost use Rattle.ipfix_reader.specs.Outcome.{IsFaultOf};
 ghost use Rattle.ipfix_reader.specs.Records.{template_records, data_records};
 ghost use Rattle.ipfix_reader.specs.Cursors.{IsPaddingChecked};
 ghost use Rattle.ipfix_reader.specs.Cursors.{part_of};
+ghost use Rattle.ipfix_reader.specs.Taking.{IsTaken};
 
 use crate::cursor::Cursor;
 use crate::fault::{StreamError, StreamFault};
 use crate::known::{Known, TemplateTable};
 use crate::specifiers::template_of;
+use crate::taking::RecordTaker;
 use crate::values::values_of;
 use ipfix_model::{DataRecord, Template, ValueList};
 use std::alloc::Global;
@@ -58,53 +61,61 @@ fn read_template<'a>(
     Ok(rest)
 }
 
-/// Reads the records of a data set of this template, behind those before them.
-pub fn read_data(
+/// Reads the records of a data set of this template, and tells how many there are; each is taken behind those before it.
+pub fn read_data<T: RecordTaker>(
     alloc: Global,
     domain: u32,
     number: u16,
     known: &Known,
-    records: &mut Vec<DataRecord>,
+    taker: &mut T,
     set: Cursor<'_>,
-) -> Result<(), StreamError>
-    ensures ok { OnOk result (data_records domain number known.now.template.fields records.old.items (part_of set.entry)
-        ≡ Ok records.new.items) }
-    ensures more { vec_len records.old ≤ vec_len records.new }
-    ensures fault { IfErr result (IsFaultOf
-        (data_records domain number known.now.template.fields records.old.items (part_of set.entry))) }
+) -> Result<usize, StreamError>
+    ensures ok { IfOk result (λ count. (before : List DataRecord) → T.has_taken taker.old before
+        → IsTaken (T.has_taken taker.new) before count
+        (data_records domain number known.now.template.fields before (part_of set.entry)) (λ after. Ok after)) }
+    ensures few { IfOk result (λ count. count ≤ length set.entry.bytes.now) }
+    ensures fault { IfErr result (λ error. (before : List DataRecord) → T.has_taken taker.old before
+        → IsFaultOf (data_records domain number known.now.template.fields before (part_of set.entry)) error) }
 {
     let least = known.template.least();
+    let mut count = 0;
     let mut rest = set;
     'records: while rest.len() as u64 >= least {
-        match read_record(alloc, domain, number, known, records, rest) {
-            Ok(behind) => rest = behind,
+        match read_record(alloc, domain, number, known, taker, rest) {
+            Ok(behind) => {
+                rest = behind;
+                count += 1;
+            }
             Err(error) => return Err(error),
         }
     }
-    check_padding(rest)
+    match check_padding(rest) {
+        Ok(()) => Ok(count),
+        Err(error) => Err(error),
+    }
 }
 
 /// Reads one data record, and gives what lies behind it.
-fn read_record<'a>(
+fn read_record<'a, T: RecordTaker>(
     alloc: Global,
     domain: u32,
     number: u16,
     known: &Known,
-    records: &mut Vec<DataRecord>,
+    taker: &mut T,
     part: Cursor<'a>,
 ) -> Result<Cursor<'a>, StreamError>
     requires { least_length known.now.template.fields ≤ length part.bytes.now }
-    ensures ok { IfOk result
-        (λ rest. data_records domain number known.now.template.fields records.old.items (part_of part.entry)
-        ≡ data_records domain number known.now.template.fields records.new.items (part_of rest)) }
-    ensures more { vec_len records.old ≤ vec_len records.new }
+    ensures ok { IfOk result (λ rest. (before : List DataRecord) → T.has_taken taker.old before
+        → IsTaken (T.has_taken taker.new) before 1
+        (data_records domain number known.now.template.fields before (part_of part.entry))
+        (λ after. data_records domain number known.now.template.fields after (part_of rest))) }
     ensures shorter { IfOk result (λ rest. length rest.bytes.now < length part.entry.bytes.now) }
-    ensures fault { IfErr result (IsFaultOf
-        (data_records domain number known.now.template.fields records.old.items (part_of part.entry))) }
+    ensures fault { IfErr result (λ error. (before : List DataRecord) → T.has_taken taker.old before
+        → IsFaultOf (data_records domain number known.now.template.fields before (part_of part.entry)) error) }
 {
     let beyond = StreamFault::BadLength { at: part.at };
     let (values, rest) = values_of(alloc, known.template.fields.items(), part, beyond)?;
-    records.push(DataRecord {
+    taker.take(DataRecord {
         domain,
         template: number,
         fields: ValueList::of(values),

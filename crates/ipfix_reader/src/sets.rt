@@ -1,58 +1,70 @@
 //! The sets of a message.
 
-ghost use Rattle.std.specs.Prelude.{◌≡◌, ◌<◌, ◌≤◌, ◌==◌, IfOk, IfErr, OnOk, Ok, length, vec_len};
+ghost use Rattle.std.specs.Prelude.{◌≡◌, ◌+◌, ◌<◌, ◌≤◌, ◌==◌, IfOk, IfErr, Ok, List, length};
+ghost use Rattle.ipfix_model.specs.declared.values.DataRecord.{DataRecord};
 ghost use Rattle.ipfix_reader.specs.Outcome.{IsFaultOf};
 ghost use Rattle.ipfix_reader.specs.Part.{behind, first_part};
 ghost use Rattle.octets.specs.Numbers.{number_at};
 ghost use Rattle.ipfix_reader.specs.Sets.{set_contents, set_length, is_bad_length, message_sets};
-ghost use Rattle.ipfix_reader.specs.Cursors.{part_of, contents_of};
+ghost use Rattle.ipfix_reader.specs.Cursors.{part_of};
+ghost use Rattle.ipfix_reader.specs.Records.{template_records};
+ghost use Rattle.ipfix_reader.specs.Taking.{IsTaken, contents_of};
 
 use crate::cursor::Cursor;
 use crate::fault::{StreamError, StreamFault};
 use crate::known::TemplateTable;
 use crate::records::{read_data, read_templates};
-use ipfix_model::{DataRecord, FIRST_TEMPLATE, OPTIONS_TEMPLATE_SET, SET_HEADER, TEMPLATE_SET};
+use crate::taking::RecordTaker;
+use ipfix_model::{FIRST_TEMPLATE, OPTIONS_TEMPLATE_SET, SET_HEADER, TEMPLATE_SET};
 use std::alloc::Global;
 
-/// Reads the sets of a message, behind its header, into the known templates and the data records.
-pub fn read_sets(
+/// Reads the sets of a message, behind its header, into the known templates, and tells how many data records they have;
+/// each is taken behind those before it.
+pub fn read_sets<T: RecordTaker>(
     alloc: Global,
     domain: u32,
     table: &mut TemplateTable,
-    records: &mut Vec<DataRecord>,
+    taker: &mut T,
     sets: Cursor<'_>,
-) -> Result<(), StreamError>
-    ensures ok { OnOk result (message_sets domain (contents_of table.old records.old) (part_of sets.entry)
-        ≡ Ok (contents_of table.new records.new)) }
-    ensures more { vec_len records.old ≤ vec_len records.new }
-    ensures fault { IfErr result
-        (IsFaultOf (message_sets domain (contents_of table.old records.old) (part_of sets.entry))) }
+) -> Result<usize, StreamError>
+    ensures ok { IfOk result (λ count. (before : List DataRecord) → T.has_taken taker.old before
+        → IsTaken (T.has_taken taker.new) before count
+        (message_sets domain (contents_of table.old before) (part_of sets.entry))
+        (λ after. Ok (contents_of table.new after))) }
+    ensures few { IfOk result (λ count. count ≤ length sets.entry.bytes.now) }
+    ensures fault { IfErr result (λ error. (before : List DataRecord) → T.has_taken taker.old before
+        → IsFaultOf (message_sets domain (contents_of table.old before) (part_of sets.entry)) error) }
 {
+    let mut count = 0;
     let mut rest = sets;
     'sets: while rest.len() > 0 {
-        match read_set(alloc, domain, table, records, rest) {
-            Ok(behind) => rest = behind,
+        match read_set(alloc, domain, table, taker, rest) {
+            Ok((more, behind)) => {
+                rest = behind;
+                count += more;
+            }
             Err(error) => return Err(error),
         }
     }
-    Ok(())
+    Ok(count)
 }
 
-/// Reads one set, and gives what lies behind it.
-fn read_set<'a>(
+/// Reads one set, and gives how many data records it has and what lies behind it.
+fn read_set<'a, T: RecordTaker>(
     alloc: Global,
     domain: u32,
     table: &mut TemplateTable,
-    records: &mut Vec<DataRecord>,
+    taker: &mut T,
     part: Cursor<'a>,
-) -> Result<Cursor<'a>, StreamError>
+) -> Result<(usize, Cursor<'a>), StreamError>
     requires { 0 < length part.bytes.now }
-    ensures ok { IfOk result (λ rest. message_sets domain (contents_of table.old records.old) (part_of part.entry)
-        ≡ message_sets domain (contents_of table.new records.new) (part_of rest)) }
-    ensures more { vec_len records.old ≤ vec_len records.new }
-    ensures shorter { IfOk result (λ rest. length rest.bytes.now < length part.entry.bytes.now) }
-    ensures fault { IfErr result
-        (IsFaultOf (message_sets domain (contents_of table.old records.old) (part_of part.entry))) }
+    ensures ok { IfOk result (λ read. (before : List DataRecord) → T.has_taken taker.old before
+        → IsTaken (T.has_taken taker.new) before read.0
+        (message_sets domain (contents_of table.old before) (part_of part.entry))
+        (λ after. message_sets domain (contents_of table.new after) (part_of read.1))) }
+    ensures few { IfOk result (λ read. read.0 + length (read.1).bytes.now < length part.entry.bytes.now) }
+    ensures fault { IfErr result (λ error. (before : List DataRecord) → T.has_taken taker.old before
+        → IsFaultOf (message_sets domain (contents_of table.old before) (part_of part.entry)) error) }
 {
     if is_bad_length(part) {
         return Err(StreamError::Fault(StreamFault::BadLength { at: part.at }));
@@ -65,10 +77,10 @@ fn read_set<'a>(
         part.u16_at(0),
         part.at,
         table,
-        records,
+        taker,
         content,
     ) {
-        Ok(()) => Ok(part.behind(size)),
+        Ok(count) => Ok((count, part.behind(size))),
         Err(error) => Err(error),
     }
 }
@@ -84,28 +96,48 @@ fn is_bad_length(part: Cursor<'_>) -> bool
     size < SET_HEADER || part.len() < size
 }
 
-/// Reads what is in a set, by its number. `at` is the offset of the set.
-fn read_content(
+/// Reads a set of templates, or of options templates, into the table: it has no data records.
+fn read_template_set(
+    alloc: Global,
+    options: bool,
+    domain: u32,
+    table: &mut TemplateTable,
+    content: Cursor<'_>,
+) -> Result<usize, StreamError>
+    ensures ok { IfOk result (λ count. (count ≡ 0)
+        × (template_records options domain table.old (part_of content.entry) ≡ Ok table.new)) }
+    ensures fault { IfErr result (IsFaultOf (template_records options domain table.old (part_of content.entry))) }
+{
+    match read_templates(alloc, options, domain, table, content) {
+        Ok(()) => Ok(0),
+        Err(error) => Err(error),
+    }
+}
+
+/// Reads what is in a set, by its number, and tells how many data records it has. `at` is the offset of the set.
+fn read_content<T: RecordTaker>(
     alloc: Global,
     domain: u32,
     number: u16,
     at: u64,
     table: &mut TemplateTable,
-    records: &mut Vec<DataRecord>,
+    taker: &mut T,
     content: Cursor<'_>,
-) -> Result<(), StreamError>
-    ensures ok { OnOk result (set_contents domain number at (contents_of table.old records.old) (part_of content.entry)
-        ≡ Ok (contents_of table.new records.new)) }
-    ensures more { vec_len records.old ≤ vec_len records.new }
-    ensures fault { IfErr result (IsFaultOf
-        (set_contents domain number at (contents_of table.old records.old) (part_of content.entry))) }
+) -> Result<usize, StreamError>
+    ensures ok { IfOk result (λ count. (before : List DataRecord) → T.has_taken taker.old before
+        → IsTaken (T.has_taken taker.new) before count
+        (set_contents domain number at (contents_of table.old before) (part_of content.entry))
+        (λ after. Ok (contents_of table.new after))) }
+    ensures few { IfOk result (λ count. count ≤ length content.entry.bytes.now) }
+    ensures fault { IfErr result (λ error. (before : List DataRecord) → T.has_taken taker.old before
+        → IsFaultOf (set_contents domain number at (contents_of table.old before) (part_of content.entry)) error) }
 {
     match number {
-        TEMPLATE_SET => read_templates(alloc, false, domain, table, content),
-        OPTIONS_TEMPLATE_SET => read_templates(alloc, true, domain, table, content),
-        0..FIRST_TEMPLATE => Ok(()),
+        TEMPLATE_SET => read_template_set(alloc, false, domain, table, content),
+        OPTIONS_TEMPLATE_SET => read_template_set(alloc, true, domain, table, content),
+        0..FIRST_TEMPLATE => Ok(0),
         _ => match table.get(domain, number) {
-            Some(known) => read_data(alloc, domain, number, known, records, content),
+            Some(known) => read_data(alloc, domain, number, known, taker, content),
             None => Err(StreamError::Fault(StreamFault::NoTemplate { at, id: number })),
         },
     }

@@ -10,7 +10,8 @@ use Rattle.ipfix_reader.specs.Flows.{flows_of}
 use Rattle.join_program.specs.declared.status.FileFault.{FileFault}
 use Rattle.join_program.specs.declared.status.FileFault.TheVariants.{ReadFault, TooLarge, NotStream, NotFlows, TooMany}
 use Rattle.join_program.specs.Joined.{together, AreFew}
-use Rattle.join_program.specs.Outcome.{Files, AreBroken, HasGiven, HaveGiven, IsFile, AreValid, IsFirstWrong, HasOther}
+use Rattle.join_program.specs.Outcome.{Files, AreBroken, HasGiven, HaveGiven, IsFile, AreValid, IsFirstWrong}
+use Rattle.ipfix_reader.specs.Others.{HasOther}
 use Rattle.join_program.specs.Outcome.{HasTooMany}
 use Rattle.join_program.specs.Words.{Asked, OneOf}
 use Rattle.join_program.proofs.Counts.{few-front}

@@ -8,7 +8,7 @@ use Rattle.ipfix_model.specs.declared.values.DataRecord.{DataRecord}
 use Rattle.ipfix_reader.specs.declared.fault.StreamFault.{StreamFault}
 use Rattle.ipfix_reader.specs.Messages.{decode}
 use Rattle.ipfix_reader.specs.Flows.{flow, flows_in, flows_of}
-use Rattle.join_program.specs.Outcome.{IsFirstOther}
+use Rattle.ipfix_reader.specs.Others.{IsFirstOther}
 
 none_some : {A B : Type 0} (a : A) → ◌≡◌ {A = Option A} None (Some a) → B
 none_some a e = absurd (let z : ◌≡◌ {A = Option _} None (Some a) = e in cc)

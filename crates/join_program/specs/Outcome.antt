@@ -1,5 +1,5 @@
 -- What a run means, by what its words ask for and by its status.
-use Rattle.std.specs.Prelude.{◌≡◌, ◌≢◌, ◌⊎◌, ◌≤◌, ◌<◌, ◌^◌, ℕ, List, [], ◌++◌, length, take, Option, Some, None, Ok, Err, ⊤}
+use Rattle.std.specs.Prelude.{◌≡◌, ◌⊎◌, ◌≤◌, ◌<◌, ◌^◌, ℕ, List, [], ◌++◌, length, take, Option, Some, None, Err, ⊤}
 use Rattle.std.specs.Prelude.{slice_index_or}
 use Rattle.std.specs.List.{AllZip}
 use Rattle.meter_io.specs.Causes.{Rose}
@@ -9,8 +9,7 @@ use Rattle.meter_io.specs.Sides.{HasTakenOrFailed}
 use Rattle.record_ledger.specs.declared.record.FlowRecord.{FlowRecord}
 use Rattle.ipfix_reader.specs.Messages.{decode}
 use Rattle.ipfix_reader.specs.Flows.{flows_of}
-use Rattle.ipfix_model.specs.declared.values.DataRecord.{DataRecord}
-use Rattle.ipfix_reader.specs.Flows.{flow}
+use Rattle.ipfix_reader.specs.Others.{HasOther}
 use Rattle.join_program.specs.declared.status.FileFault.{FileFault}
 use Rattle.join_program.specs.declared.status.FileFault.TheVariants.{ReadFault, TooLarge, NotStream, NotFlows, TooMany}
 use Rattle.join_program.specs.declared.status.JoinStatus.{JoinStatus}
@@ -71,16 +70,6 @@ pub record IsCutOff (asked : Asked) (files : Files) (output : Side) : Type 0 whe
   pub cause : HasFailed output
 
 -- ---- a file was refused
-
--- The record at this place is the first that is no flow record.
-pub record IsFirstOther (records : List DataRecord) (place : ℕ) : Type 0 where
-  pub inside : place < length records
-  pub other : (d : DataRecord) → flow (slice_index_or records place d) ≡ None
-  pub before : (k : ℕ) (d : DataRecord) → k < place → flow (slice_index_or records k d) ≢ None
-
--- The bytes are a stream whose record at this place is the first that is no flow record.
-abbrev pub HasOther : ℕ → List ℕ → Type 0
-HasOther place bytes = (records : List DataRecord) × (decode bytes ≡ Ok records) × IsFirstOther records place
 
 -- The bytes are a stream of flow records that are too many, with those before them.
 abbrev pub HasTooMany : Option OneOf → List FlowRecord → List ℕ → Type 0

@@ -1,7 +1,7 @@
 -- The code's own: what it keeps of the records that were read so far, and a file that was read.
 use Rattle.std.specs.Prelude.{◌≡◌, ℕ, List, [], sum_by, option_map, Option, Some, Err, ⊤, slice_index_or}
 use Rattle.meter_io.specs.Sides.{Side, HasTaken, HasBegun, HasFailed, IsUntouched, HasTakenOrFailed}
-use Rattle.ipfix_model.specs.declared.values.DataRecord.{DataRecord}
+use Rattle.ipfix_reader.specs.Others.{HasOther}
 use Rattle.ipfix_reader.specs.Messages.{decode}
 use Rattle.flow_parts.specs.declared.fragment.Fragment.{Fragment}
 use Rattle.record_ledger.specs.declared.record.FlowRecord.{FlowRecord}
@@ -10,8 +10,7 @@ use Rattle.join_program.specs.declared.settings.Share.{Share}
 use Rattle.join_program.specs.declared.settings.JoinSettings.{JoinSettings}
 use Rattle.join_program.specs.Joined.{kept, IsLatest, AreFew}
 use Rattle.join_program.specs.Words.{OneOf, Asked}
-use Rattle.join_program.specs.Outcome.{Files, IsWrongWith, IsFirstWrong, IsDone, IsCutOff, HasOther}
-use Rattle.join_program.specs.Outcome.{IsFirstOther}
+use Rattle.join_program.specs.Outcome.{Files, IsWrongWith, IsFirstWrong, IsDone, IsCutOff}
 use Rattle.ipfix_writer.specs.Layout.{IsLayout}
 use Rattle.ipfix_reader.specs.Flows.{flows_of}
 use Rattle.join_program.specs.declared.flows.FileError.{FileError}
@@ -43,15 +42,6 @@ pub record IsTaken (share : Option OneOf) (flows : List FlowRecord) (taken : Tak
   pub octets : taken.octets ≡ sum_by (λ (f : Fragment). f.octets) (kept share flows)
   pub clock : IsLatest flows taken.clock
   pub few : AreFew share flows
-
--- Why data records aren't all flow records: the one at this place is the first that is none; or memory is out.
-abbrev pub IsOtherError : List DataRecord → FileError → Type 0
-IsOtherError records OutOfMemory = ⊤
-IsOtherError records (Fault ReadFault) = ⊥
-IsOtherError records (Fault TooLarge) = ⊥
-IsOtherError records (Fault (NotStream fault)) = ⊥
-IsOtherError records (Fault (NotFlows place)) = IsFirstOther records place
-IsOtherError records (Fault TooMany) = ⊥
 
 -- Why bytes aren't a stream of flow records.
 abbrev pub FlowsFail : List ℕ → FileError → Type 0

@@ -4,3 +4,4 @@ pub mod Places
 pub mod Causes
 pub mod Metered
 pub mod Made
+pub mod Shown

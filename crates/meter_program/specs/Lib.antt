@@ -4,6 +4,7 @@ pub mod Summary
 pub mod Gathering
 pub mod Words
 pub mod Shows
+pub mod Showing
 pub mod Replays
 pub mod Outcome
 pub mod Metering

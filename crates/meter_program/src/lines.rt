@@ -1,12 +1,16 @@
 //! Data records as text.
 
-ghost use Rattle.std.specs.Prelude.{◌≡◌, ◌<◌, ◌≤◌, ◌++◌, length, map, flat_map, decimal, IfOk, OnOk};
+ghost use Rattle.std.specs.Prelude.{◌≡◌, ◌<◌, ◌≤◌, ◌++◌, length, map, flat_map, decimal, codes, IfOk, IfErr, OnOk};
 ghost use Rattle.std.specs.List.{join_with_byte};
 ghost use Rattle.meter_program.specs.Shows.{number_text, iana_text, value_text, name_text, field_text, line_of};
-ghost use Rattle.meter_program.specs.Shows.{text_of};
+ghost use Rattle.ipfix_reader.specs.Messages.{decode};
+ghost use Rattle.ipfix_reader.specs.Outcome.{IsFaultOf};
+ghost use Rattle.meter_program.specs.Outcome.{IsShown};
+ghost use Rattle.meter_program.specs.Summary.{count_line};
 
 use ipfix_model::elements::{AbstractType, abstract_type};
 use ipfix_model::{DataRecord, FieldValue};
+use ipfix_reader::{RecordTaker, StreamError, read_into};
 use no_memory::NoMemory;
 use octets::{numbers_law, uint_at};
 use plain_text::{append, append_decimal, append_hexadecimal};
@@ -111,21 +115,44 @@ fn append_line(text: &mut Vec<u8>, line: &DataRecord) -> Result<(), NoMemory>
     append(text, b"\n")
 }
 
-/// The text of data records: a line for each, with the number of its template and then a space and `NAME=VALUE` for
-/// each field, in their order.
+/// The lines of the data records that were taken, and how many there are.
+#[derive(Drop)]
+pub struct Lines {
+    pub text: Vec<u8>,
+    pub count: u64,
+}
+
+impl RecordTaker for Lines {
+    ghost use Rattle.meter_program.specs.Showing.{AreLines};
+
+    ghost has_taken = { λ lines records. AreLines lines.text.items lines.count records };
+
+    fn take(&mut self, rec: DataRecord) -> Result<(), NoMemory> {
+        append_line(&mut self.text, &rec)?;
+        self.count = self.count.saturating_add(1);
+        Ok(())
+    }
+}
+
+/// The text of the data records of a stream: a line for each, with the number of its template and then a space and
+/// `NAME=VALUE` for each field, in their order. A record's values are let go as soon as its line is written.
 ///
 /// NAME is the number of the element, or `ENTERPRISE.ELEMENT` where it is an enterprise's. VALUE is in decimal for
 /// octet and packet counts, protocols, TCP flags, ports, times and end reasons of one to eight bytes, and four decimal
 /// numbers joined by points for IPv4 addresses of four bytes. Any other value, and each value of an enterprise's
 /// element, is in lower-case hexadecimal, two digits for each byte.
 ///
-/// The one error is want of memory.
-pub fn shows(alloc: Global, records: &[DataRecord]) -> Result<Vec<u8>, NoMemory>
-    ensures { IfOk result (λ text. text.items ≡ text_of records.now) }
+/// `Fault` has the stream's first fault; the one other error is want of memory.
+pub fn lines_of(alloc: Global, stream: &[u8]) -> Result<Lines, StreamError>
+    ensures lines { IfOk result (λ lines. IsShown stream.now lines.text.items (count_line (codes "records") lines.count)) }
+    ensures fault { IfErr result (IsFaultOf (decode stream.now)) }
 {
-    let mut text = Vec::new(alloc);
-    for line in records {
-        append_line(&mut text, line)?;
+    let mut lines = Lines {
+        text: Vec::new(alloc),
+        count: 0,
+    };
+    match read_into(alloc, stream, &mut lines) {
+        Ok(()) => Ok(lines),
+        Err(error) => Err(error),
     }
-    Ok(text)
 }

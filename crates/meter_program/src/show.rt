@@ -8,9 +8,9 @@ ghost use Rattle.meter_program.specs.Seen.{seen_of};
 ghost use Rattle.meter_program.specs.Words.{show};
 
 use crate::ending::write_and_count;
-use crate::lines::shows;
+use crate::lines::lines_of;
 use crate::status::Status;
-use ipfix_reader::{STREAM_LIMIT, StreamError, read_stream};
+use ipfix_reader::{STREAM_LIMIT, StreamError};
 use meter_io::{Failed, ReadError, Sink, Source, read_all};
 use std::alloc::Global;
 
@@ -33,21 +33,12 @@ pub fn show<S: Source, K: Sink, N: Sink>(
         Err(ReadError::TooLarge) => return Status::TooLarge,
         Err(ReadError::NoMemory) => return Status::NoMemory,
     };
-    let records = match read_stream(alloc, stream.as_slice()) {
-        Ok(records) => records,
+    let lines = match lines_of(alloc, stream.as_slice()) {
+        Ok(lines) => lines,
         Err(StreamError::Fault(fault)) => return Status::NotStream(fault),
         Err(StreamError::NoMemory) => return Status::NoMemory,
     };
-    let Ok(text) = shows(alloc, records.as_slice()) else {
-        return Status::NoMemory;
-    };
-    match write_and_count(
-        output,
-        notes,
-        text.as_slice(),
-        "records",
-        records.len() as u64,
-    ) {
+    match write_and_count(output, notes, lines.text.as_slice(), "records", lines.count) {
         Ok(()) => Status::Done,
         Err(Failed) => Status::WriteFault,
     }

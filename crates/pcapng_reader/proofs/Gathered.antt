@@ -9,8 +9,10 @@ use Rattle.std.proofs.KnownBytes.{Appends-trans}
 use Rattle.std.proofs.lemmas.List.{take-append-drop, take_at, take_all}
 use Rattle.std.proofs.lemmas.Option.{slice_get_within, get_or_from_slice_get}
 use Rattle.std.proofs.Math.Seq.{take-suc}
+use Rattle.sink_buffer.specs.Passing.{IsPassed}
+use Rattle.pcap_reader.specs.Records.{PacketRecord}
 use Rattle.pcapng_reader.specs.Records.{LinkedRecord}
-use Rattle.pcapng_reader.specs.Filtered.{octets_of_record, capture_of, file_header}
+use Rattle.pcapng_reader.specs.Filtered.{header_octets, record_octets, octets_of_record, capture_of, file_header}
 
 octets-together : (first others : List LinkedRecord)
     → concat (map octets_of_record (first ++ others)) ≡ concat (map octets_of_record first)
@@ -42,43 +44,69 @@ capture-begun : (records : List LinkedRecord) (n : ℕ)
 capture-begun records n = ap capture_of (sym (take-append-drop n records))
     ∙ capture-together (take n records) (drop n records)
 
--- some octets more, with what is gathered and not written yet
-pub contents_of_roots-more : (done piece old new next : List ℕ) (before more : List ℕ) → done ++ old ≡ before
-    → next ≡ old ++ more
-    → piece ++ new ≡ next → (done ++ piece) ++ new ≡ before ++ more
-contents_of_roots-more done piece old new next before more first second third =
-    append_assoc done piece new ∙ ap (λ (rest : List ℕ). done ++ rest) (third ∙ second)
-    ∙ sym (append_assoc done old more)
-    ∙ ap (λ (rest : List ℕ). rest ++ more) first
+-- what is written of a record: its header, and its captured octets
+pub record-halves : (rec : PacketRecord) → header_octets rec ++ rec.captured ≡ record_octets rec
+record-halves rec = simp append_assoc
 
--- a beginning of what was to be written next is a beginning of all
-pub begun-in : (a b c : Option (List ℕ)) (done next whole more : List ℕ) (count : ℕ) → Appends a b done
-    → Appends b c (take count next)
-    → whole ≡ (done ++ next) ++ more → (n : ℕ) × Appends a c (take n whole)
-begun-in a b c done next whole more count first second is =
-    let written = done ++ take count next in
-    let split : whole ≡ written ++ (drop count next ++ more) =
-    is ∙ append_assoc done next more ∙ ap (λ (l : List ℕ). done ++ (l ++ more)) (sym (take-append-drop count next))
-    ∙ ap (λ (l : List ℕ). done ++ l) (append_assoc (take count next) (drop count next) more)
-    ∙ sym (append_assoc done (take count next) (drop count next ++ more)) in
-    let front : take (length written) whole ≡ written =
-    ap (take (length written)) split ∙ take_at written (drop count next ++ more) (length written) refl in
-    (length written, subst (Appends a c) (sym front) (Appends-trans a b c done (take count next) first second))
+-- one piece passed behind another
+pub passed-then : (a b c : Option (List ℕ)) (old held now first second whole : List ℕ) → IsPassed a b old held first
+    → IsPassed b c held now second → first ++ second ≡ whole → IsPassed a c old now whole
+passed-then a b c old held now first second whole one other is = record {
+  taken = one.taken ++ other.taken;
+  appended = Appends-trans a b c one.taken other.taken one.appended other.appended;
+  whole = append_assoc one.taken other.taken now ∙ ap (λ (l : List ℕ). one.taken ++ l) other.whole
+      ∙ sym (append_assoc one.taken held second) ∙ ap (λ (l : List ℕ). l ++ second) one.whole
+      ∙ append_assoc old first second ∙ ap (λ (l : List ℕ). old ++ l) is;
+}
 
--- the same of the capture of the first records
-pub begun-capture : (a b c : Option (List ℕ)) (done next : List ℕ) (records : List LinkedRecord) (n count : ℕ)
-    → Appends a b done → Appends b c (take count next) → done ++ next ≡ capture_of (take n records)
-    → (k : ℕ) × Appends a c (take k (capture_of records))
-begun-capture a b c done next records n count first second is =
-    begun-in a b c done next (capture_of records) (concat (map octets_of_record (drop n records))) count first second
-    (capture-begun records n ∙ ap (λ (rest : List ℕ). rest ++ concat (map octets_of_record (drop n records))) (sym is))
+-- the first of two pieces passed in part
+pub passed-short : (a b : Option (List ℕ)) (old left first second whole : List ℕ) → IsPassed a b old left first
+    → first ++ second ≡ whole → IsPassed a b old (left ++ second) whole
+passed-short a b old left first second whole one is = record {
+  taken = one.taken;
+  appended = one.appended;
+  whole = sym (append_assoc one.taken left second) ∙ ap (λ (l : List ℕ). l ++ second) one.whole
+      ∙ append_assoc old first second ∙ ap (λ (l : List ℕ). old ++ l) is;
+}
 
--- what is gathered next, behind what was written
-pub next-whole : (done old next : List ℕ) (before more : List ℕ) → done ++ old ≡ before → next ≡ old ++ more
-    → done ++ next ≡ before ++ more
-next-whole done old next before more first second =
-    ap (λ (rest : List ℕ). done ++ rest) second ∙ sym (append_assoc done old more)
-    ∙ ap (λ (rest : List ℕ). rest ++ more) first
+-- nothing passed
+pub passed-nothing : (a : Option (List ℕ)) (old : List ℕ) → Appends a a [] → IsPassed a a old old []
+passed-nothing a old none = record { taken = []; appended = none; whole = sym (append-nil old) }
+
+-- what passed an empty buffer is a beginning of the capture
+pub begun-capture : (a b : Option (List ℕ)) (empty left written : List ℕ) (records : List LinkedRecord) (n : ℕ)
+    → empty ≡ [] → IsPassed a b empty left written → written ≡ capture_of (take n records)
+    → (k : ℕ) × Appends a b (take k (capture_of records))
+begun-capture a b empty left written records n none passed is =
+    let more = concat (map octets_of_record (drop n records)) in
+    let front : passed.taken ++ left ≡ capture_of (take n records) =
+    passed.whole ∙ ap (λ (l : List ℕ). l ++ written) none ∙ is in
+    let split : capture_of records ≡ passed.taken ++ (left ++ more) =
+    capture-begun records n ∙ ap (λ (l : List ℕ). l ++ more) (sym front) ∙ append_assoc passed.taken left more in
+    let there : take (length passed.taken) (capture_of records) ≡ passed.taken =
+    ap (take (length passed.taken)) split ∙ take_at passed.taken (left ++ more) (length passed.taken) refl in
+    (length passed.taken, subst (Appends a b) (sym there) passed.appended)
+
+-- the sink takes what is held
+pub out-whole : (a b c : Option (List ℕ)) (empty held written : List ℕ) → empty ≡ [] → IsPassed a b empty held written
+    → Appends b c held → Appends a c written
+out-whole a b c empty held written none passed taken =
+    subst (Appends a c) (passed.whole ∙ ap (λ (l : List ℕ). l ++ written) none)
+    (Appends-trans a b c passed.taken held passed.appended taken)
+
+-- or a beginning of it
+pub out-begun : (a b c : Option (List ℕ)) (empty held written : List ℕ) (records : List LinkedRecord) (n count : ℕ)
+    → empty ≡ [] → IsPassed a b empty held written → Appends b c (take count held)
+    → written ≡ capture_of (take n records) → (k : ℕ) × Appends a c (take k (capture_of records))
+out-begun a b c empty held written records n count none passed taken is =
+    begun-capture a c empty (drop count held) written records n none
+    (record {
+      taken = passed.taken ++ take count held;
+      appended = Appends-trans a b c passed.taken (take count held) passed.appended taken;
+      whole = append_assoc passed.taken (take count held) (drop count held)
+          ∙ ap (λ (l : List ℕ). passed.taken ++ l) (take-append-drop count held) ∙ passed.whole;
+    })
+    is
 
 -- behind the last record the capture is whole
 pub capture-whole : (records : List LinkedRecord) (n : ℕ) → length records ≤ n

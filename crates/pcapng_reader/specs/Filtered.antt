@@ -48,6 +48,12 @@ raw_records records = filter_map raw_of records
 abbrev pub four_octets : ℕ → List ℕ
 four_octets number = ordered_octets Little 4 number
 
+-- The code's own: what stands in front of the captured octets of a record.
+abbrev pub header_octets : PacketRecord → List ℕ
+header_octets rec =
+    four_octets rec.seconds
+    ++ (four_octets rec.fraction ++ (four_octets (length rec.captured) ++ four_octets rec.original))
+
 -- A record of a classic capture (draft-ietf-opsawg-pcap, section 5): seconds, fraction, captured and original length,
 -- and the captured octets.
 abbrev pub record_octets : PacketRecord → List ℕ

@@ -9,9 +9,10 @@ ghost use Rattle.pcapng_reader.specs.Filtering.{FilterEnds};
 
 use crate::capture::{PngCapture, PngFault};
 use crate::status::PngStatus;
-use crate::writing::{ROOM, write_packets};
+use crate::writing::{RECORD_HEADER, write_packets};
 use meter_io::{Failed, ReadError, Sink, Source, read_all};
 use pcap_reader::CAPTURE_LIMIT;
+use sink_buffer::SinkBuffer;
 use std::alloc::Global;
 
 /// The name of the command.
@@ -40,10 +41,13 @@ fn filter<K: Sink>(alloc: Global, bytes: &[u8], output: &mut K) -> PngStatus
         Err(PngFault::BadBlock(at)) => return PngStatus::BadBlock(at),
         Err(PngFault::NoMemory) => return PngStatus::NoMemory,
     };
-    let Ok(buffer) = Vec::with_capacity(alloc, ROOM) else {
+    let Ok(room) = Vec::with_capacity(alloc, RECORD_HEADER) else {
         return PngStatus::NoMemory;
     };
-    match write_packets(&capture, &index, buffer, output) {
+    let Ok(out) = SinkBuffer::open(alloc) else {
+        return PngStatus::NoMemory;
+    };
+    match write_packets(&capture, &index, room, out, output) {
         Ok(()) => PngStatus::Done,
         Err(Failed) => PngStatus::WriteFault,
     }

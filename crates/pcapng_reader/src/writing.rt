@@ -2,6 +2,7 @@
 
 ghost use Rattle.std.specs.Prelude.{◌≡◌, ◌+◌, ◌<◌, ◌≤◌, ◌++◌, [], List, ℕ, length, map, take, slice_get, IfSome, OnOk};
 ghost use Rattle.std.specs.Prelude.{OnErr, Some, option_map};
+ghost use Rattle.sink_buffer.specs.Passing.{IsPassed};
 ghost use Rattle.std.specs.Io.KnownBytes.{Appends};
 ghost use Rattle.std.specs.Vec.{vec_capacity};
 ghost use Rattle.meter_io.specs.Causes.{HasCause};
@@ -9,17 +10,18 @@ ghost use Rattle.pcap_reader.specs.Views.{record_read};
 ghost use Rattle.pcap_reader.specs.Records.{most_captured};
 ghost use Rattle.pcapng_reader.specs.Index.{IsIndexOf, linked_read, records_at};
 ghost use Rattle.pcapng_reader.specs.Views.{bytes_of};
-ghost use Rattle.pcapng_reader.specs.Filtered.{raw_of, record_octets, octets_of_record, capture_of, Fits};
+ghost use Rattle.pcapng_reader.specs.Filtered.{raw_of, record_octets, octets_of_record, capture_of, header_octets};
 
 use crate::capture::PngCapture;
 use crate::index::PngIndex;
 use crate::record::PngRecord;
 use link_types::LinkType;
-use meter_io::{Failed, Sink, write_all};
-use octets::{Endianness, append};
+use meter_io::{Failed, Sink};
+use octets::Endianness;
 use packet_accept::accept_behind;
 use packet_headers::LinkView;
 use pcap_reader::Record;
+use sink_buffer::SinkBuffer;
 
 /// The header of a classic capture of raw IP: least significant octet first, nanoseconds, version 2.4, at most 262,144
 /// captured octets a record.
@@ -27,11 +29,8 @@ const HEADER: [u8; 24] = [
     0x4d, 0x3c, 0xb2, 0xa1, 2, 0, 4, 0, 0, 0, 0, 0, 0, 0, 0, 0, 0, 0, 4, 0, 0x65, 0, 0, 0,
 ];
 
-/// How many octets are gathered before they are written.
-const PIECE: usize = 65_536;
-
-/// The room that is taken for them: one record more fits, of 16 octets and the captured ones.
-pub(crate) const ROOM: usize = 65_536 + 262_160;
+/// The octets of a record in front of the captured ones.
+pub(crate) const RECORD_HEADER: usize = 16;
 
 /// The record as one of raw IP, where it is accepted.
 fn raw_of<'a>(linked: &PngRecord<'a>) -> Option<Record<'a>>
@@ -57,63 +56,79 @@ fn raw_of<'a>(linked: &PngRecord<'a>) -> Option<Record<'a>>
     })
 }
 
-/// Appends a record to a buffer that has room for it.
-fn append_record(buffer: &mut Vec<u8>, rec: &Record<'_>)
+/// Encodes what stands in front of a record's captured octets, in a room that has place for it.
+fn encode_header(room: &mut Vec<u8>, rec: &Record<'_>)
     requires small { length rec.now.captured.now ≤ most_captured }
-    requires room { length buffer.old.items + 16 + length rec.now.captured.now ≤ vec_capacity buffer.old }
-    ensures items { buffer.new.items ≡ buffer.old.items ++ record_octets (record_read rec.now) }
-    ensures longer { length buffer.new.items ≡ length buffer.old.items + 16 + length rec.now.captured.now }
-    ensures room { vec_capacity buffer.old ≤ vec_capacity buffer.new }
+    requires room { 16 ≤ vec_capacity room.old }
+    ensures items { room.new.items ≡ header_octets (record_read rec.now) }
+    ensures short { length room.new.items ≡ 16 }
+    ensures room { vec_capacity room.old ≤ vec_capacity room.new }
 {
-    let captured = rec.captured;
-    Endianness::Little.append_u32(buffer, rec.seconds);
-    Endianness::Little.append_u32(buffer, rec.fraction);
-    Endianness::Little.append_u32(buffer, captured.len() as u32);
-    Endianness::Little.append_u32(buffer, rec.original);
-    append(buffer, captured);
+    room.clear();
+    Endianness::Little.append_u32(room, rec.seconds);
+    Endianness::Little.append_u32(room, rec.fraction);
+    Endianness::Little.append_u32(room, rec.captured.len() as u32);
+    Endianness::Little.append_u32(room, rec.original);
 }
 
-/// Writes what was gathered, where it is enough.
-fn write_if_many<K: Sink>(buffer: &mut Vec<u8>, output: &mut K) -> Result<(), Failed>
-    ensures whole { OnOk result ((piece : List ℕ) × Appends (K.held output.old) (K.held output.new) piece
-        × (piece ++ buffer.new.items ≡ buffer.old.items)) }
-    ensures short { OnOk result (length buffer.new.items < 65536) }
-    ensures begun { OnErr result ((count : ℕ)
-        × Appends (K.held output.old) (K.held output.new) (take count buffer.old.items)) }
+/// Puts a record into a buffer in front of the output.
+fn put_record<K: Sink>(
+    room: &mut Vec<u8>,
+    out: &mut SinkBuffer,
+    rec: &Record<'_>,
+    output: &mut K,
+) -> Result<(), Failed>
+    requires small { length rec.now.captured.now ≤ most_captured }
+    requires room { 16 ≤ vec_capacity room.old }
+    ensures passed { OnOk result (IsPassed (K.held output.old) (K.held output.new) out.old out.new
+        (record_octets (record_read rec.now))) }
+    ensures cut { OnErr result ((left : List ℕ)
+        × IsPassed (K.held output.old) (K.held output.new) out.old left (record_octets (record_read rec.now))) }
     ensures cause { HasCause (K.faults output.old) (K.faults output.new) result }
-    ensures room { vec_capacity buffer.old ≤ vec_capacity buffer.new }
+    ensures room { vec_capacity room.old ≤ vec_capacity room.new }
 {
-    if buffer.len() < PIECE {
-        return Ok(());
+    encode_header(room, rec);
+    match out.put(output, room.as_slice()) {
+        Ok(()) => {}
+        Err(Failed) => return Err(Failed),
     }
-    write_all(output, buffer.as_slice())?;
-    buffer.clear();
-    Ok(())
+    out.put(output, rec.captured)
 }
 
-/// Gathers what is written of one record.
-fn gather(linked: &PngRecord<'_>, buffer: &mut Vec<u8>)
-    requires captured { length linked.now.rec.captured.now ≤ most_captured }
-    requires short { length buffer.old.items < 65536 }
-    requires room { 327696 ≤ vec_capacity buffer.old }
-    ensures items { buffer.new.items ≡ buffer.old.items ++ octets_of_record (linked_read linked.now) }
-    ensures room { vec_capacity buffer.old ≤ vec_capacity buffer.new }
+/// Puts what is written of one record into the buffer.
+fn put_linked<K: Sink>(
+    room: &mut Vec<u8>,
+    out: &mut SinkBuffer,
+    linked: &PngRecord<'_>,
+    output: &mut K,
+) -> Result<(), Failed>
+    requires small { length linked.now.rec.captured.now ≤ most_captured }
+    requires room { 16 ≤ vec_capacity room.old }
+    ensures passed { OnOk result (IsPassed (K.held output.old) (K.held output.new) out.old out.new
+        (octets_of_record (linked_read linked.now))) }
+    ensures cut { OnErr result ((left : List ℕ)
+        × IsPassed (K.held output.old) (K.held output.new) out.old left (octets_of_record (linked_read linked.now))) }
+    ensures cause { HasCause (K.faults output.old) (K.faults output.new) result }
+    ensures room { vec_capacity room.old ≤ vec_capacity room.new }
 {
-    if let Some(raw) = raw_of(linked) {
-        append_record(buffer, &raw);
+    match raw_of(linked) {
+        Some(raw) => put_record(room, out, &raw, output),
+        None => Ok(()),
     }
 }
 
-/// Writes the capture of the accepted packets, by a buffer that has room. After a fault a beginning of it was written.
+/// Writes the capture of the accepted packets by a buffer in front of the output, which is empty; `room` has place for
+/// what stands in front of a record's captured octets. After a fault a beginning of the capture was written.
 pub(crate) fn write_packets<K: Sink>(
     capture: &PngCapture<'_>,
     index: &PngIndex,
-    buffer: Vec<u8>,
+    room: Vec<u8>,
+    out: SinkBuffer,
     output: &mut K,
 ) -> Result<(), Failed>
     requires index { IsIndexOf index.now (bytes_of capture.now) }
-    requires room { 327696 ≤ vec_capacity buffer }
-    requires empty { buffer.items ≡ [] }
+    requires room { 16 ≤ vec_capacity room }
+    requires empty { out ≡ [] }
     ensures whole { OnOk result
         (Appends (K.held output.old) (K.held output.new) (capture_of (records_at (bytes_of capture.now) index.now))) }
     ensures begun { OnErr result ((count : ℕ)
@@ -121,15 +136,18 @@ pub(crate) fn write_packets<K: Sink>(
         (take count (capture_of (records_at (bytes_of capture.now) index.now)))) }
     ensures cause { HasCause (K.faults output.old) (K.faults output.new) result }
 {
-    let mut buffer = buffer;
-    append(&mut buffer, &HEADER);
+    let mut room = room;
+    let mut out = out;
+    match out.put(output, &HEADER) {
+        Ok(()) => {}
+        Err(Failed) => return Err(Failed),
+    }
     for n in 0..index.count() {
         let linked = capture.record(index, n);
-        gather(&linked, &mut buffer);
-        match write_if_many(&mut buffer, output) {
+        match put_linked(&mut room, &mut out, &linked, output) {
             Ok(()) => {}
             Err(Failed) => return Err(Failed),
         }
     }
-    write_all(output, buffer.as_slice())
+    out.write_out(output)
 }

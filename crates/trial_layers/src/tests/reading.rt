@@ -6,7 +6,7 @@ use StreamFault::{
 };
 use Want::{Fault, Records};
 use ipfix_model::DataRecord;
-use ipfix_reader::{StreamError, StreamFault, flow_of, read_stream};
+use ipfix_reader::{FlowsError, StreamError, StreamFault, flow_of, read_flows, read_stream};
 use record_ledger::FlowRecord;
 use samples::octets_of;
 use std::alloc::{AllocError, Global};
@@ -238,12 +238,18 @@ fn read_records(alloc: Global, bytes: &[u8]) -> Result<Vec<DataRecord>, Fail> {
     read_stream(alloc, bytes).map_err(|_| Fail::from("no stream"))
 }
 
-/// The flow record that the only data record of a stream is.
+/// The flow record that the only data record of a stream is; both calls tell the same of it.
 fn flow_in(alloc: Global, pieces: &[&str]) -> Result<Option<FlowRecord>, Fail> {
     let bytes = bytes_of(alloc, pieces)?;
     let records = read_records(alloc, bytes.as_slice())?;
+    let flows = match read_flows(alloc, bytes.as_slice()) {
+        Ok(flows) => flows,
+        Err(FlowsError::NotFlows(0)) => Vec::new(alloc),
+        Err(_) => return Err(Fail::from("no stream of flow records")),
+    };
     match records.as_slice() {
-        [only] => Ok(flow_of(only)),
+        [only] if flow_of(only) == flows.first().copied() => Ok(flow_of(only)),
+        [_] => Err(Fail::from("not that flow record")),
         _ => Err(Fail::from("not one record")),
     }
 }
@@ -261,6 +267,10 @@ fn a_written_stream_is_read(rt: HostRuntime) -> Result<(), Fail> {
     assert_eq!(rt;
         read_stream(rt.alloc(), front(whole, 183)).err(),
         Some(StreamError::Fault(Cut { at: 116 }))
+    );
+    assert_eq!(rt;
+        read_flows(rt.alloc(), front(whole, 183)).err(),
+        Some(FlowsError::NotStream(Cut { at: 116 }))
     );
     let records = read_records(rt.alloc(), whole)?;
     assert_eq!(rt;
@@ -362,6 +372,28 @@ fn a_message_may_hold_28_records(rt: HostRuntime) -> Result<(), Fail> {
     for rec in records.iter() {
         assert_eq!(rt; flow_of(rec), Some(udp_flow(4000, 2, 56, 1_001_000)));
     }
+    let flows = read_flows(rt.alloc(), bytes.as_slice()).map_err(|_| Fail::from("no flows"))?;
+    assert_eq!(rt; flows.len(), 29);
+    Ok(())
+}
+
+#[test]
+fn the_first_other_record_is_told(rt: HostRuntime) -> Result<(), Fail> {
+    let other = "000a0024 00000002 00000002 00000001 0002000c 01000001 00520001 01000008 61626364";
+    let flows = ["000a0074 M 0100 0064", UDP, UDP];
+    let bytes = bytes_of(
+        rt.alloc(),
+        &[TEMPLATES, flows[0], flows[1], flows[2], other],
+    )?;
+    assert_eq!(rt;
+        read_flows(rt.alloc(), bytes.as_slice()).err(),
+        Some(FlowsError::NotFlows(2))
+    );
+    let cut = front(bytes.as_slice(), bytes.len() - 1);
+    assert_eq!(rt;
+        read_flows(rt.alloc(), cut).err(),
+        Some(FlowsError::NotStream(Cut { at: 232 }))
+    );
     Ok(())
 }
 

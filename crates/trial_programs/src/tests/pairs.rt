@@ -58,6 +58,9 @@ fn both(forward: FlowRecord, reverse: FlowRecord) -> Biflow {
 
 /// Whether the biflows of these records, with an idle time-out of 300 s, are these.
 fn are_pairs(rt: &HostRuntime, records: &[FlowRecord], wanted: &[Biflow]) -> Result<bool, Fail> {
+    let records = records
+        .to_vec(rt.alloc())
+        .map_err(|_| Fail::from("no memory"))?;
     let pairs = pair(rt.alloc(), records, 300_000).map_err(|_| Fail::from("no memory"))?;
     Ok(pairs.as_slice() == wanted)
 }
@@ -177,7 +180,7 @@ fn the_values_of_a_reverse_flow_stand_behind_those_of_the_forward_one(
 /// What the stream of these records becomes: the length of the stream of their biflows.
 fn paired_length(rt: &HostRuntime, records: &[FlowRecord]) -> Result<usize, Fail> {
     let stream = layout(rt.alloc(), records, 1400, 1000).map_err(|_| Fail::from("no memory"))?;
-    let written = pair_stream(rt.alloc(), stream.as_slice(), 300_000, 1400).map_err(|_| Fail::from(
+    let written = pair_stream(rt.alloc(), stream, 300_000, 1400).map_err(|_| Fail::from(
         "refused",
     ))?;
     Ok(written.len())
@@ -206,11 +209,14 @@ fn streams_of_others_are_refused(rt: HostRuntime) -> Result<(), Fail> {
     let stream = bi_layout(rt.alloc(), pairs.as_slice(), 1400, 1000).map_err(|_| Fail::from(
         "no memory",
     ))?;
-    let refused = pair_stream(rt.alloc(), stream.as_slice(), 300_000, 1400);
-    assert_eq!(rt; refused.err(), Some(PairError::NotFlows(1)));
     let Some((_, front)) = stream.as_slice().split_last() else {
         return Err(Fail::from("no bytes"));
     };
+    let front = front
+        .to_vec(rt.alloc())
+        .map_err(|_| Fail::from("no memory"))?;
+    let refused = pair_stream(rt.alloc(), stream, 300_000, 1400);
+    assert_eq!(rt; refused.err(), Some(PairError::NotFlows(1)));
     let refused = pair_stream(rt.alloc(), front, 300_000, 1400);
     assert_eq!(rt;
         refused.err(),

@@ -1,7 +1,6 @@
 -- The sort's comparison answers by the order, which is total.
-use Rattle.std.proofs.Common.{◌∙◌, ap, filter, rules}
+use Rattle.std.proofs.Common.{rules}
 use Rattle.std.specs.Ordering.{is_lt}
-use Rattle.std.specs.List.Sorted.{ties}
 use Rattle.std.proofs.lemmas.List.Sorted.{answers_always}
 use Rattle.record_ledger.specs.declared.record.FlowRecord.{FlowRecord}
 use Rattle.biflow_pair.specs.Pairs.{by_start}
@@ -17,5 +16,3 @@ pub returns-clause-stable : goal.returns-clause-stable
 returns-clause-stable c = λ x.
     c.in_ok-sort_by.ensures.stable (λ (x y : FlowRecord). is_lt (by_start x y)) by_start_weak
     (answers_always _ _ _ (λ f a r f' called. search rules)) x
-    ∙ ap (λ xs. filter (ties (λ (x y : FlowRecord). is_lt (by_start x y)) x) xs)
-    (c.in_ok-ordered.ensures.items_if_clones_equal (λ x y is. is))

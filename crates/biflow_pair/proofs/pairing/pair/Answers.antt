@@ -10,7 +10,7 @@ use Rattle.biflow_pair.proofs.pairing.pair.Goals as goal
 pub returns-clause-each_once : goal.returns-clause-each_once
 returns-clause-each_once c =
     on_ok c.pair_ordered.result c.pair_ordered.ensures (λ pairs paired.
-    IsPermutation-trans c.args.records.now c.in_ok-ordered.ordered.items
+    IsPermutation-trans c.args.records.items c.in_ok-ordered.ordered.items
     (members pairs.items) c.in_ok-ordered.ensures.permutation
     (subst (λ (rs : List FlowRecord). IsPermutation rs (members pairs.items)) c.as_slice.ensures.value
     (paired-once c.args.idle _ pairs.items paired)))

@@ -15,9 +15,9 @@ returns-in-Ok-write_messages g c =
       read = record { given = c.in-Ok.ensures.all.0; ended = c.in-Ok.ensures.all.1; within = c.in-Ok.ensures.within };
       written = h.0;
       answer = answer-of (1000 * c.args.settings.now.idle) c.args.settings.now.size c.in-Ok-pairs_of.paired.seconds
-          c.as_slice-2.result.now c.in-Ok-first_message.first.items h.0 c.as_slice.result.now c.in-Ok.stream.items
+          c.as_slice.result.now c.in-Ok-first_message.first.items h.0 c.in-Ok.stream.items
           c.as_slice-pairs.result.now c.in-Ok-pairs_of.paired.pairs.items c.in-Ok-pairs_of.ensures.paired (omega arith)
-          c.as_slice.ensures.value c.as_slice-2.ensures.value c.in-Ok-first_message.ensures
+          c.as_slice.ensures.value c.in-Ok-first_message.ensures
           c.as_slice-pairs.ensures.value h.2;
       taken = h.1;
     }
@@ -30,9 +30,9 @@ returns g c =
       read = record { given = c.in-Ok.ensures.all.0; ended = c.in-Ok.ensures.all.1; within = c.in-Ok.ensures.within };
       written = h.0;
       answer = answer-of (1000 * c.args.settings.now.idle) c.args.settings.now.size c.in-Ok-pairs_of.paired.seconds
-          c.as_slice-2.result.now c.in-Ok-first_message.first.items h.0 c.as_slice.result.now c.in-Ok.stream.items
+          c.as_slice.result.now c.in-Ok-first_message.first.items h.0 c.in-Ok.stream.items
           c.as_slice-pairs.result.now c.in-Ok-pairs_of.paired.pairs.items c.in-Ok-pairs_of.ensures.paired (omega arith)
-          c.as_slice.ensures.value c.as_slice-2.ensures.value c.in-Ok-first_message.ensures
+          c.as_slice.ensures.value c.in-Ok-first_message.ensures
           c.as_slice-pairs.ensures.value h.3;
       begun = record { count = h.1; taken = h.2 };
       cause = c.in-Err.ensures.cause.failed;
@@ -42,6 +42,6 @@ pub write_messages-requires-clause-short : goal.write_messages-requires-clause-s
 write_messages-requires-clause-short g c =
     omega (
       arith,
-      ap length (c.as_slice-2.ensures.value ∙ c.in-Ok-first_message.ensures),
+      ap length (c.as_slice.ensures.value ∙ c.in-Ok-first_message.ensures),
       length-bi_template_message c.in-Ok-pairs_of.paired.seconds,
     )

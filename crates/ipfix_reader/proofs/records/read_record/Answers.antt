@@ -1,26 +1,28 @@
 -- A record's step.
 use Rattle.std.proofs.Common.{◌≤◌, ◌+◌, length, arith}
-use Rattle.ipfix_model.specs.Fields.{least_length}
-use Rattle.ipfix_reader.specs.Cursors.{values_shown}
 use Rattle.std.proofs.lemmas.Result.{err_from_is_err_and}
+use Rattle.ipfix_model.specs.Fields.{least_length}
+use Rattle.ipfix_reader.specs.Cursors.{part_of, values_shown}
 use Rattle.ipfix_reader.proofs.RecordSteps.{values_of-takes, data_records-next, data_records-fault}
+use Rattle.ipfix_reader.proofs.Takings.{taken-one}
 use Rattle.ipfix_reader.proofs.records.read_record.Goals as goal
 
 pub returns-in_err-values-clause-fault : goal.returns-in_err-values-clause-fault
-returns-in_err-values-clause-fault c =
+returns-in_err-values-clause-fault g c =
     let p = err_from_is_err_and c.from_residual.result c.from_residual.ensures.1 in
     rw (p.1, p.2)
-    (data_records-fault _ _ _ _ _ _ c.args.known.now.takes_bytes c.requires
+    (λ before taken. data_records-fault _ _ _ before (part_of c.args.part) _ c.args.known.now.takes_bytes c.requires
     (rw c.items.ensures at c.in_err-values.ensures.fault))
 
 pub returns-clause-ok : goal.returns-clause-ok
-returns-clause-ok c =
-    rw (c.in_ok-push.ensures.items, c.of.ensures)
-    (data_records-next _ _ _ _ _ _ c.args.known.now.takes_bytes c.requires
-    (rw c.items.ensures at c.in_ok-values.ensures.ok))
+returns-clause-ok g c = λ before taken.
+    taken-one _ before _ _ _ (c.in_ok-take.ensures before taken)
+    (rw c.of.ensures
+    (data_records-next _ _ _ before (part_of c.args.part) _ c.args.known.now.takes_bytes c.requires
+    (rw c.items.ensures at c.in_ok-values.ensures.ok)))
 
 pub returns-clause-shorter : goal.returns-clause-shorter
-returns-clause-shorter c =
+returns-clause-shorter g c =
     let read = rw c.items.ensures at c.in_ok-values.ensures.ok in
     let takes : length c.in_ok-values.rest.bytes.now + least_length c.args.known.now.template.fields
     ≤ length c.args.part.bytes.now =

@@ -1,0 +1,83 @@
+//! What takes the data records of a stream, one behind the other.
+
+ghost use Rattle.std.specs.Prelude.{◌≡◌, ◌++◌, [], ◌∷◌, List, OnOk, false};
+
+use crate::flow::flow_of;
+use ipfix_model::DataRecord;
+use no_memory::NoMemory;
+use record_ledger::FlowRecord;
+use std::alloc::Global;
+
+/// What takes the data records of a stream, in their order.
+///
+/// `has_taken` is for it to say: what it is to be once it has taken these records.
+pub trait RecordTaker {
+    ghost use Rattle.ipfix_model.specs.declared.values.DataRecord.{DataRecord};
+
+    /// It has taken these records.
+    ghost has_taken: { Self → List DataRecord → Type 0 };
+
+    /// Takes one record more.
+    ///
+    /// `NoMemory` where the room for what it keeps of it can't be had.
+    fn take(&mut self, rec: DataRecord) -> Result<(), NoMemory>
+        ensures { OnOk result ((before : List DataRecord) → has_taken self.old before
+            → has_taken self.new (before ++ rec ∷ [])) };
+}
+
+/// All records that were taken.
+#[derive(Drop)]
+pub(crate) struct RecordList {
+    pub(crate) records: Vec<DataRecord>,
+}
+
+impl RecordTaker for RecordList {
+    ghost has_taken = { λ list records. list.records.items ≡ records };
+
+    fn take(&mut self, rec: DataRecord) -> Result<(), NoMemory> {
+        self.records.push(rec)?;
+        Ok(())
+    }
+}
+
+/// The flow records that the records are which were taken, up to the first that is none.
+#[derive(Drop)]
+pub(crate) struct FlowList {
+    pub(crate) flows: Vec<FlowRecord>,
+    pub(crate) has_other: bool,
+}
+
+impl FlowList {
+    /// No record was taken.
+    pub(crate) fn new(alloc: Global) -> Self
+        ensures flows { result.flows.items ≡ [] }
+        ensures other { result.has_other ≡ false }
+    {
+        FlowList {
+            flows: Vec::new(alloc),
+            has_other: false,
+        }
+    }
+}
+
+impl RecordTaker for FlowList {
+    ghost use Rattle.ipfix_reader.specs.Taking.{HasFlows};
+
+    ghost has_taken = { λ list records. HasFlows list.flows.items list.has_other records };
+
+    fn take(&mut self, rec: DataRecord) -> Result<(), NoMemory> {
+        if self.has_other {
+            return Ok(());
+        }
+        match flow_of(&rec) {
+            Some(flow) => {
+                self.flows.push(flow)?;
+                Ok(())
+            }
+            None => {
+                self.has_other = true;
+                Ok(())
+            }
+        }
+    }
+}
