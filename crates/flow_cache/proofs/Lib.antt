@@ -5,5 +5,5 @@ pub mod Histories
 pub mod Sets
 pub mod Tries
 pub mod Spared
-pub mod Counting
+pub mod Sparing
 pub mod Loading

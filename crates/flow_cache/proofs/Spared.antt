@@ -1,5 +1,5 @@
 -- How often a pass collects: steps that neither note the epoch alone nor pin alone, and what it does before a try.
-use Rattle.std.proofs.Common.{◌≡◌, ◌≢◌, ◌<◌, ◌≤◌, ◌+◌, ◌∷◌, ℕ, Bool, true, false, List, Some, refl, sym, subst, arith}
+use Rattle.std.proofs.Common.{◌≡◌, ◌≢◌, ◌<◌, ◌≤◌, ◌+◌, ◌∷◌, ℕ, Bool, true, false, List, Some, refl, sym, ◌∙◌, subst, arith}
 use Rattle.std.specs.Prelude.{if◌then◌else◌}
 use mathlib.Core.Logic.{dite}
 use native.Mathlib.Decide.{ℕ_discrete, dec_le}
@@ -14,7 +14,8 @@ use Rattle.pebr_core.specs.Frames.{retired_count}
 use Rattle.pebr_table.specs.Operations.{Op}
 use Rattle.pebr_roots.specs.Orders.{HasMade}
 use Rattle.pebr_roots.proofs.Counts.{made_on}
-use Rattle.flow_cache.specs.Collecting.{HasCollected, HasBegun, CollectsFrom}
+use Rattle.flow_cache.specs.Collecting.{HasCollected, HasBegun, HasSpared, CollectsFrom}
+use Rattle.flow_cache.proofs.Sparing.{made_of, spared_none, spared_on}
 
 pub spared_one : (old new : History) → new.notes ≡ old.notes → new.pins ≡ old.pins → HasCollected 0 old new
 spared_one old new notes pins = omega (arith, notes, pins)
@@ -84,8 +85,8 @@ begun_on shape me known past old mid new n h more = record {
 pub collects_from : (shape : Shape) (me : ℕ) (known : Seat) (fresh : ℕ) (old mid new : History) (x y z : List Op) (n : ℕ)
     → (32 ≤ retired_count known → HasCollected 1 old mid)
     → (32 ≤ retired_count known → HasBegun shape me known old x y)
-    → (retired_count known < 32 → HasCollected 0 old mid) → (fresh ≡ 0 → HasCollected 1 mid new)
-    → (0 < fresh → HasCollected 0 mid new) → (retired_count known < 32 → 0 < fresh) → HasMade n y z
+    → (retired_count known < 32 → HasCollected 0 old mid × (y ≡ x)) → (fresh ≡ 0 → HasCollected 1 mid new)
+    → (0 < fresh → HasCollected 0 mid new × (z ≡ y)) → (retired_count known < 32 → 0 < fresh) → HasMade n y z
     → CollectsFrom shape me known old new x z
 collects_from shape me known fresh old mid new x y z n many begun few none some room more =
     dite (dec_le 32 retired)
@@ -99,30 +100,35 @@ collects_from shape me known fresh old mid new x y z n many begun few none some 
     })
     (λ (full : fresh ≢ 0). record {
       times = 1;
-      collected = collected_on 1 0 old mid new (many high) (some (omega (arith, full)));
+      collected = collected_on 1 0 old mid new (many high) (some (omega (arith, full))).0;
       most = omega arith;
       from = λ is. (omega arith, begun_on shape me known old x y z n (begun is) more);
       below = λ low. absurd (omega (arith, low, high));
     }))
     (λ (below : ¬ (32 ≤ retired)). (let low : retired < 32 = omega (arith, below) in record {
       times = 0;
-      collected = collected_on 0 0 old mid new (few low) (some (room low));
+      collected = collected_on 0 0 old mid new (few low).0 (some (room low)).0;
       most = omega arith;
       from = λ is. absurd (below is);
-      below = λ is. refl;
+      below = λ is. (refl, 0, spared_none shape me x z ((some (room low)).1 ∙ (few low).1));
     }))
   where
     retired : ℕ
     retired = retired_count known
 
 -- and the tries behind it collect nothing
-pub collects_on : (shape : Shape) (me : ℕ) (known : Seat) (old mid new : History) (x y z : List Op) (n : ℕ)
-    → CollectsFrom shape me known old mid x y → HasCollected 0 mid new → HasMade n y z
+pub collects_on : (shape : Shape) (me me' : ℕ) (known : Seat) (old mid new : History) (x y z : List Op) (n : ℕ)
+    → me' ≡ me → CollectsFrom shape me known old mid x y → HasCollected 0 mid new → HasSpared shape me' n y z
     → CollectsFrom shape me known old new x z
-collects_on shape me known old mid new x y z n room spared more = record {
+collects_on shape me me' known old mid new x y z n same room spared more = record {
   times = room.times;
   collected = (let c = room.collected in omega (arith, c, spared));
   most = room.most;
-  from = λ is. ((room.from is).0, begun_on shape me known old x y z n (room.from is).1 more);
-  below = room.below;
+  from = λ is. (
+    (room.from is).0,
+    begun_on shape me known old x y z n (room.from is).1
+        (made_of shape me' n y z more),
+  );
+  below = λ low. (let b = room.below low in
+      (b.0, b.1 + n, spared_on shape me b.1 n me' x y z same b.2 more));
 }

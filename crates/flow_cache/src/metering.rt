@@ -11,7 +11,7 @@ ghost use Rattle.pebr_core.specs.State.{is_out, is_down};
 ghost use Rattle.pebr_core.specs.Frames.{fresh_count, retired_count};
 ghost use Rattle.pebr_roots.specs.Orders.{HasMade};
 ghost use Rattle.pebr_roots.specs.Passes.{shape_at, known_by, number_by, note_by, past_by, operations_by, IsOf, IsSame};
-ghost use Rattle.flow_cache.specs.Collecting.{HasCollected, HasBegun, CollectsFrom};
+ghost use Rattle.flow_cache.specs.Collecting.{HasCollected, HasBegun, HasSpared, CollectsFrom};
 ghost use Rattle.flow_cache.specs.Outcome.{HaveLost, IsOutcome};
 ghost use Rattle.flow_cache.specs.Shown as shown;
 ghost use Rattle.flow_cache.specs.Shown.{means_of, shown_of, past_of, tries_of, retired_of, ejections_of, slots_of};
@@ -44,7 +44,8 @@ impl PebrCache {
         ensures lost { (past_by pass.new).lost ≡ (past_by pass.old).lost }
         ensures ejections { (past_by pass.new).ejections ≡ (past_by pass.old).ejections }
         ensures many { 32 ≤ retired_count (known_by pass.old) → HasCollected 1 (past_by pass.old) (past_by pass.new) }
-        ensures none { retired_count (known_by pass.old) < 32 → HasCollected 0 (past_by pass.old) (past_by pass.new) }
+        ensures none { retired_count (known_by pass.old) < 32 → HasCollected 0 (past_by pass.old) (past_by pass.new)
+            × (operations_by pass.new ≡ operations_by pass.old) }
         ensures batch { 32 ≤ retired_count (known_by pass.old) → HasBegun (shape_at self.now.roots)
             (number_by pass.old) (known_by pass.old) (past_by pass.old) (operations_by pass.old)
             (operations_by pass.new) }
@@ -70,7 +71,8 @@ impl PebrCache {
         ensures ejections { 0 < fresh_count (known_by pass.old)
             → (past_by pass.new).ejections ≡ (past_by pass.old).ejections }
         ensures none { fresh_count (known_by pass.old) ≡ 0 → HasCollected 1 (past_by pass.old) (past_by pass.new) }
-        ensures some { 0 < fresh_count (known_by pass.old) → HasCollected 0 (past_by pass.old) (past_by pass.new) }
+        ensures some { 0 < fresh_count (known_by pass.old) → HasCollected 0 (past_by pass.old) (past_by pass.new)
+            × (operations_by pass.new ≡ operations_by pass.old) }
         ensures few { HasMade (6 * ((shape_at self.now.roots).seats - 1) + 4) (operations_by pass.old)
             (operations_by pass.new) }
         ensures fresh { 0 < fresh_count (known_by pass.new) }
@@ -130,7 +132,8 @@ impl PebrCache {
         ensures spared { HasCollected 0 (past_by pass.old) (past_by pass.new) }
         ensures outcome { IsOutcome self.now.timeouts (shape_at self.now.roots).seats set
             (past_by pass.new) own.now result metered.new.how metered.new.out }
-        ensures few { HasMade 201 (operations_by pass.old) (operations_by pass.new) }
+        ensures few { HasSpared (shape_at self.now.roots) (number_by pass.old) 201 (operations_by pass.old)
+            (operations_by pass.new) }
     {
         for lost in 0..TRIES {
             let last = lost + 1 == TRIES;

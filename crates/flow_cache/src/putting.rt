@@ -11,10 +11,9 @@ ghost use Rattle.pebr_core.specs.Frames.{fresh_count};
 ghost use Rattle.seat_slots.specs.Sets.{least_in};
 ghost use Rattle.pebr_words.specs.Pasts.{Lost, written_at};
 ghost use Rattle.pebr_words.specs.Ruled.{IsSure};
-ghost use Rattle.pebr_roots.specs.Passes.{shape_at, known_by, note_by, past_by, operations_by, IsOf, IsSame};
-ghost use Rattle.pebr_roots.specs.Orders.{HasMade};
+ghost use Rattle.pebr_roots.specs.Passes.{shape_at, known_by, number_by, note_by, past_by, operations_by, IsOf, IsSame};
 ghost use Rattle.set_choice.specs.Chosen.{out_of};
-ghost use Rattle.flow_cache.specs.Collecting.{HasCollected};
+ghost use Rattle.flow_cache.specs.Collecting.{HasCollected, HasSpared};
 ghost use Rattle.flow_cache.specs.Shown.{IsTryOf};
 ghost use Rattle.flow_cache.specs.Trying.{IsOwn, AreProtected, IsUnlost, HasChosen};
 
@@ -79,7 +78,8 @@ impl PebrCache {
         ensures written { (word : ℕ) → word < 10
             → written_at (past_by pass.new).written (least_in (known_by pass.old).fresh) word
             ≡ Some (slice_index words.now word) }
-        ensures few { HasMade 10 (operations_by pass.old) (operations_by pass.new) }
+        ensures few { HasSpared (shape_at self.now.roots) (number_by pass.old) 10 (operations_by pass.old)
+            (operations_by pass.new) }
     {
         for word in 0..10 {
             self.roots.write_fresh(pass, word, words[word]);
@@ -118,7 +118,8 @@ impl PebrCache {
             × ((known_by pass.new).fresh ≡ (known_by pass.old).fresh)
             × ((try : Lost) × ((past_by pass.new).lost ≡ try ∷ (past_by pass.old).lost) × IsTryOf set try) }
         ensures untouched { result ≡ false → metered.new.out ≡ None }
-        ensures few { HasMade 51 (operations_by pass.old) (operations_by pass.new) }
+        ensures few { HasSpared (shape_at self.now.roots) (number_by pass.old) 51 (operations_by pass.old)
+            (operations_by pass.new) }
     {
         stop.at(Point::Read);
         self.read_contents(pass, contents);
@@ -166,7 +167,8 @@ impl PebrCache {
             × ((known_by pass.new).fresh ≡ (known_by pass.old).fresh)
             × ((try : Lost) × ((past_by pass.new).lost ≡ try ∷ (past_by pass.old).lost) × IsTryOf set try) }
         ensures untouched { result ≡ false → metered.new.out ≡ None }
-        ensures few { HasMade 62 (operations_by pass.old) (operations_by pass.new) }
+        ensures few { HasSpared (shape_at self.now.roots) (number_by pass.old) 62 (operations_by pass.old)
+            (operations_by pass.new) }
     {
         match self.reach(pass, set, stop) {
             Checked::Valid => self.put(pass, set, own, contents, metered, stop),
@@ -186,7 +188,8 @@ impl PebrCache {
           steps =
               (past_by pass.new).steps;
         } }
-        ensures few { HasMade 4 (operations_by pass.old) (operations_by pass.new) }
+        ensures few { HasSpared (shape_at self.now.roots) (number_by pass.old) 4 (operations_by pass.old)
+            (operations_by pass.new) }
     {
         stop.at(Point::Clear);
         self.roots.clear(pass);
@@ -216,7 +219,8 @@ impl PebrCache {
               (past_by pass.new).steps;
         } }
         ensures sure { IsSure IsWhole (shape_at self.now.roots) (known_by pass.new) (past_by pass.new) }
-        ensures few { HasMade 5 (operations_by pass.old) (operations_by pass.new) }
+        ensures few { HasSpared (shape_at self.now.roots) (number_by pass.old) 5 (operations_by pass.old)
+            (operations_by pass.new) }
     {
         self.take_down(pass, stop);
         stop.at(Point::Leave);
@@ -260,7 +264,8 @@ impl PebrCache {
             × ((known_by pass.new).fresh ≡ (known_by pass.old).fresh) × ((shape_at self.now.roots).seats ≢ 1)
             × ((try : Lost) × ((past_by pass.new).lost ≡ try ∷ (past_by pass.old).lost) × IsTryOf set try) }
         ensures untouched { result ≡ false → metered.new.out ≡ None }
-        ensures few { HasMade 67 (operations_by pass.old) (operations_by pass.new) }
+        ensures few { HasSpared (shape_at self.now.roots) (number_by pass.old) 67 (operations_by pass.old)
+            (operations_by pass.new) }
     {
         let done = self.reach_and_put(pass, set, own, contents, metered, stop);
         let passes_by = is_passed_by(last, done);

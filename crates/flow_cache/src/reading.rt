@@ -8,9 +8,9 @@ ghost use Rattle.pebr_core.specs.State.{is_out};
 ghost use Rattle.pebr_shields.specs.declared.checked.Checked.TheVariants as checked;
 ghost use Rattle.pebr_words.specs.Pasts.{was_ejected, written_at};
 ghost use Rattle.pebr_roots.specs.Under.{slot_at, is_valid_at};
-ghost use Rattle.pebr_roots.specs.Passes.{known_by, note_by, past_by, operations_by, IsOf, IsSame};
+ghost use Rattle.pebr_roots.specs.Passes.{shape_at, known_by, number_by, note_by, past_by, operations_by, IsOf, IsSame};
 ghost use Rattle.pebr_roots.specs.Orders.{HasMade};
-ghost use Rattle.flow_cache.specs.Collecting.{HasCollected};
+ghost use Rattle.flow_cache.specs.Collecting.{HasCollected, HasSpared};
 ghost use Rattle.flow_cache.specs.Reading.{words_read, entries_read, set_read};
 ghost use Rattle.flow_cache.specs.Shown.{roots_of};
 ghost use Rattle.flow_cache.specs.Trying.{AreLoaded, AreProtected, IsUnlost, HasMore, HasTen, HasReadTen};
@@ -54,7 +54,8 @@ impl PebrCache {
         } }
         ensures loaded { AreLoaded set 4 (known_by pass.new) (past_by pass.new) }
         ensures last { set_read (past_by pass.new).loads ≡ set }
-        ensures few { HasMade 8 (operations_by pass.old) (operations_by pass.new) }
+        ensures few { HasSpared (shape_at self.now.roots) (number_by pass.old) 8 (operations_by pass.old)
+            (operations_by pass.new) }
     {
         for place in 0..4 {
             self.roots.load(pass, 4 * set as usize + place, place);
@@ -81,7 +82,8 @@ impl PebrCache {
         ensures valid { result ≡ checked.Valid → AreProtected set (known_by pass.new) (past_by pass.new)
             × IsUnlost (past_by pass.old) (past_by pass.new) }
         ensures ejected { result ≡ checked.Ejected → (past_by pass.new).lost ≡ was_ejected ∷ (past_by pass.old).lost }
-        ensures few { HasMade 11 (operations_by pass.old) (operations_by pass.new) }
+        ensures few { HasSpared (shape_at self.now.roots) (number_by pass.old) 11 (operations_by pass.old)
+            (operations_by pass.new) }
     {
         stop.at(Point::Enter);
         self.roots.enter(pass);
@@ -141,7 +143,8 @@ impl PebrCache {
             (slot_at (known_by pass.old) place) word ≡ Some (slice_index words.new word) }
         ensures long { length words.new ≡ 10 }
         ensures whole { IsWhole words.new }
-        ensures few { HasMade 10 (operations_by pass.old) (operations_by pass.new) }
+        ensures few { HasSpared (shape_at self.now.roots) (number_by pass.old) 10 (operations_by pass.old)
+            (operations_by pass.new) }
     {
         for word in 0..10 {
             words[word] = self.roots.read(pass, place, word);
@@ -169,7 +172,8 @@ impl PebrCache {
         ensures entries { (set : ℕ) → AreProtected set (known_by pass.old) (past_by pass.old)
             → map entry_of contents.new ≡ entries_read (past_by pass.new) set }
         ensures whole { All IsWhole contents.new }
-        ensures few { HasMade 40 (operations_by pass.old) (operations_by pass.new) }
+        ensures few { HasSpared (shape_at self.now.roots) (number_by pass.old) 40 (operations_by pass.old)
+            (operations_by pass.new) }
     {
         self.read_words(pass, 0, &mut contents[0]);
         self.read_words(pass, 1, &mut contents[1]);

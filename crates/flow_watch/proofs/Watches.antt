@@ -1,13 +1,16 @@
 -- A watcher after a call.
-use Rattle.std.proofs.Common.{◌≡◌, ◌≢◌, ◌≤◌, ◌<◌, ◌+◌, ◌∷◌, ℕ, suc, List, Option, Some, None, replicate, refl, sym, ap}
-use Rattle.std.proofs.Common.{◌∙◌, subst, arith}
+use Rattle.std.proofs.Common.{◌≡◌, ◌≢◌, ◌≤◌, ◌<◌, ◌+◌, ◌∷◌, ℕ, suc, List, replicate, refl, sym, ap}
+use Rattle.std.proofs.Common.{◌∙◌, ◌*◌, subst, arith}
 use Rattle.std.specs.Prelude.{IfSome}
 use mathlib.Core.Option.{some}
 use lib.ListN.{get_elem?}
 use Rattle.flow_key.specs.declared.key.FlowKey.{FlowKey}
 use Rattle.cache_face.specs.Meaning.{CacheMeans}
 use Rattle.cache_face.specs.Notes.{Note}
-use Rattle.pebr_words.specs.Pasts.{Lost, was_ejected}
+use Rattle.pebr_table.specs.Operations.{Op}
+use Rattle.pebr_words.specs.Pasts.{was_ejected}
+use Rattle.pebr_roots.specs.Orders.{HasMade}
+use Rattle.pebr_roots.proofs.Counts.{made_none, made_on, made_in}
 use Rattle.pebr_roots.specs.Passes.{known_by, IsSame}
 use Rattle.flow_cache.specs.declared.cache.PebrCache.{PebrCache}
 use Rattle.flow_cache.specs.Shown.{roots_of}
@@ -39,3 +42,17 @@ watched_since cache key watch.Lost first old new low apart is = absurd (apart re
 -- one more lost try
 pub one_more : (n : ℕ) → replicate (n + 1) was_ejected ≡ was_ejected ∷ replicate n was_ejected
 one_more n = let next : n + 1 ≡ suc n = omega arith in ap (λ k. replicate k was_ejected) next
+
+-- the operations of the tries, one after another
+pub no_try : (x : List Op) → HasMade (56 * 0) x x
+no_try x = made_in 0 (56 * 0) x x (omega arith) (made_none x x refl)
+
+pub one_more_try : (n : ℕ) (x y z : List Op) → HasMade (56 * n) x y → HasMade 56 y z → HasMade (56 * (n + 1)) x z
+one_more_try n x y z h k =
+    made_in (56 * n + 56) (56 * (n + 1)) x z (omega arith) (made_on (56 * n) 56 x y z h k)
+
+pub last_try : (n : ℕ) (x y z : List Op) → n < 3 → HasMade (56 * n) x y → HasMade 56 y z → HasMade 168 x z
+last_try n x y z low h k = made_in (56 * n + 56) 168 x z (omega (arith, low)) (made_on (56 * n) 56 x y z h k)
+
+pub all_tries : (n : ℕ) (x y : List Op) → n ≤ 3 → HasMade (56 * n) x y → HasMade 168 x y
+all_tries n x y low h = made_in (56 * n) 168 x y (omega (arith, low)) h

@@ -8,8 +8,9 @@ use Rattle.cache_face.specs.Meaning.{CacheMeans}
 use Rattle.cache_face.specs.Notes.{Note, first_note, empty_note}
 use Rattle.pebr_words.specs.Pasts.{History, was_ejected}
 use Rattle.pebr_words.specs.Pasts as pasts
+use Rattle.pebr_table.specs.Operations.{Op}
 use Rattle.pebr_roots.specs.Passes as roots
-use Rattle.pebr_roots.specs.Passes.{known_by, note_by, past_by, lost_by, count_by_pass, IsUnitedPass}
+use Rattle.pebr_roots.specs.Passes.{known_by, note_by, past_by, lost_by, operations_by, count_by_pass, IsUnitedPass}
 use Rattle.pebr_roots.specs.Under.{slot_at}
 use Rattle.flow_cache.specs.declared.cache.PebrCache.{PebrCache}
 use Rattle.flow_cache.specs.Shown.{roots_of}
@@ -36,6 +37,10 @@ past_of watcher = past_by watcher.seat
 
 abbrev pub lost_of : Watcher → List pasts.Lost
 lost_of watcher = lost_by watcher.seat
+
+-- The operations on words that it made, the newest first.
+abbrev pub operations_of : Watcher → List Op
+operations_of watcher = operations_by watcher.seat
 
 -- A watcher at a seat of this cache, whose note counts the seat. What it holds is under a valid shield.
 pub record IsOf (cache : PebrCache) (watcher : Watcher) : Type 0 where

@@ -6,7 +6,9 @@ ghost use Rattle.flow_cache.specs.Shown as shown;
 ghost use Rattle.flow_cache.specs.Shown.{means_of, shown_of, tries_of};
 ghost use Rattle.flow_key.specs.Key.{set_number};
 ghost use Rattle.pebr_words.specs.Pasts.{was_ejected};
+ghost use Rattle.pebr_roots.specs.Orders.{HasMade};
 ghost use Rattle.flow_watch.specs.Watching.{IsOf, IsWatched, HasRead, held_by, slot_held_by, note_of, past_of, lost_of};
+ghost use Rattle.flow_watch.specs.Watching.{operations_of};
 
 use crate::hold::{Tried, attempt};
 use crate::watcher::{Watch, Watcher};
@@ -45,6 +47,7 @@ impl Watcher {
         ensures some { IfSome result (λ watch. IsWatched (means_of cache.now) key.now watch self.old self.new
             × (watch ≢ Watch.Lost)) }
         ensures pins { (past_of self.old).pins < (past_of self.new).pins }
+        ensures few { HasMade 56 (operations_of self.old) (operations_of self.new) }
         ensures none { IsNone result → (held_by self.new ≡ None) × (lost_of self.new ≡ was_ejected ∷ lost_of self.old)
             × ((means_of cache.now).seats ≢ 1) }
     {
@@ -65,14 +68,15 @@ impl Watcher {
     /// call.
     ///
     /// `Absent`: none of the four entries that were read has the key. `Lost`: in this call the watcher was ejected
-    /// three times before its shields were valid; it never comes where the cache has one seat. It waits for nobody and
-    /// takes no memory.
+    /// three times before its shields were valid; it never comes where the cache has one seat. It waits for nobody,
+    /// takes no memory, and makes at most 168 operations on words.
     pub fn hold(&mut self, cache: &PebrCache, key: &FlowKey) -> Watch
         requires of { IsOf cache.now self.old }
         requires idle { held_by self.old ≡ None }
         ensures of { IsOf cache.now self.new }
         ensures note { note_of self.new ≡ note_of self.old }
         ensures answer { IsWatched (means_of cache.now) key.now result self.old self.new }
+        ensures few { HasMade 168 (operations_of self.old) (operations_of self.new) }
     {
         let set = key.set_of(cache.sets());
         for _turn in 0..TRIES {
@@ -94,6 +98,7 @@ impl Watcher {
         ensures read { Some result ≡ held_by self.old }
         ensures slot { slot_held_by self.new ≡ slot_held_by self.old }
         ensures ten { HasRead result self.old self.new }
+        ensures few { HasMade 10 (operations_of self.old) (operations_of self.new) }
     {
         let Some(hold) = self.held else {
             unreachable!()
@@ -112,6 +117,7 @@ impl Watcher {
         ensures note { note_of self.new ≡ note_of self.old }
         ensures idle { held_by self.new ≡ None }
         ensures lost { lost_of self.new ≡ lost_of self.old }
+        ensures few { HasMade 4 (operations_of self.old) (operations_of self.new) }
     {
         cache.roots().clear(&mut self.seat);
         self.held = None;

@@ -7,7 +7,8 @@ ghost use Rattle.cache_face.specs.Keeping.{IsWhole};
 ghost use Rattle.cache_face.specs.Notes.{first_note};
 ghost use Rattle.pebr_core.specs.State.{is_out, is_down};
 ghost use Rattle.pebr_words.specs.Ruled.{IsSure};
-ghost use Rattle.pebr_roots.specs.Passes.{shape_at, known_by, note_by, past_by, IsSame};
+ghost use Rattle.pebr_roots.specs.Passes.{shape_at, known_by, note_by, past_by, operations_by, IsSame};
+ghost use Rattle.pebr_roots.specs.Orders.{HasMade};
 ghost use Rattle.pebr_roots.specs.Passes as roots;
 ghost use Rattle.flow_cache.specs.Shown.{means_of, roots_of};
 ghost use Rattle.flow_cache.specs.Trying.{AreProtected};
@@ -51,6 +52,7 @@ fn leave(cache: &PebrCache, seat: &mut RootPass<CacheRule>, holds: bool)
           (past_by seat.new).steps;
     } }
     ensures sure { IsSure IsWhole (shape_at (roots_of cache.now)) (known_by seat.new) (past_by seat.new) }
+    ensures few { HasMade 5 (operations_by seat.old) (operations_by seat.new) }
 {
     if !holds {
         cache.roots().clear(seat);
@@ -82,6 +84,7 @@ fn keep(cache: &PebrCache, seat: &mut RootPass<CacheRule>, set: u64, key: &FlowK
         × IsHeld set key.now (past_by seat.new) hold.fragment) }
     ensures absent { IsNone result → IsTrue (list_all is_down (known_by seat.new).shields)
         × IsAbsent set key.now (past_by seat.new) }
+    ensures few { HasMade 45 (operations_by seat.old) (operations_by seat.new) }
 {
     let entries = cache.read_set(seat);
     let hold = lowest_of(&entries, key);
@@ -104,6 +107,7 @@ pub(crate) fn attempt(
     ensures out { IsTrue (is_out (known_by seat.new).status) }
     ensures tried { IsTried set key.now (means_of cache.now).seats result (known_by seat.new) (past_by seat.old)
         (past_by seat.new) }
+    ensures few { HasMade 56 (operations_by seat.old) (operations_by seat.new) }
 {
     match cache.protect(seat, set) {
         Checked::Valid => match keep(cache, seat, set, key) {

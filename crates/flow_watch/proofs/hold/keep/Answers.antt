@@ -5,7 +5,8 @@ use Rattle.flow_parts.specs.declared.fragment.Fragment.{Fragment}
 use Rattle.cache_face.specs.Choice.{HasKey, HasNone, IsLowest, entry_at}
 use Rattle.pebr_core.specs.State.{Seat}
 use Rattle.pebr_words.specs.Pasts.{History}
-use Rattle.pebr_roots.specs.Passes.{known_by, past_by}
+use Rattle.pebr_roots.specs.Passes.{known_by, past_by, operations_by}
+use Rattle.pebr_roots.proofs.Counts.{made_on}
 use Rattle.flow_cache.specs.Reading.{entries_read}
 use Rattle.flow_watch.specs.Holding.{IsHolding, IsHeld}
 use Rattle.flow_watch.specs.declared.watcher.Hold.{Hold}
@@ -72,3 +73,8 @@ returns-clause-absent c none =
         subst (HasNone (HasKey c.args.key.now)) (is ∙ sym same) (c.lowest_of-hold.ensures.none none),
       ),
     )
+
+pub returns-clause-few : goal.returns-clause-few
+returns-clause-few c =
+    made_on 40 5 (operations_by c.args.seat.now) (operations_by c.read_set-entries.new.pass)
+    (operations_by c.leave.new.seat) c.read_set-entries.ensures.few c.leave.ensures.few

@@ -6,8 +6,8 @@ use Rattle.pebr_words.specs.Pasts.{History}
 use Rattle.pebr_roots.specs.Passes.{note_by, past_by}
 use Rattle.flow_cache.proofs.Histories.{chosen_still}
 use Rattle.flow_cache.proofs.Spared.{collected_on, spared_one}
-use Rattle.pebr_roots.specs.Passes.{operations_by}
-use Rattle.pebr_roots.proofs.Counts.{made_on}
+use Rattle.pebr_roots.specs.Passes.{shape_at, number_by, operations_by}
+use Rattle.flow_cache.proofs.Sparing.{spared_on}
 use Rattle.flow_cache.proofs.cache.PebrCache.attempt.Goals as goal
 
 pub returns-clause-done : goal.returns-clause-done
@@ -38,5 +38,7 @@ returns-clause-spared g c =
 
 pub returns-clause-few : goal.returns-clause-few
 returns-clause-few g c =
-    made_on 62 5 (operations_by c.args.pass.now) (operations_by c.reach_and_put-done.new.pass)
-    (operations_by c.end.new.pass) c.reach_and_put-done.ensures.few c.end.ensures.few
+    spared_on (shape_at c.args.self.now.roots) (number_by c.args.pass.now) 62 5
+    (number_by c.reach_and_put-done.new.pass) (operations_by c.args.pass.now)
+    (operations_by c.reach_and_put-done.new.pass) (operations_by c.end.new.pass)
+    c.reach_and_put-done.ensures.same.still.1 c.reach_and_put-done.ensures.few c.end.ensures.few

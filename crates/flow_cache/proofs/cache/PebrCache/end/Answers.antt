@@ -1,14 +1,15 @@
-use Rattle.std.proofs.Common.{ℕ, Option, sym, subst}
+use Rattle.std.proofs.Common.{ℕ, ◌*◌, Option, sym, ap, subst}
 use Rattle.flow_parts.specs.declared.fragment.Fragment.{Fragment}
 use Rattle.flow_parts.specs.declared.timeouts.Timeouts.{Timeouts}
 use Rattle.cache_face.specs.Keeping.{Keeps}
 use Rattle.cache_face.specs.Notes.{Note, first_note}
+use Rattle.pebr_core.specs.declared.kinds.Shape.{Shape}
 use Rattle.pebr_words.specs.Making.{act_on}
 use Rattle.pebr_words.specs.Ruled.{CanNote}
 use Rattle.pebr_roots.specs.Passes.{fixed_at, number_by, note_by}
 use Rattle.flow_cache.proofs.Sets.{can_end, after_act}
-use Rattle.pebr_roots.specs.Passes.{operations_by}
-use Rattle.pebr_roots.proofs.Counts.{made_one, made_on}
+use Rattle.pebr_roots.specs.Passes.{shape_at, known_by, operations_by}
+use Rattle.flow_cache.proofs.Sparing.{spared_on, left_spares}
 use Rattle.flow_cache.proofs.cache.PebrCache.end.Goals as goal
 
 pub leave-requires-clause-keeps : goal.leave-requires-clause-keeps
@@ -28,6 +29,11 @@ leave-requires-clause-keeps g c =
 
 pub returns-clause-few : goal.returns-clause-few
 returns-clause-few g c =
-    let a = operations_by c.take_down.new.pass in
+    let shape = shape_at c.args.self.now.roots in
+    let down = c.take_down.new.pass in
+    let a = operations_by down in
     let b = operations_by c.leave.new.pass in
-    made_on 4 1 (operations_by c.args.pass.now) a b c.take_down.ensures.few (made_one _ a b c.leave.ensures.step.made.2)
+    spared_on shape (number_by c.args.pass.now) 4 1 (number_by down) (operations_by c.args.pass.now) a b
+    c.take_down.ensures.same.still.1 c.take_down.ensures.few
+    (left_spares shape (number_by down) (ap (λ (s : Shape). s.shields) c.args.self.now.shaped)
+    (4 * (known_by down).noted) a b c.take_down.ensures.same.of.at.3 c.leave.ensures.step.made.2)

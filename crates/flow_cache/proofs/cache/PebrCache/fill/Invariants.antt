@@ -3,8 +3,8 @@ use Rattle.std.specs.Prelude.{slice_index}
 use Rattle.cache_face.specs.Notes.{first_note}
 use Rattle.seat_slots.specs.Sets.{least_in}
 use Rattle.pebr_words.specs.Pasts.{written_at}
-use Rattle.pebr_roots.specs.Passes.{known_by, note_by, past_by, operations_by, IsSame}
-use Rattle.pebr_roots.specs.Orders.{HasMade}
+use Rattle.pebr_roots.specs.Passes.{shape_at, known_by, number_by, note_by, past_by, operations_by, IsSame}
+use Rattle.flow_cache.specs.Collecting.{HasSpared}
 use Rattle.flow_cache.proofs.cache.PebrCache.fill.Given as goal
 
 abbrev pub invariant-loop-word : goal.invariant-loop-word
@@ -21,5 +21,6 @@ invariant-loop-word l = record {
   };
   written : (k : ℕ) → k < l.word → written_at (past_by l.pass).written (least_in (known_by l.initial.pass).fresh) k
       ≡ Some (slice_index l.words k);
-  few : HasMade l.word (operations_by l.initial.pass) (operations_by l.pass);
+  few : HasSpared (shape_at l.self.roots) (number_by l.initial.pass) l.word (operations_by l.initial.pass)
+      (operations_by l.pass);
 }

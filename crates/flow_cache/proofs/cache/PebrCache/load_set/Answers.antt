@@ -1,15 +1,30 @@
-use Rattle.std.proofs.Common.{◌≡◌, true, ◌+◌, ◌∙◌, ℕ, refl, sym, ap, subst, arith}
+use Rattle.std.proofs.Common.{rules, ◌≡◌, true, ◌+◌, ◌*◌, ◌∙◌, ℕ, refl, sym, ap, subst, arith}
 use Rattle.pebr_core.specs.declared.kinds.ShieldAt.TheVariants as shield
 use Rattle.pebr_core.specs.State.{Seat, has, is_out, shield_at}
+use Rattle.pebr_core.specs.declared.kinds.Shape.{Shape}
 use Rattle.pebr_words.specs.Pasts.{History}
-use Rattle.pebr_roots.specs.Passes.{known_by, number_by, past_by, operations_by}
+use Rattle.pebr_roots.specs.Passes.{shape_at, known_by, number_by, past_by, operations_by}
 use Rattle.pebr_roots.specs.Ends.{loaded_seat}
+use Rattle.flow_cache.specs.Places.{root_of}
 use Rattle.flow_cache.specs.Reading.{set_read}
 use Rattle.flow_cache.specs.Trying.{AreLoaded}
 use Rattle.flow_cache.proofs.Loading.{loaded_more, set_is}
-use Rattle.flow_cache.proofs.Counting.{two_more}
+use Rattle.flow_cache.proofs.Sparing.{spared_none, spared_in, spared_on, loaded_spares}
 use Rattle.flow_cache.proofs.Tries.{go_on}
 use Rattle.flow_cache.proofs.cache.PebrCache.load_set.Goals as goal
+
+pub loop-place-init : goal.loop-place-init
+loop-place-init c = record {
+  low = omega arith;
+  same = search rules;
+  note = refl;
+  entered = c.requires.entered;
+  known = refl;
+  past = refl;
+  loaded = λ place lt. absurd (omega (arith, lt));
+  last = λ lt. absurd (omega (arith, lt));
+  few = spared_none _ _ _ _ refl;
+}
 
 pub loop-place-preserved : goal.loop-place-preserved
 loop-place-preserved c =
@@ -20,6 +35,8 @@ loop-place-preserved c =
     let place : ℕ = c.loop-place.place in
     let k = known_by new in
     let p = past_by new in
+    let shape = shape_at c.args.self.now.roots in
+    let four = ap (λ (s : Shape). s.shields) c.args.self.now.shaped in
     record {
       low = omega (arith, c.loop-place-test.true);
       same = go_on c.args.self.now.roots start old new before.same c.load.ensures.same;
@@ -54,6 +71,17 @@ loop-place-preserved c =
           before.loaded));
       last = λ _. ap (λ (y : History). set_read y.loads) c.load.ensures.past
           ∙ set_is c.args.set place c.loop-place-test.true;
-      few = two_more place _ _ (operations_by start) (operations_by old) (operations_by new) before.few
-          c.load.ensures.operations;
+      few = spared_in shape (number_by start) (2 * place + 2) (2 * (place + 1)) (operations_by start)
+          (operations_by new) (omega arith)
+          (spared_on shape (number_by start) (2 * place) 2 (number_by old) (operations_by start) (operations_by old)
+          (operations_by new) before.same.still.1 before.few
+          (loaded_spares shape (number_by old) four (root_of c.args.set place) place c.load.result (operations_by old)
+          (operations_by new) c.loop-place-test.true c.load.ensures.operations));
     }
+
+pub returns-clause-few : goal.returns-clause-few
+returns-clause-few c =
+    let before = c.loop-place.invariant in
+    spared_in (shape_at c.args.self.now.roots) (number_by c.args.pass.now) (2 * c.loop-place.place) 8
+    (operations_by c.args.pass.now) (operations_by c.loop-place.pass)
+    (let low = before.low in omega (arith, low)) before.few

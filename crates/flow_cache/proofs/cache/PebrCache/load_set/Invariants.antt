@@ -1,8 +1,8 @@
 use Rattle.std.proofs.Common.{◌*◌, ◌≡◌, ◌<◌, ◌≤◌, false}
 use Rattle.cache_face.specs.Notes.{first_note}
 use Rattle.pebr_core.specs.State.{is_out}
-use Rattle.pebr_roots.specs.Passes.{known_by, note_by, past_by, operations_by, IsSame}
-use Rattle.pebr_roots.specs.Orders.{HasMade}
+use Rattle.pebr_roots.specs.Passes.{shape_at, known_by, number_by, note_by, past_by, operations_by, IsSame}
+use Rattle.flow_cache.specs.Collecting.{HasSpared}
 use Rattle.flow_cache.specs.Reading.{set_read}
 use Rattle.flow_cache.specs.Trying.{AreLoaded}
 use Rattle.flow_cache.proofs.cache.PebrCache.load_set.Given as goal
@@ -28,5 +28,6 @@ invariant-loop-place l = record {
   };
   loaded : AreLoaded l.set l.place (known_by l.pass) (past_by l.pass);
   last : 0 < l.place → set_read (past_by l.pass).loads ≡ l.set;
-  few : HasMade (2 * l.place) (operations_by l.initial.pass) (operations_by l.pass);
+  few : HasSpared (shape_at l.self.roots) (number_by l.initial.pass) (2 * l.place) (operations_by l.initial.pass)
+      (operations_by l.pass);
 }

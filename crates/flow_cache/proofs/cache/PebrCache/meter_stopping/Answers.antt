@@ -14,6 +14,7 @@ use Rattle.flow_cache.proofs.Spared.{collects_on}
 use Rattle.flow_cache.proofs.Answering.{lost_on, lost_at, answered}
 use Rattle.pebr_roots.specs.Passes.{operations_by}
 use Rattle.pebr_roots.proofs.Counts.{made_on, made_in}
+use Rattle.flow_cache.proofs.Sparing.{made_of}
 use Rattle.flow_cache.proofs.cache.PebrCache.meter_stopping.Goals as goal
 
 pub put_in-lost-requires-clause-own : goal.put_in-lost-requires-clause-own
@@ -72,14 +73,17 @@ returns-clause-lost g c =
 
 pub returns-clause-collects : goal.returns-clause-collects
 returns-clause-collects g c =
-    collects_on (shape_at c.args.self.now.roots) (number_by c.args.pass.now.inner) (known_by c.args.pass.now.inner)
-    (past_by c.args.pass.now.inner) (past_by c.make_room.new.pass) (past_by c.put_in-lost.new.pass)
-    (operations_by c.args.pass.now.inner) (operations_by c.make_room.new.pass) (operations_by c.put_in-lost.new.pass) 201
-    c.make_room.ensures.collects c.put_in-lost.ensures.spared c.put_in-lost.ensures.few
+    let old = c.args.pass.now.inner in
+    let room = c.make_room.new.pass in
+    collects_on (shape_at c.args.self.now.roots) (number_by old) (number_by room) (known_by old) (past_by old)
+    (past_by room) (past_by c.put_in-lost.new.pass) (operations_by old) (operations_by room)
+    (operations_by c.put_in-lost.new.pass) 201 c.make_room.ensures.same.still.1 c.make_room.ensures.collects
+    c.put_in-lost.ensures.spared c.put_in-lost.ensures.few
 
 pub returns-clause-few : goal.returns-clause-few
 returns-clause-few g c =
     let x = operations_by c.args.pass.now.inner in
     let y = operations_by c.make_room.new.pass in
     let z = operations_by c.put_in-lost.new.pass in
-    made_in _ _ x z (omega arith) (made_on _ 201 x y z c.make_room.ensures.few c.put_in-lost.ensures.few)
+    made_in _ _ x z (omega arith) (made_on _ 201 x y z c.make_room.ensures.few
+    (made_of _ _ 201 y z c.put_in-lost.ensures.few))

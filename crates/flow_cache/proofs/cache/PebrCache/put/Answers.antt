@@ -29,7 +29,7 @@ use Rattle.flow_cache.proofs.Histories.{chosen_of, lost_here}
 use Rattle.flow_cache.proofs.Sets.{can_replace, at_place, written_is}
 use Rattle.flow_cache.proofs.Spared.{spared_put}
 use Rattle.pebr_roots.specs.Passes.{operations_by}
-use Rattle.pebr_roots.proofs.Counts.{made_one, made_on}
+use Rattle.flow_cache.proofs.Sparing.{spared_on, replaced_spares}
 use Rattle.flow_cache.proofs.cache.PebrCache.put.Goals as goal
 
 pub replace-requires-clause-keeps : goal.replace-requires-clause-keeps
@@ -206,18 +206,38 @@ returns-in-Other-clause-spared g c =
 
 pub returns-in-Replaced-clause-few : goal.returns-in-Replaced-clause-few
 returns-in-Replaced-clause-few g c =
+    let shape = shape_at c.args.self.now.roots in
+    let me : ℕ = number_by c.args.pass.now in
+    let end = c.fill.new.pass in
+    let place : ℕ = c.choose_by_words-choice.result.place in
     let x = operations_by c.args.pass.now in
     let a = operations_by c.read_contents.new.pass in
-    let b = operations_by c.fill.new.pass in
-    made_on 50 1 x b (operations_by c.replace.new.pass)
-    (made_on 40 10 x a b c.read_contents.ensures.few c.fill.ensures.few)
-    (made_one _ b (operations_by c.replace.new.pass) c.replace.ensures.step.made.2)
+    let b = operations_by end in
+    let z = operations_by c.replace.new.pass in
+    let at_a : number_by c.read_contents.new.pass ≡ me = c.read_contents.ensures.same.still.1 in
+    let at_b : number_by end ≡ me = c.fill.ensures.same.still.1 ∙ at_a in
+    spared_on shape me 50 1 (number_by end) x b z at_b
+    (spared_on shape me 40 10 (number_by c.read_contents.new.pass) x a b at_a c.read_contents.ensures.few
+    c.fill.ensures.few)
+    (replaced_spares shape (number_by end) (ap (λ (s : Shape). s.shields) c.args.self.now.shaped)
+    (root_of c.args.set place) (slot_at (known_by end) place) (least_in (known_by end).fresh)
+    c.replace.ensures.step.made.0 b z c.replace.ensures.step.made.2)
 
 pub returns-in-Other-clause-few : goal.returns-in-Other-clause-few
 returns-in-Other-clause-few g c =
+    let shape = shape_at c.args.self.now.roots in
+    let me : ℕ = number_by c.args.pass.now in
+    let end = c.fill.new.pass in
+    let place : ℕ = c.choose_by_words-choice.result.place in
     let x = operations_by c.args.pass.now in
     let a = operations_by c.read_contents.new.pass in
-    let b = operations_by c.fill.new.pass in
-    made_on 50 1 x b (operations_by c.replace.new.pass)
-    (made_on 40 10 x a b c.read_contents.ensures.few c.fill.ensures.few)
-    (made_one _ b (operations_by c.replace.new.pass) c.replace.ensures.step.made.2)
+    let b = operations_by end in
+    let z = operations_by c.replace.new.pass in
+    let at_a : number_by c.read_contents.new.pass ≡ me = c.read_contents.ensures.same.still.1 in
+    let at_b : number_by end ≡ me = c.fill.ensures.same.still.1 ∙ at_a in
+    spared_on shape me 50 1 (number_by end) x b z at_b
+    (spared_on shape me 40 10 (number_by c.read_contents.new.pass) x a b at_a c.read_contents.ensures.few
+    c.fill.ensures.few)
+    (replaced_spares shape (number_by end) (ap (λ (s : Shape). s.shields) c.args.self.now.shaped)
+    (root_of c.args.set place) (slot_at (known_by end) place) (least_in (known_by end).fresh)
+    c.replace.ensures.step.made.0 b z c.replace.ensures.step.made.2)

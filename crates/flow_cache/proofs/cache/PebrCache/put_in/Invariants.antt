@@ -3,9 +3,8 @@ use Rattle.std.specs.Prelude.{IsTrue}
 use Rattle.std.specs.List.{list_all}
 use Rattle.cache_face.specs.Notes.{first_note, note_with}
 use Rattle.pebr_core.specs.State.{is_out, is_down}
-use Rattle.pebr_roots.specs.Passes.{shape_at, known_by, note_by, past_by, operations_by, IsSame}
-use Rattle.pebr_roots.specs.Orders.{HasMade}
-use Rattle.flow_cache.specs.Collecting.{HasCollected}
+use Rattle.pebr_roots.specs.Passes.{shape_at, known_by, number_by, note_by, past_by, operations_by, IsSame}
+use Rattle.flow_cache.specs.Collecting.{HasCollected, HasSpared}
 use Rattle.flow_cache.specs.Outcome.{HaveLost}
 use Rattle.flow_cache.proofs.cache.PebrCache.put_in.Given as goal
 
@@ -24,5 +23,6 @@ invariant-loop-lost g l = record {
       × ((shape_at l.self.roots).seats ≢ 1);
   spared : HasCollected 0 (past_by l.initial.pass) (past_by l.pass);
   tries : HaveLost l.set l.lost (past_by l.initial.pass) (past_by l.pass);
-  few : HasMade (67 * l.lost) (operations_by l.initial.pass) (operations_by l.pass);
+  few : HasSpared (shape_at l.self.roots) (number_by l.initial.pass) (67 * l.lost) (operations_by l.initial.pass)
+      (operations_by l.pass);
 }

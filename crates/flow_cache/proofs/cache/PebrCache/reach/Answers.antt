@@ -1,6 +1,7 @@
 use Rattle.std.proofs.Common.{◌≡◌, ◌∷◌, ℕ, Bool, true, false, refl, sym, ap, ◌∙◌, subst}
 use Rattle.std.specs.Prelude.{if◌then◌else◌}
 use Rattle.pebr_core.specs.State.{Seat}
+use Rattle.pebr_core.specs.declared.kinds.Shape.{Shape}
 use Rattle.pebr_core.specs.declared.kinds.Answer.{Answer}
 use Rattle.pebr_core.specs.declared.kinds.Step.TheVariants as step
 use Rattle.pebr_core.specs.declared.kinds.Answer.TheVariants as answer
@@ -10,8 +11,8 @@ use Rattle.pebr_roots.specs.Passes.{known_by, number_by, past_by}
 use Rattle.flow_cache.proofs.Tries.{checked_set}
 use Rattle.flow_cache.specs.Collecting.{HasCollected}
 use Rattle.flow_cache.proofs.Spared.{collected_on, spared_one, enter_spares, check_spares}
-use Rattle.pebr_roots.specs.Passes.{operations_by}
-use Rattle.pebr_roots.proofs.Counts.{made_one, made_two, made_on}
+use Rattle.pebr_roots.specs.Passes.{shape_at, operations_by}
+use Rattle.flow_cache.proofs.Sparing.{spared_on, entered_spares, checked_spares}
 use Rattle.flow_cache.proofs.cache.PebrCache.reach.Goals as goal
 
 -- a check makes no pin
@@ -66,9 +67,18 @@ returns-clause-spared g c =
 
 pub returns-clause-few : goal.returns-clause-few
 returns-clause-few g c =
+    let shape = shape_at c.args.self.now.roots in
+    let four = ap (λ (s : Shape). s.shields) c.args.self.now.shaped in
+    let me : ℕ = number_by c.args.pass.now in
     let x = operations_by c.args.pass.now in
     let a = operations_by c.enter.new.pass in
     let b = operations_by c.load_set.new.pass in
-    made_on 10 1 x b (operations_by c.check.new.pass)
-    (made_on 2 8 x a b (made_two _ _ x a c.enter.ensures.operations) c.load_set.ensures.few)
-    (made_one _ b (operations_by c.check.new.pass) c.check.ensures.step.made.2)
+    let z = operations_by c.check.new.pass in
+    let at_a : number_by c.enter.new.pass ≡ me = c.enter.ensures.same.still.1 in
+    let at_b : number_by c.load_set.new.pass ≡ me = c.load_set.ensures.same.still.1 ∙ at_a in
+    spared_on shape me 10 1 (number_by c.load_set.new.pass) x b z at_b
+    (spared_on shape me 2 8 (number_by c.enter.new.pass) x a b at_a
+    (entered_spares shape me four (known_by c.enter.new.pass).noted x a c.requires.of.at.3 c.enter.ensures.operations)
+    c.load_set.ensures.few)
+    (checked_spares shape (number_by c.load_set.new.pass) four c.check.ensures.step.made.0 b z
+    c.load_set.ensures.same.of.at.3 c.check.ensures.step.made.2)

@@ -13,8 +13,8 @@ use Rattle.flow_cache.specs.Reading.{words_read}
 use Rattle.flow_cache.specs.Trying.{HasMore, HasTen}
 use Rattle.flow_cache.proofs.Histories.{more_more}
 use Rattle.flow_cache.proofs.Sets.{has_ten, ten_stay, words_stay, words_are, four_read}
-use Rattle.pebr_roots.specs.Passes.{operations_by}
-use Rattle.pebr_roots.proofs.Counts.{made_on}
+use Rattle.pebr_roots.specs.Passes.{shape_at, number_by, operations_by}
+use Rattle.flow_cache.proofs.Sparing.{spared_on}
 use Rattle.flow_cache.proofs.cache.PebrCache.read_contents.Goals as goal
 
 each_of_four : (P : ℕ → Type 0) → P 0 → P 1 → P 2 → P 3 → (place : ℕ) → place < 4 → P place
@@ -110,9 +110,15 @@ returns-clause-whole c =
 
 pub returns-clause-few : goal.returns-clause-few
 returns-clause-few c =
+    let shape = shape_at c.args.self.now.roots in
+    let me : ℕ = number_by c.args.pass.now in
     let x = operations_by c.args.pass.now in
     let a = c.read_words in let b = c.read_words-2 in let d = c.read_words-3 in let e = c.read_words-4 in
-    made_on 30 10 x (operations_by d.new.pass) (operations_by e.new.pass)
-    (made_on 20 10 x (operations_by b.new.pass) (operations_by d.new.pass)
-    (made_on 10 10 x (operations_by a.new.pass) (operations_by b.new.pass) a.ensures.few b.ensures.few) d.ensures.few)
+    let at_a : number_by a.new.pass ≡ me = a.ensures.same.still.1 in
+    let at_b : number_by b.new.pass ≡ me = b.ensures.same.still.1 ∙ at_a in
+    let at_d : number_by d.new.pass ≡ me = d.ensures.same.still.1 ∙ at_b in
+    spared_on shape me 30 10 (number_by d.new.pass) x (operations_by d.new.pass) (operations_by e.new.pass) at_d
+    (spared_on shape me 20 10 (number_by b.new.pass) x (operations_by b.new.pass) (operations_by d.new.pass) at_b
+    (spared_on shape me 10 10 (number_by a.new.pass) x (operations_by a.new.pass) (operations_by b.new.pass) at_a
+    a.ensures.few b.ensures.few) d.ensures.few)
     e.ensures.few

@@ -5,6 +5,8 @@ use Rattle.cache_face.specs.Keeping.{IsWhole, entry_of}
 use Rattle.cache_face.proofs.Contents.{whole_is_small}
 use Rattle.pebr_roots.specs.Under.{slot_at}
 use Rattle.pebr_roots.specs.Passes.{known_by, past_by}
+use Rattle.pebr_roots.specs.Passes.{operations_by}
+use Rattle.flow_cache.proofs.Sparing.{made_of}
 use Rattle.flow_cache.proofs.Sets.{words_are, has_ten}
 use Rattle.flow_cache.proofs.cache.PebrCache.read_entry.Goals as goal
 
@@ -32,3 +34,7 @@ returns-clause-grown c =
 
 pub returns-clause-small : goal.returns-clause-small
 returns-clause-small c = small_entry c.read_words.new.words c.entry.result c.read_words.ensures.whole c.entry.ensures
+
+pub returns-clause-few : goal.returns-clause-few
+returns-clause-few c =
+    made_of _ _ 10 (operations_by c.args.pass.now) (operations_by c.read_words.new.pass) c.read_words.ensures.few

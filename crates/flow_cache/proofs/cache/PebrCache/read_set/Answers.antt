@@ -5,6 +5,8 @@ use Rattle.cache_face.specs.Keeping.{IsWhole, entry_of}
 use Rattle.cache_face.proofs.Contents.{whole_is_small}
 use Rattle.cache_face.proofs.Four.{all_four}
 use Rattle.set_choice.proofs.ByWords.{four_here}
+use Rattle.pebr_roots.specs.Passes.{operations_by}
+use Rattle.flow_cache.proofs.Sparing.{made_of}
 use Rattle.flow_cache.proofs.cache.PebrCache.read_set.Goals as goal
 
 small_entry : (content : List ℕ) (entry : Option Fragment) → IsWhole content → entry ≡ entry_of content
@@ -27,3 +29,7 @@ returns-clause-small c =
     (small_entry (get_or ws 1 []) c.entry-2.result (whole 1 (omega arith)) c.entry-2.ensures)
     (small_entry (get_or ws 2 []) c.entry-3.result (whole 2 (omega arith)) c.entry-3.ensures)
     (small_entry (get_or ws 3 []) c.entry-4.result (whole 3 (omega arith)) c.entry-4.ensures)
+
+pub returns-clause-few : goal.returns-clause-few
+returns-clause-few c =
+    made_of _ _ 40 (operations_by c.args.pass.now) (operations_by c.read_contents.new.pass) c.read_contents.ensures.few

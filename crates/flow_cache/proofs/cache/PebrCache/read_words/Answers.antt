@@ -16,8 +16,8 @@ use Rattle.flow_cache.specs.Trying.{HasMore}
 use Rattle.flow_cache.proofs.Histories.{word_here, word_else, read_more, more_more, found_read}
 use Rattle.flow_cache.proofs.Sets.{has_ten, words_are}
 use Rattle.flow_cache.proofs.Tries.{go_on}
-use Rattle.pebr_roots.specs.Passes.{operations_by}
-use Rattle.pebr_roots.proofs.Counts.{made_none, made_one, made_on, made_in}
+use Rattle.pebr_roots.specs.Passes.{number_by, operations_by}
+use Rattle.flow_cache.proofs.Sparing.{spared_none, spared_in, spared_on, read_spares}
 use Rattle.flow_cache.proofs.cache.PebrCache.read_words.Goals as goal
 
 -- the words as far as they were read, with the next one
@@ -44,7 +44,7 @@ loop-word-init c = record {
   more = λ slot word value is. is;
   read = λ k lt. absurd (omega (arith, lt));
   whole = λ some. absurd (omega (arith, some));
-  few = made_none _ _ refl;
+  few = spared_none _ _ _ _ refl;
 }
 
 pub loop-word-preserved : goal.loop-word-preserved
@@ -85,8 +85,11 @@ loop-word-preserved c =
           (sym reads) (next_word (past_by old).reads slot word value c.loop-word.words low before.read k lt);
       whole = λ some content read. c.read.ensures.whole content
           (subst (λ n. HasReadWhole (shape_at roots) (past_by new) n content) (sym slot_is) read);
-      few = made_on word 1 (operations_by c.args.pass.now) (operations_by old) (operations_by new) before.few
-          (made_one _ (operations_by old) (operations_by new) c.read.ensures.step.made.2);
+      few = spared_on (shape_at roots) (number_by c.args.pass.now) word 1 (number_by old) (operations_by c.args.pass.now)
+          (operations_by old) (operations_by new) before.same.still.1 before.few
+          (read_spares (shape_at roots) (number_by old) (ap (λ (s : Shape). s.shields) c.args.self.now.shaped)
+          (slot_at (known_by old) place) word c.read.ensures.step.made.0 (operations_by old) (operations_by new)
+          c.read.ensures.step.made.2);
     }
 
 pub returns-clause-grown : goal.returns-clause-grown
@@ -119,5 +122,5 @@ returns-clause-whole c =
     )
 
 pub returns-clause-few : goal.returns-clause-few
-returns-clause-few c = made_in c.loop-word.word 10 (operations_by c.args.pass.now) (operations_by c.loop-word.pass)
-    c.loop-word.invariant.low c.loop-word.invariant.few
+returns-clause-few c = spared_in (shape_at c.args.self.now.roots) (number_by c.args.pass.now) c.loop-word.word 10
+    (operations_by c.args.pass.now) (operations_by c.loop-word.pass) c.loop-word.invariant.low c.loop-word.invariant.few

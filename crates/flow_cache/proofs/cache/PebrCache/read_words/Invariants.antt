@@ -5,8 +5,8 @@ use Rattle.cache_face.specs.Notes.{first_note}
 use Rattle.pebr_words.specs.Pasts.{Read, written_at}
 use Rattle.pebr_words.specs.Ruled.{HasReadWhole}
 use Rattle.pebr_roots.specs.Under.{slot_at}
-use Rattle.pebr_roots.specs.Passes.{shape_at, known_by, note_by, past_by, operations_by, IsSame}
-use Rattle.pebr_roots.specs.Orders.{HasMade}
+use Rattle.pebr_roots.specs.Passes.{shape_at, known_by, number_by, note_by, past_by, operations_by, IsSame}
+use Rattle.flow_cache.specs.Collecting.{HasSpared}
 use Rattle.flow_cache.specs.Trying.{HasMore}
 use Rattle.flow_cache.proofs.cache.PebrCache.read_words.Given as goal
 
@@ -31,5 +31,6 @@ invariant-loop-word l = record {
       ≡ Some (slice_index l.words k);
   whole : 0 < l.word → (content : List ℕ) → HasReadWhole (shape_at l.self.roots) (past_by l.pass)
       (slot_at (known_by l.initial.pass) l.place) content → IsWhole content;
-  few : HasMade l.word (operations_by l.initial.pass) (operations_by l.pass);
+  few : HasSpared (shape_at l.self.roots) (number_by l.initial.pass) l.word (operations_by l.initial.pass)
+      (operations_by l.pass);
 }

@@ -1,8 +1,8 @@
-use Rattle.std.proofs.Common.{◌≡◌, ◌≢◌, ◌<◌, ◌≤◌, ◌++◌, None, replicate}
-use Rattle.flow_key.specs.Key.{set_number}
+use Rattle.std.proofs.Common.{◌*◌, ◌≡◌, ◌≢◌, ◌<◌, ◌≤◌, ◌++◌, None, replicate}
 use Rattle.pebr_words.specs.Pasts.{was_ejected}
 use Rattle.flow_cache.specs.Shown.{means_of}
-use Rattle.flow_watch.specs.Watching.{IsOf, held_by, note_of, past_of, lost_of}
+use Rattle.flow_watch.specs.Watching.{IsOf, held_by, note_of, past_of, lost_of, operations_of}
+use Rattle.pebr_roots.specs.Orders.{HasMade}
 use Rattle.flow_watch.proofs.watcher.Watcher.hold.Given as goal
 
 abbrev pub invariant-loop-turn : goal.invariant-loop-turn
@@ -13,5 +13,6 @@ invariant-loop-turn l = record {
   note : note_of l.self ≡ note_of l.initial.self;
   pins : (past_of l.initial.self).pins ≤ (past_of l.self).pins;
   lost : lost_of l.self ≡ replicate l._turn was_ejected ++ lost_of l.initial.self;
+  few : HasMade (56 * l._turn) (operations_of l.initial.self) (operations_of l.self);
   others : 0 < l._turn → (means_of l.cache).seats ≢ 1;
 }
