@@ -10,7 +10,7 @@ use Rattle.flow_parts.specs.Sharing.{SharesOut}
 use Rattle.record_ledger.specs.declared.record.FlowRecord.{FlowRecord}
 use Rattle.meter_io.specs.Sides.{Side}
 use Rattle.meter_workers.specs.Whole.{IsMeteredWhole}
-use Rattle.meter_program.specs.Metering.{AreGathered, IsKept, IsReadAndKept, IsGathered}
+use Rattle.meter_program.specs.Metering.{AreGathered, IsKept, IsReadAndKept, IsGathered, IsReadAndGathered}
 
 -- the fragments that a cache kept share out the packets of the file, as those that were put in do
 pub read-and-kept : (input : Side) (means limits : Timeouts) (taken metered : List Fragment) (tally : Tally) (tail : ℕ)
@@ -60,3 +60,21 @@ gathered idle active limits capture metered records tally tail idle_is active_is
   tally_is = kept.tally_is;
   tail_is = kept.tail_is;
 }
+
+-- and of what was read, where they are the fragments that the cache gave
+pub read-and-gathered : (input : Side) (idle active : ℕ) (limits : Timeouts) (metered parts : List Fragment)
+    (records : List FlowRecord) (tally tally' : Tally) (tail tail' : ℕ)
+    → parts ≡ metered → limits.idle ≡ 1000 * idle → limits.active ≡ 1000 * active
+    → IsReadAndKept input limits metered tally tail
+    → ((idle' active' : ℕ) (capture : List ℕ) → limits.idle ≡ 1000 * idle' → limits.active ≡ 1000 * active'
+    → IsKept limits capture parts tally tail → IsGathered idle' active' capture parts records tally' tail')
+    → IsReadAndGathered input idle active metered records tally' tail'
+read-and-gathered input idle active limits metered parts records tally tally' tail tail' same idle_is active_is kept
+    gathers =
+    record {
+      bytes = kept.bytes;
+      read = kept.read;
+      gathered = subst (λ (l : List Fragment). IsGathered idle active kept.bytes l records tally' tail') same
+          (gathers idle active kept.bytes idle_is active_is
+          (subst (λ (l : List Fragment). IsKept limits kept.bytes l tally tail) (sym same) kept.kept));
+    }

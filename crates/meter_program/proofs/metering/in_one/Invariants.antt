@@ -4,5 +4,5 @@ use Rattle.meter_program.proofs.metering.in_one.Given as goal
 
 abbrev pub invariant-loop-piece : goal.invariant-loop-piece
 invariant-loop-piece l = record {
-  all : l.all.items ≡ items_of (take l.piece-index l.pieces.items);
+  all : l.all.items ≡ items_of (take l.piece-index l.piece-items);
 }

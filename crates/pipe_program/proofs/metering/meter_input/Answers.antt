@@ -14,4 +14,4 @@ returns-clause-kept g c =
     let note = (g.M.Cache.FlowCache.shown c.in_ok-done.done.pass).note in
     read-and-kept (side g.S.Source.left g.S.Source.faults c.args.input.now c.meter_batches.new.source) means.limits
     c.args.limits note.taken (g.M.Caches.metered c.close.new.self) c.in_ok-done.done.tally c.in_ok-done.done.tail
-    c.in_ok-cache.ensures.cache.2 c.in_ok-done.ensures.metered c.in_ok-close.ensures.shared
+    c.in_ok-cache.ensures.cache.2 c.in_ok-done.ensures.metered c.in_ok-parts.ensures.shared
