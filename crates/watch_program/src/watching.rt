@@ -166,7 +166,8 @@ fn total_behind(
     } = gathered;
     let pass = cache.unite(others, pass);
     let parts = caches.close(alloc, cache, pass, parts)?;
-    total_of(parts)
+    let total = total_of(parts)?;
+    Ok(total)
 }
 
 /// Meters the capture that these bytes are by so many workers, asks meanwhile for the flows of its first accepted

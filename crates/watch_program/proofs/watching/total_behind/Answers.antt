@@ -42,6 +42,6 @@ returns c =
     c.sharing_out_counts.ensures.counts c.unite-pass.ensures.united
     c.requires.pass.1 c.requires.packets c.in_ok-parts.ensures.shared c.in_ok-parts.ensures.given in
     and-so (capture_file c.args.bytes.now) (HasCounts c.in_ok-parts.parts)
-    (λ file. (c.total_of.result.0 ≡ length (packets_of file)) × (c.total_of.result.1 ≡ octets_of (packets_of file)))
+    (λ file. (c.in_ok-total.total.0 ≡ length (packets_of file)) × (c.in_ok-total.total.1 ≡ octets_of (packets_of file)))
     counts
-    (λ file has. (c.total_of.ensures.packets ∙ has.0, c.total_of.ensures.octets ∙ has.1))
+    (λ file has. (c.in_ok-total.ensures.packets ∙ has.0, c.in_ok-total.ensures.octets ∙ has.1))
