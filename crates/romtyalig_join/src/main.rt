@@ -34,6 +34,13 @@ fn main(rt: HostRuntime) -> ExitCode {
         Err(status) => return ExitCode::from(status.code()),
     };
     let mut files = HostFiles::new(&rt);
-    let status = run_join(alloc, words.as_slice(), &mut files, &mut output, &mut notes);
+    let status = run_join(
+        &rt,
+        alloc,
+        words.as_slice(),
+        &mut files,
+        &mut output,
+        &mut notes,
+    );
     ExitCode::from(status.code())
 }

@@ -10,10 +10,10 @@ ghost use Rattle.flow_parts.specs.declared.fragment.Fragment.{Fragment};
 
 use cache_face::Caches;
 use capture_tally::Tally;
-use flow_parts::{Fragment, Timeouts};
+use flow_parts::{Fragment, PartList, Timeouts};
 use meter_io::Source;
 use meter_workers::{Gate, MeterFault, Windows, meter_windows};
-use record_ledger::{FlowRecord, gather};
+use record_ledger::{RecordList, gather};
 use std::alloc::Global;
 use std::test::Fail;
 use std::thread::Threads;
@@ -28,7 +28,7 @@ const SMALL: usize = 262_184;
 /// What comes of a capture: its flow records, the tally of its records, and how many bytes are left.
 #[derive(Drop)]
 struct Outcome {
-    records: Vec<FlowRecord>,
+    records: RecordList,
     tally: Tally,
     tail: u64,
 }
@@ -110,7 +110,9 @@ fn meter_source<R: Threads + Sync, S: Source, G: Gate>(
     if !are_few(caches.metered()) {
         return Err(Fail::from("more packets than there are"));
     }
-    let records = gather(alloc, caches.metered(), limits, gathered.tally.clock)?;
+    let mut parts = PartList::new(alloc);
+    parts.add_piece(caches.metered().to_vec(alloc)?)?;
+    let records = gather(rt, alloc, parts, limits, gathered.tally.clock, seats)?;
     Ok(Ok(Outcome {
         records,
         tally: gathered.tally,
