@@ -24,7 +24,7 @@ module _ (share : Option OneOf) (flows : List FlowRecord) (f : FlowRecord) (old 
   left_out falls parts packets octets =
       let same = kept-left share flows f falls in
       record {
-        parts = ap (λ ps. ps.items) parts ∙ taken.parts ∙ sym same;
+        parts = parts ∙ taken.parts ∙ sym same;
         packets = packets ∙ taken.packets ∙ ap (sum_by packets_in) (sym same);
         octets = octets ∙ taken.octets ∙ ap (sum_by octets_in) (sym same);
         clock = later;
@@ -34,7 +34,7 @@ module _ (share : Option OneOf) (flows : List FlowRecord) (f : FlowRecord) (old 
         };
       }
 
-  pub taken_in : falls_to share f.part.key ≡ true → new.parts.items ≡ old.parts.items ++ f.part ∷ []
+  pub taken_in : falls_to share f.part.key ≡ true → new.parts ≡ old.parts ++ f.part ∷ []
       → new.packets ≡ old.packets + f.part.packets → old.packets + f.part.packets < 2 ^ 64
       → new.octets ≡ old.octets + f.part.octets → old.octets + f.part.octets < 2 ^ 64
       → IsTaken share (flows ++ f ∷ []) new

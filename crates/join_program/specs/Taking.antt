@@ -37,7 +37,7 @@ asked_of settings files = record {
 }
 
 pub record IsTaken (share : Option OneOf) (flows : List FlowRecord) (taken : Taken) : Type 0 where
-  pub parts : taken.parts.items ≡ kept share flows
+  pub parts : taken.parts ≡ kept share flows
   pub packets : taken.packets ≡ sum_by (λ (f : Fragment). f.packets) (kept share flows)
   pub octets : taken.octets ≡ sum_by (λ (f : Fragment). f.octets) (kept share flows)
   pub clock : IsLatest flows taken.clock

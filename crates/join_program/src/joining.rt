@@ -14,23 +14,28 @@ use flow_parts::Timeouts;
 use ipfix_writer::{Emitter, emit_all};
 use meter_io::{Failed, Sink};
 use no_memory::NoMemory;
-use record_ledger::{FlowRecord, gather};
+use record_ledger::{FlowRecord, RecordList, gather};
 use std::alloc::Global;
+use std::thread::Threads;
 use stream_law::layout_law;
 
+/// How many threads gather.
+const THREADS: usize = 4;
+
 /// The records that what was taken becomes.
-pub(crate) fn gather_taken(
+pub(crate) fn gather_taken<R: Threads + Sync>(
+    rt: &R,
     alloc: Global,
     settings: &JoinSettings,
-    taken: &Taken,
-) -> Result<Vec<FlowRecord>, NoMemory>
-    requires { (flows : List FlowRecord) × IsTaken (share_of settings.now.share) flows taken.now }
+    taken: Taken,
+) -> Result<RecordList, NoMemory>
+    requires { (flows : List FlowRecord) × IsTaken (share_of settings.now.share) flows taken }
     ensures { IfOk result (λ records. (names : List (List ℕ)) (inputs : List (List FlowRecord))
-        → IsTaken (share_of settings.now.share) (together inputs) taken.now
-        → AreJoined (asked_of settings.now names) inputs taken.now.clock records.items) }
+        → IsTaken (share_of settings.now.share) (together inputs) taken
+        → AreJoined (asked_of settings.now names) inputs taken.clock records) }
 {
     let limits = Timeouts::new(settings.idle, settings.active);
-    gather(alloc, taken.parts.as_slice(), limits, taken.clock)
+    gather(rt, alloc, taken.parts, limits, taken.clock, THREADS)
 }
 
 /// The export time of records with this latest time: in whole seconds, in 32 bits, and 0 without one.
@@ -48,7 +53,7 @@ pub(crate) fn write_records<K: Sink>(
     alloc: Global,
     size: u32,
     clock: Option<u64>,
-    records: &[FlowRecord],
+    records: &RecordList,
     output: &mut K,
 ) -> JoinStatus
     requires { (116 ≤ size) × (size ≤ 65535) }

@@ -71,7 +71,7 @@ fn take_file<O: Opener>(
         Ok(flows) => flows,
         Err(error) => return Err(error),
     };
-    match take_all(taken, share, flows.as_slice()) {
+    match take_all(taken, alloc, share, flows.as_slice()) {
         Ok(()) => Ok(()),
         Err(TakeError::TooMany) => Err(FileError::Fault(FileFault::TooMany)),
         Err(TakeError::NoMemory) => Err(FileError::NoMemory),

@@ -17,9 +17,11 @@ use crate::words::{Command, command_of};
 use command_words::OptionsError;
 use meter_io::{Sink, write_all};
 use std::alloc::Global;
+use std::thread::Threads;
 
 /// Reads files of flow records, and writes the stream of what their records become.
-fn join_files<O: Opener, K: Sink>(
+fn join_files<R: Threads + Sync, O: Opener, K: Sink>(
+    rt: &R,
     alloc: Global,
     command: &Command<'_>,
     opener: &mut O,
@@ -33,18 +35,11 @@ fn join_files<O: Opener, K: Sink>(
         Ok(taken) => taken,
         Err(status) => return status,
     };
-    let Ok(records) = gather_taken(alloc, &command.settings, &taken) else {
+    let clock = taken.clock;
+    let Ok(records) = gather_taken(rt, alloc, &command.settings, taken) else {
         return JoinStatus::NoMemory;
     };
-    let clock = taken.clock;
-    drop(taken);
-    write_records(
-        alloc,
-        command.settings.size,
-        clock,
-        records.as_slice(),
-        output,
-    )
+    write_records(alloc, command.settings.size, clock, &records, output)
 }
 
 /// Notes the line of the file at this place, which is refused.
@@ -87,7 +82,8 @@ fn note_refusal<N: Sink>(
 ///   record; `TooMany`: exactly where the records kept, with those of the files before it, have 2^64 packets or octets.
 /// - `WriteFault`: only where a write failed and the output counted it; it took a beginning of what it was to take.
 /// - `NoMemory`: out of memory, at any point before the first write.
-pub fn run_join<O: Opener, K: Sink, N: Sink>(
+pub fn run_join<R: Threads + Sync, O: Opener, K: Sink, N: Sink>(
+    rt: &R,
     alloc: Global,
     words: &[String],
     opener: &mut O,
@@ -109,7 +105,7 @@ pub fn run_join<O: Opener, K: Sink, N: Sink>(
         Err(OptionsError::NotOptions) => return JoinStatus::Usage,
         Err(OptionsError::NoMemory) => return JoinStatus::NoMemory,
     };
-    match join_files(alloc, &command, opener, output) {
+    match join_files(rt, alloc, &command, opener, output) {
         JoinStatus::Refused { place, fault } => {
             note_refusal(alloc, command.files, place, fault, notes)
         }

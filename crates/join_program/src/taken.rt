@@ -1,12 +1,12 @@
 //! What is kept of the records that were read.
 
-use flow_parts::Fragment;
+use flow_parts::PartList;
 
 /// What is kept of the records that were read so far: the fragments of those that fall to the share, how many packets
 /// and octets these have, and the latest time of all records.
 #[derive(Drop)]
 pub(crate) struct Taken {
-    pub parts: Vec<Fragment>,
+    pub parts: PartList,
     pub packets: u64,
     pub octets: u64,
     pub clock: Option<u64>,

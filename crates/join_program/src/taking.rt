@@ -11,7 +11,7 @@ ghost use Rattle.join_program.specs.Taking.{IsTaken, share_of};
 use crate::settings::Share;
 use crate::taken::Taken;
 use flow_key::FlowKey;
-use flow_parts::Fragment;
+use flow_parts::{Fragment, PartList};
 use no_memory::NoMemory;
 use record_ledger::FlowRecord;
 use std::alloc::Global;
@@ -46,10 +46,10 @@ fn falls_to(share: Option<Share>, key: &FlowKey) -> bool
 }
 
 /// Adds a fragment.
-fn add_part(parts: &mut Vec<Fragment>, part: Fragment) -> Result<(), NoMemory>
-    ensures { OnOk result (parts.new.items ≡ parts.old.items ++ part ∷ []) }
+fn add_part(parts: &mut PartList, alloc: Global, part: Fragment) -> Result<(), NoMemory>
+    ensures { OnOk result (parts.new ≡ parts.old ++ part ∷ []) }
 {
-    parts.push(part)?;
+    parts.push(alloc, part)?;
     Ok(())
 }
 
@@ -70,7 +70,7 @@ pub(crate) fn nothing_taken(alloc: Global) -> Taken
     ensures { (share : Option OneOf) → IsTaken share [] result }
 {
     Taken {
-        parts: Vec::new(alloc),
+        parts: PartList::new(alloc),
         packets: 0,
         octets: 0,
         clock: None,
@@ -78,7 +78,12 @@ pub(crate) fn nothing_taken(alloc: Global) -> Taken
 }
 
 /// Takes a record: its time, and its fragment where it falls to the share.
-fn take(taken: &mut Taken, share: Option<Share>, flow: &FlowRecord) -> Result<(), TakeError>
+fn take(
+    taken: &mut Taken,
+    alloc: Global,
+    share: Option<Share>,
+    flow: &FlowRecord,
+) -> Result<(), TakeError>
     ensures taken { OnOk result ((flows : List FlowRecord) → IsTaken (share_of share) flows taken.old
         → IsTaken (share_of share) (flows ++ flow.now ∷ []) taken.new) }
     ensures many { IsErrOf result TakeError.TooMany → (flows : List FlowRecord)
@@ -90,7 +95,7 @@ fn take(taken: &mut Taken, share: Option<Share>, flow: &FlowRecord) -> Result<()
     }
     let packets = sum(taken.packets, flow.part.packets)?;
     let octets = sum(taken.octets, flow.part.octets)?;
-    add_part(&mut taken.parts, flow.part)?;
+    add_part(&mut taken.parts, alloc, flow.part)?;
     taken.packets = packets;
     taken.octets = octets;
     Ok(())
@@ -99,6 +104,7 @@ fn take(taken: &mut Taken, share: Option<Share>, flow: &FlowRecord) -> Result<()
 /// Takes records, each by itself.
 pub(crate) fn take_all(
     taken: &mut Taken,
+    alloc: Global,
     share: Option<Share>,
     flows: &[FlowRecord],
 ) -> Result<(), TakeError>
@@ -109,7 +115,7 @@ pub(crate) fn take_all(
 {
     let mut place = 0;
     while place < flows.len() {
-        match take(taken, share, &flows[place]) {
+        match take(taken, alloc, share, &flows[place]) {
             Ok(()) => {}
             Err(error) => return Err(error),
         }

@@ -57,14 +57,14 @@ pub fn emit<K: Sink>(emitter: Emitter, gathered: &Gathered, sink: &mut K) -> Res
     requires time { emitter.export_time ≡ export_time gathered.now.tally.clock }
     ensures written { IfOk result (λ messages. (bytes : List ℕ)
         × HasTaken (side K.held K.faults sink.old sink.new) bytes
-        × IsWritten emitter.size gathered.now.records.items gathered.now.tally bytes messages) }
+        × IsWritten emitter.size gathered.now.records gathered.now.tally bytes messages) }
     ensures begun { OnErr result ((bytes : List ℕ) × (messages : ℕ)
         × HasBegun (side K.held K.faults sink.old sink.new) bytes
-        × IsWritten emitter.size gathered.now.records.items gathered.now.tally bytes messages) }
+        × IsWritten emitter.size gathered.now.records gathered.now.tally bytes messages) }
     ensures cause { HasCause (K.faults sink.old) (K.faults sink.new) result }
 {
     layout_law();
-    emit_all(emitter, gathered.records.as_slice(), sink)
+    emit_all(emitter, &gathered.records, sink)
 }
 
 /// Writes the stream of these records, in messages of at most `size` octets, and then notes the summary.
@@ -85,7 +85,7 @@ pub fn write_stream<K: Sink, N: Sink>(
     notes: &mut N,
 ) -> Status
     requires { (116 ≤ size) × (size ≤ 65535) }
-    ensures { WriteMeans size gathered.now.records.items gathered.now.tally gathered.now.tail
+    ensures { WriteMeans size gathered.now.records gathered.now.tally gathered.now.tail
         (side K.held K.faults output.old output.new)
         (side N.held N.faults notes.old notes.new) result }
 {

@@ -1,6 +1,6 @@
 //! Metering a capture through one cache, and gathering what the cache gave.
 
-ghost use Rattle.std.specs.Prelude.{◌≡◌, ◌*◌, List, ℕ, IfOk, IfErr, sum_by};
+ghost use Rattle.std.specs.Prelude.{◌≡◌, ◌<◌, ◌*◌, List, ℕ, IfOk, IfErr, sum_by};
 ghost use Rattle.flow_parts.specs.declared.timeouts.Timeouts.{Timeouts};
 ghost use Rattle.meter_io.specs.Sides.{Side, side};
 ghost use Rattle.flow_parts.specs.declared.fragment.Fragment.{Fragment};
@@ -12,12 +12,12 @@ use crate::status::Status;
 use cache_face::Caches;
 use capture_tally::Tally;
 use flow_parts::laws::sharing_out_counts;
-use flow_parts::{Fragment, PartList, Timeouts};
+use flow_parts::{PartList, Timeouts};
 use meter_io::Source;
 use meter_workers::{Gate, Windows, meter_windows};
 use no_memory::NoMemory;
 use pcap_reader::CAPTURE_LIMIT;
-use record_ledger::{FlowRecord, gather};
+use record_ledger::{RecordList, gather};
 use std::alloc::Global;
 use std::thread::Threads;
 
@@ -35,7 +35,7 @@ pub struct CaptureCount {
 /// The records of a capture, its tally, and how many bytes are left behind its last record.
 #[derive(Drop)]
 pub struct Gathered {
-    pub records: Vec<FlowRecord>,
+    pub records: RecordList,
     pub tally: Tally,
     pub tail: u64,
 }
@@ -79,59 +79,54 @@ fn meter_input<R: Threads + Sync, S: Source, M: Caches, G: Gate>(
     Ok((parts, counted))
 }
 
-/// The fragments of a list, copied into one piece.
-fn in_one(alloc: Global, parts: PartList) -> Result<Vec<Fragment>, NoMemory>
-    ensures { IfOk result (λ all. all.items ≡ parts) }
-{
-    let pieces = parts.into_pieces()?;
-    let mut all = Vec::new(alloc);
-    for piece in pieces.as_slice() {
-        all.extend_from_slice(piece.as_slice())?;
-    }
-    Ok(all)
-}
-
-/// Gathers fragments, which have so many packets and octets, into records.
-fn records_of(
+/// Gathers fragments, which have so many packets and octets, into records, by so many threads.
+fn records_of<R: Threads + Sync>(
+    rt: &R,
     alloc: Global,
     parts: PartList,
     limits: Timeouts,
     clock: Option<u64>,
     packets: u64,
     octets: u64,
-) -> Result<Vec<FlowRecord>, NoMemory>
+    threads: usize,
+) -> Result<RecordList, NoMemory>
+    requires threads { 0 < threads }
     requires packets { sum_by (λ (f : Fragment). f.packets) parts ≡ packets }
     requires octets { sum_by (λ (f : Fragment). f.octets) parts ≡ octets }
-    ensures { IfOk result (λ records. AreGathered limits parts clock records.items) }
+    ensures { IfOk result (λ records. AreGathered limits parts clock records) }
 {
-    let parts = in_one(alloc, parts)?;
-    let records = gather(alloc, parts.as_slice(), limits, clock)?;
+    let records = gather(rt, alloc, parts, limits, clock, threads)?;
     Ok(records)
 }
 
-/// Gathers the fragments that a cache gave of a capture that was metered into the capture's records.
+/// Gathers the fragments that a cache gave of a capture that was metered into the capture's records, by so many threads.
 ///
 /// `NoMemory` where there is no room for them.
-pub fn gathered_of(
+pub fn gathered_of<R: Threads + Sync>(
+    rt: &R,
     alloc: Global,
     parts: PartList,
     limits: Timeouts,
     counted: CaptureCount,
+    threads: usize,
 ) -> Result<Gathered, NoMemory>
-    requires { (capture : List ℕ) × IsKept limits capture parts counted.tally counted.tail }
+    requires threads { 0 < threads }
+    requires kept { (capture : List ℕ) × IsKept limits capture parts counted.tally counted.tail }
     ensures { IfOk result (λ g. (idle active : ℕ) (capture : List ℕ) → limits.idle ≡ 1000 * idle
         → limits.active ≡ 1000 * active → IsKept limits capture parts counted.tally counted.tail
-        → IsGathered idle active capture parts g.records.items g.tally g.tail) }
+        → IsGathered idle active capture parts g.records g.tally g.tail) }
 {
     sharing_out_counts();
     let CaptureCount { tally, tail } = counted;
     let records = records_of(
+        rt,
         alloc,
         parts,
         limits,
         tally.clock,
         tally.accepted,
         tally.octets,
+        threads,
     )?;
     Ok(Gathered {
         records,
@@ -151,11 +146,11 @@ pub fn gathered_from<R: Threads + Sync, S: Source, M: Caches, G: Gate>(
 ) -> Result<Gathered, Status>
     ensures records { IfOk result
         (λ g. IsReadAndGathered (side S.left S.faults input.old input.new) settings.now.idle settings.now.active
-        (M.metered caches.new) g.records.items g.tally g.tail) }
+        (M.metered caches.new) g.records g.tally g.tail) }
     ensures refused { IfErr result (λ status. MeterRefuses (side S.left S.faults input.old input.new) status) }
 {
     let limits = Timeouts::new(settings.idle, settings.active);
     let (parts, counted) = meter_input(rt, alloc, settings, limits, input, caches, gate)?;
-    let gathered = gathered_of(alloc, parts, limits, counted)?;
+    let gathered = gathered_of(rt, alloc, parts, limits, counted, settings.workers)?;
     Ok(gathered)
 }

@@ -72,12 +72,12 @@ fn gathered_from<R: Threads + Wait + Sync, S: Source, M: Caches, G: Gate>(
 ) -> Result<Gathered, Status>
     ensures records { IfOk result
         (λ g. IsReadAndGathered (side S.left S.faults input.old input.new) settings.now.idle settings.now.active
-        (M.metered caches.new) g.records.items g.tally g.tail) }
+        (M.metered caches.new) g.records g.tally g.tail) }
     ensures refused { IfErr result (λ status. MeterRefuses (side S.left S.faults input.old input.new) status) }
 {
     let limits = Timeouts::new(settings.idle, settings.active);
     let (parts, counted) = meter_input(rt, alloc, settings, limits, input, caches, gate)?;
-    let gathered = gathered_of(alloc, parts, limits, counted)?;
+    let gathered = gathered_of(rt, alloc, parts, limits, counted, settings.workers)?;
     Ok(gathered)
 }
 

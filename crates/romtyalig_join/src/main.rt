@@ -17,7 +17,14 @@ fn main(rt: HostRuntime) -> ExitCode {
     let mut notes = StdSink::new(rt.stderr());
     let mut files = HostFiles::new(&rt);
     let status = match words_of(&rt) {
-        Ok(words) => run_join(alloc, words.as_slice(), &mut files, &mut output, &mut notes),
+        Ok(words) => run_join(
+            &rt,
+            alloc,
+            words.as_slice(),
+            &mut files,
+            &mut output,
+            &mut notes,
+        ),
         Err(OptionsError::NotOptions) => JoinStatus::Usage,
         Err(OptionsError::NoMemory) => JoinStatus::NoMemory,
     };

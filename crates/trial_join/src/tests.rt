@@ -6,6 +6,7 @@ use meter_io::MemSink;
 use samples::octets_of;
 use std::alloc::Global;
 use std::test::Fail;
+use std::thread::Threads;
 
 mod refused;
 mod splits;
@@ -27,7 +28,7 @@ struct Ran {
 }
 
 /// Joins files by a command line with single spaces between its words.
-fn join(alloc: Global, line: &str, files: &[Held]) -> Result<Ran, Fail> {
+fn join(rt: &(impl Threads + Sync), alloc: Global, line: &str, files: &[Held]) -> Result<Ran, Fail> {
     let mut words = Vec::new(alloc);
     for word in line.split(' ') {
         words.push(String::from_str(alloc, word)?)?;
@@ -36,6 +37,7 @@ fn join(alloc: Global, line: &str, files: &[Held]) -> Result<Ran, Fail> {
     let mut output = MemSink::open(alloc, 65_536, 1000, &[])?;
     let mut notes = MemSink::open(alloc, 1000, 1000, &[])?;
     let status = run_join(
+        rt,
         alloc,
         words.as_slice(),
         &mut opener,

@@ -13,7 +13,7 @@ use capture_tally::Tally;
 use flow_parts::{Fragment, PartList, Timeouts};
 use meter_io::Source;
 use meter_workers::{Gate, MeterFault, Windows, meter_windows};
-use record_ledger::{FlowRecord, gather};
+use record_ledger::{RecordList, gather};
 use std::alloc::Global;
 use std::test::Fail;
 use std::thread::Threads;
@@ -28,7 +28,7 @@ const SMALL: usize = 262_184;
 /// What comes of a capture: its flow records, the tally of its records, and how many bytes are left.
 #[derive(Drop)]
 struct Outcome {
-    records: Vec<FlowRecord>,
+    records: RecordList,
     tally: Tally,
     tail: u64,
 }
@@ -123,7 +123,9 @@ fn meter_source<R: Threads + Sync, S: Source, G: Gate>(
     if !are_few(parts.as_slice()) {
         return Err(Fail::from("more packets than there are"));
     }
-    let records = gather(alloc, parts.as_slice(), limits, gathered.tally.clock)?;
+    let mut list = PartList::new(alloc);
+    list.add_piece(parts)?;
+    let records = gather(rt, alloc, list, limits, gathered.tally.clock, seats)?;
     Ok(Ok(Outcome {
         records,
         tally: gathered.tally,

@@ -115,7 +115,7 @@ fn files_are_joined_or_refused(rt: HostRuntime) -> Result<(), Fail> {
     let alloc = rt.alloc();
     let files = files_of(alloc)?;
     for (line, status, note, record) in ROWS {
-        let ran = join(alloc, line, files.as_slice())?;
+        let ran = join(&rt, alloc, line, files.as_slice())?;
         assert_eq!(rt; ran.status, status, "{line}");
         assert_eq!(rt; ran.notes.as_slice(), note.as_bytes(), "{line}");
         let wanted = match record {

@@ -6,6 +6,7 @@ use samples::octets_of;
 use std::alloc::Global;
 use std::process::Abort;
 use std::test::Fail;
+use std::thread::Threads;
 
 /// A capture, by what is written of it.
 struct Capture {
@@ -168,7 +169,7 @@ fn a_file_for_each_packet(rt: HostRuntime) -> Result<(), Fail> {
     for capture in &CAPTURES {
         let files = streams_of(alloc, capture.time, capture.packets)?;
         let line = line_of(alloc, capture.packets, 0, 0)?;
-        let ran = join(alloc, line.as_str(), files.as_slice())?;
+        let ran = join(&rt, alloc, line.as_str(), files.as_slice())?;
         assert_eq!(rt; (ran.status, ran.notes.len()), (0, 0), "{line}");
         assert_eq!(rt;
             ran.output.as_slice(),
@@ -181,18 +182,20 @@ fn a_file_for_each_packet(rt: HostRuntime) -> Result<(), Fail> {
 
 /// Joins the packets of a capture in two halves, and both halves.
 fn check_half(
-    rt: &impl Abort,
+    rt: &(impl Abort + Threads + Sync),
     alloc: Global,
     capture: &Capture,
     files: &[Held],
     half: u32,
 ) -> Result<(), Fail> {
     let first = join(
+        rt,
         alloc,
         line_of(alloc, capture.packets, half, 0)?.as_str(),
         files,
     )?;
     let second = join(
+        rt,
         alloc,
         line_of(alloc, capture.packets, half, 1)?.as_str(),
         files,
@@ -209,7 +212,7 @@ fn check_half(
         bytes: second.output,
         fails: &[],
     })?;
-    let ran = join(alloc, "join first second", halves.as_slice())?;
+    let ran = join(rt, alloc, "join first second", halves.as_slice())?;
     assert_eq!(rt; ran.status, 0, "half {half}");
     assert_eq!(rt;
         ran.output.as_slice(),
@@ -242,7 +245,7 @@ fn one_file_stays(rt: HostRuntime) -> Result<(), Fail> {
             bytes,
             fails: &[],
         })?;
-        let ran = join(alloc, "join whole", files.as_slice())?;
+        let ran = join(&rt, alloc, "join whole", files.as_slice())?;
         assert_eq!(rt; ran.status, 0);
         assert_eq!(rt; ran.output.as_slice(), whole_of(alloc, capture)?.as_slice());
     }

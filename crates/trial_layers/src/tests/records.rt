@@ -27,7 +27,7 @@ fn one_packet(source_port: u16, time: u64) -> Fragment {
 }
 
 /// Whether the packets and the octets of all parts are few enough to be added up.
-fn are_few(parts: &[Fragment]) -> bool
+pub fn are_few(parts: &[Fragment]) -> bool
     ensures packets { IsTrue result → sum_by (λ (f : Fragment). f.packets) parts.now < 2 ^ 64 }
     ensures octets { IsTrue result → sum_by (λ (f : Fragment). f.octets) parts.now < 2 ^ 64 }
 {
@@ -49,7 +49,7 @@ fn are_few(parts: &[Fragment]) -> bool
 }
 
 /// The fragments as a list in pieces.
-fn in_pieces(alloc: Global, parts: &[Fragment]) -> Result<PartList, NoMemory>
+pub fn in_pieces(alloc: Global, parts: &[Fragment]) -> Result<PartList, NoMemory>
     ensures { IfOk result (λ list. list ≡ parts.now) }
 {
     let mut list = PartList::new(alloc);
@@ -162,6 +162,30 @@ fn gaps_and_spans(rt: HostRuntime) -> Result<(), Fail> {
     )?;
     // No packet.
     expect(&rt, rt.alloc(), &[], &[])
+}
+
+/// 10,000 ports, two packets each: about two buckets for each 8,192 fragments, and one record a port, in their order.
+#[test]
+fn many_keys(rt: HostRuntime) -> Result<(), Fail> {
+    let alloc = rt.alloc();
+    let mut parts = Vec::new(alloc);
+    for time in [1_000_000, 1_001_000] {
+        for port in 0..10_000u16 {
+            parts.push(one_packet(9999 - port, time))?;
+        }
+    }
+    assert!(rt; are_few(&parts));
+    for threads in [1, 4] {
+        assert!(rt; threads > 0);
+        let list = in_pieces(alloc, &parts)?;
+        let gathered = gather(&rt, alloc, list, Timeouts::new(300, 1800), Some(1_001_000), threads)?;
+        assert!(rt; gathered.len() == 10_000);
+        for place in 0..gathered.len() {
+            let found = gathered.get(place);
+            assert!(rt; found.part.key.source_port as usize == place && found.part.packets == 2);
+        }
+    }
+    Ok(())
 }
 
 #[test]

@@ -1,12 +1,16 @@
 //! Streams whose bytes were written out by hand from RFC 7011, sections 3.1 to 3.4.
 
+use super::records::{are_few, in_pieces};
 use super::{tcp_flow, udp_flow};
+use flow_parts::Timeouts;
 use ipfix_writer::{Emitter, emit_all, layout};
 use meter_io::{Failed, MemSink};
-use record_ledger::FlowRecord;
+use record_ledger::{FlowRecord, RecordList, gather};
 use samples::octets_of;
 use std::alloc::Global;
+use std::process::Abort;
 use std::test::Fail;
+use std::thread::Threads;
 
 /// The message with the templates, but for its first eight bytes.
 const TEMPLATES: &str = "0000000000000001000200640100000b00080004000c0004000700020\
@@ -58,6 +62,22 @@ fn streams_are_laid_out_as_written_by_hand(rt: HostRuntime) -> Result<(), Fail> 
     Ok(())
 }
 
+/// The records, each of a key of its own, in the written order.
+fn listed(
+    rt: &(impl Abort + Threads + Sync),
+    alloc: Global,
+    records: &[FlowRecord],
+) -> Result<RecordList, Fail> {
+    let mut parts = Vec::new(alloc);
+    for record in records {
+        parts.push(record.part)?;
+    }
+    assert!(rt; are_few(&parts));
+    let list = in_pieces(alloc, &parts)?;
+    Ok(gather(rt, alloc, list, Timeouts::new(300, 1800), Some(1_000_000), 2)?)
+}
+
+/// The record over IPv6 ends before those over IPv4, so it comes first.
 #[test]
 fn messages_are_filled(rt: HostRuntime) -> Result<(), Fail> {
     let mut records = Vec::new(rt.alloc());
@@ -70,17 +90,18 @@ fn messages_are_filled(rt: HostRuntime) -> Result<(), Fail> {
         (0, 1400, 1, 116),
         (28, 1400, 2, 116 + 1364),
         (29, 1400, 3, 116 + 1364 + 68),
-        (30, 1400, 3, 116 + 1364 + 144),
-        (31, 1400, 3, 116 + 1364 + 196),
+        (30, 1400, 3, 116 + 1392 + 116),
+        (31, 1400, 3, 116 + 1392 + 164),
         (4, 116, 3, 116 + 116 + 116),
         (3, 116, 3, 116 + 116 + 68),
-        (31, 65_535, 2, 116 + 16 + 3 * 4 + 30 * 48 + 72),
+        (31, 65_535, 2, 116 + 16 + 2 * 4 + 30 * 48 + 72),
     ] {
         assert!(rt; count <= records.len() && size >= 116 && size < 65_536);
         let emitter = Emitter::open(rt.alloc(), size, 1000)?;
         let mut sink = MemSink::open(rt.alloc(), 4096, 4096, &[])?;
         let (first, _) = records.as_slice().split_at(count);
-        let end = emit_all(emitter, first, &mut sink);
+        let list = listed(&rt, rt.alloc(), first)?;
+        let end = emit_all(emitter, &list, &mut sink);
         assert!(rt;
             end == Ok(messages) && sink.held().len() == length,
             "{count} records, size {size}"
@@ -92,10 +113,11 @@ fn messages_are_filled(rt: HostRuntime) -> Result<(), Fail> {
 #[test]
 fn a_failed_write_leaves_a_beginning(rt: HostRuntime) -> Result<(), Fail> {
     let records = [udp_flow(4000, 1, 28, 1_000_000)];
+    let list = listed(&rt, rt.alloc(), records.as_slice())?;
     for (fails, held) in [([1], 0), ([2], 60), ([3], 120), ([4], 180)] {
         let emitter = Emitter::open(rt.alloc(), 1400, 1000)?;
         let mut sink = MemSink::open(rt.alloc(), 4096, 60, fails.as_slice())?;
-        let end = emit_all(emitter, records.as_slice(), &mut sink);
+        let end = emit_all(emitter, &list, &mut sink);
         assert!(rt; end == Err(Failed) && sink.held().len() == held);
     }
     Ok(())
@@ -109,10 +131,11 @@ fn a_stream_goes_out_in_whole_messages(rt: HostRuntime) -> Result<(), Fail> {
     for place in 0..6000u16 {
         records.push(udp_flow(place, 1, 28, 1_000_000))?;
     }
+    let list = listed(&rt, rt.alloc(), records.as_slice())?;
     for (fails, held) in [([1], 0), ([2], 116 + 192 * 1364)] {
         let emitter = Emitter::open(rt.alloc(), 1400, 1000)?;
         let mut sink = MemSink::open(rt.alloc(), 1 << 19, 1 << 19, fails.as_slice())?;
-        let end = emit_all(emitter, records.as_slice(), &mut sink);
+        let end = emit_all(emitter, &list, &mut sink);
         assert!(rt; end == Err(Failed) && sink.held().len() == held);
     }
     Ok(())

@@ -7,6 +7,7 @@ use capture_maker::capture;
 use meter_io::MemSource;
 use meter_workers::OpenGate;
 use pcap_reader::{Capture, FillEnd, Head, Window};
+use record_ledger::RecordList;
 use std::alloc::Global;
 use std::process::Abort;
 use std::test::Fail;
@@ -41,6 +42,19 @@ fn counts(rt: &impl Abort, alloc: Global, bytes: &[u8]) -> Result<Vec<u64>, Fail
     Ok(counts)
 }
 
+/// Whether two lists have the same records.
+fn are_same(one: &RecordList, other: &RecordList) -> bool {
+    if one.len() != other.len() {
+        return false;
+    }
+    for place in 0..one.len() {
+        if place < other.len() && one.get(place) != other.get(place) {
+            return false;
+        }
+    }
+    true
+}
+
 #[test]
 fn four_windows_and_one_give_the_same_records(rt: HostRuntime) -> Result<(), Fail> {
     let alloc = rt.alloc();
@@ -64,7 +78,7 @@ fn four_windows_and_one_give_the_same_records(rt: HostRuntime) -> Result<(), Fai
         let one = meter_source(&rt, alloc, &mut source, whole, &OpenGate)?;
         let one = one.ok().ok_or("one window")?;
         assert_eq!(rt; four.records.len(), 64);
-        assert!(rt; four.records == one.records, "{seats} workers");
+        assert!(rt; are_same(&four.records, &one.records), "{seats} workers");
         assert_eq!(rt; four.tally, one.tally);
         assert_eq!(rt; four.tally.captured, 20_000);
         assert_eq!(rt; four.tally.accepted, 20_000);

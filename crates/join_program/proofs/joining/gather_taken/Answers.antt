@@ -12,21 +12,21 @@ all_four (Ok a) p q r s f = f a p q r s
 all_four (Err e) p q r s f = tt
 
 pub gather-requires-clause-packets : goal.gather-requires-clause-packets
-gather-requires-clause-packets c =
+gather-requires-clause-packets g c κs within =
     let taken = c.requires.1 in
     let few = taken.few.packets in
-    let e = ap (sum_by (λ (f : Fragment). f.packets)) (c.as_slice.ensures.value ∙ taken.parts) in omega arith
+    let e = ap (sum_by (λ (f : Fragment). f.packets)) taken.parts in omega arith
 
 pub gather-requires-clause-octets : goal.gather-requires-clause-octets
-gather-requires-clause-octets c =
+gather-requires-clause-octets g c κs within =
     let taken = c.requires.1 in
     let few = taken.few.octets in
-    let e = ap (sum_by (λ (f : Fragment). f.octets)) (c.as_slice.ensures.value ∙ taken.parts) in omega arith
+    let e = ap (sum_by (λ (f : Fragment). f.octets)) taken.parts in omega arith
 
 pub returns : goal.returns
-returns c = all_four c.gather.result c.gather.ensures.regroups c.gather.ensures.lawful_by c.gather.ensures.lawful
+returns g c = all_four c.gather.result c.gather.ensures.regroups c.gather.ensures.lawful_by c.gather.ensures.lawful
     c.gather.ensures.sessions
     (λ records regroups by own sessions names inputs taken.
-    joined (asked_of c.args.settings.now names) inputs c.args.taken.now.clock c.new-limits.result
-    c.as_slice.result.now records.items c.new-limits.ensures.idle c.new-limits.ensures.active
-    (c.as_slice.ensures.value ∙ taken.parts) taken.clock regroups by own sessions)
+    joined (asked_of c.args.settings.now names) inputs c.args.taken.clock c.new-limits.result
+    c.args.taken.parts records c.new-limits.ensures.idle c.new-limits.ensures.active
+    taken.parts taken.clock regroups by own sessions)

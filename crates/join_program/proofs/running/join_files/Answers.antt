@@ -43,7 +43,6 @@ returns g c =
     let names = map string_bytes c.args.command.now.files.now in
     means (asked_of c.args.command.now.settings names)
     (files_seen g.O.Opener.contents g.O.Opener.faults c.args.opener.now c.take_files.new.opener) _
-    taken.0 taken.1 taken.2.few c.in-Ok.taken.clock c.as_slice.result.now
-    (subst (AreJoined (asked_of c.args.command.now.settings names) taken.0 c.in-Ok.taken.clock)
-    (sym c.as_slice.ensures.value) (c.in-Ok-gather_taken.ensures names taken.0 taken.2))
+    taken.0 taken.1 taken.2.few c.in-Ok.taken.clock c.in-Ok-gather_taken.records
+    (c.in-Ok-gather_taken.ensures names taken.0 taken.2)
     c.write_records.result c.write_records.ensures

@@ -10,7 +10,7 @@ returns-clause-written g c =
       h.0,
       h.1,
       written-of c.args.emitter.size c.args.emitter.size c.args.emitter.export_time c.as_slice.result.now
-          c.args.gathered.now.records.items c.args.gathered.now.tally h.0 messages c.layout_law.ensures c.requires.size
+          c.args.gathered.now.records c.args.gathered.now.tally h.0 messages c.layout_law.ensures c.requires.size
           refl c.requires.time c.as_slice.ensures.value h.2,
     ))
 
@@ -18,7 +18,7 @@ pub returns-clause-begun : goal.returns-clause-begun
 returns-clause-begun g c =
     on_err c.emit_all.result c.emit_all.ensures.broken (λ h.
     let begun = begun-of c.args.emitter.size c.args.emitter.export_time c.as_slice.result.now
-    c.args.gathered.now.records.items c.args.gathered.now.tally h.0
+    c.args.gathered.now.records c.args.gathered.now.tally h.0
     (side g.K.Sink.held g.K.Sink.faults c.args.sink.now c.emit_all.new.sink) c.layout_law.ensures c.requires.size
     c.requires.time c.as_slice.ensures.value h.2 h.1 in
     (begun.bytes, begun.messages, begun.begun, begun.is_written))

@@ -12,4 +12,4 @@ returns-in-Ok g c =
     (side g.K.Sink.held g.K.Sink.faults c.args.output.now c.write_stream.new.output)
     (side g.N.Sink.held g.N.Sink.faults c.args.notes.now c.write_stream.new.notes)
     (g.M.Caches.metered c.gathered_from.new.caches))
-    gathered.records.items gathered.tally gathered.tail _ c.in-Ok.ensures.records c.write_stream.ensures
+    gathered.records gathered.tally gathered.tail _ c.in-Ok.ensures.records c.write_stream.ensures

@@ -6,7 +6,7 @@ use Rattle.meter_program.proofs.meter.write_stream.Goals as goal
 pub returns-in-Err : goal.returns-in-Err
 returns-in-Err g c =
     let h = c.in-Err.ensures.begun in
-    wrote-some c.in-Ok.emitter.size c.args.size c.args.gathered.now.records.items c.args.gathered.now.tally
+    wrote-some c.in-Ok.emitter.size c.args.size c.args.gathered.now.records c.args.gathered.now.tally
     c.args.gathered.now.tail h.1 h.0
     (side g.K.Sink.held g.K.Sink.faults c.args.output.now c.emit.new.sink)
     (side g.N.Sink.held g.N.Sink.faults c.args.notes.now c.args.notes.now) c.in-Ok.ensures.size h.3 h.2
@@ -15,7 +15,7 @@ returns-in-Err g c =
 pub returns-in-Ok-summary : goal.returns-in-Ok-summary
 returns-in-Ok-summary g c =
     let h = c.in-Ok-emit.ensures.written in
-    wrote-both c.in-Ok.emitter.size c.args.size c.args.gathered.now.records.items c.args.gathered.now.tally
+    wrote-both c.in-Ok.emitter.size c.args.size c.args.gathered.now.records c.args.gathered.now.tally
     c.args.gathered.now.tail
     c.len-flows.result c.in-Ok-emit.messages h.0
     (side g.K.Sink.held g.K.Sink.faults c.args.output.now c.emit.new.sink)
@@ -26,7 +26,7 @@ returns-in-Ok-summary g c =
 pub returns-in-Err-summary : goal.returns-in-Err-summary
 returns-in-Err-summary g c =
     let h = c.in-Ok-emit.ensures.written in
-    wrote-first c.in-Ok.emitter.size c.args.size c.args.gathered.now.records.items c.args.gathered.now.tally
+    wrote-first c.in-Ok.emitter.size c.args.size c.args.gathered.now.records c.args.gathered.now.tally
     c.args.gathered.now.tail
     c.len-flows.result c.in-Ok-emit.messages h.0
     (side g.K.Sink.held g.K.Sink.faults c.args.output.now c.emit.new.sink)

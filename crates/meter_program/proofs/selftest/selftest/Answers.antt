@@ -32,7 +32,7 @@ returns-in-Ok-summary g c = λ input notes still quiet. record {
   answer = tested c.args.settings.now.seed c.args.settings.now.packets c.args.settings.now.keys
       c.four_workers-settings.result.idle c.four_workers-settings.result.active
       c.in-Ok-emitter_for.emitter.size c.len-flows.result _ c.as_slice.result.now
-      (g.M.Caches.metered c.gathered_from.new.caches) c.in-Ok-gathered_from.gathered.records.items
+      (g.M.Caches.metered c.gathered_from.new.caches) c.in-Ok-gathered_from.gathered.records
       c.in-Ok-gathered_from.gathered.tally c.in-Ok-gathered_from.gathered.tail c.in-Ok-emit.messages
       c.in-Ok-emit.ensures.written.0
       c.four_workers-settings.ensures.idle c.four_workers-settings.ensures.active
@@ -53,7 +53,7 @@ returns g c = λ input notes still quiet. record {
   answer = tested c.args.settings.now.seed c.args.settings.now.packets c.args.settings.now.keys
       c.four_workers-settings.result.idle c.four_workers-settings.result.active
       c.in-Ok-emitter_for.emitter.size c.len-flows.result _ c.as_slice.result.now
-      (g.M.Caches.metered c.gathered_from.new.caches) c.in-Ok-gathered_from.gathered.records.items
+      (g.M.Caches.metered c.gathered_from.new.caches) c.in-Ok-gathered_from.gathered.records
       c.in-Ok-gathered_from.gathered.tally c.in-Ok-gathered_from.gathered.tail c.in-Ok-emit.messages
       c.in-Ok-emit.ensures.written.0
       c.four_workers-settings.ensures.idle c.four_workers-settings.ensures.active
