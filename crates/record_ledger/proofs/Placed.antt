@@ -57,13 +57,16 @@ options_total = record { antisymm = back; trans = onward; congr = alike }
   where
     o : IsTotalOrder (λ (r s : FlowRecord). key_order r.part.key s.part.key)
     o = on_total (λ (r : FlowRecord). r.part.key) key_order_total
+
     O : Option FlowRecord → Option FlowRecord → Ordering
     O = option_cmp (λ (r s : FlowRecord). key_order r.part.key s.part.key)
+
     back : (p q : Option FlowRecord) → O p q ≡ ordering_reverse (O q p)
     back None None = refl
     back None (Some s) = refl
     back (Some r) None = refl
     back (Some r) (Some s) = o.antisymm r s
+
     onward : (p q t : Option FlowRecord) → O p q ≡ Less → O q t ≡ Less → O p t ≡ Less
     onward None None t e f = absurd (cc)
     onward None (Some s) None e f = absurd (cc)
@@ -71,6 +74,7 @@ options_total = record { antisymm = back; trans = onward; congr = alike }
     onward (Some r) None t e f = absurd (cc)
     onward (Some r) (Some s) None e f = absurd (cc)
     onward (Some r) (Some s) (Some u) e f = o.trans r s u e f
+
     alike : (p q t : Option FlowRecord) → O p q ≡ Equal → O p t ≡ O q t
     alike None None t e = refl
     alike None (Some s) t e = absurd (cc)

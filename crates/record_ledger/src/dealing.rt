@@ -56,7 +56,9 @@ fn count_of(pieces: &[Vec<Fragment>]) -> usize {
 fn bucket_count(fragments: usize) -> usize
     ensures { 1 ≤ result }
 {
-    (fragments / BUCKET).clamp(1, MOST_BUCKETS).next_power_of_two()
+    (fragments / BUCKET)
+        .clamp(1, MOST_BUCKETS)
+        .next_power_of_two()
 }
 
 /// Counts to which buckets the fragments of a piece will be dealt.

@@ -35,7 +35,10 @@ impl Model for RecordList {
 
 impl RecordList {
     /// The records of some buckets, put into the written order.
-    pub(crate) fn in_order(alloc: Global, buckets: Vec<Vec<FlowRecord>>) -> Result<RecordList, NoMemory>
+    pub(crate) fn in_order(
+        alloc: Global,
+        buckets: Vec<Vec<FlowRecord>>,
+    ) -> Result<RecordList, NoMemory>
         ensures permutation { IfOk result (λ records. IsPermutation (records_of buckets.items) records) }
         ensures order { IfOk result (λ records. IsSorted written_order records) }
     {

@@ -28,7 +28,12 @@ struct Ran {
 }
 
 /// Joins files by a command line with single spaces between its words.
-fn join(rt: &(impl Threads + Sync), alloc: Global, line: &str, files: &[Held]) -> Result<Ran, Fail> {
+fn join(
+    rt: &(impl Threads + Sync),
+    alloc: Global,
+    line: &str,
+    files: &[Held],
+) -> Result<Ran, Fail> {
     let mut words = Vec::new(alloc);
     for word in line.split(' ') {
         words.push(String::from_str(alloc, word)?)?;

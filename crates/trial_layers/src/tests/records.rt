@@ -178,7 +178,14 @@ fn many_keys(rt: HostRuntime) -> Result<(), Fail> {
     for threads in [1, 4] {
         assert!(rt; threads > 0);
         let list = in_pieces(alloc, &parts)?;
-        let gathered = gather(&rt, alloc, list, Timeouts::new(300, 1800), Some(1_001_000), threads)?;
+        let gathered = gather(
+            &rt,
+            alloc,
+            list,
+            Timeouts::new(300, 1800),
+            Some(1_001_000),
+            threads,
+        )?;
         assert!(rt; gathered.len() == 10_000);
         for place in 0..gathered.len() {
             let found = gathered.get(place);
@@ -279,7 +286,10 @@ fn web_exchange(rt: HostRuntime) -> Result<(), Fail> {
         (response(), 3, 1612, 0x01A, start + 50, start + 80, 4),
         (request(), 4, 304, 0x01E, start + 30, start + 90, 3),
     ];
-    for (place, (key, packets, octets, flags, first, last, reason)) in wanted.into_iter().enumerate() {
+    for (place, (key, packets, octets, flags, first, last, reason)) in wanted
+        .into_iter()
+        .enumerate()
+    {
         assert!(rt; place < records.len());
         let found = records.get(place);
         assert!(rt;

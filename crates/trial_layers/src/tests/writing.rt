@@ -74,7 +74,14 @@ fn listed(
     }
     assert!(rt; are_few(&parts));
     let list = in_pieces(alloc, &parts)?;
-    Ok(gather(rt, alloc, list, Timeouts::new(300, 1800), Some(1_000_000), 2)?)
+    Ok(gather(
+        rt,
+        alloc,
+        list,
+        Timeouts::new(300, 1800),
+        Some(1_000_000),
+        2,
+    )?)
 }
 
 /// The record over IPv6 ends before those over IPv4, so it comes first.
