@@ -52,7 +52,8 @@ fn meter_input<R: Threads + Sync, S: Source, M: Caches, G: Gate>(
     gate: &G,
 ) -> Result<(PartList, CaptureCount), Status>
     ensures kept { IfOk result
-        (λ r. IsReadAndKept (side S.left S.faults input.old input.new) limits (M.metered caches.new) r.1.tally r.1.tail) }
+        (λ r. IsReadAndKept (side S.left S.faults input.old input.new) limits (M.metered caches.new) r.1.tally
+        r.1.tail) }
     ensures given { IfOk result (λ r. r.0 ≡ M.metered caches.new) }
     ensures refused { IfErr result (λ status. MeterRefuses (side S.left S.faults input.old input.new) status) }
 {
