@@ -20,7 +20,7 @@ returns-in-Ok-summary g c =
     c.len-flows.result c.in-Ok-emit.messages h.0
     (side g.K.Sink.held g.K.Sink.faults c.args.output.now c.emit.new.sink)
     (side g.N.Sink.held g.N.Sink.faults c.args.notes.now c.summary.new.notes)
-    (c.len-flows.ensures ∙ c.args.gathered.now.records.ok.0) c.in-Ok.ensures.size
+    c.len-flows.ensures c.in-Ok.ensures.size
     h.2 h.1 c.in-Ok-summary.ensures.whole
 
 pub returns-in-Err-summary : goal.returns-in-Err-summary
@@ -31,5 +31,5 @@ returns-in-Err-summary g c =
     c.len-flows.result c.in-Ok-emit.messages h.0
     (side g.K.Sink.held g.K.Sink.faults c.args.output.now c.emit.new.sink)
     (side g.N.Sink.held g.N.Sink.faults c.args.notes.now c.summary.new.notes)
-    (c.len-flows.ensures ∙ c.args.gathered.now.records.ok.0) c.in-Ok.ensures.size
+    c.len-flows.ensures c.in-Ok.ensures.size
     h.2 h.1 c.in-Err-summary.ensures.begun c.in-Err-summary.ensures.cause.failed

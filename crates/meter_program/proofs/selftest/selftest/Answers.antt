@@ -37,7 +37,7 @@ returns-in-Ok-summary g c = λ input notes still quiet. record {
       c.in-Ok-emit.ensures.written.0
       c.four_workers-settings.ensures.idle c.four_workers-settings.ensures.active
       (c.in-Ok-emitter_for.ensures.size ∙ c.four_workers-settings.ensures.size)
-      (c.len-flows.ensures ∙ c.in-Ok-gathered_from.gathered.records.ok.0) refl
+      c.len-flows.ensures refl
       (c.as_slice.ensures.value ∙ c.in-Ok.ensures.octets) c.in-Ok-gathered_from.ensures.records
       c.in-Ok-emit.ensures.written.2;
   output = c.in-Ok-summary.ensures.whole;
@@ -58,7 +58,7 @@ returns g c = λ input notes still quiet. record {
       c.in-Ok-emit.ensures.written.0
       c.four_workers-settings.ensures.idle c.four_workers-settings.ensures.active
       (c.in-Ok-emitter_for.ensures.size ∙ c.four_workers-settings.ensures.size)
-      (c.len-flows.ensures ∙ c.in-Ok-gathered_from.gathered.records.ok.0) refl
+      c.len-flows.ensures refl
       (c.as_slice.ensures.value ∙ c.in-Ok.ensures.octets) c.in-Ok-gathered_from.ensures.records
       c.in-Ok-emit.ensures.written.2;
   output = inr (c.in-Err-summary.ensures.begun, c.in-Err-summary.ensures.cause.failed);
