@@ -389,7 +389,7 @@ fn the_first_other_record_is_told(rt: HostRuntime) -> Result<(), Fail> {
         read_flows(rt.alloc(), bytes.as_slice()).err(),
         Some(FlowsError::NotFlows(2))
     );
-    let cut = front(bytes.as_slice(), bytes.len() - 1);
+    let cut = front(bytes.as_slice(), bytes.len().saturating_sub(1));
     assert_eq!(rt;
         read_flows(rt.alloc(), cut).err(),
         Some(FlowsError::NotStream(Cut { at: 232 }))
