@@ -29,13 +29,12 @@ use std::thread::Threads;
 /// are but some of the fragments: those of some keys, of which all are there.
 ///
 /// The fragments are dealt to buckets by their keys, and `threads` threads at most sort, join and give reasons there.
-/// It takes the time of sorting. Each piece of `parts` is let go as soon as its fragments are dealt, so about the list of
-/// records is held alone, and 16 bytes for each of them.
+/// It takes the time of sorting. Each piece of `parts` is let go as soon as its fragments are dealt; held are a record for
+/// each part, and 24 bytes for its place in the order.
 ///
 /// # Errors
 ///
-/// [`NoMemory`] where there is no memory for as many records as parts and for their places, and where a bucket would
-/// have more than 2^32 records.
+/// [`NoMemory`] where there is no memory for as many records as parts and for their places.
 pub fn gather<R: Threads + Sync>(
     rt: &R,
     alloc: Global,

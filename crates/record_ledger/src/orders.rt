@@ -63,6 +63,6 @@ fn by_found(one: Option<&FlowRecord>, other: Option<&FlowRecord>) -> Ordering
 fn record_at<'a>(buckets: &'a [Vec<FlowRecord>], place: &Place) -> Option<&'a FlowRecord>
     ensures { option_copied result ≡ record_at buckets.now place.now }
 {
-    let bucket = buckets.get(place.bucket as usize)?;
-    bucket.get(place.at as usize)
+    let bucket = buckets.get(place.bucket)?;
+    bucket.get(place.at)
 }

@@ -6,7 +6,7 @@ pub struct Place {
     /// The time of the record's last packet, in milliseconds since 1970.
     pub last: u64,
     /// The number of the bucket, from 0.
-    pub bucket: u32,
+    pub bucket: usize,
     /// The place in the bucket, from 0.
-    pub at: u32,
+    pub at: usize,
 }

@@ -11,8 +11,6 @@ use no_memory::NoMemory;
 use std::alloc::Global;
 
 /// The places of all records of some buckets, one bucket after the other.
-///
-/// `NoMemory` also where a bucket has more than 2^32 records, or where there are more than 2^32 buckets.
 pub fn places_of(alloc: Global, buckets: &[Vec<FlowRecord>]) -> Result<Vec<Place>, NoMemory>
     ensures { IfOk result (λ order. AllZip (IsPlaceOf buckets.now) (records_of buckets.now) order.items) }
 {
@@ -43,23 +41,12 @@ fn add_places(
         → AllZip (IsPlaceOf buckets.now) before order.old.items
         → AllZip (IsPlaceOf buckets.now) (before ++ b.items) order.new.items) }
 {
-    let number = number_of(bucket)?;
     for at in 0..buckets[bucket].len() {
         order.push(Place {
             last: buckets[bucket][at].part.last,
-            bucket: number,
-            at: number_of(at)?,
+            bucket,
+            at,
         })?;
     }
     Ok(())
-}
-
-/// The number in 32 bits; `NoMemory` where it has more.
-fn number_of(place: usize) -> Result<u32, NoMemory>
-    ensures { IfOk result (λ number. number ≡ place) }
-{
-    match u32::try_from(place) {
-        Ok(number) => Ok(number),
-        Err(_) => Err(NoMemory),
-    }
 }

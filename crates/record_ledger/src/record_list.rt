@@ -14,7 +14,7 @@ use std::marker::Model;
 
 /// Records in the written order: by last time, then by key. Contracts see it as the list.
 ///
-/// The records stay in the buckets that they were gathered in; the order is that of 16 bytes for each, beside them.
+/// The records stay in the buckets that they were gathered in; the order is that of 24 bytes for each, beside them.
 #[derive(Drop)]
 pub struct RecordList {
     buckets: Vec<Vec<FlowRecord>>,
@@ -60,6 +60,6 @@ impl RecordList {
         ensures { result.now ≡ slice_index_or self.now place result.now }
     {
         let place = self.order[place];
-        &self.buckets[place.bucket as usize][place.at as usize]
+        &self.buckets[place.bucket][place.at]
     }
 }

@@ -12,7 +12,6 @@ pub loop-at-init : goal.loop-at-init
 loop-at-init c =
     let B : Bucket = c.index-buckets-bucket.result in
     record {
-      number = c.in_ok-number.ensures;
       end = λ b e. c.len-at-end.ensures ∙ B.ok.0
           ∙ ap (λ (v : Bucket). length v.items)
           (c.index-buckets-bucket.is ∙ get_or_from_slice_get c.args.buckets.now c.args.bucket b B e);
@@ -24,7 +23,6 @@ pub loop-at-preserved : goal.loop-at-preserved
 loop-at-preserved c =
     let B : Bucket = c.index-buckets-bucket-in-loop-at.result in
     record {
-      number = c.loop-at.invariant.number;
       end = c.loop-at.invariant.end;
       placed = λ before b e h.
           let same : B ≡ b = c.index-buckets-bucket-in-loop-at.is
@@ -34,7 +32,7 @@ loop-at-preserved c =
           more_placed c.args.buckets.now before c.args.bucket c.loop-at.at b c.index.result.now c.loop-at.order.items
           c.push.new.self.items _ e low
           (subst (λ (v : Bucket). c.index.result.now ≡ get_or v.items c.loop-at.at c.index.result.now) same c.index.ensures)
-          c.in_ok-number.ensures c.in_ok-number_of.ensures refl c.in_ok-push.ensures.items
+          refl refl refl c.in_ok-push.ensures.items
           (c.loop-at.invariant.placed before b e h);
     }
 

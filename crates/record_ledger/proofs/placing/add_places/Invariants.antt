@@ -8,7 +8,6 @@ use Rattle.record_ledger.proofs.placing.add_places.Given as goal
 
 abbrev pub invariant-loop-at : goal.invariant-loop-at
 invariant-loop-at l = record {
-  number : l.number ≡ l.bucket;
   end : (b : Bucket) → slice_get l.buckets l.bucket ≡ Some b → l.at-end ≡ length b.items;
   placed : (before : List FlowRecord) (b : Bucket) → slice_get l.buckets l.bucket ≡ Some b
       → AllZip (IsPlaceOf l.buckets) before l.fn.order.items
