@@ -3,18 +3,34 @@
 #
 #     tools/prove.sh CRATE..
 #
-# They are taken in the order of crates.txt, in which each crate stands below those that it stands on. One that nothing has changed of
-# since it was proved gives no line. The status is that of the first that isn't proved.
+# A crate is taken once those are proved that it stands on, by crates.txt; as many at a time as there are processors, and as there is
+# memory for, 3 GiB each. One that nothing has changed of since it was proved gives no line. The status is not 0 where one isn't proved.
 set -u
 
 top=$(dirname "$(cd "$(dirname "$0")" && pwd)")
 cd "$top" || exit 2
-log=$(mktemp) || exit 2
-trap 'rm -f "$log"' EXIT
-trap 'exit 2' HUP INT TERM
 
-# The crates below these, lowest first.
-below=$(awk -v asked="$*" '
+# One crate, in the run of `make` below.
+if [ "${1:-}" = --one ]; then
+    log=$(mktemp) || exit 2
+    trap 'rm -f "$log"' EXIT
+    start=$(date +%s)
+    if ! (cd "crates/$2" && rt lib) >"$log" 2>&1; then
+        tail -n 20 "$log"
+        echo "not proved: $2" >&2
+        exit 1
+    fi
+    if [ -s "$log" ]; then
+        echo "proved $2, $(($(date +%s) - start)) s; $3 libraries in all"
+    fi
+    exit 0
+fi
+
+# A rule for each crate below these: what it stands on.
+rules=$(mktemp) || exit 2
+trap 'rm -f "$rules"' EXIT
+trap 'exit 2' HUP INT TERM
+awk -v asked="$*" '
     { sub(/#.*/, "") }
     /:/ {
         split($0, half, ":")
@@ -30,22 +46,19 @@ below=$(awk -v asked="$*" '
             deps = split(uses[names[i]], dep, " ")
             for (k = 1; k <= deps; k++) wanted[dep[k]] = 1
         }
-        for (i = 1; i <= count; i++) if (names[i] in wanted) print names[i]
-    }' crates.txt)
+        for (i = 1; i <= count; i++) is_own[names[i]] = 1
+        for (i = 1; i <= count; i++) if (names[i] in wanted) { all = all " " names[i]; sum++ }
+        print ".PHONY: all" all
+        print "all:" all
+        for (i = 1; i <= count; i++) {
+            if (!(names[i] in wanted)) continue
+            line = names[i] ":"
+            deps = split(uses[names[i]], dep, " ")
+            for (k = 1; k <= deps; k++) if (dep[k] in is_own) line = line " " dep[k]
+            print line
+            print "\t@tools/prove.sh --one " names[i] " " sum
+        }
+    }' crates.txt >"$rules"
 
-all=$(echo "$below" | wc -w)
-number=0
-for name in $below; do
-    number=$((number + 1))
-    start=$(date +%s)
-    (cd "crates/$name" && rt lib) >"$log" 2>&1
-    status=$?
-    if [ "$status" -ne 0 ]; then
-        tail -n 20 "$log"
-        echo "not proved: $name" >&2
-        exit "$status"
-    fi
-    if [ -s "$log" ]; then
-        echo "proved $number of $all: $name, $(($(date +%s) - start)) s"
-    fi
-done
+jobs=$(awk -v own="$(nproc)" '/^MemAvailable:/ { fit = int($2 / 3145728) } END { print fit < 1 ? 1 : fit < own ? fit : own }' /proc/meminfo)
+MAKEFLAGS= make --no-print-directory --file="$rules" --jobs="$jobs" all

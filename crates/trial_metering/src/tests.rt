@@ -5,8 +5,7 @@ mod gates;
 mod made;
 mod piped;
 
-ghost use Rattle.std.specs.Prelude.{◌<◌, ◌≤◌, ◌^◌, IsTrue, sum_by};
-ghost use Rattle.flow_parts.specs.declared.fragment.Fragment.{Fragment};
+ghost use Rattle.std.specs.Prelude.{◌<◌, ◌≤◌, ◌^◌};
 
 use cache_face::Caches;
 use capture_tally::Tally;
@@ -14,6 +13,7 @@ use flow_parts::{Fragment, PartList, Timeouts};
 use meter_io::Source;
 use meter_workers::{Gate, MeterFault, Windows, meter_windows};
 use record_ledger::{RecordList, gather};
+use sample_flows::are_few;
 use std::alloc::Global;
 use std::test::Fail;
 use std::thread::Threads;
@@ -50,28 +50,6 @@ static ONE: Setting = Setting {
     piece: 256,
     limit: LIMIT,
 };
-
-/// Whether the packets and the octets of all parts are few enough to be added up.
-fn are_few(parts: &[Fragment]) -> bool
-    ensures packets { IsTrue result → sum_by (λ (f : Fragment). f.packets) parts.now < 2 ^ 64 }
-    ensures octets { IsTrue result → sum_by (λ (f : Fragment). f.octets) parts.now < 2 ^ 64 }
-{
-    let mut packets = 0u64;
-    let mut octets = 0u64;
-    for part in parts {
-        match (
-            packets.checked_add(part.packets),
-            octets.checked_add(part.octets),
-        ) {
-            (Some(more), Some(longer)) => {
-                packets = more;
-                octets = longer;
-            }
-            _ => return false,
-        }
-    }
-    true
-}
 
 /// The fragments of a list, copied into one piece.
 fn in_one(alloc: Global, parts: PartList) -> Result<Vec<Fragment>, Fail> {

@@ -1,6 +1,5 @@
 //! Streams made by hand from the standard, and what is read of them.
 
-use super::{tcp_flow, udp_flow};
 use StreamFault::{
     BadLength, BadPadding, BadSequence, BadTemplate, BadVersion, Cut, NoTemplate, Withdrawal,
 };
@@ -8,6 +7,7 @@ use Want::{Fault, Records};
 use ipfix_model::DataRecord;
 use ipfix_reader::{FlowsError, StreamError, StreamFault, flow_of, read_flows, read_stream};
 use record_ledger::FlowRecord;
+use sample_flows::{tcp_flow, udp_flow};
 use samples::octets_of;
 use std::alloc::{AllocError, Global};
 use std::process::Abort;

@@ -1,7 +1,7 @@
 -- The sums so far, which fit.
 use Rattle.std.proofs.Common.{◌≡◌, ◌<◌, ◌^◌, sum_by, take}
 use Rattle.flow_parts.specs.declared.fragment.Fragment.{Fragment}
-use Rattle.trial_layers.proofs.tests.records.are_few.Given as goal
+use Rattle.sample_flows.proofs.parts.are_few.Given as goal
 
 abbrev pub invariant-loop-part : goal.invariant-loop-part
 invariant-loop-part l = record {

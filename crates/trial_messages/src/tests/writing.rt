@@ -1,11 +1,10 @@
 //! Streams whose bytes were written out by hand from RFC 7011, sections 3.1 to 3.4.
 
-use super::records::{are_few, in_pieces};
-use super::{tcp_flow, udp_flow};
 use flow_parts::Timeouts;
 use ipfix_writer::{Emitter, emit_all, layout};
 use meter_io::{Failed, MemSink};
 use record_ledger::{FlowRecord, RecordList, gather};
+use sample_flows::{are_few, in_pieces, tcp_flow, udp_flow};
 use samples::octets_of;
 use std::alloc::Global;
 use std::process::Abort;

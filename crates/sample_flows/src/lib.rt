@@ -1,0 +1,8 @@
+//! Fragments and records of flows that the tests of several crates share. No program stands on it.
+#![tactic(auto)]
+
+mod parts;
+mod records;
+
+pub use parts::{are_few, in_pieces};
+pub use records::{tcp_flow, udp_flow};

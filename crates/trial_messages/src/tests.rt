@@ -1,0 +1,5 @@
+//! Messages, each way.
+
+mod model;
+mod reading;
+mod writing;

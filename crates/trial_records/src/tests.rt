@@ -1,0 +1,4 @@
+//! Fragments, and what is gathered of them.
+
+mod fragments;
+mod records;
