@@ -3,10 +3,13 @@
 #
 #     checks/readme.sh
 #
-# The blocks marked `run: sample` and `run: report` are taken out of README.md and run in a folder with examples/ and bin/. The
-# last line that the first prints must be the one that README.md shows, and the notes of `meter` must have the counts that it
-# names. Without the programs of the report (python3-ipfix, miller, gnuplot-nox) that block is skipped with one line. The status
-# is not 0 where anything differs.
+# The blocks marked `run: sample`, `run: report` and `run: capture` are taken out of README.md and run in a folder with bin/,
+# examples/ and man/. The last line that the first prints must be the one that README.md shows, and the notes must have the
+# counts that it names. The capture is of the loopback interface, with datagrams that this script sends. Besides, the
+# programs are installed below a folder, and a manual page is read. What needs a program that is missing (packages
+# python3-ipfix, miller, gnuplot-nox, tcpdump, wireshark-common, man-db), or the right to capture, is skipped with one line.
+# The status is not 0 where anything differs.
+# shellcheck disable=SC2317,SC2329 # rows and the trap call functions by their names
 set -u
 
 top=$(dirname "$(cd "$(dirname "$0")" && pwd)")
@@ -16,9 +19,14 @@ if [ ! -x "$top/bin/romtyalig" ]; then
     exit 2
 fi
 work=$(mktemp -d) || exit 2
-trap 'rm -rf "$work"' EXIT
+sending=
+clean() {
+    [ -z "$sending" ] || kill "$sending" 2>/dev/null
+    rm -rf "$work"
+}
+trap clean EXIT
 trap 'exit 2' HUP INT TERM
-ln -s "$top/bin" "$top/examples" "$work"
+ln -s "$top/bin" "$top/examples" "$top/man" "$work"
 cd "$work" || exit 2
 differ=0
 
@@ -30,25 +38,95 @@ block() {
         inside' "$top/README.md"
 }
 
-block "run: sample" >commands
-block "shown by: sample" | paste -sd ' ' >wanted
-if [ -s commands ] && [ -s wanted ] && bash -eu commands >out 2>notes && tail -n 1 out | cmp - wanted &&
-    [ "$(wc -l <out)" -eq 4 ] && grep -qx 'captured 10' notes && grep -qx 'accepted 9' notes && grep -qx 'not-ip 1' notes; then
-    echo "same: sample"
-else
-    echo "DIFFERS: sample"
-    differ=1
-fi
-if ! command -v ipfix2csv >/dev/null || ! command -v mlr >/dev/null || ! command -v gnuplot >/dev/null; then
-    echo "skipped: report, no ipfix2csv, mlr or gnuplot"
-else
-    { head -n 1 commands; block "run: report"; } >more
-    if bash -eu more 2>said && grep -q '</html>' report.html && grep -q 'Top biflows' report.html; then
-        echo "same: report"
+# One line: row NAME FUNCTION, or of programs that it needs: row NAME FUNCTION PROGRAM..
+row() {
+    local needed
+    for needed in "${@:3}"; do
+        if ! command -v "$needed" >/dev/null; then
+            echo "skipped: $1, no $needed"
+            return
+        fi
+    done
+    if "$2"; then
+        echo "same: $1"
     else
-        echo "DIFFERS: report"
-        head -n 5 said
+        echo "DIFFERS: $1"
+        [ ! -s notes ] || head -n 5 notes | sed 's/^/    /'
         differ=1
     fi
+}
+
+# The commands of standard input, as a reader types them in one shell: typed OUTPUT
+typed() {
+    { echo "${search:-}"; cat; } >commands
+    [ "$(grep -c . commands)" -gt 1 ] && timeout 300 bash -eu commands >"$1" 2>notes
+}
+
+noted() {
+    local line
+    for line in "$@"; do
+        grep -qx "$line" notes || return 1
+    done
+}
+
+sample() {
+    block "shown by: sample" | paste -sd ' ' >wanted
+    block "run: sample" | typed out && [ -s wanted ] && tail -n 1 out | cmp - wanted &&
+        [ "$(wc -l <out)" -eq 4 ] && [ "$(grep -c 'flowEndReason=4$' out)" -eq 3 ] &&
+        noted 'captured 10' 'accepted 9' 'not-ip 1' 'records 4'
+}
+
+report() { block "run: report" | typed out && grep -q '</html>' report.html && grep -q 'Top biflows' report.html; }
+
+# Datagrams on the loopback interface, until they are no longer wanted.
+send() {
+    python3 - <<'PYTHON' &
+import socket
+import time
+with socket.socket(socket.AF_INET, socket.SOCK_DGRAM) as sender:
+    for number in range(3000):
+        sender.sendto(bytes(number % 500), ("127.0.0.1", 47475))
+        time.sleep(0.01)
+PYTHON
+    sending=$!
+}
+
+capture() {
+    block "run: capture" | grep -v pcapng | typed out && noted 'captured 100' && grep -qx 'accepted [1-9][0-9]*' notes &&
+        [ -s flows.ipfix ]
+}
+
+pcapng() {
+    editcap -F pcapng examples/web-exchange.pcap mine.pcapng && block "run: capture" | grep pcapng | typed out &&
+        cmp flows.ipfix examples/web-exchange.ipfix
+}
+
+# Of all interfaces tcpdump writes Linux cooked mode, in version 2 (link type 276) unless told.
+any_interface() {
+    tcpdump -i any -c 20 -w any.pcap 2>notes && tcpdump -i any -y LINUX_SLL -c 20 -w cooked.pcap 2>notes || return 1
+    bin/romtyalig meter <cooked.pcap 2>notes >flows.ipfix && noted 'captured 20' || return 1
+    bin/romtyalig meter <any.pcap 2>notes >flows.ipfix || noted 'link type 276'
+}
+
+page() { man man/romtyalig.1 2>notes | grep -q 'short-transport'; }
+
+# What is built is installed as it is.
+installed() {
+    make -s -C "$top" -o build install PREFIX="$work/installed" >notes 2>&1 &&
+        cmp "$top/bin/romtyalig" installed/bin/romtyalig && [ -s installed/share/man/man1/romtyalig.1 ]
+}
+
+row sample sample python3
+search=$(block "run: sample" | head -n 1)
+row report report ipfix2csv mlr gnuplot
+if [ "$(id -u)" -ne 0 ] && ! timeout 5 tcpdump -i lo -c 0 -w /dev/null >/dev/null 2>&1; then
+    echo "skipped: capture, no tcpdump or no right to capture"
+else
+    send
+    row capture capture tcpdump python3
+    row "any interface" any_interface tcpdump python3
 fi
+row pcapng pcapng editcap
+row "manual page" page man
+row install installed make
 exit "$differ"

@@ -3,8 +3,10 @@
 #
 #     checks/rotate.sh
 #
-# One line for each row. What needs tcpdump and the right to capture is skipped with one line where they are missing, and so is
-# what needs systemd-analyze. The status is not 0 where any differs. ROMTYALIG is the program's path (bin/romtyalig unless set).
+# One line for each row. The commands for tcpdump are taken out of docs/OPERATORS.md, with another interface, time, folder and
+# path of the script, and a filter. Where tcpdump or its user is missing or nobody runs this as root, that is skipped with
+# one line, and so is what needs systemd-analyze. The status is not 0 where any differs. ROMTYALIG is the program's path
+# (bin/romtyalig unless set).
 set -u
 
 top=$(dirname "$(cd "$(dirname "$0")" && pwd)")
@@ -84,12 +86,17 @@ limited_streams() {
         [ "$(cd "$work/many" && echo *.pcap)" = "kept.pcap" ] && [ ! -e "$work/many/old.ipfix" ]
 }
 
-# tcpdump on loopback, in files of a second, with a datagram each tenth of a second.
+# The commands of docs/OPERATORS.md on loopback, in files of a second, with a datagram each tenth of a second. tcpdump goes on
+# as another user, so the program and the script lie where that user may read.
 dumped() {
-    mkdir "$work/dumped"
-    chmod 777 "$work" "$work/dumped"
-    tcpdump -Z root -i lo -n -s 128 -G 1 -w "$work/dumped/%s.pcap" -z "$script" 'udp and port 47475' \
-        >"$work/lines" 2>"$work/said" &
+    mkdir "$work/bin"
+    cp "$program" "$work/bin/romtyalig"
+    cp "$script" "$work/bin"
+    chmod 755 "$work" "$work/bin" "$work"/bin/*
+    awk '/^<!-- run: rotated, / { found = 1; next } found && /^```sh/ { inside = 1; next } inside && /^```/ { exit } inside' \
+        "$top/docs/OPERATORS.md" | sed -e "s,/usr/share/doc/romtyalig/examples/rotate.sh,$work/bin/rotate.sh udp and port 47475," \
+        -e "s,/var/lib/romtyalig,$work/dumped," -e 's/ -i eth0 / -i lo /' -e 's/ -G 300 / -G 1 /' >"$work/commands"
+    METER="$work/bin/romtyalig meter" timeout 30 bash -eu "$work/commands" >"$work/lines" 2>"$work/said" &
     dumping=$!
     python3 - <<'PYTHON'
 import socket
@@ -103,6 +110,7 @@ PYTHON
     wait "$dumping"
     dumping=
     sleep 1
+    [ "$(find "$work/dumped" -name '*.ipfix' | wc -l)" -ge 2 ] || return 1
     "$script" --rest "$work/dumped" >>"$work/lines" 2>>"$work/said"
     are_metered "$work/dumped" 3 && grep -q 'accepted [1-9]' "$work/lines"
 }
@@ -120,8 +128,8 @@ row "captures have a limit" limited
 row "streams have a limit" limited_streams
 if ! command -v tcpdump >/dev/null || ! command -v python3 >/dev/null; then
     echo "skipped: no tcpdump"
-elif ! timeout 5 tcpdump -i lo -c 0 -w /dev/null >/dev/null 2>&1 && [ "$(id -u)" -ne 0 ]; then
-    echo "skipped: no right to capture"
+elif [ "$(id -u)" -ne 0 ] || ! id tcpdump >/dev/null 2>&1; then
+    echo "skipped: not root, or no user tcpdump"
 else
     row "tcpdump on loopback" dumped
 fi
