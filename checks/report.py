@@ -5,7 +5,7 @@
 
 The flow records of examples/web-exchange.pcap, of a capture that is made here and of none, with their biflows and without, go
 through examples/report.sh. Each table of the page is compared with what this program makes of the lines of `show`, and the
-heights of the bars in both figures with the table of steps. Headless chromium opens each page, dark at the width of a phone and
+heights of the bars in both figures with the table of steps. A second run must make the same page. Headless chromium opens each page, dark at the width of a phone and
 light at that of a desktop: what it shows must be the same, and no wider than its window. PICTURES=FOLDER keeps pictures.
 Skipped with one line where a package is missing (python3-ipfix, miller, gnuplot-nox; chromium). The status is 1 where anything
 differs. ROMTYALIG and ROMTYALIG_PAIR are the programs' paths (bin/romtyalig and bin/romtyalig-pair unless set).
@@ -297,6 +297,8 @@ def main() -> None:
                 streams = [folder / "flows", folder / "biflows"][:1 + both]
                 page.write_bytes(ran([TOP / "examples" / "report.sh", *streams]))
                 fault = fault_of(page.read_text(), flows, biflows if both else None)
+                if not fault and ran([TOP / "examples" / "report.sh", *streams]) != page.read_bytes():
+                    fault = "another page in a second run"
                 if not fault and opens:
                     fault = browser_fault(page, flows, biflows if both else None, folder)
                 print(f"DIFFERS: {page.stem}: {fault}" if fault else f"same: {page.stem}, records {len(flows)}")

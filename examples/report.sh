@@ -20,6 +20,12 @@ for needed in ipfix2csv mlr gnuplot; do
         exit 2
     fi
 done
+for stream in "$@"; do
+    if [ ! -f "$stream" ] || [ ! -r "$stream" ]; then
+        echo "report.sh: no file $stream that can be read" >&2
+        exit 1
+    fi
+done
 work=$(mktemp -d)
 trap 'rm -rf "$work"' EXIT
 
@@ -36,7 +42,11 @@ table() {
     local stream=$1 version
     shift
     for version in 4 6; do
-        ipfix2csv "sourceIPv${version}Address" "destinationIPv${version}Address" "$@" <"$stream" >"$work/v$version"
+        if ! ipfix2csv "sourceIPv${version}Address" "destinationIPv${version}Address" "$@" <"$stream" >"$work/v$version" \
+            2>"$work/said"; then
+            echo "report.sh: $stream is no IPFIX stream: $(tail -n 1 "$work/said")" >&2
+            exit 1
+        fi
     done
     mlr --icsv --ocsv rename -r '^(source|destination)IPv[46]Address$,\1' then \
         rename sourceTransportPort,source_port,destinationTransportPort,destination_port then \
@@ -152,9 +162,8 @@ marks() {
 # A figure of the steps as SVG, its text in the colour of the page: figure NAME COLUMN, where octets stand from column 2 on
 # and packets from column 3
 figure() {
-    local count rows mark format
-    count=$(tr ',' '\n' <<<"$names" | wc -l) rows=$(wc -l <"$work/steps")
-    mark=$(step_for 5 $((rows * step)))
+    local count format
+    count=$(tr ',' '\n' <<<"$names" | wc -l)
     format=%H:%M:%S
     [ "$mark" -ge 1000 ] || format=%M:%.3S
     [ "$mark" -lt 60000 ] || format=%H:%M
@@ -174,7 +183,8 @@ width = $step / 1000.0
 set boxwidth 0.86 * width
 set xrange [$start / 1000.0 - 0.3 * width : $start / 1000.0 + $rows * width]
 height(k) = sum [n=1:k] column($2 + 2 * (n - 1))
-plot for [k=$count:1:-1] "$work/steps" using (\$1 + 0.5 * width):(height(k)) with boxes lc rgb word("$colours", k)
+plot for [k=$count:1:-1] "$work/steps" using (\$1 + 0.5 * width):(height(k)) with boxes lc rgb word("$colours", k) \
+    title word("$(sed "s/[^,]*/'&'/g; s/,/ /g" <<<"$names")", k)
 GNUPLOT
     sed -e '/<?xml/d' -e '/<defs>/,/<\/defs>/d' -e '/<desc>/d' -e "s/id=\"gnuplot_/id=\"$1_/" -e 's/ color="[a-z]*"//' \
         -e "s/\(fill\|stroke\)=[\"']black[\"']/\1=\"currentColor\"/g" "$work/svg" | grep -v '^$'
@@ -240,14 +250,15 @@ legend() {
 }
 
 over_time() {
-    local each
+    local each marks=
+    [ "$mark" -ge 1000 ] || marks=" Below stand minutes and seconds."
     each=$(awk -v step="$step" 'BEGIN {
         if (step < 1000) print step " ms"
         else if (step < 60000) print step / 1000 " s"
         else print step < 3600000 ? step / 60000 " min" : step / 3600000 " h"
     }')
     { legend; figure octets 2; } | section "Octets over time" \
-        "In steps of $each. The octets of a flow are spread evenly from its first packet to its last."
+        "In steps of $each.$marks The octets of a flow are spread evenly from its first packet to its last."
     { legend; figure packets 3; numbers; } | section "Packets over time" "In the same steps, in the same way."
 }
 
@@ -372,6 +383,8 @@ if [ -n "$flows" ]; then
     step=$(step_for 60 $((last - first)))
     start=$((first / step * step))
     steps
+    rows=$(wc -l <"$work/steps")
+    mark=$(step_for 5 $((rows * step)))
 fi
 page >"$work/page"
 cat "$work/page"
