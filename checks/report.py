@@ -4,11 +4,12 @@
     python3 checks/report.py
 
 The flow records of examples/web-exchange.pcap, of a capture that is made here and of none, with their biflows and without, go
-through examples/report.sh. Each table of the page is compared with what this program makes of the lines of `show`, and the
-heights of the bars in both figures with the table of steps. A second run must make the same page. Headless chromium opens each page, dark at the width of a phone and
-light at that of a desktop: what it shows must be the same, and no wider than its window. PICTURES=FOLDER keeps pictures.
-Skipped with one line where a package is missing (python3-ipfix, miller, gnuplot-nox; chromium). The status is 1 where anything
-differs. ROMTYALIG and ROMTYALIG_PAIR are the programs' paths (bin/romtyalig and bin/romtyalig-pair unless set).
+through examples/report.sh, twice: the second page must be the same. Each table of the page is compared with what this program
+makes of the lines of `show`, and the heights of the bars in both figures with the table of steps. Headless chromium opens each
+page, dark at the width of a phone and light at that of a desktop: what it shows must be the same, and no wider than its window.
+PICTURES=FOLDER keeps pictures. Skipped with one line where a package is missing (python3-ipfix, miller, gnuplot-nox; chromium).
+The status is 1 where anything differs. ROMTYALIG and ROMTYALIG_PAIR are the programs' paths (bin/romtyalig and
+bin/romtyalig-pair unless set).
 """
 
 import os
