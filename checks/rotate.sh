@@ -86,6 +86,8 @@ limited_streams() {
         [ "$(cd "$work/many" && echo *.pcap)" = "kept.pcap" ] && [ ! -e "$work/many/old.ipfix" ]
 }
 
+count_of() { find "$work/dumped" -name "*.$1" | wc -l; }
+
 # The commands of docs/OPERATORS.md on loopback, in files of a second, with a datagram each tenth of a second. tcpdump goes on
 # as another user, so the program and the script lie where that user may read.
 dumped() {
@@ -95,8 +97,9 @@ dumped() {
     chmod 755 "$work" "$work/bin" "$work"/bin/*
     awk '/^<!-- run: rotated, / { found = 1; next } found && /^```sh/ { inside = 1; next } inside && /^```/ { exit } inside' \
         "$top/docs/OPERATORS.md" | sed -e "s,/usr/share/doc/romtyalig/examples/rotate.sh,$work/bin/rotate.sh udp and port 47475," \
-        -e "s,/var/lib/romtyalig,$work/dumped," -e 's/ -i eth0 / -i lo /' -e 's/ -G 300 / -G 1 /' >"$work/commands"
-    METER="$work/bin/romtyalig meter" timeout 30 bash -eu "$work/commands" >"$work/lines" 2>"$work/said" &
+        -e "s,/var/lib/romtyalig,$work/dumped," -e 's/ tcpdump -i eth0 / exec tcpdump -i lo /' -e 's/ -G 300 / -G 1 /' \
+        >"$work/commands"
+    METER="$work/bin/romtyalig meter" bash -eu "$work/commands" >"$work/lines" 2>"$work/said" &
     dumping=$!
     python3 - <<'PYTHON'
 import socket
@@ -109,8 +112,11 @@ PYTHON
     kill "$dumping"
     wait "$dumping"
     dumping=
-    sleep 1
-    [ "$(find "$work/dumped" -name '*.ipfix' | wc -l)" -ge 2 ] || return 1
+    for _ in $(seq 60); do
+        [ "$(count_of ipfix)" -lt $(($(count_of pcap) - 1)) ] || break
+        sleep 0.5
+    done
+    [ "$(count_of ipfix)" -ge 2 ] || return 1
     "$script" --rest "$work/dumped" >>"$work/lines" 2>>"$work/said"
     are_metered "$work/dumped" 3 && grep -q 'accepted [1-9]' "$work/lines"
 }
