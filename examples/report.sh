@@ -298,7 +298,7 @@ answers() {
             $all = $octets + $back_octets;
         ' then sort -nr all -f label then head -n 10 then cut -o -f label,octets,back_octets "$work/answered.csv" |
         bars biflows biflow "octets out" "octets back" |
-        section "Top biflows" "The ten answered flows with most octets both ways; bars show those out."
+        section "Top biflows" "The ten answered flows with most octets both ways. Out is the way that began first; bars show it."
 }
 
 head_of_page() {
@@ -330,6 +330,7 @@ table { border-collapse: collapse; width: 100%; font-size: .9rem; }
 th { text-align: left; font-weight: 600; color: var(--soft); border-bottom: 1px solid var(--line); padding: .2rem .3rem; }
 td { padding: .2rem .3rem; vertical-align: top; }
 .number { text-align: right; font-variant-numeric: tabular-nums; white-space: nowrap; }
+th.number { white-space: normal; }
 .bars td:first-child { position: relative; width: 55%; overflow-wrap: anywhere; }
 .bars i { position: absolute; left: 0; top: .1rem; bottom: .1rem; background: var(--bar); border-radius: .2rem; }
 .bars span { position: relative; }
