@@ -4,21 +4,25 @@
 #     checks/page.sh
 #
 # For each command its options are taken from its program's page, docs/OPERATORS.md and both completions, and must be the same in all;
-# the program must take each of them, and refuse each name that is one letter longer or shorter. `mandoc` (Debian package
-# mandoc) must find nothing to say of the pages; where it is missing that is skipped with one line. The status is not 0 where
-# anything differs. ROMTYALIG, ROMTYALIG_PIPE, ROMTYALIG_PAIR and ROMTYALIG_WATCH are the programs' paths (bin/romtyalig,
-# bin/romtyalig-pipe, bin/romtyalig-pair and bin/romtyalig-watch unless set). romtyalig-pcapng has no options.
+# the program must take each of them, and refuse each name that is one letter longer or shorter. The examples of each page
+# are run as they stand, and what they write isn't empty; those with a program that is missing (editcap, mergecap of
+# wireshark-common) are skipped with one line. `mandoc` (Debian package mandoc) must find nothing to say of the pages; where it is
+# missing that is skipped with one line too. The status is not 0 where anything differs. ROMTYALIG, ROMTYALIG_PIPE,
+# ROMTYALIG_PCAPNG, ROMTYALIG_PAIR, ROMTYALIG_JOIN and ROMTYALIG_WATCH are the programs' paths (bin/romtyalig, bin/romtyalig-pipe
+# and so on unless set). romtyalig-pcapng has no options.
 set -u
 
 here=$(cd "$(dirname "$0")" && pwd)
 top=$(dirname "$here")
 program=${ROMTYALIG:-$top/bin/romtyalig}
 pipe=${ROMTYALIG_PIPE:-$top/bin/romtyalig-pipe}
+filter=${ROMTYALIG_PCAPNG:-$top/bin/romtyalig-pcapng}
 pair=${ROMTYALIG_PAIR:-$top/bin/romtyalig-pair}
+join=${ROMTYALIG_JOIN:-$top/bin/romtyalig-join}
 watch=${ROMTYALIG_WATCH:-$top/bin/romtyalig-watch}
 export LC_ALL=C
 
-for needed in "$program" "$pipe" "$pair" "$watch"; do
+for needed in "$program" "$pipe" "$filter" "$pair" "$join" "$watch"; do
     if [ ! -x "$needed" ]; then
         echo "no program at $needed" >&2
         exit 2
@@ -100,6 +104,39 @@ done
 wanted=$(in_page join)
 for place in operators bash zsh; do
     [ "$wanted" = "$("in_$place" join)" ] || differs "options of join in $place"
+done
+
+# The examples of the pages, in a folder with the files that they name.
+work=$(mktemp -d) || exit 2
+trap 'rm -rf "$work"' EXIT
+trap 'exit 2' HUP INT TERM
+mkdir "$work/bin"
+for each in "$program" "$pipe" "$filter" "$pair" "$join" "$watch"; do
+    name=romtyalig
+    case $each in
+    "$pipe") name=romtyalig-pipe ;;
+    "$filter") name=romtyalig-pcapng ;;
+    "$pair") name=romtyalig-pair ;;
+    "$join") name=romtyalig-join ;;
+    "$watch") name=romtyalig-watch ;;
+    esac
+    ln -s "$(realpath "$each")" "$work/bin/$name"
+done
+cp examples/web-exchange.pcap "$work/c.pcap"
+cp examples/web-exchange.pcap "$work/a.pcap"
+cp examples/udp-flows.pcap "$work/b.pcap"
+gzip -k "$work/c.pcap"
+command -v editcap >/dev/null && editcap -F pcapng "$work/c.pcap" "$work/c.pcapng"
+for page in man/*.1; do
+    awk '/^\.Sh/ { found = ($2 == "EXAMPLES") } found && sub(/^\.Dl /, "")' "$page" >"$work/all"
+    [ -s "$work/all" ] || differs "$page has no examples"
+    missing='^$'
+    command -v mergecap >/dev/null || missing="$missing|mergecap"
+    [ -e "$work/c.pcapng" ] || missing="$missing|pcapng"
+    grep -Ev "$missing" "$work/all" >"$work/commands"
+    [ "$(wc -l <"$work/commands")" -eq "$(wc -l <"$work/all")" ] || echo "skipped: examples of $page, no mergecap or editcap"
+    (cd "$work" && PATH="$work/bin:$PATH" bash -euo pipefail commands >out 2>said &&
+        [ -z "$(find . -name '*.ipfix' -empty)" ]) || differs "examples of $page"
 done
 
 if command -v mandoc >/dev/null; then
