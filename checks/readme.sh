@@ -3,13 +3,13 @@
 #
 #     checks/readme.sh
 #
-# The blocks marked `run: sample`, `run: report` and `run: capture` are taken out of README.md and run in a folder with bin/,
-# examples/ and man/. The last line that the first prints must be the one that README.md shows, and the notes must have the
-# counts that it names. The capture is of the loopback interface, with datagrams that this script sends. Besides, the
-# programs are installed below a folder, and a manual page is read. What needs a program that is missing (packages
-# python3-ipfix, miller, gnuplot-nox, tcpdump, wireshark-common, man-db), or the right to capture, is skipped with one line.
-# The status is not 0 where anything differs.
-# shellcheck disable=SC2317,SC2329 # rows and the trap call functions by their names
+# The blocks marked `run: sample`, `run: report` and `run: capture`, and the command for pcapng in the text, are taken out of
+# README.md and run in a folder with bin/, examples/ and man/. The last line that the first prints must be the one that
+# README.md shows, and the notes must have the counts that it names. The capture is of the loopback interface, with datagrams
+# that this script sends. Besides, the programs are installed below a folder, and a manual page is read. What needs a program
+# that is missing (packages python3-ipfix, miller, gnuplot-nox, tcpdump, wireshark-common, man-db), or the right to capture,
+# is skipped with one line. The status is not 0 where anything differs.
+# shellcheck disable=SC2016,SC2317,SC2329 # rows and the trap call functions by their names; marks have backticks
 set -u
 
 top=$(dirname "$(cd "$(dirname "$0")" && pwd)")
@@ -92,12 +92,13 @@ PYTHON
 }
 
 capture() {
-    block "run: capture" | grep -v pcapng | typed out && noted 'captured 100' && grep -qx 'accepted [1-9][0-9]*' notes &&
+    block "run: capture" | typed out && noted 'captured 100' && grep -qx 'accepted [1-9][0-9]*' notes &&
         [ -s flows.ipfix ]
 }
 
 pcapng() {
-    editcap -F pcapng examples/web-exchange.pcap mine.pcapng && block "run: capture" | grep pcapng | typed out &&
+    editcap -F pcapng examples/web-exchange.pcap mine.pcapng &&
+        sed -n 's/.*`\(romtyalig-pcapng pcapng <[^`]*\)`.*/\1/p' "$top/README.md" | typed out &&
         cmp flows.ipfix examples/web-exchange.ipfix
 }
 
