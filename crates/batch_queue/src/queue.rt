@@ -1,13 +1,15 @@
 //! The queue and its passes.
 
-ghost use Rattle.std.specs.Prelude.{◌<◌};
+ghost use Rattle.std.specs.Prelude.{◌≡◌, ◌<◌};
 
 use crate::batch::Batch;
+use crate::ending::Ending;
+use crate::heard::Heard;
 use crate::rule::Turn;
 use crate::seen::Seen;
+use atomic_table::{Seat, Table};
 use crossbeam_queue::{Pass, RuledArrayQueue};
 use std::alloc::Global;
-use std::sync::atomic::AtomicBool;
 
 mod calls;
 
@@ -15,14 +17,17 @@ mod calls;
 #[derive(Drop)]
 pub struct BatchQueue {
     line: RuledArrayQueue<Batch, Seen, Turn, Global>,
-    /// Whether no more batches come.
-    ended: AtomicBool,
+    /// One word: 1 once it was said that no more batches come, else 0.
+    ended: Table<(), Heard, (), Ending, Global>,
+    ghost one_word: { ended.shared.table_id.words ≡ 1 },
 }
 
 /// What one seat put and took, or several together.
 #[derive(Drop)]
 pub struct QueuePass {
     pass: Pass<Batch, Seen>,
+    /// Its seat at the word that no more batches come.
+    seat: Seat<(), Heard>,
     ghost seated: { 0 < pass.me.0.client.seats },
 }
 
@@ -30,6 +35,4 @@ pub struct QueuePass {
 #[derive(Drop)]
 pub struct Feed {
     pass: QueuePass,
-    /// Whether it wasn't said yet.
-    open: bool,
 }
