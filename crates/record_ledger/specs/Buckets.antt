@@ -12,7 +12,7 @@ use Rattle.flow_parts.specs.declared.timeouts.Timeouts.{Timeouts}
 use Rattle.flow_parts.specs.Reaching.{Reaches}
 use Rattle.record_ledger.specs.declared.record.FlowRecord.{FlowRecord}
 use Rattle.record_ledger.specs.declared.place.Place.{Place}
-use Rattle.record_ledger.specs.Lawful.{parts_of, reason_of}
+use Rattle.record_ledger.specs.Lawful.{parts_of}
 use Rattle.record_ledger.specs.Steps.{Rises, NotAfter, NoneJoinable, HasReasons}
 
 abbrev pub Bucket : Type 0

@@ -29,8 +29,8 @@ use std::thread::Threads;
 /// are but some of the fragments: those of some keys, of which all are there.
 ///
 /// The fragments are dealt to buckets by their keys, and `threads` threads at most sort, join and give reasons there.
-/// It takes the time of sorting. Each piece of `parts` is let go as soon as its fragments are dealt; held are a record for
-/// each part, and 24 bytes for its place in the order.
+/// It takes the time of sorting. The fragments of `parts` are let go as soon as they are dealt; held are a record for each
+/// part, and 24 bytes for its place in the order.
 ///
 /// # Errors
 ///

@@ -1,13 +1,8 @@
 -- The fragments are dealt, the buckets are settled, and their records are put into the written order.
-use Rattle.std.proofs.Common.{◌≡◌, List, IfOk, length, sym, ap, subst, arith, IsPermutation}
-use Rattle.std.specs.Prelude.{IsSorted}
+use Rattle.std.proofs.Common.{◌≡◌, List, subst, IsPermutation}
 use Rattle.std.specs.List.{AllZip}
 use Rattle.std.proofs.lemmas.Result.{IfOk-weaker}
-use Rattle.std.proofs.lemmas.List.Sorted.{sum_by-IsPermutation}
-use Rattle.flow_parts.specs.declared.fragment.Fragment.{Fragment}
 use Rattle.flow_parts.proofs.Permuted.{AllZip-length}
-use Rattle.record_ledger.specs.Lawful.{parts_of}
-use Rattle.record_ledger.specs.Order.{written_order}
 use Rattle.record_ledger.specs.Buckets.{Bucket, records_of}
 use Rattle.record_ledger.proofs.Gathered.{by_own_clock}
 use Rattle.record_ledger.proofs.Matched.{lawful_are_sessions}
