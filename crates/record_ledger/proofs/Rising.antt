@@ -62,7 +62,7 @@ pub by_key_weak : IsStrictWeakOrder (λ (x y : FlowRecord). is_lt (joining_order
 by_key_weak = ranks_by joining_total (λ (r : FlowRecord). r.part)
 
 -- what comes before by all fields comes before by key and last time
-not_less_shorter : (o p q : Ordering) → is_lt (ordering_then o (ordering_then p q)) ≡ false
+pub not_less_shorter : (o p q : Ordering) → is_lt (ordering_then o (ordering_then p q)) ≡ false
     → is_lt (ordering_then o p) ≡ false
 not_less_shorter Less p q e = e
 not_less_shorter Equal Less q e = e

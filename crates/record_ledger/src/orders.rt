@@ -4,7 +4,7 @@ ghost use Rattle.std.specs.Prelude.{◌≡◌, IsPermutation, IsSorted, option_c
 ghost use Rattle.std.specs.Option.{option_cmp};
 ghost use Rattle.flow_key.specs.Key.{key_order};
 ghost use Rattle.record_ledger.specs.Order.{joining_order, number_order};
-ghost use Rattle.record_ledger.specs.Buckets.{place_order, record_at};
+ghost use Rattle.record_ledger.specs.Buckets.{place_order, record_at, seat_order};
 ghost use Rattle.record_ledger.specs.declared.record.FlowRecord.{FlowRecord};
 
 use crate::place::Place;
@@ -22,7 +22,7 @@ pub fn sort_by_key(records: &mut Vec<FlowRecord>)
 }
 
 /// Sorts places into the written order of their records: by last time, which is in the place, and only where two tie by
-/// the keys, which are looked up in the buckets.
+/// the keys, which are looked up in the buckets. Records that tie by both stay in the order of the buckets.
 pub fn sort_places(buckets: &[Vec<FlowRecord>], order: &mut Vec<Place>)
     ensures permutation { IsPermutation order.old.items order.new.items }
     ensures order { IsSorted (place_order buckets.now) order.new.items }
@@ -50,14 +50,24 @@ fn by_numbers(one: &Fragment, other: &Fragment) -> Ordering
     one.last.cmp(&other.last).then(times)
 }
 
-/// How two places stand by last time, then by the keys of their records.
+/// How two places stand by last time, then by the keys of their records, then by where they are.
 fn by_place(buckets: &[Vec<FlowRecord>], one: &Place, other: &Place) -> Ordering
     ensures { result ≡ place_order buckets.now one.now other.now }
 {
     match one.last.cmp(&other.last) {
-        Ordering::Equal => by_found(record_at(buckets, one), record_at(buckets, other)),
+        Ordering::Equal => {
+            let keys = by_found(record_at(buckets, one), record_at(buckets, other));
+            keys.then(by_seat(one, other))
+        }
         apart => apart,
     }
+}
+
+/// How two places stand by bucket, then by place in it.
+fn by_seat(one: &Place, other: &Place) -> Ordering
+    ensures { result ≡ seat_order one.now other.now }
+{
+    one.bucket.cmp(&other.bucket).then(one.at.cmp(&other.at))
 }
 
 /// How two records stand by key, where there are both.
