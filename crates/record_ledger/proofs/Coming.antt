@@ -1,6 +1,6 @@
 -- What becomes of fragments when others come to them, and what of those of one key.
 use Rattle.std.proofs.Common.{◌≡◌, ℕ, Bool, true, false, cond, inl, inr, List, [], ◌∷◌, length, refl, sym, ap, ◌∙◌, subst}
-use Rattle.std.proofs.Common.{reverse, arith, get_or, take, zero, suc, ◌-◌, ◌<◌, ◌≤◌, ◌++◌, add-one, All, filter}
+use Rattle.std.proofs.Common.{reverse, arith, get_or, take, zero, suc, ◌-◌, ◌<◌, ◌≤◌, ◌++◌, add-one, All}
 use Rattle.std.specs.Ordering.{is_lt, is_eq}
 use Rattle.std.specs.declared.cmp.Ordering.TheVariants.{Less}
 use Rattle.std.proofs.lemmas.Bool.{cases_Bool}
@@ -17,11 +17,11 @@ use Rattle.flow_parts.proofs.PartWords.{part_same}
 use Rattle.record_ledger.specs.Gathered.{ComesTo, AllComeTo, AreJoined, parts_with}
 use Rattle.record_ledger.specs.Order.{joining_order}
 use Rattle.record_ledger.specs.Steps.{Rises}
-use Rattle.record_ledger.proofs.Filtered.{IsPermutation-filter, filter_reverse, none_kept}
+use Rattle.record_ledger.proofs.Filtered.{IsPermutation-filter, filter_reverse, kept_none}
 use Rattle.record_ledger.proofs.Gathered.{not_true}
 use Rattle.record_ledger.proofs.Keyed.{tie_from_test, first_not_less, less_otherwise, tie_flips, rises_filter, rises_weaker}
 use Rattle.record_ledger.proofs.Placed.{sorted_from_rises}
-use Rattle.record_ledger.proofs.Rising.{keys_tie, joining_total, rises_from_sorted, joining_weak}
+use Rattle.record_ledger.proofs.Rising.{keys_tie, rises_from_sorted, joining_weak}
 
 joined_once : (one other v w : Fragment) → IsJoined one other v → IsJoined one other w → v ≡ w
 joined_once one other v w a b = part_same v w (a.key ∙ sym b.key) (a.packets ∙ sym b.packets) (a.octets ∙ sym b.octets)
@@ -117,7 +117,7 @@ module _ (limits : Timeouts) where
     none_below t S f e d h n =
         let less : key_order t.key f.key ≡ Less = less_otherwise key_order_total t.key f.key (key_order f.key t.key) refl d
         (tie_flips key_order_total f.key t.key ∙ ap (λ k. is_eq (key_order t.key k)) e ∙ n) in
-        kept t S false n ∙ none_kept Has S (All-weaker (Down t) (λ g. Has g ≡ false)
+        kept t S false n ∙ kept_none Has S (All-weaker (Down t) (λ g. Has g ≡ false)
         (λ g low. not_true (Has g) (λ is. (let never : true ≡ false = sym (ap is_lt less)
         ∙ ap (λ k. is_lt (key_order t.key k)) (e ∙ sym (is_key g is)) ∙ low in cc))) S h)
 

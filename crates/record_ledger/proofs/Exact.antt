@@ -1,8 +1,7 @@
 -- What is gathered of fragments is one list, and goes by keys.
-use Rattle.std.proofs.Common.{◌≡◌, ℕ, Bool, true, false, cond, inl, inr, List, [], ◌∷◌, map, reverse, refl, sym, ap, ◌∙◌}
+use Rattle.std.proofs.Common.{◌≡◌, ℕ, Bool, true, false, cond, inl, inr, List, [], ◌∷◌, reverse, refl, sym, ap, ◌∙◌}
 use Rattle.std.proofs.Common.{subst, IsPermutation, filter}
 use Rattle.std.specs.Ordering.{is_lt, is_eq, nat_cmp}
-use Rattle.std.specs.declared.cmp.Ordering.TheVariants.{Equal}
 use Rattle.std.proofs.lemmas.Bool.{cases_Bool}
 use Rattle.std.proofs.lemmas.List.{reverse-reverse}
 use Rattle.std.proofs.lemmas.List.Sorted.{IsPermutation-refl, IsPermutation-sym, IsPermutation-trans}
@@ -23,7 +22,7 @@ use Rattle.record_ledger.proofs.Gathered.{has_key, key_from_test}
 use Rattle.record_ledger.proofs.Keyed.{part_of, tie_from_test, rises_of_map, rises_filter}
 use Rattle.record_ledger.proofs.Placed.{sorted_from_rises}
 use Rattle.record_ledger.proofs.Rising.{joining_total, joining_exact, joining_weak, written_weak, rises_from_sorted}
-use Rattle.record_ledger.proofs.Unique.{part_order, part_order_total, same_records}
+use Rattle.record_ledger.proofs.Unique.{part_order_total, same_records}
 
 -- the fragments of a key are those of its records
 pub parts_of_key : (key : FlowKey) (rs : List FlowRecord) → parts_with key (parts_of rs) ≡ parts_of (of_key key rs)

@@ -1,5 +1,5 @@
 -- What tests keep of lists, and lists that are one where they are in order.
-use Rattle.std.proofs.Common.{◌≡◌, ◌≢◌, ℕ, Bool, true, false, cond, inl, inr, List, [], ◌∷◌, ◌++◌, length, get_or, drop}
+use Rattle.std.proofs.Common.{◌≡◌, Bool, true, false, cond, inl, inr, List, [], ◌∷◌, ◌++◌, length, get_or, drop}
 use Rattle.std.proofs.Common.{reverse, refl, sym, ap, ◌∙◌, subst, arith, append-nil, All, Contains, IsPermutation, filter}
 use Rattle.std.proofs.Common.{flat_map}
 use Rattle.std.specs.Cmp.{IsTotalOrder}
@@ -12,7 +12,7 @@ use Rattle.std.proofs.lemmas.List.Elements.{All-contains, All-tail, All-weaker, 
 use Rattle.std.proofs.lemmas.List.Sorted.{length_permutation}
 use Rattle.packet_accept.proofs.Permuted.{flat_map-permutation}
 use Rattle.record_ledger.specs.Steps.{Rises}
-use Rattle.record_ledger.proofs.Keyed.{tie_from_test, less_from_greater, cons_cases, contains_head, filter_contains}
+use Rattle.record_ledger.proofs.Keyed.{tie_from_test, cons_cases, contains_head, filter_contains}
 use Rattle.record_ledger.proofs.Keyed.{contains_filter}
 
 module _ {X : Type 0} (p : X → Bool) where
@@ -40,10 +40,10 @@ module _ {X : Type 0} (p : X → Bool) where
       put true = sym (reverse-append (x ∷ []) (filter p xs))
       put false = append-nil (reverse (filter p xs))
 
-  pub none_kept : (xs : List X) → All (λ x. p x ≡ false) xs → filter p xs ≡ []
-  none_kept [] h = refl
-  none_kept (x ∷ xs) h = ap (λ b. cond b (x ∷ filter p xs) (filter p xs)) (h 0 x (omega arith))
-      ∙ none_kept xs (All-tail (λ x. p x ≡ false) x xs h)
+  pub kept_none : (xs : List X) → All (λ x. p x ≡ false) xs → filter p xs ≡ []
+  kept_none [] h = refl
+  kept_none (x ∷ xs) h = ap (λ b. cond b (x ∷ filter p xs) (filter p xs)) (h 0 x (omega arith))
+      ∙ kept_none xs (All-tail (λ x. p x ≡ false) x xs h)
 
   module _ (q : X → Bool) where
     -- a test that keeps no more

@@ -113,10 +113,12 @@ module _ (limits : Timeouts) where
               ap (λ m. get_or s (m - 1) d) tall ∙ get_or-take n S (n - 1) d (omega arith) in
               top d (omega arith) (subst (λ f. IsJoinable limits f w) last j)));
           comes = λ after k. h.comes after
-              (subst (λ fs. AllComeTo limits (reverse (take a F)) fs after) (sym (ahead X p r l is))
-              (w ∷ reverse s, subst (λ fs. ComesTo limits (reverse fs) r.part (w ∷ reverse s)) e comes,
-              subst (λ fs. AllComeTo limits fs rest after) (ap reverse front ∙ reverse-append s (w ∷ []))
-              (subst (λ fs. AllComeTo limits (reverse (take (n + 1) (parts_of (set X n q)))) fs after) back k)));
+              (subst (λ fs. AllComeTo limits (reverse (take a F)) fs after) (sym (ahead X p r l is)) (
+                w ∷ reverse s,
+                subst (λ fs. ComesTo limits (reverse fs) r.part (w ∷ reverse s)) e comes,
+                subst (λ fs. AllComeTo limits fs rest after) (ap reverse front ∙ reverse-append s (w ∷ []))
+                    (subst (λ fs. AllComeTo limits (reverse (take (n + 1) (parts_of (set X n q)))) fs after) back k),
+              ));
         }
 
   -- with no record left the stack is all

@@ -44,7 +44,10 @@ fn by_key(one: &FlowRecord, other: &FlowRecord) -> Ordering
 fn by_numbers(one: &Fragment, other: &Fragment) -> Ordering
     ensures { result ≡ number_order one.now other.now }
 {
-    let sizes = one.octets.cmp(&other.octets).then(one.flags.cmp(&other.flags));
+    let sizes = one
+        .octets
+        .cmp(&other.octets)
+        .then(one.flags.cmp(&other.flags));
     let counts = one.packets.cmp(&other.packets).then(sizes);
     let times = one.first.cmp(&other.first).then(counts);
     one.last.cmp(&other.last).then(times)

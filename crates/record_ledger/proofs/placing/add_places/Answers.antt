@@ -18,8 +18,11 @@ loop-at-init c =
           (c.index-buckets-bucket.is ∙ get_or_from_slice_get c.args.buckets.now c.args.bucket b B e);
       placed = λ before b e h. subst (λ l. AllZip (IsPlaceOf c.args.buckets.now) l c.args.order.now.items)
           (sym (append-nil before)) h;
-      first = λ h. (All-weaker (λ p. p.bucket < c.args.bucket) (IsBelow c.args.bucket 0) (λ p l. inl l)
-          c.args.order.now.items h.below, h.rising);
+      first = λ h. (
+        All-weaker (λ p. p.bucket < c.args.bucket) (IsBelow c.args.bucket 0) (λ p l. inl l)
+            c.args.order.now.items h.below,
+        h.rising,
+      );
     }
 
 pub loop-at-preserved : goal.loop-at-preserved
