@@ -9,8 +9,9 @@ use std::alloc::Global;
 use std::marker::Model;
 use std::mem::replace;
 
-/// How many fragments a piece has room for.
-const PIECE: usize = 4096;
+/// How many fragments a piece has room for: over 32 MiB of them, which the C library maps by themselves, so that what of
+/// the room isn't filled takes no memory, and what is let go of it is given back to the system.
+const PIECE: usize = 350_000;
 
 /// A list of fragments, in pieces: those before the last, and the last, which grows. Contracts see it as the list.
 #[derive(Drop)]
@@ -45,7 +46,7 @@ impl PartList {
         self.last.allocator()
     }
 
-    /// Adds a fragment at the end. Nothing is copied; one call in 4,096 allocates.
+    /// Adds a fragment at the end. Nothing is copied; one call in 350,000 allocates.
     pub fn push(&mut self, alloc: Global, part: Fragment) -> Result<(), NoMemory>
         ensures { OnOk result (self.new ≡ self.old ++ (part ∷ [])) }
     {

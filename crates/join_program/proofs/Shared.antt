@@ -17,7 +17,7 @@ use Rattle.flow_parts.proofs.Shares.{together as both_shared, nothing, times}
 use Rattle.record_ledger.specs.declared.record.FlowRecord.{FlowRecord}
 use Rattle.record_ledger.specs.Lawful.{parts_of}
 use Rattle.record_ledger.proofs.Keyed.{All-of_map, All-unmap}
-use Rattle.record_ledger.proofs.Matched.{IsPermutation-filter}
+use Rattle.record_ledger.proofs.Filtered.{IsPermutation-filter}
 use Rattle.join_program.specs.Joined.{together, EachSharesOut, IsLatest}
 
 abbrev part_of : FlowRecord → Fragment

@@ -1,14 +1,13 @@
 -- Records that lie in the buckets that their keys are of.
-use Rattle.std.proofs.Common.{◌≡◌, ◌≢◌, ℕ, zero, suc, ◌+◌, ◌<◌, ◌≤◌, ◌⊎◌, inl, inr, Bool, true, false, List, [], ◌∷◌, ◌++◌}
-use Rattle.std.proofs.Common.{length, get_or, set, map, sum_by, refl, sym, ap, ◌∙◌, subst, arith, append-nil, append_assoc}
-use Rattle.std.proofs.Common.{length-append, All, IsPermutation, Contains}
+use Rattle.std.proofs.Common.{◌≡◌, ℕ, zero, suc, ◌+◌, ◌<◌, ◌≤◌, List, [], ◌∷◌, ◌++◌}
+use Rattle.std.proofs.Common.{length, get_or, set, sum_by, sym, ap, ◌∙◌, subst, arith, append-nil, append_assoc}
+use Rattle.std.proofs.Common.{length-append, All, IsPermutation}
 use Rattle.std.proofs.Math.ListN.{length-set}
-use Rattle.std.proofs.lemmas.Bool.{cases_lt}
 use Rattle.std.proofs.lemmas.Grind.{flat_map-append}
 use Rattle.std.proofs.lemmas.List.{map-append}
 use Rattle.std.proofs.lemmas.List.Sums.{sum_by-append}
-use Rattle.std.proofs.lemmas.List.Elements.{All-append, All-cons, All-nil, All-weaker}
-use Rattle.std.proofs.lemmas.List.Sorted.{IsPermutation-sym, IsPermutation-trans, IsPermutation-cons, IsPermutation-map}
+use Rattle.std.proofs.lemmas.List.Elements.{All-append}
+use Rattle.std.proofs.lemmas.List.Sorted.{IsPermutation-sym, IsPermutation-trans}
 use Rattle.std.proofs.lemmas.List.Sorted.{IsPermutation-to_front, IsPermutation-append_left, IsPermutation-append_right}
 use Rattle.std.proofs.Common.{Vec, Global}
 use Rattle.flow_key.specs.Key.{set_number}
@@ -83,24 +82,20 @@ pushed (c ∷ bs) (suc j) b r d l e =
     (IsPermutation-append_right c.items (r ∷ records_of bs) (records_of (set bs j b))
     (pushed bs j b r d (omega arith) e))
 
--- one more fragment of a piece is dealt
-pub one_dealt : (T F X Y : List Fragment) (p : Fragment) → IsPermutation (T ++ F) X → IsPermutation (p ∷ X) Y
-    → IsPermutation ((T ++ p ∷ []) ++ F) Y
-one_dealt T F X Y p h k = IsPermutation-trans ((T ++ p ∷ []) ++ F) (p ∷ (T ++ F)) Y
-    (IsPermutation-append_left F (T ++ p ∷ []) (p ∷ T) (IsPermutation-to_front T p))
-    (IsPermutation-trans (p ∷ (T ++ F)) (p ∷ X) Y (IsPermutation-cons p (T ++ F) X h) k)
+-- the last fragments of some are dealt
+pub last_dealt : (A F rest dealt X Y : List Fragment) → F ≡ rest ++ dealt → IsPermutation A (F ++ X)
+    → IsPermutation (dealt ++ X) Y → IsPermutation A (rest ++ Y)
+last_dealt A F rest dealt X Y e h k = IsPermutation-trans A (rest ++ (dealt ++ X)) (rest ++ Y)
+    (subst (IsPermutation A) (ap (λ l. l ++ X) e ∙ append_assoc rest dealt X) h)
+    (IsPermutation-append_right rest (dealt ++ X) Y k)
 
 -- the last piece is dealt
 pub piece_dealt : (A : List Fragment) (pieces rest : List (Vec Fragment Global)) (piece : Vec Fragment Global)
     (X Y : List Fragment) → pieces ≡ rest ++ piece ∷ [] → IsPermutation A (items_of pieces ++ X)
     → IsPermutation (piece.items ++ X) Y → IsPermutation A (items_of rest ++ Y)
-piece_dealt A pieces rest piece X Y e h k =
-    let split : items_of pieces ≡ items_of rest ++ piece.items =
-    ap items_of e ∙ flat_map-append (λ (v : Vec Fragment Global). v.items) rest (piece ∷ [])
-    ∙ ap (λ l. items_of rest ++ l) (append-nil piece.items) in
-    IsPermutation-trans A (items_of rest ++ (piece.items ++ X)) (items_of rest ++ Y)
-    (subst (IsPermutation A) (ap (λ l. l ++ X) split ∙ append_assoc (items_of rest) piece.items X) h)
-    (IsPermutation-append_right (items_of rest) (piece.items ++ X) Y k)
+piece_dealt A pieces rest piece X Y e = last_dealt A (items_of pieces) (items_of rest) piece.items X Y
+    (ap items_of e ∙ flat_map-append (λ (v : Vec Fragment Global). v.items) rest (piece ∷ [])
+    ∙ ap (λ l. items_of rest ++ l) (append-nil piece.items))
 
 -- a bucket has no more than all of them
 module _ (f : Fragment → ℕ) where

@@ -40,7 +40,7 @@ use Rattle.record_ledger.proofs.Keyed.{part_of, first_not_less, second_less, fir
 use Rattle.record_ledger.proofs.Keyed.{less_numbers, less_from_greater, less_than_rest, less_otherwise, less_no_tie}
 use Rattle.record_ledger.proofs.Keyed.{tie_flips, rises_distinct, distinct_from_rises, rises_more, filter_contains}
 use Rattle.record_ledger.proofs.Keyed.{contains_filter, rises_filter, same_rising, pairs_from_rises, All-unmap}
-use Rattle.record_ledger.proofs.Keyed.{rises_unmap, rises_weaker, contains_head}
+use Rattle.record_ledger.proofs.Keyed.{rises_weaker, contains_head}
 use Rattle.flow_parts.proofs.Reaching.{shared}
 use Rattle.record_ledger.proofs.Reaching.{grouped, grouped_start}
 use Rattle.record_ledger.proofs.Rising.{gathering_total, written_total, written_weak, keys_tie, rises_from_sorted}

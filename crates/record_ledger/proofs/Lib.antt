@@ -1,5 +1,8 @@
 pub mod Alone
 pub mod Dealt
+pub mod Exact
+pub mod Coming
+pub mod Filtered
 pub mod Gathered
 pub mod InPlace
 pub mod Keyed

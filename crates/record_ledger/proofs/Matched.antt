@@ -1,7 +1,7 @@
 -- The heaps of a lawful list are the sessions.
 use Rattle.std.proofs.Common.{◌≡◌, ◌≢◌, ℕ, suc, ◌-◌, ◌<◌, ◌≤◌, max, Bool, true, false, cond, ◌&&◌, ◌⊎◌, inl, inr, List}
 use Rattle.std.proofs.Common.{[], ◌∷◌, ◌++◌, length, refl, sym, ap, ◌∙◌, subst, arith, All, AllPairs, Any, Contains}
-use Rattle.std.proofs.Common.{IsPermutation, filter, flat_map, map, nat_le, Some}
+use Rattle.std.proofs.Common.{IsPermutation, filter, map, nat_le, Some}
 use Rattle.std.specs.List.{AllZip}
 use Rattle.std.specs.Ordering.{is_eq}
 use Rattle.std.specs.declared.cmp.Ordering.TheVariants.{Less, Equal}
@@ -19,11 +19,11 @@ use Rattle.flow_parts.specs.declared.timeouts.Timeouts.{Timeouts}
 use Rattle.flow_parts.specs.Heap.{IsLinked, IsHeap}
 use Rattle.flow_parts.proofs.Members.{found, among}
 use Rattle.flow_parts.proofs.Heaps.{IsHeap-permutation}
-use Rattle.packet_accept.proofs.Permuted.{flat_map-permutation}
 use Rattle.record_ledger.specs.declared.record.FlowRecord.{FlowRecord}
 use Rattle.record_ledger.specs.Lawful.{of_key, IsLawful}
 use Rattle.record_ledger.specs.Order.{written_order}
 use Rattle.record_ledger.specs.Steps.{Rises}
+use Rattle.record_ledger.proofs.Filtered.{IsPermutation-filter, kept_none}
 use Rattle.record_ledger.proofs.Gathered.{has_key, key_from_test, up_written, rises_written}
 use Rattle.record_ledger.proofs.Keyed.{part_of, tie_from_test, cons_cases, contains_head, contains_more}
 use Rattle.record_ledger.proofs.Keyed.{filter_contains, contains_filter, pairs_from_rises}
@@ -40,38 +40,17 @@ use Rattle.record_ledger.proofs.Meeting.{flat, contains_flat, flat_contains, pai
 abbrev time_of : Packet → ℕ
 time_of p = p.time
 
--- what a filter keeps of a permuted list is permuted too
 module _ (p : Packet → Bool) where
-  filter_flat : (xs : List Packet) → flat_map (λ (x : Packet). cond (p x) (x ∷ []) []) xs ≡ filter p xs
-  filter_flat [] = refl
-  filter_flat (x ∷ xs) = put (p x) ∙ ap (λ l. cond (p x) (x ∷ l) l) (filter_flat xs)
-    where
-      put : (b : Bool) → cond b (x ∷ []) [] ++ flat_map (λ (y : Packet). cond (p y) (y ∷ []) []) xs
-          ≡ cond b (x ∷ flat_map (λ (y : Packet). cond (p y) (y ∷ []) []) xs)
-          (flat_map (λ (y : Packet). cond (p y) (y ∷ []) []) xs)
-      put true = refl
-      put false = refl
-
-  pub IsPermutation-filter : (xs ys : List Packet) → IsPermutation xs ys → IsPermutation (filter p xs) (filter p ys)
-  IsPermutation-filter xs ys s = subst (λ l. IsPermutation l (filter p ys)) (filter_flat xs)
-      (subst (λ l. IsPermutation (flat_map (λ (x : Packet). cond (p x) (x ∷ []) []) xs) l) (filter_flat ys)
-      (flat_map-permutation (λ (x : Packet). cond (p x) (x ∷ []) []) xs ys s))
-
   kept_all : (xs : List Packet) → All (λ q. p q ≡ true) xs → filter p xs ≡ xs
   kept_all [] h = refl
   kept_all (x ∷ xs) h = ap (λ b. cond b (x ∷ filter p xs) (filter p xs)) (h 0 x (omega arith))
       ∙ ap (λ l. x ∷ l) (kept_all xs (All-tail (λ q. p q ≡ true) x xs h))
 
-  kept_none : (xs : List Packet) → All (λ q. p q ≡ false) xs → filter p xs ≡ []
-  kept_none [] h = refl
-  kept_none (x ∷ xs) h = ap (λ b. cond b (x ∷ filter p xs) (filter p xs)) (h 0 x (omega arith))
-      ∙ kept_none xs (All-tail (λ q. p q ≡ false) x xs h)
-
   none_kept : (T : List (List Packet)) → ((u : List Packet) → Contains T u → All (λ q. p q ≡ false) u)
       → filter p (flat T) ≡ []
   none_kept [] none = refl
   none_kept (u ∷ T) none = filter-append p u (flat T)
-      ∙ ap (λ l. l ++ filter p (flat T)) (kept_none u (none u (contains_head u T)))
+      ∙ ap (λ l. l ++ filter p (flat T)) (kept_none p u (none u (contains_head u T)))
       ∙ none_kept T (λ v c. none v (contains_more u T v c))
 
   -- of lists put together the filter keeps one
@@ -87,7 +66,7 @@ module _ (p : Packet → Bool) where
         | inl same ↦ ap (λ l. filter p u ++ l)
             (none_kept T (λ v d. none v (contains_more u T v d) (inl (subst (λ z. R z v) same (head v d)))))
             ∙ append-nil (filter p u) ∙ ap (filter p) same ∙ kept_all t all
-        | inr d ↦ ap (λ l. l ++ filter p (flat T)) (kept_none u (none u (contains_head u T) (inr (head t d))))
+        | inr d ↦ ap (λ l. l ++ filter p (flat T)) (kept_none p u (none u (contains_head u T) (inr (head t d))))
             ∙ only R T (λ i j e l m. h (suc i) (suc j) e (omega arith) (omega arith)) t all
             (λ v e. none v (contains_more u T v e)) d
       ])

@@ -1,29 +1,36 @@
 -- Places of records in buckets, and their order.
 use Rattle.std.proofs.Common.{◌≡◌, ℕ, zero, suc, ◌+◌, ◌<◌, Bool, false, Option, Some, None, List, [], ◌∷◌, ◌++◌, length, get_or}
 use Rattle.std.proofs.Common.{take, refl, sym, ap, ◌∙◌, subst, arith, add-one, append-nil, append_assoc, All}
-use Rattle.std.proofs.Common.{IsPermutation}
+use Rattle.std.proofs.Common.{IsPermutation, ◌≤◌, true, cond, filter, ◌⊎◌, inl, inr}
 use Rattle.std.specs.Prelude.{slice_get, IsSorted}
 use Rattle.std.specs.Cmp.{IsTotalOrder, IsStrictWeakOrder}
 use Rattle.std.specs.List.{AllZip}
 use Rattle.std.specs.List.Sorted.{IsSortedBy}
 use Rattle.std.specs.Option.{option_cmp}
-use Rattle.std.specs.Ordering.{is_lt, nat_cmp, ordering_then, ordering_reverse}
+use Rattle.std.specs.Ordering.{MatchOrdering, is_lt, nat_cmp, ordering_then, ordering_reverse}
 use Rattle.std.specs.declared.cmp.Ordering.{Ordering}
 use Rattle.std.specs.declared.cmp.Ordering.TheVariants.{Less, Equal, Greater}
 use Rattle.std.proofs.Math.Seq.{take-suc}
-use Rattle.std.proofs.lemmas.Cmp.{nat_cmp_total, on_total, then_total}
+use Rattle.std.proofs.lemmas.Cmp.{nat_cmp_total, on_total, then_total, ranked, tied_itself}
 use Rattle.std.proofs.lemmas.Grind.{flat_map-append}
 use Rattle.std.proofs.lemmas.Option.{slice_get_read, slice_get_within, get_or_from_slice_get}
-use Rattle.std.proofs.lemmas.List.Elements.{All-cons, All-nil, All-head, All-tail}
+use Rattle.std.proofs.lemmas.List.Elements.{All-append, All-cons, All-nil, All-head, All-tail, All-weaker}
 use Rattle.std.proofs.lemmas.List.Sorted.{ranks_by}
 use Rattle.flow_key.specs.Key.{key_order}
-use Rattle.flow_key.proofs.KeyOrder.{key_order_total}
+use Rattle.flow_key.specs.declared.key.FlowKey.{FlowKey}
+use Rattle.flow_key.proofs.KeyOrder.{key_order_total, tied_numbers, tied_first, tied_second}
 use Rattle.flow_parts.proofs.Permuted.{AllZip-append, AllZip-permutation}
 use Rattle.record_ledger.specs.declared.record.FlowRecord.{FlowRecord}
 use Rattle.record_ledger.specs.declared.place.Place.{Place}
 use Rattle.record_ledger.specs.Order.{written_order}
 use Rattle.record_ledger.specs.Steps.{Rises}
-use Rattle.record_ledger.proofs.Rising.{rises_from_sorted}
+use Rattle.flow_parts.proofs.Members.{All-one}
+use Rattle.record_ledger.proofs.Filtered.{IsPermutation-filter, NotLess, one_sorted}
+use Rattle.record_ledger.proofs.Gathered.{has_key, key_from_test}
+use Rattle.record_ledger.proofs.Keyed.{rises_filter}
+use Rattle.record_ledger.proofs.Rising.{rises_from_sorted, not_less_shorter, keys_tie}
+use Rattle.record_ledger.specs.Lawful.{of_key}
+use Rattle.record_ledger.specs.Buckets.{seat_order, AreFirst, EndInTurn}
 use Rattle.record_ledger.specs.Buckets.{Bucket, item_at, record_at, IsPlaceOf, IsPlace, listed, records_at, place_order, records_of}
 
 sorted_more : {X : Type 0} (lt : X → X → Bool) (x : X) (xs : List X) → All (λ y. lt y x ≡ false) xs → IsSortedBy lt xs
@@ -82,6 +89,87 @@ options_total = record { antisymm = back; trans = onward; congr = alike }
     alike (Some r) (Some s) None e = refl
     alike (Some r) (Some s) (Some u) e = o.congr r s u e
 
+-- numbers and their order
+less_is : (x y : ℕ) → x < y → nat_cmp x y ≡ Less
+less_is x y l = go (nat_cmp x y) (ranked x y (nat_cmp x y) refl)
+  where
+    go : (o : Ordering) → MatchOrdering o (x < y) (x ≡ y) (y < x) → o ≡ Less
+    go Less h = refl
+    go Equal h = absurd (omega (arith, h, l))
+    go Greater h = absurd (omega (arith, h, l))
+
+least_is : (x y : ℕ) → y ≤ x → is_lt (nat_cmp x y) ≡ false
+least_is x y l = go (nat_cmp x y) (ranked x y (nat_cmp x y) refl)
+  where
+    go : (o : Ordering) → MatchOrdering o (x < y) (x ≡ y) (y < x) → is_lt o ≡ false
+    go Less h = absurd (omega (arith, h, l))
+    go Equal h = refl
+    go Greater h = refl
+
+seats_total : IsTotalOrder seat_order
+seats_total = then_total (on_total (λ (p : Place). p.bucket) nat_cmp_total) (on_total (λ (p : Place). p.at) nat_cmp_total)
+
+-- the place is of a bucket below the one with this number, or in this one below a place
+abbrev pub IsBelow : ℕ → ℕ → Place → Type 0
+IsBelow n i p = (p.bucket < n) ⊎ ((p.bucket ≡ n) × (p.at < i))
+
+ahead_of : (n i : ℕ) (q p : Place) → q.bucket ≡ n → q.at ≡ i → IsBelow n i p → seat_order p q ≡ Less
+ahead_of n i q p e f (inl l) =
+    ap (λ o. ordering_then o (nat_cmp p.at q.at)) (less_is p.bucket q.bucket (omega (arith, e, l)))
+ahead_of n i q p e f (inr h) =
+    let same : q.bucket ≡ p.bucket = e ∙ sym h.0 in
+    ap (λ m. ordering_then (nat_cmp p.bucket m) (nat_cmp p.at q.at)) same
+    ∙ ap (λ o. ordering_then o (nat_cmp p.at q.at)) (tied_itself nat_cmp_total p.bucket)
+    ∙ less_is p.at q.at (omega (arith, f, h.1))
+
+rises_snoc : {X : Type 0} (R : X → X → Type 0) (xs : List X) (y : X) → Rises R xs → All (λ x. R x y) xs
+    → Rises R (xs ++ y ∷ [])
+rises_snoc R [] y h k = (All-nil (R y), tt)
+rises_snoc R (x ∷ xs) y h k = (
+  All-append (R x) xs (y ∷ []) h.0 (All-one (R x) y (All-head (λ x. R x y) x xs k)),
+  rises_snoc R xs y h.1 (All-tail (λ x. R x y) x xs k),
+)
+
+-- one more place is behind those before
+pub more_ahead : (n i : ℕ) (ps qs : List Place) (p : Place) → p.bucket ≡ n → p.at ≡ i → qs ≡ ps ++ p ∷ []
+    → All (IsBelow n i) ps × Rises (λ one other. seat_order one other ≡ Less) ps
+    → All (IsBelow n (i + 1)) qs × Rises (λ one other. seat_order one other ≡ Less) qs
+more_ahead n i ps qs p e f eq h = (
+  subst (All (IsBelow n (i + 1))) (sym eq)
+      (All-append (IsBelow n (i + 1)) ps (p ∷ []) (All-weaker (IsBelow n i) (IsBelow n (i + 1)) (λ q b. onward q b) ps h.0)
+      (All-one (IsBelow n (i + 1)) p (inr (e, omega (arith, f))))),
+  subst (Rises (λ one other. seat_order one other ≡ Less)) (sym eq)
+      (rises_snoc (λ one other. seat_order one other ≡ Less) ps p h.1
+      (All-weaker (IsBelow n i) (λ q. seat_order q p ≡ Less) (λ q b. ahead_of n i p q e f b) ps h.0)),
+)
+  where
+    onward : (q : Place) → IsBelow n i q → IsBelow n (i + 1) q
+    onward q (inl l) = inl l
+    onward q (inr b) = inr (b.0, omega (arith, b.1))
+
+-- the places of one more bucket
+pub first_on : (n i : ℕ) (ps : List Place) → All (IsBelow n i) ps × Rises (λ one other. seat_order one other ≡ Less) ps
+    → AreFirst (n + 1) ps
+first_on n i ps h = record {
+  below = All-weaker (IsBelow n i) (λ p. p.bucket < n + 1) (λ p b. low p b) ps h.0;
+  rising = h.1;
+}
+  where
+    low : (p : Place) → IsBelow n i p → p.bucket < n + 1
+    low p (inl l) = omega (arith, l)
+    low p (inr b) = omega (arith, b.0)
+
+-- not less by the first, a tie by the second, and not less by the third of three comparisons
+in_three : (o k t : Ordering) → is_lt o ≡ false → k ≡ Equal → is_lt t ≡ false
+    → is_lt (ordering_then o (ordering_then k t)) ≡ false
+in_three Less k t e f g = absurd (let never : true ≡ false = e in cc)
+in_three Equal k t e f g = ap (λ k. is_lt (ordering_then k t)) f ∙ g
+in_three Greater k t e f g = refl
+
+abbrev has_at : FlowKey → Option FlowRecord → Bool
+has_at key None = false
+has_at key (Some r) = has_key key r
+
 module _ (bs : List Bucket) where
   -- one more record of a bucket has its place
   pub more_placed : (before : List FlowRecord) (n i : ℕ) (b : Bucket) (r : FlowRecord) (ps qs : List Place) (p : Place)
@@ -112,7 +200,18 @@ module _ (bs : List Bucket) where
 
   places_total : IsTotalOrder (place_order bs)
   places_total = then_total (on_total (λ (p : Place). p.last) nat_cmp_total)
-      (on_total (record_at bs) options_total)
+      (then_total (on_total (record_at bs) options_total) seats_total)
+
+  -- only a place itself ties with it
+  places_exact : (p q : Place) → place_order bs p q ≡ Equal → p ≡ q
+  places_exact p q e =
+      let one = tied_second (nat_cmp p.last q.last) _ e in
+      let two = tied_second (option_cmp (λ (r s : FlowRecord). key_order r.part.key s.part.key) (record_at bs p)
+      (record_at bs q)) _ one in
+      let last = tied_numbers p.last q.last (tied_first _ _ e) in
+      let bucket = tied_numbers p.bucket q.bucket (tied_first _ _ two) in
+      let at = tied_numbers p.at q.at (tied_second (nat_cmp p.bucket q.bucket) _ two) in
+      λ i. record { last = last i; bucket = bucket i; at = at i }
 
   pub places_weak : IsStrictWeakOrder (λ (p q : Place). is_lt (place_order bs p q))
   places_weak = ranks_by places_total (λ (p : Place). p)
@@ -133,7 +232,9 @@ module _ (bs : List Bucket) where
 
   -- places stand as their records do
   same_order : (r s : FlowRecord) (p q : Place) → IsPlaceOf bs r p → IsPlaceOf bs s q
-      → place_order bs p q ≡ written_order r s
+      → ordering_then (nat_cmp p.last q.last)
+      (option_cmp (λ (r s : FlowRecord). key_order r.part.key s.part.key) (record_at bs p) (record_at bs q))
+      ≡ written_order r s
   same_order r s p q h k = λ i. ordering_then (nat_cmp (h.last i) (k.last i))
       (option_cmp (λ (r s : FlowRecord). key_order r.part.key s.part.key) (h.here i) (k.here i))
 
@@ -145,7 +246,8 @@ module _ (bs : List Bucket) where
   after_all r p h (s ∷ rs) [] z k = absurd z
   after_all r p h (s ∷ rs) (q ∷ ps) z k =
       All-cons (λ s. is_lt (written_order s r) ≡ false) s rs
-      (sym (ap is_lt (same_order s r q p z.0 h)) ∙ All-head (λ q. is_lt (place_order bs q p) ≡ false) q ps k)
+      (sym (ap is_lt (same_order s r q p z.0 h)) ∙ not_less_shorter (nat_cmp q.last p.last) _ (seat_order q p)
+      (All-head (λ q. is_lt (place_order bs q p) ≡ false) q ps k))
       (after_all r p h rs ps z.1 (All-tail (λ q. is_lt (place_order bs q p) ≡ false) q ps k))
 
   pub in_written_order : (rs : List FlowRecord) (ps : List Place) → AllZip (IsPlaceOf bs) rs ps
@@ -197,3 +299,79 @@ module _ (bs : List Bucket) where
             (in_written_order y.0 qs y.2
             (rises_from_sorted (λ p q. is_lt (place_order bs p q)) places_weak qs sorted))),
       )
+
+  -- the records of a key at some places are those at its places
+  module _ (key : FlowKey) where
+    abbrev HasAt : Place → Bool
+    HasAt p = has_at key (record_at bs p)
+
+    of_places : (ps : List Place) → of_key key (records_at bs ps) ≡ records_at bs (filter HasAt ps)
+    of_places [] = refl
+    of_places (p ∷ ps) = look (record_at bs p) refl (of_places ps)
+      where
+        put : (r : FlowRecord) (b : Bool) → record_at bs p ≡ Some r
+            → of_key key (records_at bs ps) ≡ records_at bs (filter HasAt ps)
+            → cond b (r ∷ of_key key (records_at bs ps)) (of_key key (records_at bs ps))
+            ≡ records_at bs (cond b (p ∷ filter HasAt ps) (filter HasAt ps))
+        put r true e rest = ap (λ l. r ∷ l) rest ∙ ap (λ o. listed o ++ records_at bs (filter HasAt ps)) (sym e)
+        put r false e rest = rest
+
+        look : (o : Option FlowRecord) → record_at bs p ≡ o
+            → of_key key (records_at bs ps) ≡ records_at bs (filter HasAt ps)
+            → of_key key (listed o ++ records_at bs ps) ≡ records_at bs (cond (has_at key o) (p ∷ filter HasAt ps)
+            (filter HasAt ps))
+        look None e rest = rest
+        look (Some r) e rest = put r (has_key key r) e rest
+
+    -- two places of the key, in the order of the buckets
+    abbrev InTurn : Place → Place → Type 0
+    InTurn p q = HasAt p ≡ true → HasAt q ≡ true → is_lt (place_order bs q p) ≡ false
+
+    two_in_turn : (r s : FlowRecord) (p q : Place) → IsPlaceOf bs r p → IsPlaceOf bs s q
+        → (r.part.key ≡ s.part.key → r.part.last ≤ s.part.last) → seat_order p q ≡ Less → InTurn p q
+    two_in_turn r s p q h k up ahead a b =
+        let one : r.part.key ≡ key = key_from_test key r (sym (ap (has_at key) h.here) ∙ a) in
+        let two : s.part.key ≡ key = key_from_test key s (sym (ap (has_at key) k.here) ∙ b) in
+        let last : p.last ≤ q.last = (let l = up (one ∙ sym two) in omega (arith, l, h.last, k.last)) in
+        in_three (nat_cmp q.last p.last)
+        (option_cmp (λ (r s : FlowRecord). key_order r.part.key s.part.key) (record_at bs q) (record_at bs p))
+        (seat_order q p) (least_is q.last p.last last)
+        ((λ i. option_cmp (λ (r s : FlowRecord). key_order r.part.key s.part.key) (k.here i) (h.here i))
+        ∙ keys_tie s.part.key r.part.key (two ∙ sym one))
+        (ap is_lt (seats_total.antisymm q p ∙ ap ordering_reverse ahead))
+
+    one_in_turn : (r : FlowRecord) (p : Place) → IsPlaceOf bs r p → (rs : List FlowRecord) (ps : List Place)
+        → AllZip (IsPlaceOf bs) rs ps
+        → All (λ (s : FlowRecord). r.part.key ≡ s.part.key → r.part.last ≤ s.part.last) rs
+        → All (λ q. seat_order p q ≡ Less) ps → All (InTurn p) ps
+    one_in_turn r p h [] [] z up ahead = All-nil (InTurn p)
+    one_in_turn r p h [] (q ∷ ps) z up ahead = absurd z
+    one_in_turn r p h (s ∷ rs) [] z up ahead = absurd z
+    one_in_turn r p h (s ∷ rs) (q ∷ ps) z up ahead = All-cons (InTurn p) q ps
+        (two_in_turn r s p q h z.0
+        (All-head (λ (s : FlowRecord). r.part.key ≡ s.part.key → r.part.last ≤ s.part.last) s rs up)
+        (All-head (λ q. seat_order p q ≡ Less) q ps ahead))
+        (one_in_turn r p h rs ps z.1
+        (All-tail (λ (s : FlowRecord). r.part.key ≡ s.part.key → r.part.last ≤ s.part.last) s rs up)
+        (All-tail (λ q. seat_order p q ≡ Less) q ps ahead))
+
+    all_in_turn : (rs : List FlowRecord) (ps : List Place) → AllZip (IsPlaceOf bs) rs ps → EndInTurn rs
+        → Rises (λ one other. seat_order one other ≡ Less) ps → Rises InTurn ps
+    all_in_turn [] [] z up ahead = tt
+    all_in_turn [] (p ∷ ps) z up ahead = absurd z
+    all_in_turn (r ∷ rs) [] z up ahead = absurd z
+    all_in_turn (r ∷ rs) (p ∷ ps) z up ahead =
+        (one_in_turn r p z.0 rs ps z.1 up.0 ahead.0, all_in_turn rs ps z.1 up.1 ahead.1)
+
+    -- sorting the places leaves the order of the records of a key
+    pub key_in_order : (ps qs : List Place) → AllZip (IsPlaceOf bs) (records_of bs) ps → EndInTurn (records_of bs)
+        → Rises (λ one other. seat_order one other ≡ Less) ps → IsPermutation ps qs → IsSorted (place_order bs) qs
+        → of_key key (records_of bs) ≡ of_key key (records_at bs qs)
+    key_in_order ps qs z up ahead perm sorted =
+        let same : filter HasAt ps ≡ filter HasAt qs =
+        one_sorted places_total places_exact (filter HasAt ps) (filter HasAt qs) (IsPermutation-filter HasAt ps qs perm)
+        (rises_filter HasAt InTurn (NotLess places_total) (λ p q a b h. h a b) ps
+        (all_in_turn (records_of bs) ps z up ahead))
+        (rises_filter HasAt (NotLess places_total) (NotLess places_total) (λ p q a b h. h) qs
+        (rises_from_sorted (λ p q. is_lt (place_order bs p q)) places_weak qs sorted)) in
+        ap (of_key key) (sym (read (records_of bs) ps z)) ∙ of_places ps ∙ ap (records_at bs) same ∙ sym (of_places qs)

@@ -4,7 +4,8 @@ use Rattle.std.proofs.Common.{get_or, take, refl, sym, ap, ◌∙◌, subst, ari
 use Rattle.std.specs.Cmp.{IsTotalOrder, IsStrictWeakOrder}
 use Rattle.std.specs.List.Sorted.{IsSortedBy}
 use Rattle.std.specs.Ordering.{is_lt, nat_cmp, ordering_then}
-use Rattle.std.specs.declared.cmp.Ordering.TheVariants.{Equal}
+use Rattle.std.specs.declared.cmp.Ordering.{Ordering}
+use Rattle.std.specs.declared.cmp.Ordering.TheVariants.{Less, Equal, Greater}
 use Rattle.std.proofs.lemmas.Bool.{cases_lt}
 use Rattle.std.proofs.lemmas.Cmp.{nat_cmp_total, on_total, then_total, tied_itself, ranked, by_ranked}
 use Rattle.std.proofs.lemmas.List.{get_or-take, get_or_append_left, get_or_at, length-take}
@@ -13,13 +14,14 @@ use Rattle.std.proofs.lemmas.List.Elements.{All-contains_itself, Contains-append
 use Rattle.std.proofs.lemmas.List.Sorted.{ranks_by, sorted_far}
 use Rattle.flow_key.specs.declared.key.FlowKey.{FlowKey}
 use Rattle.flow_key.specs.Key.{key_order}
-use Rattle.flow_key.proofs.KeyOrder.{key_order_total}
+use Rattle.flow_key.proofs.KeyOrder.{key_order_total, tied_keys, tied_numbers, tied_first, tied_second}
 use Rattle.flow_parts.specs.declared.fragment.Fragment.{Fragment}
 use Rattle.flow_parts.specs.declared.timeouts.Timeouts.{Timeouts}
 use Rattle.flow_parts.specs.Joining.{IsJoinable}
 use Rattle.flow_parts.proofs.Members.{All-one}
+use Rattle.flow_parts.proofs.PartWords.{part_same}
 use Rattle.record_ledger.specs.declared.record.FlowRecord.{FlowRecord}
-use Rattle.record_ledger.specs.Order.{key_then_last, written_order}
+use Rattle.record_ledger.specs.Order.{key_then_last, joining_order, written_order}
 use Rattle.record_ledger.specs.Steps.{Rises, NotAfter, NoneJoinable}
 
 pub gathering_total : IsTotalOrder key_then_last
@@ -30,8 +32,46 @@ pub written_total : IsTotalOrder written_order
 written_total = then_total (on_total (λ (r : FlowRecord). r.part.last) nat_cmp_total)
     (on_total (λ (r : FlowRecord). r.part.key) key_order_total)
 
-pub by_key_weak : IsStrictWeakOrder (λ (x y : FlowRecord). is_lt (key_then_last x.part y.part))
-by_key_weak = ranks_by gathering_total (λ (r : FlowRecord). r.part)
+-- the order of joining is total, and only equal fragments tie
+pub joining_total : IsTotalOrder joining_order
+joining_total = then_total (on_total (λ (f : Fragment). f.key) key_order_total)
+    (then_total (on_total (λ (f : Fragment). f.last) nat_cmp_total)
+    (then_total (on_total (λ (f : Fragment). f.first) nat_cmp_total)
+    (then_total (on_total (λ (f : Fragment). f.packets) nat_cmp_total)
+    (then_total (on_total (λ (f : Fragment). f.octets) nat_cmp_total)
+    (on_total (λ (f : Fragment). f.flags) nat_cmp_total)))))
+
+pub joining_exact : (f g : Fragment) → joining_order f g ≡ Equal → f ≡ g
+joining_exact f g e =
+    let one = tied_second (key_order f.key g.key) _ e in
+    let two = tied_second (nat_cmp f.last g.last) _ one in
+    let three = tied_second (nat_cmp f.first g.first) _ two in
+    let four = tied_second (nat_cmp f.packets g.packets) _ three in
+    part_same f g
+    (tied_keys f.key g.key (tied_first _ _ e))
+    (tied_numbers f.packets g.packets (tied_first _ _ three))
+    (tied_numbers f.octets g.octets (tied_first _ _ four))
+    (tied_numbers f.first g.first (tied_first _ _ two))
+    (tied_numbers f.last g.last (tied_first _ _ one))
+    (tied_numbers f.flags g.flags (tied_second (nat_cmp f.octets g.octets) _ four))
+
+pub joining_weak : IsStrictWeakOrder (λ (f g : Fragment). is_lt (joining_order f g))
+joining_weak = ranks_by joining_total (λ (f : Fragment). f)
+
+pub by_key_weak : IsStrictWeakOrder (λ (x y : FlowRecord). is_lt (joining_order x.part y.part))
+by_key_weak = ranks_by joining_total (λ (r : FlowRecord). r.part)
+
+-- what comes before by all fields comes before by key and last time
+pub not_less_shorter : (o p q : Ordering) → is_lt (ordering_then o (ordering_then p q)) ≡ false
+    → is_lt (ordering_then o p) ≡ false
+not_less_shorter Less p q e = e
+not_less_shorter Equal Less q e = e
+not_less_shorter Equal Equal q e = refl
+not_less_shorter Equal Greater q e = e
+not_less_shorter Greater p q e = e
+
+pub not_after : (f g : Fragment) → is_lt (joining_order g f) ≡ false → NotAfter f g
+not_after f g = not_less_shorter (key_order g.key f.key) (nat_cmp g.last f.last) _
 
 pub written_weak : IsStrictWeakOrder (λ (x y : FlowRecord). is_lt (written_order x y))
 written_weak = ranks_by written_total (λ (r : FlowRecord). r)

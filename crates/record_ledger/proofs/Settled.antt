@@ -1,11 +1,11 @@
 -- Buckets that were settled: what holds of the records of each key holds of them in all buckets together.
-use Rattle.std.proofs.Common.{◌≡◌, ◌≢◌, ℕ, suc, ◌+◌, ◌-◌, ◌<◌, ◌≤◌, ◌⊎◌, inl, inr, true, false, Option, List, [], ◌∷◌, ◌++◌}
-use Rattle.std.proofs.Common.{length, get_or, map, filter, refl, sym, ap, ◌∙◌, subst, arith, append-nil, unwrap_or, All}
+use Rattle.std.proofs.Common.{◌≡◌, ◌≢◌, ℕ, suc, ◌-◌, ◌<◌, ◌≤◌, ◌⊎◌, inl, inr, false, Option, List, [], ◌∷◌, ◌++◌}
+use Rattle.std.specs.Ordering.{is_eq}
+use Rattle.std.proofs.Common.{length, get_or, refl, sym, ap, ◌∙◌, subst, arith, append-nil, unwrap_or, All}
 use Rattle.std.proofs.Common.{IsPermutation}
 use Rattle.std.proofs.Common.{Result, Ok, Err, IfOk, take, drop}
 use Rattle.std.specs.Prelude.{IsSorted}
 use Rattle.std.specs.List.{AllZip}
-use Rattle.std.specs.Ordering.{is_eq}
 use Rattle.std.specs.declared.cmp.Ordering.TheVariants.{Less}
 use Rattle.std.proofs.lemmas.Bool.{cases_lt}
 use Rattle.std.proofs.lemmas.List.{map-append, take_at}
@@ -13,7 +13,7 @@ use Rattle.std.proofs.lemmas.List.Elements.{All-append, All-cons, All-nil, All-h
 use Rattle.std.proofs.lemmas.List.Elements.{All-contains_itself, filter-append}
 use Rattle.std.proofs.lemmas.List.Sorted.{Contains-permutation, IsPermutation-sym}
 use Rattle.flow_key.specs.declared.key.FlowKey.{FlowKey}
-use Rattle.flow_key.specs.Key.{set_number}
+use Rattle.flow_key.specs.Key.{set_number, key_order}
 use Rattle.packet_accept.specs.declared.packet.Packet.{Packet}
 use Rattle.flow_parts.specs.declared.fragment.Fragment.{Fragment}
 use Rattle.flow_parts.specs.declared.timeouts.Timeouts.{Timeouts}
@@ -22,15 +22,19 @@ use Rattle.flow_parts.specs.Reaching.Reaches.{moved, joined, onward}
 use Rattle.flow_parts.specs.Sharing.{SharesOut}
 use Rattle.flow_parts.proofs.Reaching.{itself, both}
 use Rattle.record_ledger.specs.declared.record.FlowRecord.{FlowRecord}
-use Rattle.record_ledger.specs.Buckets.{Bucket, records_of, LieFrom, AreDealt, AreSettled}
+use Rattle.record_ledger.specs.Buckets.{Bucket, records_of, LieFrom, AreDealt, AreSettled, EndInTurn}
+use Rattle.record_ledger.specs.Gathered.{AreJoined, IsGathered, parts_with}
 use Rattle.record_ledger.specs.Lawful.{parts_of, of_key, EachWithNext, StandsApart, HasReason, IsLawfulBy}
 use Rattle.record_ledger.specs.Order.{key_then_last, written_order}
 use Rattle.record_ledger.specs.Regrouping.{Regroups}
-use Rattle.record_ledger.specs.Steps.{Rises}
+use Rattle.record_ledger.specs.Steps.{Rises, NotAfter}
+use Rattle.record_ledger.proofs.Coming.{joined_of_key}
+use Rattle.record_ledger.proofs.Exact.{parts_of_key, nothing_joined, joined_of}
+use Rattle.record_ledger.proofs.Filtered.{IsPermutation-filter}
 use Rattle.record_ledger.proofs.Gathered.{has_key, key_from_test, none_left, not_true, untied, Untied, Before, keyed}
 use Rattle.record_ledger.proofs.Gathered.{beside_reasons, beside_apart, strictly, up_gathered, no_tie, regrouped, lawful_by}
 use Rattle.record_ledger.proofs.Keyed.{part_of, All-unmap, All-of_map, rises_unmap, rises_weaker}
-use Rattle.record_ledger.proofs.Rising.{All-front, All-back}
+use Rattle.record_ledger.proofs.Rising.{All-front, All-back, not_after_last}
 
 -- what holds at each place holds of the lists
 pub all-zip : {X : Type 0} (R : X → X → Type 0) (xs ys : List X) → length ys ≡ length xs
@@ -83,19 +87,27 @@ none_before key n i m bs h e l = none_left key (records_of bs)
     (λ r low. of_other key n (set_number r.part.key n) m r e refl (λ same. absurd (omega (arith, same, low, l))))
     (records_of bs) (later n i bs h))
 
--- the records of a key are those of one bucket
+-- the records of a key are all in its bucket
+all_here : (key : FlowKey) (n i m : ℕ) (b : Bucket) (bs : List Bucket) → LieFrom n i (b ∷ bs) → set_number key n ≡ m
+    → m ≡ i → of_key key (b.items ++ records_of bs) ≡ of_key key b.items
+all_here key n i m b bs h e same = filter-append (has_key key) b.items (records_of bs)
+    ∙ ap (λ l. of_key key b.items ++ l) (none_before key n (suc i) m bs h.1 e (omega (arith, same)))
+    ∙ append-nil (of_key key b.items)
+
+none_here : (key : FlowKey) (n i m : ℕ) (b : Bucket) (bs : List Bucket) → LieFrom n i (b ∷ bs) → set_number key n ≡ m
+    → m ≢ i → of_key key (b.items ++ records_of bs) ≡ of_key key (records_of bs)
+none_here key n i m b bs h e apart = filter-append (has_key key) b.items (records_of bs)
+    ∙ ap (λ l. l ++ of_key key (records_of bs))
+    (none_left key b.items (All-weaker (λ (r : FlowRecord). set_number r.part.key n ≡ i) (λ r. has_key key r ≡ false)
+    (λ r f. of_other key n i m r e f apart) b.items h.0))
+
+-- so what holds of those of one bucket holds of all
 module _ (key : FlowKey) (P : List FlowRecord → Type 0) (none : P []) where
   one_of : (n i m : ℕ) (b : Bucket) (bs : List Bucket) → LieFrom n i (b ∷ bs) → set_number key n ≡ m
       → P (of_key key b.items) → P (of_key key (records_of bs)) → P (of_key key (b.items ++ records_of bs))
   one_of n i m b bs h e p q = elim (same_or_not m i) [
-    | inl same ↦ subst P (sym (filter-append (has_key key) b.items (records_of bs)
-        ∙ ap (λ l. of_key key b.items ++ l) (none_before key n (suc i) m bs h.1 e (omega (arith, same)))
-        ∙ append-nil (of_key key b.items))) p
-    | inr apart ↦ subst P (sym (filter-append (has_key key) b.items (records_of bs)
-        ∙ ap (λ l. l ++ of_key key (records_of bs))
-        (none_left key b.items
-        (All-weaker (λ (r : FlowRecord). set_number r.part.key n ≡ i) (λ r. has_key key r ≡ false)
-        (λ r f. of_other key n i m r e f apart) b.items h.0)))) q
+    | inl same ↦ subst P (sym (all_here key n i m b bs h e same)) p
+    | inr apart ↦ subst P (sym (none_here key n i m b bs h e apart)) q
   ]
 
   pub lifted : (n i : ℕ) (bs : List Bucket) → LieFrom n i bs → All (λ (b : Bucket). P (of_key key b.items)) bs
@@ -124,6 +136,26 @@ none_tie n i (b ∷ bs) h k = rises_append Untied b.items (records_of bs)
     (λ r e. All-weaker (λ (s : FlowRecord). suc i ≤ set_number s.part.key n) (Untied r)
     (λ s l. untied r s (λ same. (let sets = ap (λ k. set_number k n) same in absurd (omega (arith, sets, e, l))))
     (written_order r s) refl) (records_of bs) (later n (suc i) bs h.1)) b.items h.0)
+
+-- the records of a key end in turn
+pub all_in_turn : (limits : Timeouts) (clock n i : ℕ) (os bs : List Bucket)
+    → AllZip (λ (o b : Bucket). AreSettled limits clock o.items b.items) os bs → LieFrom n i bs
+    → EndInTurn (records_of bs)
+all_in_turn limits clock n i [] [] z h = tt
+all_in_turn limits clock n i [] (b ∷ bs) z h = absurd z
+all_in_turn limits clock n i (o ∷ os) [] z h = absurd z
+all_in_turn limits clock n i (o ∷ os) (b ∷ bs) z h =
+    rises_append (λ (r s : FlowRecord). r.part.key ≡ s.part.key → r.part.last ≤ s.part.last) b.items (records_of bs)
+    (rises_weaker (λ (r s : FlowRecord). NotAfter r.part s.part)
+    (λ (r s : FlowRecord). r.part.key ≡ s.part.key → r.part.last ≤ s.part.last)
+    (λ r s k. not_after_last r.part s.part k) b.items (rises_unmap part_of NotAfter b.items z.0.sorted))
+    (all_in_turn limits clock n (suc i) os bs z.1 h.1)
+    (All-weaker (λ (r : FlowRecord). set_number r.part.key n ≡ i)
+    (λ (r : FlowRecord). All (λ (s : FlowRecord). r.part.key ≡ s.part.key → r.part.last ≤ s.part.last) (records_of bs))
+    (λ r e. All-weaker (λ (s : FlowRecord). suc i ≤ set_number s.part.key n)
+    (λ (s : FlowRecord). r.part.key ≡ s.part.key → r.part.last ≤ s.part.last)
+    (λ s l same. (let sets = ap (λ k. set_number k n) same in absurd (omega (arith, sets, e, l))))
+    (records_of bs) (later n (suc i) bs h.1)) b.items h.0)
 
 -- joining leaves the keys
 keys_kept : (limits : Timeouts) (P : FlowKey → Type 0) (F G : List Fragment) → Reaches limits F G
@@ -184,6 +216,27 @@ module _ (limits : Timeouts) (clock : ℕ) where
       (beside_reasons limits clock b.items (parts_of b.items) refl z.0.reasons) key)
       (each_reason key os bs z.1)
 
+  -- the records of a key are what becomes of its fragments
+  each_joined : (key : FlowKey) (n i : ℕ) (os bs : List Bucket) → AllZip Settled os bs → LieFrom n i os → LieFrom n i bs
+      → AreJoined limits (parts_of (of_key key (records_of os))) (parts_of (of_key key (records_of bs)))
+  each_joined key n i [] [] z h k = nothing_joined limits
+  each_joined key n i [] (b ∷ bs) z h k = absurd z
+  each_joined key n i (o ∷ os) [] z h k = absurd z
+  each_joined key n i (o ∷ os) (b ∷ bs) z h k = elim (same_or_not (set_number key n) i) [
+    | inl same ↦ subst (λ rs. AreJoined limits (parts_of rs) (parts_of (of_key key (b.items ++ records_of bs))))
+        (sym (all_here key n i (set_number key n) o os h refl same))
+        (subst (λ rs. AreJoined limits (parts_of (of_key key o.items)) (parts_of rs))
+        (sym (all_here key n i (set_number key n) b bs k refl same))
+        (subst (λ fs. AreJoined limits fs (parts_of (of_key key b.items))) (parts_of_key key o.items)
+        (subst (AreJoined limits (parts_with key (parts_of o.items))) (parts_of_key key b.items)
+        (joined_of_key limits (parts_of o.items) (parts_of b.items) key z.0.joined))))
+    | inr apart ↦ subst (λ rs. AreJoined limits (parts_of rs) (parts_of (of_key key (b.items ++ records_of bs))))
+        (sym (none_here key n i (set_number key n) o os h refl apart))
+        (subst (λ rs. AreJoined limits (parts_of (of_key key (records_of os))) (parts_of rs))
+        (sym (none_here key n i (set_number key n) b bs k refl apart))
+        (each_joined key n (suc i) os bs z.1 h.1 k.1))
+  ]
+
   abbrev Short : Fragment → Type 0
   Short f = f.last - f.first ≤ limits.active
 
@@ -230,3 +283,21 @@ module _ (limits : Timeouts) (clock : ℕ) where
         (λ key. subst (λ n. EachWithNext (HasReason limits n) (of_key key (records_of bs))) is
         (lifted key (EachWithNext (HasReason limits clock)) tt (length os) 0 bs lie (each_reason key os bs z)))
         perm sorted
+
+    pub in_turn : EndInTurn (records_of bs)
+    in_turn = all_in_turn limits clock (length os) 0 os bs z lie
+
+    -- where the records of each key stay in their order
+    pub all_gathered : (L : List FlowRecord) → IsSorted written_order L
+        → ((key : FlowKey) → of_key key (records_of bs) ≡ of_key key L) → IsGathered limits clock parts L
+    all_gathered L sorted same = record {
+      ordered = sorted;
+      joined = λ key. joined_of limits (parts_with key (parts_of (records_of os))) (parts_with key parts)
+          (parts_of (of_key key L))
+          (IsPermutation-filter (λ f. is_eq (key_order f.key key)) parts (parts_of (records_of os)) dealt.whole)
+          (subst (λ fs. AreJoined limits fs (parts_of (of_key key L))) (sym (parts_of_key key (records_of os)))
+          (subst (λ rs. AreJoined limits (parts_of (of_key key (records_of os))) (parts_of rs)) (same key)
+          (each_joined key (length os) 0 os bs z dealt.by_key lie)));
+      reasons = λ key. subst (EachWithNext (HasReason limits clock)) (same key)
+          (lifted key (EachWithNext (HasReason limits clock)) tt (length os) 0 bs lie (each_reason key os bs z));
+    }

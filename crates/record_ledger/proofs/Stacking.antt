@@ -1,14 +1,15 @@
 -- A list of records whose front is a stack of those that were joined.
 use Rattle.std.proofs.Common.{◌≡◌, ℕ, ◌+◌, ◌-◌, ◌<◌, ◌≤◌, List, [], ◌∷◌, ◌++◌, length, get_or, set, take, drop, sym, ap}
-use Rattle.std.proofs.Common.{◌∙◌, subst, arith, sum_by, All}
+use Rattle.std.proofs.Common.{◌∙◌, subst, arith, reverse, sum_by, All}
 use Rattle.std.proofs.Math.ListN.{drop_of_length-le}
 use Rattle.std.proofs.lemmas.List.{append-nil, get_or-map, get_or-take, length-map, length-take, map-set, take-map}
-use Rattle.std.proofs.lemmas.List.{take-take, take-append-drop, take_more_set, drop_more, drop-set-lt}
+use Rattle.std.proofs.lemmas.List.{take-take, take-append-drop, take_more_set, drop_more, drop-set-lt, reverse-append}
 use Rattle.std.proofs.lemmas.List.Sorted.{IsPermutation-refl}
 use Rattle.flow_parts.specs.declared.fragment.Fragment.{Fragment}
 use Rattle.flow_parts.specs.declared.timeouts.Timeouts.{Timeouts}
 use Rattle.flow_parts.specs.Joining.{IsJoinable}
 use Rattle.record_ledger.specs.declared.record.FlowRecord.{FlowRecord}
+use Rattle.record_ledger.specs.Gathered.{ComesTo, AllComeTo}
 use Rattle.record_ledger.specs.Lawful.{parts_of}
 use Rattle.flow_parts.specs.Reaching.{Reaches}
 use Rattle.record_ledger.specs.Steps.{Rises, NotAfter, NoneJoinable}
@@ -23,6 +24,9 @@ pub record IsStacked (limits : Timeouts) (parts : List Fragment) (records : List
   pub reached : Reaches limits parts (take height (parts_of records) ++ drop place (parts_of records))
   pub rises : Rises NotAfter (take height (parts_of records) ++ drop place (parts_of records))
   pub apart : NoneJoinable limits (take height (parts_of records))
+  pub comes : (after : List Fragment)
+      → AllComeTo limits (reverse (take height (parts_of records))) (drop place (parts_of records)) after
+      → AllComeTo limits [] parts after
 
 abbrev part_at : FlowRecord → Fragment
 part_at r = r.part
@@ -44,6 +48,7 @@ module _ (limits : Timeouts) where
     reached = moved _ _ (IsPermutation-refl _);
     rises = rises;
     apart = λ k d l j. omega arith;
+    comes = λ after k. k;
   }
 
   -- a record next to a stack, which is S
@@ -73,8 +78,9 @@ module _ (limits : Timeouts) where
     pub one_stacked : (q : FlowRecord) (n : ℕ) → n ≤ length S → Reaches limits (r.part ∷ S) (q.part ∷ take n S)
         → q.part.key ≡ r.part.key → q.part.last ≡ r.part.last
         → ((d : Fragment) → 0 < n → ¬ IsJoinable limits (get_or S (n - 1) d) q.part)
+        → ComesTo limits (reverse S) r.part (q.part ∷ reverse (take n S))
         → IsStacked limits parts (set X n q) (n + 1) (p + 1)
-    one_stacked q n le reached key last top =
+    one_stacked q n le reached key last top comes =
         let F : List Fragment = parts_of X in
         let w : Fragment = q.part in
         let s : List Fragment = take n S in
@@ -106,12 +112,20 @@ module _ (limits : Timeouts) where
               let last : get_or s (length s - 1) d ≡ get_or S (n - 1) d =
               ap (λ m. get_or s (m - 1) d) tall ∙ get_or-take n S (n - 1) d (omega arith) in
               top d (omega arith) (subst (λ f. IsJoinable limits f w) last j)));
+          comes = λ after k. h.comes after
+              (subst (λ fs. AllComeTo limits (reverse (take a F)) fs after) (sym (ahead X p r l is)) (
+                w ∷ reverse s,
+                subst (λ fs. ComesTo limits (reverse fs) r.part (w ∷ reverse s)) e comes,
+                subst (λ fs. AllComeTo limits fs rest after) (ap reverse front ∙ reverse-append s (w ∷ []))
+                    (subst (λ fs. AllComeTo limits (reverse (take (n + 1) (parts_of (set X n q)))) fs after) back k),
+              ));
         }
 
   -- with no record left the stack is all
   pub all_stacked : (parts : List Fragment) (X Y : List FlowRecord) (a p : ℕ) → IsStacked limits parts X a p
       → length X ≤ p → Y ≡ take a X
       → Reaches limits parts (parts_of Y) × Rises NotAfter (parts_of Y) × NoneJoinable limits (parts_of Y)
+      × AllComeTo limits [] parts (reverse (parts_of Y))
   all_stacked parts X Y a p h end e =
       let stack : take a (parts_of X) ≡ parts_of Y = take-map part_at a X ∙ sym (ap parts_of e) in
       let none : drop p (parts_of X) ≡ [] = drop_of_length-le (parts_of X)
@@ -120,6 +134,8 @@ module _ (limits : Timeouts) where
       ap (λ fs. take a (parts_of X) ++ fs) none ∙ append-nil (take a (parts_of X)) ∙ stack in (
         subst (Reaches limits parts) whole h.reached,
         subst (Rises NotAfter) whole h.rises,
-        subst
-            (NoneJoinable limits) stack h.apart,
+        subst (NoneJoinable limits) stack h.apart,
+        h.comes (reverse (parts_of Y))
+            (subst (λ fs. AllComeTo limits (reverse (take a (parts_of X))) fs (reverse (parts_of Y))) (sym none)
+            (ap reverse (sym stack))),
       )

@@ -98,10 +98,10 @@ module _ {X Y : Type 0} (f : X → Y) where
     rises_map R xs (λ i j d l m. h (suc i) (suc j) d (omega arith) (omega arith)),
   )
 
-abbrev part_order : Fragment → Fragment → Ordering
+abbrev pub part_order : Fragment → Fragment → Ordering
 part_order f g = ordering_then (nat_cmp f.last g.last) (key_order f.key g.key)
 
-part_order_total : IsTotalOrder part_order
+pub part_order_total : IsTotalOrder part_order
 part_order_total = then_total (on_total (λ (f : Fragment). f.last) nat_cmp_total)
     (on_total (λ (f : Fragment). f.key) key_order_total)
 
@@ -124,7 +124,7 @@ first_at key (r ∷ L) = step (has_key key r) ∙ ap (λ o. cond (has_key key r)
     step false = refl
 
 -- records with the same fragments and right reasons are the same
-same_records : (limits : Timeouts) (clock : ℕ) (L M : List FlowRecord) → map part_of L ≡ map part_of M
+pub same_records : (limits : Timeouts) (clock : ℕ) (L M : List FlowRecord) → map part_of L ≡ map part_of M
     → ((key : FlowKey) → EachWithNext (HasReason limits clock) (of_key key L))
     → ((key : FlowKey) → EachWithNext (HasReason limits clock) (of_key key M)) → L ≡ M
 same_records limits clock [] [] e h k = refl

@@ -1,9 +1,10 @@
 -- The code's own: records in buckets, and places in them. No law speaks of these.
-use Rattle.std.specs.Prelude.{◌≡◌, ℕ, suc, List, [], ◌∷◌, Option, Some, None, slice_get, length, flat_map}
+use Rattle.std.specs.Prelude.{◌≡◌, ℕ, suc, ◌<◌, ◌≤◌, List, [], ◌∷◌, Option, Some, None, slice_get, length, flat_map}
 use Rattle.std.specs.Prelude.{All, IsPermutation, ⊤}
 use Rattle.std.specs.Option.{option_cmp}
 use Rattle.std.specs.Ordering.{nat_cmp, ordering_then}
 use Rattle.std.specs.declared.cmp.Ordering.{Ordering}
+use Rattle.std.specs.declared.cmp.Ordering.TheVariants.{Less}
 use Rattle.std.specs.declared.vec.Vec.{Vec}
 use Rattle.std.specs.declared.alloc.Global.{Global}
 use Rattle.flow_key.specs.Key.{set_number, key_order}
@@ -12,7 +13,8 @@ use Rattle.flow_parts.specs.declared.timeouts.Timeouts.{Timeouts}
 use Rattle.flow_parts.specs.Reaching.{Reaches}
 use Rattle.record_ledger.specs.declared.record.FlowRecord.{FlowRecord}
 use Rattle.record_ledger.specs.declared.place.Place.{Place}
-use Rattle.record_ledger.specs.Lawful.{parts_of, reason_of}
+use Rattle.record_ledger.specs.Gathered.{AreJoined}
+use Rattle.record_ledger.specs.Lawful.{parts_of}
 use Rattle.record_ledger.specs.Steps.{Rises, NotAfter, NoneJoinable, HasReasons}
 
 abbrev pub Bucket : Type 0
@@ -42,6 +44,7 @@ pub record AreSettled (limits : Timeouts) (clock : ℕ) (before after : List Flo
   pub sorted : Rises NotAfter (parts_of after)
   pub apart : NoneJoinable limits (parts_of after)
   pub reasons : HasReasons limits clock after
+  pub joined : AreJoined limits (parts_of before) (parts_of after)
 
 -- The record at a place of a bucket, if there are both.
 abbrev pub item_at : Option Bucket → ℕ → Option FlowRecord
@@ -69,7 +72,21 @@ listed (Some r) = r ∷ []
 abbrev pub records_at : List Bucket → List Place → List FlowRecord
 records_at buckets order = flat_map (λ (place : Place). listed (record_at buckets place)) order
 
--- How two places stand: by their last times, then by the keys of their records.
+-- How two places stand by bucket, then by place in it.
+abbrev pub seat_order : Place → Place → Ordering
+seat_order one other = ordering_then (nat_cmp one.bucket other.bucket) (nat_cmp one.at other.at)
+
+-- How two places stand: by their last times, then by the keys of their records, then by where they are.
 abbrev pub place_order : List Bucket → Place → Place → Ordering
-place_order buckets one other = ordering_then (nat_cmp one.last other.last)
+place_order buckets one other = ordering_then (nat_cmp one.last other.last) (ordering_then
     (option_cmp (λ (r s : FlowRecord). key_order r.part.key s.part.key) (record_at buckets one) (record_at buckets other))
+    (seat_order one other))
+
+-- The places are of buckets below the number, and rise by bucket, then by place in it.
+pub record AreFirst (buckets : ℕ) (order : List Place) : Type 0 where
+  pub below : All (λ place. place.bucket < buckets) order
+  pub rising : Rises (λ one other. seat_order one other ≡ Less) order
+
+-- Of the records of one key, none ends after a later one.
+abbrev pub EndInTurn : List FlowRecord → Type 0
+EndInTurn records = Rises (λ (r s : FlowRecord). r.part.key ≡ s.part.key → r.part.last ≤ s.part.last) records

@@ -1,6 +1,7 @@
 -- Laws about lawful lists.
-use Rattle.std.specs.Prelude.{◌≡◌, ◌≢◌, ◌↔◌, ℕ, List, ◌++◌, Option, All, AllPairs, IsPermutation, IsSorted}
+use Rattle.std.specs.Prelude.{◌≡◌, ◌≢◌, ◌↔◌, ℕ, Bool, List, ◌++◌, Option, filter, All, AllPairs, IsPermutation, IsSorted}
 use Rattle.std.specs.declared.cmp.Ordering.TheVariants.{Less}
+use Rattle.flow_key.specs.declared.key.FlowKey.{FlowKey}
 use Rattle.packet_accept.specs.Clock.{IsClock}
 use Rattle.packet_accept.specs.declared.packet.Packet.{Packet}
 use Rattle.flow_parts.specs.declared.fragment.Fragment.{Fragment}
@@ -8,6 +9,7 @@ use Rattle.flow_parts.specs.declared.timeouts.Timeouts.{Timeouts}
 use Rattle.flow_parts.specs.Heap.{IsHeap}
 use Rattle.flow_parts.specs.Joining.{IsJoinable}
 use Rattle.record_ledger.specs.declared.record.FlowRecord.{FlowRecord}
+use Rattle.record_ledger.specs.Gathered.{IsGathered}
 use Rattle.record_ledger.specs.Order.{written_order}
 use Rattle.record_ledger.specs.Lawful.{IsLawful, IsLawfulBy}
 use Rattle.record_ledger.specs.Sessions.{IsSessions, key_then_time, cut, IsUncut, AreRecordsOf}
@@ -71,3 +73,20 @@ LawfulIsOne = (limits : Timeouts) (packets : List Packet) (sessions : List (List
     → All (IsUncut limits) sessions → (records others : List FlowRecord) → IsLawful limits packets records
     → IsLawful limits packets others
     → records ≡ others
+
+-- What is gathered of fragments is one list of records.
+abbrev pub GatheredIsOne : Type 0
+GatheredIsOne = (limits : Timeouts) (clock : ℕ) (parts : List Fragment) (records others : List FlowRecord)
+    → IsGathered limits clock parts records → IsGathered limits clock parts others → records ≡ others
+
+-- It is the same in whatever order the fragments are.
+abbrev pub GatheredInAnyOrder : Type 0
+GatheredInAnyOrder = (limits : Timeouts) (clock : ℕ) (parts others : List Fragment) (records : List FlowRecord)
+    → IsPermutation parts others → IsGathered limits clock parts records → IsGathered limits clock others records
+
+-- What is gathered of the fragments of some keys are the records of these keys, of those that are gathered of all.
+abbrev pub GatheredByKeys : Type 0
+GatheredByKeys = (limits : Timeouts) (clock : ℕ) (chosen : FlowKey → Bool) (parts : List Fragment)
+    (records some : List FlowRecord) → IsGathered limits clock parts records
+    → IsGathered limits clock (filter (λ (f : Fragment). chosen f.key) parts) some
+    ↔ (some ≡ filter (λ (r : FlowRecord). chosen r.part.key) records)

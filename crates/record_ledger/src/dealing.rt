@@ -17,16 +17,20 @@ const BUCKET: usize = 4096;
 /// The most buckets that are made.
 const MOST_BUCKETS: usize = 1024;
 
+/// After how many fragments that were dealt their room in a piece is let go.
+const LET_GO: usize = 4096;
+
 /// Fragments as records, with no reason yet, each in the bucket that its key is of.
 ///
-/// The fragments of a piece are let go as soon as they are dealt.
+/// The rooms of the buckets are taken first, and filled while those of the pieces are let go: so what is held at a time is
+/// hardly more than the records.
 pub fn deal(alloc: Global, parts: PartList) -> Result<Vec<Vec<FlowRecord>>, NoMemory>
     ensures { IfOk result (λ buckets. AreDealt parts buckets.items) }
 {
     let mut pieces = parts.into_pieces()?;
     let mut buckets = buckets_for(alloc, &pieces)?;
     while let Some(piece) = pieces.pop() {
-        deal_piece(&piece, &mut buckets)?;
+        deal_piece(piece, &mut buckets)?;
     }
     Ok(buckets)
 }
@@ -84,16 +88,20 @@ fn empty_buckets(alloc: Global, counts: &[usize]) -> Result<Vec<Vec<FlowRecord>>
     Ok(buckets)
 }
 
-/// Deals the fragments of a piece.
-fn deal_piece(piece: &[Fragment], buckets: &mut [Vec<FlowRecord>]) -> Result<(), NoMemory>
+/// Deals the fragments of a piece, the last one first, and lets their room go, 4,096 at a time.
+fn deal_piece(piece: Vec<Fragment>, buckets: &mut [Vec<FlowRecord>]) -> Result<(), NoMemory>
     requires { 1 ≤ length buckets.old }
     ensures many { length buckets.new ≡ length buckets.old }
-    ensures whole { OnOk result (IsPermutation (piece.now ++ parts_of (records_of buckets.old))
+    ensures whole { OnOk result (IsPermutation (piece.items ++ parts_of (records_of buckets.old))
         (parts_of (records_of buckets.new))) }
     ensures by_key { OnOk result (AreByKey buckets.old → AreByKey buckets.new) }
 {
-    for part in piece {
-        deal_part(part, buckets)?;
+    let mut piece = piece;
+    while let Some(part) = piece.pop() {
+        deal_part(&part, buckets)?;
+        if piece.len() % LET_GO == 0 {
+            piece.shrink_to_fit();
+        }
     }
     Ok(())
 }

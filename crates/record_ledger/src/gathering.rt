@@ -1,9 +1,11 @@
 //! Gathering: fragments as the lawful list of flow records.
 
 ghost use Rattle.std.specs.Prelude.{◌<◌, ◌^◌, List, All, IfOk, sum_by};
+ghost use Rattle.std.specs.Option.{unwrap_or};
 ghost use Rattle.packet_accept.specs.declared.packet.Packet.{Packet};
 ghost use Rattle.flow_parts.specs.declared.fragment.Fragment.{Fragment};
 ghost use Rattle.flow_parts.specs.Sharing.{SharesOut};
+ghost use Rattle.record_ledger.specs.Gathered.{IsGathered};
 ghost use Rattle.record_ledger.specs.Regrouping.{Regroups};
 ghost use Rattle.packet_accept.specs.Clock.{IsClock};
 ghost use Rattle.record_ledger.specs.Lawful.{IsLawful, IsLawfulBy};
@@ -29,8 +31,8 @@ use std::thread::Threads;
 /// are but some of the fragments: those of some keys, of which all are there.
 ///
 /// The fragments are dealt to buckets by their keys, and `threads` threads at most sort, join and give reasons there.
-/// It takes the time of sorting. Each piece of `parts` is let go as soon as its fragments are dealt; held are a record for
-/// each part, and 24 bytes for its place in the order.
+/// It takes the time of sorting. The fragments of `parts` are let go as soon as they are dealt; held are a record for each
+/// part, and 24 bytes for its place in the order.
 ///
 /// # Errors
 ///
@@ -54,6 +56,7 @@ pub fn gather<R: Threads + Sync>(
     ensures sessions { IfOk result (λ records. (packets : List Packet) → SharesOut timeouts packets parts
         → IsClock packets clock → (sessions : List (List Packet)) → IsSessions timeouts.idle packets sessions
         → All (IsUncut timeouts) sessions → AreRecordsOf timeouts packets sessions records) }
+    ensures gathered { IfOk result (λ records. IsGathered timeouts (unwrap_or clock 0) parts records) }
 {
     let mut buckets = deal(alloc, parts)?;
     settle_all(rt, &mut buckets, &timeouts, clock.unwrap_or(0), threads);

@@ -1,11 +1,12 @@
 //! Joining: records of one key that follow each other, as long as they are joinable, in place.
 
 ghost use Rattle.std.specs.Prelude.{◌≡◌, ◌+◌, ◌-◌, ◌<◌, ◌≤◌, ◌^◌, [], ◌∷◌, ◌++◌, length, IfSome, IfNone, sum_by, take};
-ghost use Rattle.std.specs.Prelude.{All, slice_index_or};
+ghost use Rattle.std.specs.Prelude.{All, reverse, slice_index_or};
 ghost use Rattle.flow_parts.specs.declared.fragment.Fragment.{Fragment};
 ghost use Rattle.flow_parts.specs.Joining.{IsJoinable};
 ghost use Rattle.record_ledger.specs.Lawful.{parts_of};
 ghost use Rattle.flow_parts.specs.Reaching.{Reaches};
+ghost use Rattle.record_ledger.specs.Gathered.{ComesTo, AllComeTo};
 ghost use Rattle.record_ledger.specs.Steps.{NoneJoinable, Rises, NotAfter};
 
 use crate::record::FlowRecord;
@@ -28,6 +29,7 @@ pub fn join_neighbours(records: &mut Vec<FlowRecord>, timeouts: &Timeouts)
     ensures reached { Reaches timeouts.now (parts_of records.old.items) (parts_of records.new.items) }
     ensures sorted { Rises NotAfter (parts_of records.new.items) }
     ensures apart { NoneJoinable timeouts.now (parts_of records.new.items) }
+    ensures joined { AllComeTo timeouts.now [] (parts_of records.old.items) (reverse (parts_of records.new.items)) }
 {
     let mut apart = 0;
     for place in 0..records.len() {
@@ -55,6 +57,8 @@ fn settle(stack: &[FlowRecord], part: Fragment, timeouts: &Timeouts) -> Joined
     ensures last { result.whole.last ≡ part.last }
     ensures apart { (d : Fragment) → 0 < result.left
         → ¬ IsJoinable timeouts.now (slice_index_or (parts_of stack.now) (result.left - 1) d) result.whole }
+    ensures comes { ComesTo timeouts.now (reverse (parts_of stack.now)) part
+        (result.whole ∷ reverse (take result.left (parts_of stack.now))) }
 {
     let mut left = stack.len();
     let mut whole = part;

@@ -1,6 +1,7 @@
 //! Laws about lawful lists, for any packets and records. These functions do nothing; each contract is a law.
 ghost use Rattle.record_ledger.specs.Laws.{TiesJoin, HasNoTies, CutsAreSessions, HaveSessions, LawfulAreSessions};
 ghost use Rattle.record_ledger.specs.Laws.{RecordsAreOne, LawfulIsOne, OwnClockIsGiven, LawfulTogether};
+ghost use Rattle.record_ledger.specs.Laws.{GatheredIsOne, GatheredInAnyOrder, GatheredByKeys};
 
 /// Two fragments of one key with the same last time are always joinable, where each stands for packets of its own. So
 /// no two records of a lawful list tie in the written order.
@@ -24,4 +25,12 @@ pub fn lawful_lists_are_sessions()
 pub fn lawful_lists_go_together()
     ensures own_clock { OwnClockIsGiven }
     ensures together { LawfulTogether }
+{}
+
+/// What is gathered of fragments is one list of records, whatever the order of the fragments. What is gathered of those of
+/// some keys are the records of these keys, of all that are gathered.
+pub fn gathered_lists_are_one()
+    ensures one { GatheredIsOne }
+    ensures any_order { GatheredInAnyOrder }
+    ensures by_keys { GatheredByKeys }
 {}

@@ -3,24 +3,26 @@
 ghost use Rattle.std.specs.Prelude.{◌≡◌, IsPermutation, IsSorted, option_copied};
 ghost use Rattle.std.specs.Option.{option_cmp};
 ghost use Rattle.flow_key.specs.Key.{key_order};
-ghost use Rattle.record_ledger.specs.Order.{key_then_last};
-ghost use Rattle.record_ledger.specs.Buckets.{place_order, record_at};
+ghost use Rattle.record_ledger.specs.Order.{joining_order, number_order};
+ghost use Rattle.record_ledger.specs.Buckets.{place_order, record_at, seat_order};
 ghost use Rattle.record_ledger.specs.declared.record.FlowRecord.{FlowRecord};
 
 use crate::place::Place;
 use crate::record::FlowRecord;
+use flow_parts::Fragment;
 use std::cmp::Ordering;
 
-/// Sorts records by key, then by last time.
+/// Sorts records into the order in which they are joined: by key, then by last time, then by all else, so that the order
+/// of those that are equal by key and last time is given too.
 pub fn sort_by_key(records: &mut Vec<FlowRecord>)
     ensures permutation { IsPermutation records.old.items records.new.items }
-    ensures order { IsSorted (λ (one other : FlowRecord). key_then_last one.part other.part) records.new.items }
+    ensures order { IsSorted (λ (one other : FlowRecord). joining_order one.part other.part) records.new.items }
 {
     records.sort_unstable_by(|one, other| by_key(one, other));
 }
 
 /// Sorts places into the written order of their records: by last time, which is in the place, and only where two tie by
-/// the keys, which are looked up in the buckets.
+/// the keys, which are looked up in the buckets. Records that tie by both stay in the order of the buckets.
 pub fn sort_places(buckets: &[Vec<FlowRecord>], order: &mut Vec<Place>)
     ensures permutation { IsPermutation order.old.items order.new.items }
     ensures order { IsSorted (place_order buckets.now) order.new.items }
@@ -28,22 +30,47 @@ pub fn sort_places(buckets: &[Vec<FlowRecord>], order: &mut Vec<Place>)
     order.sort_unstable_by(|one, other| by_place(buckets, one, other));
 }
 
-/// How two records stand by key, then by last time.
+/// How two records stand in the order of joining.
 fn by_key(one: &FlowRecord, other: &FlowRecord) -> Ordering
-    ensures { result ≡ key_then_last one.now.part other.now.part }
+    ensures { result ≡ joining_order one.now.part other.now.part }
 {
-    let keys = one.part.key.order(&other.part.key);
-    keys.then(one.part.last.cmp(&other.part.last))
+    match one.part.key.order(&other.part.key) {
+        Ordering::Equal => by_numbers(&one.part, &other.part),
+        apart => apart,
+    }
 }
 
-/// How two places stand by last time, then by the keys of their records.
+/// How two fragments stand by last time, first time, packets, octets and flags.
+fn by_numbers(one: &Fragment, other: &Fragment) -> Ordering
+    ensures { result ≡ number_order one.now other.now }
+{
+    let sizes = one
+        .octets
+        .cmp(&other.octets)
+        .then(one.flags.cmp(&other.flags));
+    let counts = one.packets.cmp(&other.packets).then(sizes);
+    let times = one.first.cmp(&other.first).then(counts);
+    one.last.cmp(&other.last).then(times)
+}
+
+/// How two places stand by last time, then by the keys of their records, then by where they are.
 fn by_place(buckets: &[Vec<FlowRecord>], one: &Place, other: &Place) -> Ordering
     ensures { result ≡ place_order buckets.now one.now other.now }
 {
     match one.last.cmp(&other.last) {
-        Ordering::Equal => by_found(record_at(buckets, one), record_at(buckets, other)),
+        Ordering::Equal => {
+            let keys = by_found(record_at(buckets, one), record_at(buckets, other));
+            keys.then(by_seat(one, other))
+        }
         apart => apart,
     }
+}
+
+/// How two places stand by bucket, then by place in it.
+fn by_seat(one: &Place, other: &Place) -> Ordering
+    ensures { result ≡ seat_order one.now other.now }
+{
+    one.bucket.cmp(&other.bucket).then(one.at.cmp(&other.at))
 }
 
 /// How two records stand by key, where there are both.

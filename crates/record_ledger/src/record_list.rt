@@ -1,7 +1,9 @@
 //! Records in the written order, held in buckets.
 
 ghost use Rattle.std.specs.Prelude.{◌≡◌, ◌<◌, length, slice_index_or, IsPermutation, IsSorted, IfOk};
-ghost use Rattle.record_ledger.specs.Buckets.{records_of};
+ghost use Rattle.flow_key.specs.declared.key.FlowKey.{FlowKey};
+ghost use Rattle.record_ledger.specs.Buckets.{records_of, EndInTurn};
+ghost use Rattle.record_ledger.specs.Lawful.{of_key};
 ghost use Rattle.record_ledger.specs.Order.{written_order};
 
 use crate::orders::sort_places;
@@ -41,6 +43,8 @@ impl RecordList {
     ) -> Result<RecordList, NoMemory>
         ensures permutation { IfOk result (λ records. IsPermutation (records_of buckets.items) records) }
         ensures order { IfOk result (λ records. IsSorted written_order records) }
+        ensures by_key { IfOk result (λ records. EndInTurn (records_of buckets.items)
+            → (key : FlowKey) → of_key key (records_of buckets.items) ≡ of_key key records) }
     {
         let mut order = places_of(alloc, &buckets)?;
         sort_places(&buckets, &mut order);

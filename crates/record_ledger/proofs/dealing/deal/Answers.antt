@@ -28,10 +28,8 @@ loop-piece-preserved c =
     take_at new (drop (length new) old.items) old.len
     (c.in_ok-deal_piece.ensures.many ∙ ap length lent ∙ sym old.ok.0) in
     let dealt : IsPermutation (c.in-Some.piece.items ++ parts_of (records_of old.items)) (parts_of (records_of new)) =
-    subst (λ l. IsPermutation (l ++ parts_of (records_of old.items)) (parts_of (records_of new)))
-    c.deref-in-Some.ensures.value
-    (subst (λ bs. IsPermutation (c.deref-in-Some.result.now ++ parts_of (records_of bs)) (parts_of (records_of new))) lent
-    c.in_ok-deal_piece.ensures.whole) in
+    subst (λ bs. IsPermutation (c.in-Some.piece.items ++ parts_of (records_of bs)) (parts_of (records_of new))) lent
+    c.in_ok-deal_piece.ensures.whole in
     record {
       some = subst (λ l. 1 ≤ length l) (sym same)
           (let many = c.in_ok-deal_piece.ensures.many in let some = c.loop-piece.invariant.some in

@@ -1,5 +1,5 @@
 -- The record goes behind those of its bucket.
-use Rattle.std.proofs.Common.{◌<◌, ◌∷◌, length, arith}
+use Rattle.std.proofs.Common.{◌∷◌, arith}
 use Rattle.std.proofs.lemmas.List.Sorted.{IsPermutation-map}
 use Rattle.record_ledger.specs.Buckets.{records_of}
 use Rattle.record_ledger.proofs.Keyed.{part_of}

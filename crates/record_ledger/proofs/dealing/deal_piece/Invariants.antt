@@ -1,5 +1,5 @@
--- The fragments so far are dealt.
-use Rattle.std.proofs.Common.{◌≡◌, ◌++◌, take, length, IsPermutation}
+-- The fragments that are left in the piece, and those that are dealt, are all of them.
+use Rattle.std.proofs.Common.{◌≡◌, ◌++◌, length, vec_len, IsPermutation}
 use Rattle.record_ledger.specs.Lawful.{parts_of}
 use Rattle.record_ledger.specs.Buckets.{records_of, AreByKey}
 use Rattle.record_ledger.proofs.dealing.deal_piece.Given as goal
@@ -7,7 +7,10 @@ use Rattle.record_ledger.proofs.dealing.deal_piece.Given as goal
 abbrev pub invariant-loop-part : goal.invariant-loop-part
 invariant-loop-part l = record {
   many : length l.buckets ≡ length l.fn.buckets;
-  whole : IsPermutation (take l.part-index l.piece ++ parts_of (records_of l.fn.buckets))
-      (parts_of (records_of l.buckets));
+  whole : IsPermutation (l.fn.piece.items ++ parts_of (records_of l.fn.buckets))
+      (l.piece.items ++ parts_of (records_of l.buckets));
   by_key : AreByKey l.fn.buckets → AreByKey l.buckets;
 }
+
+abbrev pub decreases-loop-part : goal.decreases-loop-part
+decreases-loop-part l = vec_len l.piece

@@ -59,7 +59,7 @@ loop-place-preserved c =
           (parts_of c.args.records.now.items) X c.loop-place.apart c.loop-place.place c.loop-place.invariant.stacked
           c.index.result.now low c.index.ensures S
           (front_of X c.deref.result.now c.loop-place.apart c.deref.ensures.value)
-          _ n le settled.reached settled.key settled.last settled.apart;
+          _ n le settled.reached settled.key settled.last settled.apart settled.comes;
     }
 
 pub returns-clause-reached : goal.returns-clause-reached
@@ -79,3 +79,9 @@ returns-clause-apart c =
     (all_stacked c.args.timeouts.now (parts_of c.args.records.now.items) c.loop-place.records.items
     c.truncate.new.self.items c.loop-place.apart c.loop-place.place
     c.loop-place.invariant.stacked (let long = c.loop-place.invariant.long in omega arith) c.truncate.ensures.items).2
+
+pub returns-clause-joined : goal.returns-clause-joined
+returns-clause-joined c =
+    (all_stacked c.args.timeouts.now (parts_of c.args.records.now.items) c.loop-place.records.items
+    c.truncate.new.self.items c.loop-place.apart c.loop-place.place
+    c.loop-place.invariant.stacked (let long = c.loop-place.invariant.long in omega arith) c.truncate.ensures.items).3

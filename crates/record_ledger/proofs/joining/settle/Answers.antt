@@ -1,5 +1,5 @@
 -- Each turn joins the top of the stack, which is of the part's key and doesn't end after it, with the fragment.
-use Rattle.std.proofs.Common.{◌≡◌, ◌-◌, ◌≤◌, ◌∷◌, ◌++◌, ℕ, List, [], length, take, refl, sym, ◌∙◌, subst, arith}
+use Rattle.std.proofs.Common.{◌≡◌, ◌-◌, ◌≤◌, ◌∷◌, ◌++◌, ℕ, List, [], length, reverse, take, refl, sym, ◌∙◌, subst, arith}
 use Rattle.std.proofs.lemmas.List.{take_all, length-map, length-take}
 use Rattle.std.proofs.lemmas.List.Sorted.{IsPermutation-refl}
 use Rattle.flow_parts.specs.declared.fragment.Fragment.{Fragment}
@@ -8,6 +8,8 @@ use Rattle.record_ledger.specs.declared.record.FlowRecord.{FlowRecord}
 use Rattle.record_ledger.specs.Lawful.{parts_of}
 use Rattle.flow_parts.specs.Reaching.{Reaches}
 use Rattle.flow_parts.specs.Reaching.Reaches.{moved}
+use Rattle.record_ledger.specs.Gathered.{ComesTo}
+use Rattle.record_ledger.proofs.Coming.{comes_joined, stands_behind}
 use Rattle.record_ledger.proofs.InPlace.{top_of, top_split}
 use Rattle.record_ledger.proofs.Reaching.{taken_on, packets_fit, octets_fit, front_holds}
 use Rattle.record_ledger.proofs.joining.settle.Goals as goal
@@ -22,6 +24,7 @@ loop-top-init c = record {
       (sym (all c.args.stack.now)) (moved _ _ (IsPermutation-refl _));
   key = refl;
   last = refl;
+  comes = λ after k. subst (λ fs. ComesTo c.args.timeouts.now (reverse fs) c.args.part after) (all c.args.stack.now) k;
 }
 
 pub join-whole-requires-clause-packets : goal.join-whole-requires-clause-packets
@@ -65,6 +68,9 @@ loop-top-preserved c =
           (take (n - 1) F) split top.2 joined c.loop-top.invariant.reached;
       key = joined.key ∙ key;
       last = (let last = joined.last in let was = c.loop-top.invariant.last in omega arith);
+      comes = λ after k. c.loop-top.invariant.comes after
+          (comes_joined c.args.timeouts.now (take n F) (take (n - 1) F) c.in-Some.top c.loop-top.whole c.join-whole.result
+          after split top.2 joined k);
     }
 
 pub returns-clause-apart : goal.returns-clause-apart
@@ -74,3 +80,9 @@ returns-clause-apart c = λ d some j.
     c.in_default.ensures.none d (let few = c.loop-top.invariant.few in omega (arith, length-take n X))
     (subst (λ f. IsJoinable c.args.timeouts.now f c.loop-top.whole)
     (sym (top_of X n d c.loop-top.invariant.few some)) j)
+
+pub returns-clause-comes : goal.returns-clause-comes
+returns-clause-comes c = c.loop-top.invariant.comes _
+    (stands_behind c.args.timeouts.now (parts_of c.args.stack.now) c.loop-top.left c.loop-top.whole
+    (let few = c.loop-top.invariant.few in omega (arith, length-map c.args.stack.now (λ (r : FlowRecord). r.part)))
+    (returns-clause-apart c))

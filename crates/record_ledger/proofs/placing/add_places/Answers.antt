@@ -1,11 +1,12 @@
 -- Each turn adds the place of one more record.
-use Rattle.std.proofs.Common.{◌≡◌, ◌++◌, ◌<◌, Some, length, take, get_or, refl, sym, ap, ◌∙◌, subst, arith, append-nil}
-use Rattle.std.specs.Prelude.{slice_get}
+use Rattle.std.proofs.Common.{◌≡◌, ◌++◌, ◌<◌, length, get_or, refl, sym, ap, ◌∙◌, subst, arith, append-nil}
 use Rattle.std.specs.List.{AllZip}
+use Rattle.std.proofs.Common.{inl}
+use Rattle.std.proofs.lemmas.List.Elements.{All-weaker}
 use Rattle.std.proofs.lemmas.List.{take_all}
 use Rattle.std.proofs.lemmas.Option.{get_or_from_slice_get}
 use Rattle.record_ledger.specs.Buckets.{Bucket, IsPlaceOf}
-use Rattle.record_ledger.proofs.Placed.{more_placed}
+use Rattle.record_ledger.proofs.Placed.{IsBelow, first_on, more_ahead, more_placed}
 use Rattle.record_ledger.proofs.placing.add_places.Goals as goal
 
 pub loop-at-init : goal.loop-at-init
@@ -17,6 +18,11 @@ loop-at-init c =
           (c.index-buckets-bucket.is ∙ get_or_from_slice_get c.args.buckets.now c.args.bucket b B e);
       placed = λ before b e h. subst (λ l. AllZip (IsPlaceOf c.args.buckets.now) l c.args.order.now.items)
           (sym (append-nil before)) h;
+      first = λ h. (
+        All-weaker (λ p. p.bucket < c.args.bucket) (IsBelow c.args.bucket 0) (λ p l. inl l)
+            c.args.order.now.items h.below,
+        h.rising,
+      );
     }
 
 pub loop-at-preserved : goal.loop-at-preserved
@@ -34,10 +40,15 @@ loop-at-preserved c =
           (subst (λ (v : Bucket). c.index.result.now ≡ get_or v.items c.loop-at.at c.index.result.now) same c.index.ensures)
           refl refl refl c.in_ok-push.ensures.items
           (c.loop-at.invariant.placed before b e h);
+      first = λ h. more_ahead c.args.bucket c.loop-at.at c.loop-at.order.items c.push.new.self.items _ refl refl
+          c.in_ok-push.ensures.items (c.loop-at.invariant.first h);
     }
 
-pub returns : goal.returns
-returns c = λ before b e h.
+pub returns-clause-first : goal.returns-clause-first
+returns-clause-first c = λ h. first_on c.args.bucket c.loop-at.at c.loop-at.order.items (c.loop-at.invariant.first h)
+
+pub returns-clause-places : goal.returns-clause-places
+returns-clause-places c = λ before b e h.
     subst (λ l. AllZip (IsPlaceOf c.args.buckets.now) (before ++ l) c.loop-at.order.items)
     (take_all c.loop-at.at b.items (let end = c.loop-at.invariant.end b e in omega (arith, c.loop-at-test.false, end)))
     (c.loop-at.invariant.placed before b e h)

@@ -1,9 +1,12 @@
 -- The places of the records so far.
-use Rattle.std.proofs.Common.{◌≡◌, ◌++◌, List, Some, take, length}
+use Rattle.std.proofs.Common.{◌≡◌, ◌++◌, List, Some, All, take, length}
+use Rattle.std.specs.declared.cmp.Ordering.TheVariants.{Less}
 use Rattle.std.specs.Prelude.{slice_get}
 use Rattle.std.specs.List.{AllZip}
 use Rattle.record_ledger.specs.declared.record.FlowRecord.{FlowRecord}
-use Rattle.record_ledger.specs.Buckets.{Bucket, IsPlaceOf}
+use Rattle.record_ledger.specs.Buckets.{Bucket, IsPlaceOf, AreFirst, seat_order}
+use Rattle.record_ledger.specs.Steps.{Rises}
+use Rattle.record_ledger.proofs.Placed.{IsBelow}
 use Rattle.record_ledger.proofs.placing.add_places.Given as goal
 
 abbrev pub invariant-loop-at : goal.invariant-loop-at
@@ -12,4 +15,6 @@ invariant-loop-at l = record {
   placed : (before : List FlowRecord) (b : Bucket) → slice_get l.buckets l.bucket ≡ Some b
       → AllZip (IsPlaceOf l.buckets) before l.fn.order.items
       → AllZip (IsPlaceOf l.buckets) (before ++ take l.at b.items) l.order.items;
+  first : AreFirst l.bucket l.fn.order.items
+      → All (IsBelow l.bucket l.at) l.order.items × Rises (λ one other. seat_order one other ≡ Less) l.order.items;
 }

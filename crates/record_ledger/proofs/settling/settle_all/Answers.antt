@@ -1,5 +1,5 @@
 -- Each bucket is settled by one call.
-use Rattle.std.proofs.Common.{rules, ◌≡◌, List, get_or, length, subst, arith}
+use Rattle.std.proofs.Common.{rules, ◌≡◌, get_or, length, subst, arith}
 use Rattle.flow_parts.specs.declared.fragment.Fragment.{Fragment}
 use Rattle.record_ledger.specs.Buckets.{Bucket}
 use Rattle.record_ledger.proofs.Dealt.{bucket_sum}

@@ -1,17 +1,29 @@
 -- The records are sorted, joined and given their reasons.
-use Rattle.std.proofs.Common.{◌≡◌, ℕ, List, ◌++◌, length, take, drop, sym, ap, ◌∙◌, subst, arith}
+use Rattle.std.proofs.Common.{◌≡◌, List, [], length, drop, reverse, sym, ap, ◌∙◌, subst, arith}
+use Rattle.std.specs.Prelude.{IsSorted}
+use Rattle.std.specs.Ordering.{is_lt}
 use Rattle.std.proofs.lemmas.List.{take_at, length-map}
 use Rattle.std.proofs.lemmas.List.Sorted.{IsPermutation-map}
 use Rattle.flow_parts.specs.Reaching.{Reaches}
 use Rattle.flow_parts.specs.Reaching.Reaches.{moved, onward}
 use Rattle.flow_parts.proofs.Reaching.{same_packets, same_octets}
 use Rattle.record_ledger.specs.declared.record.FlowRecord.{FlowRecord}
+use Rattle.record_ledger.specs.Gathered.{AllComeTo}
 use Rattle.record_ledger.specs.Lawful.{parts_of}
+use Rattle.record_ledger.specs.Order.{joining_order}
 use Rattle.record_ledger.specs.Steps.{Rises, NotAfter, NoneJoinable}
 use Rattle.record_ledger.specs.Buckets.{AreSettled}
-use Rattle.record_ledger.proofs.Keyed.{part_of, rises_of_map}
-use Rattle.record_ledger.proofs.Rising.{by_key_weak, rises_from_sorted}
+use Rattle.record_ledger.proofs.Filtered.{NotLess}
+use Rattle.record_ledger.proofs.Keyed.{part_of, rises_of_map, rises_weaker}
+use Rattle.record_ledger.proofs.Placed.{sorted_from_rises}
+use Rattle.record_ledger.proofs.Rising.{by_key_weak, joining_total, not_after, rises_from_sorted}
 use Rattle.record_ledger.proofs.settling.settle_bucket.Goals as goal
+
+-- the fragments of sorted records are in the order of joining
+lined_up : (rs : List FlowRecord) → IsSorted (λ (one other : FlowRecord). joining_order one.part other.part) rs
+    → Rises (NotLess joining_total) (parts_of rs)
+lined_up rs up = rises_of_map part_of (NotLess joining_total) rs
+    (rises_from_sorted (λ (r s : FlowRecord). is_lt (joining_order r.part s.part)) by_key_weak rs up)
 
 pub join_neighbours-requires-clause-packets : goal.join_neighbours-requires-clause-packets
 join_neighbours-requires-clause-packets c =
@@ -32,8 +44,9 @@ join_neighbours-requires-clause-octets c =
     omega (arith, same, c.requires.octets)
 
 pub join_neighbours-requires-clause-sorted : goal.join_neighbours-requires-clause-sorted
-join_neighbours-requires-clause-sorted c = rises_of_map part_of NotAfter c.sort_by_key.new.records.items
-    (rises_from_sorted _ by_key_weak c.sort_by_key.new.records.items c.sort_by_key.ensures.order)
+join_neighbours-requires-clause-sorted c = rises_weaker (NotLess joining_total) NotAfter not_after
+    (parts_of c.sort_by_key.new.records.items)
+    (lined_up c.sort_by_key.new.records.items c.sort_by_key.ensures.order)
 
 pub returns : goal.returns
 returns c =
@@ -56,4 +69,12 @@ returns c =
       sorted = subst (Rises NotAfter) (sym same) c.join_neighbours.ensures.sorted;
       apart = subst (NoneJoinable limits) (sym same) c.join_neighbours.ensures.apart;
       reasons = c.give_reasons.ensures.reasons;
+      joined = record {
+        line = parts_of sorted;
+        same = IsPermutation-map part_of before sorted c.sort_by_key.ensures.permutation;
+        sorted = sorted_from_rises (λ f g. is_lt (joining_order f g)) (parts_of sorted)
+            (lined_up sorted c.sort_by_key.ensures.order);
+        joined = subst (λ fs. AllComeTo limits [] (parts_of sorted) (reverse fs)) (sym same)
+            c.join_neighbours.ensures.joined;
+      };
     })

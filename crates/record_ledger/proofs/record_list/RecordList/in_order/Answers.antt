@@ -3,7 +3,7 @@ use Rattle.std.proofs.Common.{List, subst}
 use Rattle.std.specs.Prelude.{IsSorted}
 use Rattle.std.specs.List.{AllZip}
 use Rattle.record_ledger.specs.Buckets.{Bucket, records_of, IsPlaceOf, place_order}
-use Rattle.record_ledger.proofs.Placed.{all_sorted}
+use Rattle.record_ledger.proofs.Placed.{all_sorted, key_in_order}
 use Rattle.record_ledger.proofs.record_list.RecordList.in_order.Goals as goal
 
 pub invariant_of-result : goal.invariant_of-result
@@ -11,7 +11,7 @@ invariant_of-result c =
     let bs : List Bucket = c.args.buckets.items in
     (all_sorted bs c.in_ok-order.order.items c.sort_places.new.order.items
     (subst (λ bs. AllZip (IsPlaceOf bs) (records_of bs) c.in_ok-order.order.items) c.deref.ensures.value
-    c.in_ok-order.ensures)
+    c.in_ok-order.ensures.places)
     c.sort_places.ensures.permutation
     (subst (λ bs. IsSorted (place_order bs) c.sort_places.new.order.items) c.deref-2.ensures.value
     c.sort_places.ensures.order)).0
@@ -21,7 +21,7 @@ returns-clause-permutation c =
     let bs : List Bucket = c.args.buckets.items in
     (all_sorted bs c.in_ok-order.order.items c.sort_places.new.order.items
     (subst (λ bs. AllZip (IsPlaceOf bs) (records_of bs) c.in_ok-order.order.items) c.deref.ensures.value
-    c.in_ok-order.ensures)
+    c.in_ok-order.ensures.places)
     c.sort_places.ensures.permutation
     (subst (λ bs. IsSorted (place_order bs) c.sort_places.new.order.items) c.deref-2.ensures.value
     c.sort_places.ensures.order)).1
@@ -31,7 +31,17 @@ returns-clause-order c =
     let bs : List Bucket = c.args.buckets.items in
     (all_sorted bs c.in_ok-order.order.items c.sort_places.new.order.items
     (subst (λ bs. AllZip (IsPlaceOf bs) (records_of bs) c.in_ok-order.order.items) c.deref.ensures.value
-    c.in_ok-order.ensures)
+    c.in_ok-order.ensures.places)
     c.sort_places.ensures.permutation
     (subst (λ bs. IsSorted (place_order bs) c.sort_places.new.order.items) c.deref-2.ensures.value
     c.sort_places.ensures.order)).2
+
+pub returns-clause-by_key : goal.returns-clause-by_key
+returns-clause-by_key c = λ up key.
+    let bs : List Bucket = c.args.buckets.items in
+    key_in_order bs key c.in_ok-order.order.items c.sort_places.new.order.items
+    (subst (λ bs. AllZip (IsPlaceOf bs) (records_of bs) c.in_ok-order.order.items) c.deref.ensures.value
+    c.in_ok-order.ensures.places)
+    up c.in_ok-order.ensures.first.rising c.sort_places.ensures.permutation
+    (subst (λ bs. IsSorted (place_order bs) c.sort_places.new.order.items) c.deref-2.ensures.value
+    c.sort_places.ensures.order)
