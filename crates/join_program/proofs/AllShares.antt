@@ -1,7 +1,7 @@
 -- All shares of one join are the whole of it.
-use Rattle.std.proofs.Common.{◌≡◌, ◌≢◌, ℕ, zero, suc, ◌+◌, ◌*◌, ◌<◌, ◌≤◌, Bool, true, false, cond, not, List, [], ◌∷◌}
-use Rattle.std.proofs.Common.{◌==◌, inl, inr, ◌++◌, length, Option, Some, None, filter, map, refl, sym, ap, ◌∙◌, subst, arith, All}
-use Rattle.std.proofs.Common.{Contains, IsPermutation, IsSorted}
+use Rattle.std.proofs.Common.{◌≡◌, ◌≢◌, ℕ, suc, ◌*◌, ◌<◌, ◌≤◌, Bool, true, false, cond, not, List, [], ◌∷◌}
+use Rattle.std.proofs.Common.{◌==◌, inl, inr, ◌++◌, length, Option, None, filter, refl, sym, ap, ◌∙◌, subst, arith, All}
+use Rattle.std.proofs.Common.{IsPermutation, IsSorted}
 use Rattle.std.specs.List.{AllZip}
 use Rattle.std.specs.Ordering.{is_lt}
 use Rattle.std.proofs.lemmas.Bool.{eq-eqb, eqb-true}
@@ -9,15 +9,13 @@ use Rattle.std.proofs.lemmas.Bool.Decides.{eqb_tells}
 use Rattle.std.proofs.lemmas.List.{map-append, nil_from_length}
 use Rattle.std.proofs.lemmas.List.Elements.{All-append, All-nil, All-cons, All-tail, All-weaker, All-contains}
 use Rattle.std.proofs.lemmas.List.Elements.{filter-append, filter_passes}
-use Rattle.std.proofs.lemmas.List.Sorted.{IsPermutation-refl, IsPermutation-sym, IsPermutation-trans, IsPermutation-map}
+use Rattle.std.proofs.lemmas.List.Sorted.{IsPermutation-sym, IsPermutation-trans, IsPermutation-map}
 use Rattle.std.proofs.lemmas.List.Sorted.{IsPermutation-append_right, All-permutation, length_permutation}
 use Rattle.flow_key.specs.declared.key.FlowKey.{FlowKey}
-use Rattle.flow_key.specs.Key.{set_number}
 use Rattle.packet_accept.specs.declared.packet.Packet.{Packet}
 use Rattle.packet_accept.specs.Clock.{IsClock}
 use Rattle.flow_parts.specs.declared.fragment.Fragment.{Fragment}
 use Rattle.flow_parts.specs.declared.timeouts.Timeouts.{Timeouts}
-use Rattle.flow_parts.specs.Sharing.{SharesOut}
 use Rattle.flow_parts.proofs.Members.{found}
 use Rattle.flow_parts.proofs.Shares.{nothing}
 use Rattle.record_ledger.specs.declared.record.FlowRecord.{FlowRecord}
@@ -29,8 +27,8 @@ use Rattle.record_ledger.proofs.Keyed.{part_of, rises_filter}
 use Rattle.record_ledger.proofs.Placed.{sorted_from_rises}
 use Rattle.record_ledger.proofs.Reaching.{IsGrouped, grouped_start}
 use Rattle.record_ledger.proofs.Rising.{All-front, All-back, rises_from_sorted, written_weak}
-use Rattle.join_program.specs.Words.{Asked, OneOf}
-use Rattle.join_program.specs.Joined.{together, kept, falling, falls_to, EachSharesOut, IsLatest, AreJoined}
+use Rattle.join_program.specs.Words.{Asked}
+use Rattle.join_program.specs.Joined.{together, falling, EachSharesOut, IsLatest, AreJoined}
 use Rattle.join_program.specs.Laws.{of_share, AreSharesFrom, AreShares, SharesAreWhole, SharesAreJoined}
 use Rattle.join_program.proofs.Keyed.{flat, filter-permutation}
 use Rattle.join_program.proofs.Numbered.{number_of, falls, within, dealt, all_dealt}
@@ -128,92 +126,92 @@ module _ (asked : Asked) (inputs : List (List FlowRecord)) (count : ℕ) where
       (grouped_from shares (suc number) h.1))
 
   module _ (limits : Timeouts) (idle : limits.idle ≡ 1000 * asked.idle) (active : limits.active ≡ 1000 * asked.active)
-      where
-    lawful_share : (packets : List (List Packet)) → EachSharesOut limits packets inputs → (number : ℕ)
-        (clock : Option ℕ) (share : List FlowRecord)
-        → (h : AreJoined (of_share asked count number) inputs clock share)
-        → IsLawfulBy limits clock (filter (λ (p : Packet). falls count number p.key) (together packets)) share
-    lawful_share packets each number clock share h =
-        subst (λ l. EachSharesOut l packets inputs
-        → IsLawfulBy l clock (filter (λ (p : Packet). falls count number p.key) (together packets)) share)
-        (same_timeouts h.limits limits (h.idle ∙ sym idle) (h.active ∙ sym active)) (h.lawful_by packets) each
+    where
+      lawful_share : (packets : List (List Packet)) → EachSharesOut limits packets inputs → (number : ℕ)
+          (clock : Option ℕ) (share : List FlowRecord)
+          → (h : AreJoined (of_share asked count number) inputs clock share)
+          → IsLawfulBy limits clock (filter (λ (p : Packet). falls count number p.key) (together packets)) share
+      lawful_share packets each number clock share h =
+          subst (λ l. EachSharesOut l packets inputs
+          → IsLawfulBy l clock (filter (λ (p : Packet). falls count number p.key) (together packets)) share)
+          (same_timeouts h.limits limits (h.idle ∙ sym idle) (h.active ∙ sym active)) (h.lawful_by packets) each
 
-    shared_from : (packets : List (List Packet)) → EachSharesOut limits packets inputs
-        → (shares : List (List FlowRecord)) (number : ℕ) → AreSharesFrom asked inputs count number shares
-        → EachSharesOut limits (dealt packet_key count (length shares) number (together packets)) shares
-    shared_from packets each [] number h = tt
-    shared_from packets each (share ∷ shares) number h = (
-      (lawful_share packets each number h.0.0 share h.0.1).shared,
-      shared_from packets each shares (suc number) h.1,
-    )
+      shared_from : (packets : List (List Packet)) → EachSharesOut limits packets inputs
+          → (shares : List (List FlowRecord)) (number : ℕ) → AreSharesFrom asked inputs count number shares
+          → EachSharesOut limits (dealt packet_key count (length shares) number (together packets)) shares
+      shared_from packets each [] number h = tt
+      shared_from packets each (share ∷ shares) number h = (
+        (lawful_share packets each number h.0.0 share h.0.1).shared,
+        shared_from packets each shares (suc number) h.1,
+      )
 
-    pub shares_stand : (shares : List (List FlowRecord)) → AreSharesFrom asked inputs count 1 shares
-        → length shares ≡ count → 0 < count → StandFor limits inputs shares
-    shares_stand shares h all some = record {
-      grouped = grouped_onward fragments (flat (dealt part_key count (length shares) 1 fragments))
-          (parts_of (together shares))
-          (grouped_moved fragments (flat (dealt part_key count (length shares) 1 fragments))
-          (all_dealt part_key count (length shares) 1 (within count (length shares) all some) fragments))
-          (grouped_from shares 1 h);
-      shared = λ packets each. (
-        dealt packet_key count (length shares) 1 (together packets),
-        shared_from packets each shares 1 h,
-        IsPermutation-sym (together packets) (flat (dealt packet_key count (length shares) 1 (together packets)))
-            (all_dealt packet_key count (length shares) 1 (within count (length shares) all some) (together packets)),
-      );
-    }
+      pub shares_stand : (shares : List (List FlowRecord)) → AreSharesFrom asked inputs count 1 shares
+          → length shares ≡ count → 0 < count → StandFor limits inputs shares
+      shares_stand shares h all some = record {
+        grouped = grouped_onward fragments (flat (dealt part_key count (length shares) 1 fragments))
+            (parts_of (together shares))
+            (grouped_moved fragments (flat (dealt part_key count (length shares) 1 fragments))
+            (all_dealt part_key count (length shares) 1 (within count (length shares) all some) fragments))
+            (grouped_from shares 1 h);
+        shared = λ packets each. (
+          dealt packet_key count (length shares) 1 (together packets),
+          shared_from packets each shares 1 h,
+          IsPermutation-sym (together packets) (flat (dealt packet_key count (length shares) 1 (together packets)))
+              (all_dealt packet_key count (length shares) 1 (within count (length shares) all some) (together packets)),
+        );
+      }
 
-    -- ---- in the written order
+      -- ---- in the written order
 
-    module _ (law : LawfulTogether) (clock : Option ℕ) (same_clock : (other : Option ℕ)
-        → IsLatest (together inputs) other → other ≡ clock) (packets : List (List Packet))
-        (each : EachSharesOut limits packets inputs) where
-      abbrev packets_from : ℕ → ℕ → List Packet
-      packets_from more number = flat (dealt packet_key count more number (together packets))
+      module _ (law : LawfulTogether) (clock : Option ℕ) (same_clock : (other : Option ℕ)
+          → IsLatest (together inputs) other → other ≡ clock) (packets : List (List Packet))
+          (each : EachSharesOut limits packets inputs) where
+        abbrev packets_from : ℕ → ℕ → List Packet
+        packets_from more number = flat (dealt packet_key count more number (together packets))
 
-      nothing_lawful : (whole : List FlowRecord) → whole ≡ [] → IsLawfulBy limits clock [] whole
-      nothing_lawful whole none = subst (IsLawfulBy limits clock []) (sym none) (record {
-        shared = nothing.0 limits;
-        ordered = λ k d low high. absurd (omega arith);
-        apart = λ key. tt;
-        reasons = λ c is key. tt;
-      })
+        nothing_lawful : (whole : List FlowRecord) → whole ≡ [] → IsLawfulBy limits clock [] whole
+        nothing_lawful whole none = subst (IsLawfulBy limits clock []) (sym none) (record {
+          shared = nothing.0 limits;
+          ordered = λ k d low high. absurd (omega arith);
+          apart = λ key. tt;
+          reasons = λ c is key. tt;
+        })
 
-      lawful_from : (shares : List (List FlowRecord)) (number : ℕ) → AreSharesFrom asked inputs count number shares
-          → (whole : List FlowRecord) → IsPermutation (together shares) whole → IsSorted written_order whole
-          → IsLawfulBy limits clock (packets_from (length shares) number) whole
-      lawful_from [] number h whole perm sorted =
-          nothing_lawful whole (nil_from_length whole (length_permutation [] whole perm))
-      lawful_from (share ∷ shares) number h whole perm sorted =
-          let others : FlowRecord → Bool = λ r. not (falls count number r.part.key) in
-          let rest : List FlowRecord = filter others whole in
-          let own = all_numbered number h.0.0 share h.0.1 in
-          let later = all_from shares (suc number) h.1 in
-          let left : filter others (share ++ together shares) ≡ together shares =
-          filter-append others share (together shares)
-          ∙ ap (λ l. l ++ filter others (together shares)) (filter_none others share
-          (All-weaker (Numbered number) (λ r. others r ≡ false)
-          (λ r e. ap not (eq-eqb (number_of count r.part.key) number e)) share own))
-          ∙ filter_all others (together shares)
-          (All-weaker (λ (r : FlowRecord). suc number ≤ number_of count r.part.key) (λ r. others r ≡ true)
-          (λ r low. ap not (not_equal (number_of count r.part.key) number (λ e. omega arith))) (together shares) later) in
-          let rest_perm : IsPermutation (together shares) rest =
-          subst (λ l. IsPermutation l rest) left (filter-permutation others (share ++ together shares) whole perm) in
-          law limits clock (filter (λ (p : Packet). falls count number p.key) (together packets))
-          (packets_from (length shares) (suc number)) share rest whole
-          (subst (λ o. IsLawfulBy limits o (filter (λ (p : Packet). falls count number p.key) (together packets)) share)
-          (same_clock h.0.0 h.0.1.latest) (lawful_share packets each number h.0.0 share h.0.1))
-          (lawful_from shares (suc number) h.1 rest rest_perm (filter_sorted others whole sorted))
-          (All-weaker (Numbered number) (λ (r : FlowRecord). All (λ (s : FlowRecord). r.part.key ≢ s.part.key) rest)
-          (λ r e. All-weaker (λ (s : FlowRecord). suc number ≤ number_of count s.part.key)
-          (λ (s : FlowRecord). r.part.key ≢ s.part.key)
-          (λ s low same. let e' = ap (number_of count) same in omega arith) rest
-          (All-permutation (λ (s : FlowRecord). suc number ≤ number_of count s.part.key) (together shares) rest rest_perm
-          later)) share own)
-          (IsPermutation-trans (share ++ rest) (share ++ together shares) whole
-          (IsPermutation-append_right share rest (together shares)
-          (IsPermutation-sym (together shares) rest rest_perm)) perm)
-          sorted
+        lawful_from : (shares : List (List FlowRecord)) (number : ℕ) → AreSharesFrom asked inputs count number shares
+            → (whole : List FlowRecord) → IsPermutation (together shares) whole → IsSorted written_order whole
+            → IsLawfulBy limits clock (packets_from (length shares) number) whole
+        lawful_from [] number h whole perm sorted =
+            nothing_lawful whole (nil_from_length whole (length_permutation [] whole perm))
+        lawful_from (share ∷ shares) number h whole perm sorted =
+            let others : FlowRecord → Bool = λ r. not (falls count number r.part.key) in
+            let rest : List FlowRecord = filter others whole in
+            let own = all_numbered number h.0.0 share h.0.1 in
+            let later = all_from shares (suc number) h.1 in
+            let left : filter others (share ++ together shares) ≡ together shares =
+            filter-append others share (together shares)
+            ∙ ap (λ l. l ++ filter others (together shares)) (filter_none others share
+            (All-weaker (Numbered number) (λ r. others r ≡ false)
+            (λ r e. ap not (eq-eqb (number_of count r.part.key) number e)) share own))
+            ∙ filter_all others (together shares)
+            (All-weaker (λ (r : FlowRecord). suc number ≤ number_of count r.part.key) (λ r. others r ≡ true)
+            (λ r low. ap not (not_equal (number_of count r.part.key) number (λ e. omega arith))) (together shares) later) in
+            let rest_perm : IsPermutation (together shares) rest =
+            subst (λ l. IsPermutation l rest) left (filter-permutation others (share ++ together shares) whole perm) in
+            law limits clock (filter (λ (p : Packet). falls count number p.key) (together packets))
+            (packets_from (length shares) (suc number)) share rest whole
+            (subst (λ o. IsLawfulBy limits o (filter (λ (p : Packet). falls count number p.key) (together packets)) share)
+            (same_clock h.0.0 h.0.1.latest) (lawful_share packets each number h.0.0 share h.0.1))
+            (lawful_from shares (suc number) h.1 rest rest_perm (filter_sorted others whole sorted))
+            (All-weaker (Numbered number) (λ (r : FlowRecord). All (λ (s : FlowRecord). r.part.key ≢ s.part.key) rest)
+            (λ r e. All-weaker (λ (s : FlowRecord). suc number ≤ number_of count s.part.key)
+            (λ (s : FlowRecord). r.part.key ≢ s.part.key)
+            (λ s low same. let e' = ap (number_of count) same in omega arith) rest
+            (All-permutation (λ (s : FlowRecord). suc number ≤ number_of count s.part.key) (together shares) rest rest_perm
+            later)) share own)
+            (IsPermutation-trans (share ++ rest) (share ++ together shares) whole
+            (IsPermutation-append_right share rest (together shares)
+            (IsPermutation-sym (together shares) rest rest_perm)) perm)
+            sorted
 
 some_shares : (shares : List (List FlowRecord)) → shares ≢ [] → 0 < length shares
 some_shares [] some = absurd (some refl)

@@ -1,12 +1,10 @@
 -- Joins of joins, in whatever order and grouping.
-use Rattle.std.proofs.Common.{◌≡◌, ℕ, ◌*◌, List, [], ◌∷◌, ◌++◌, Option, Some, None, map, refl, sym, ap, ◌∙◌, subst}
+use Rattle.std.proofs.Common.{ℕ, ◌*◌, List, [], ◌∷◌, ◌++◌, Option, sym, ap, ◌∙◌, subst}
 use Rattle.std.proofs.Common.{IsPermutation}
-use Rattle.std.specs.List.{AllZip}
 use Rattle.std.proofs.lemmas.List.{append-nil}
 use Rattle.std.proofs.lemmas.List.Sorted.{IsPermutation-refl, IsPermutation-sym, IsPermutation-map}
 use Rattle.packet_accept.proofs.Permuted.{flat_map-permutation}
 use Rattle.packet_accept.specs.declared.packet.Packet.{Packet}
-use Rattle.flow_parts.specs.declared.fragment.Fragment.{Fragment}
 use Rattle.flow_parts.specs.declared.timeouts.Timeouts.{Timeouts}
 use Rattle.flow_parts.specs.Sharing.{SharesOut}
 use Rattle.flow_parts.proofs.Permuted.{AllZip-permutation}
@@ -15,8 +13,8 @@ use Rattle.record_ledger.specs.Lawful.{parts_of}
 use Rattle.record_ledger.proofs.Keyed.{part_of}
 use Rattle.record_ledger.proofs.Reaching.{IsGrouped}
 use Rattle.join_program.specs.Words.{Asked}
-use Rattle.join_program.specs.Joined.{together, kept, EachSharesOut, AreJoined}
-use Rattle.join_program.specs.Laws.{AsksForAll, ComeOf, OrderIsFree, JoinsAreJoined, AnyAreJoined, AnyAreAnswered}
+use Rattle.join_program.specs.Joined.{together, kept, AreJoined}
+use Rattle.join_program.specs.Laws.{AsksForAll, OrderIsFree, JoinsAreJoined, AnyAreJoined, AnyAreAnswered}
 use Rattle.join_program.specs.Laws.ComeOf.{moved, joined, parted, onward}
 use Rattle.join_program.proofs.AllShares.{all_stand}
 use Rattle.join_program.proofs.Regrouped.{grouped_moved, grouped_of}

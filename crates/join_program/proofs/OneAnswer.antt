@@ -10,7 +10,7 @@ use Rattle.record_ledger.specs.Sessions.{IsSessions, IsUncut, AreRecordsOf}
 use Rattle.ipfix_writer.specs.Layout.{IsLayout}
 use Rattle.ipfix_writer.specs.Laws.{IsOneLayout}
 use Rattle.join_program.specs.Words.{Asked}
-use Rattle.join_program.specs.Joined.{together, EachSharesOut, AreJoined, IsAnswer, export_time}
+use Rattle.join_program.specs.Joined.{together, EachSharesOut, AreJoined, export_time}
 use Rattle.join_program.specs.Laws.{AnswerIsOne}
 use Rattle.join_program.proofs.Standing.{same_timeouts, greatest_is_one, clock_permuted, sessions_permuted}
 use Rattle.join_program.proofs.Standing.{records_permuted}

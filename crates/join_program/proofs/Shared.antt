@@ -1,9 +1,8 @@
 -- The packets that records of several inputs share out, all of them and those of a share.
-use Rattle.std.proofs.Common.{◌≡◌, ℕ, ◌≤◌, Bool, true, false, cond, List, [], ◌∷◌, ◌++◌, Option, Some, None, refl, sym, ap}
-use Rattle.std.proofs.Common.{◌∙◌, subst, arith, filter, flat_map, All, Any, Contains, IsPermutation}
-use Rattle.std.specs.List.{AllZip}
+use Rattle.std.proofs.Common.{◌≡◌, ℕ, ◌≤◌, Bool, true, List, [], ◌∷◌, ◌++◌, Option, Some, None, refl, sym, ap}
+use Rattle.std.proofs.Common.{◌∙◌, subst, arith, filter, Any, Contains, IsPermutation}
 use Rattle.std.proofs.lemmas.List.{map-append}
-use Rattle.std.proofs.lemmas.List.Elements.{filter-append, All-tail, All-contains, All-weaker}
+use Rattle.std.proofs.lemmas.List.Elements.{All-contains, All-weaker}
 use Rattle.std.proofs.lemmas.List.Elements.{All-contains_itself}
 use Rattle.flow_key.specs.declared.key.FlowKey.{FlowKey}
 use Rattle.packet_accept.specs.declared.packet.Packet.{Packet}

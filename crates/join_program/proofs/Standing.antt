@@ -1,6 +1,6 @@
 -- Streams that stand for inputs: what they become, the inputs become.
-use Rattle.std.proofs.Common.{◌≡◌, ◌^◌, ℕ, ◌<◌, ◌≤◌, List, [], ◌∷◌, ◌++◌, length, Option, Some, None, filter, map, refl}
-use Rattle.std.proofs.Common.{sym, ap, ◌∙◌, subst, arith, inl, inr, All, Any, IsPermutation}
+use Rattle.std.proofs.Common.{◌≡◌, ℕ, ◌≤◌, List, [], ◌∷◌, ◌++◌, length, Option, Some, None, map, refl}
+use Rattle.std.proofs.Common.{sym, ap, ◌∙◌, subst, arith, inl, inr, Any, IsPermutation}
 use mathlib.Core.HLevel.{is_prop→PathP}
 use Rattle.std.proofs.Props.{props}
 use Rattle.std.specs.List.{AllZip}
@@ -10,7 +10,6 @@ use Rattle.std.proofs.lemmas.List.Concat.{flat_map-append}
 use Rattle.std.proofs.lemmas.List.Elements.{All-weaker, All-contains}
 use Rattle.std.proofs.lemmas.List.Sorted.{IsPermutation-refl, IsPermutation-sym, IsPermutation-trans, length_permutation}
 use Rattle.std.proofs.lemmas.List.Sorted.{IsPermutation-append_left}
-use Rattle.flow_key.specs.declared.key.FlowKey.{FlowKey}
 use Rattle.packet_accept.specs.declared.packet.Packet.{Packet}
 use Rattle.packet_accept.specs.Clock.{IsClock}
 use Rattle.packet_accept.specs.Extremes.{IsGreatest}
@@ -22,7 +21,7 @@ use Rattle.flow_parts.proofs.Members.{IsGreatest-permutation, found}
 use Rattle.flow_parts.proofs.Permuted.{AllZip-append}
 use Rattle.flow_parts.proofs.Shares.{permuted}
 use Rattle.record_ledger.specs.declared.record.FlowRecord.{FlowRecord}
-use Rattle.record_ledger.specs.Lawful.{parts_of, IsLawful, IsLawfulAt, IsLawfulBy}
+use Rattle.record_ledger.specs.Lawful.{parts_of, IsLawful, IsLawfulBy}
 use Rattle.record_ledger.specs.Regrouping.{IsTogether}
 use Rattle.record_ledger.specs.Sessions.{IsSessions, AreRecordsOf}
 use Rattle.record_ledger.proofs.Keyed.{part_of, All-of_map, All-unmap}

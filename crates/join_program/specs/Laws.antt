@@ -7,7 +7,7 @@ use Rattle.flow_parts.specs.declared.timeouts.Timeouts.{Timeouts}
 use Rattle.record_ledger.specs.declared.record.FlowRecord.{FlowRecord}
 use Rattle.record_ledger.specs.Order.{written_order}
 use Rattle.record_ledger.specs.Sessions.{IsSessions, IsUncut}
-use Rattle.join_program.specs.Words.{Asked, OneOf}
+use Rattle.join_program.specs.Words.{Asked}
 use Rattle.join_program.specs.Joined.{together, EachSharesOut, AreJoined, IsAnswer}
 
 -- The other one asks for all records, by the same time-outs.
