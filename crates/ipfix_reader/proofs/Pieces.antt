@@ -1,12 +1,11 @@
 -- A whole message with more bytes behind it.
-use Rattle.std.proofs.Common.{◌≡◌, ◌≤◌, ◌<◌, ◌+◌, ◌-◌, ◌==◌, ℕ, max, true, false, not, List, [], ◌++◌, length, take, drop}
+use Rattle.std.proofs.Common.{◌≡◌, ◌≤◌, ◌+◌, ◌-◌, ◌==◌, ℕ, max, not, List, [], ◌++◌, length, take, drop}
 use Rattle.std.proofs.Common.{Result, Ok, Err, refl, sym, ap, ◌∙◌, subst, arith, nat_lt, append_assoc, append-nil}
 use Rattle.std.proofs.lemmas.Bool.{le-ltb}
 use Rattle.std.proofs.lemmas.List.{length-append, take-append-drop, length-take-le}
 use Rattle.std.proofs.Math.Seq.{take-append_seam, drop-append_seam, take-length, drop-length}
 use Rattle.ipfix_model.specs.declared.values.DataRecord.{DataRecord}
 use Rattle.ipfix_reader.specs.declared.fault.StreamFault.{StreamFault}
-use Rattle.ipfix_reader.specs.declared.fault.StreamFault.TheVariants.{Cut, BadVersion, BadLength, BadSequence}
 use Rattle.ipfix_reader.specs.declared.fault.StreamError.{StreamError}
 use Rattle.ipfix_reader.specs.declared.fault.StreamError.TheVariants.{Fault}
 use Rattle.octets.specs.declared.endianness.Endianness.TheVariants.{Big}
@@ -19,7 +18,7 @@ use Rattle.ipfix_reader.specs.Known.{Sequences, expected_in}
 use Rattle.ipfix_reader.specs.Sets.{Contents, message_sets}
 use Rattle.ipfix_reader.specs.Messages.{Progress, message_version, message_length, message_sequence, message_domain}
 use Rattle.ipfix_reader.specs.Messages.{is_next, checked_length, behind_message, stream_messages, decode}
-use Rattle.ipfix_reader.specs.Pieces.{WalkState, HasRead, IsFront, read_behind}
+use Rattle.ipfix_reader.specs.Pieces.{WalkState, HasRead, IsFront}
 use Rattle.ipfix_reader.specs.Taking.{progress_of}
 use Rattle.ipfix_reader.proofs.Items.{fault_behind, fault_of-same, not_fault, given, same_ok}
 use Rattle.ipfix_reader.proofs.MessageSteps.{stream_messages-end, stream_messages-bad, stream_messages-next}
@@ -74,10 +73,16 @@ module _ (before : Progress) (at : ℕ) (bytes more : List ℕ) (long : 16 ≤ l
   checked-same : checked_length before.sequences grown ≡ checked_length before.sequences one
   unfolding checked_length
   checked-same =
-      rw (domain-same, length-same, sequence-same, version-same,
-      le-ltb (length (bytes ++ more)) 16 (omega (arith, all)), le-ltb (length bytes) 16 long,
-      le-ltb (length (bytes ++ more)) (number_at 2 2 bytes) (omega (arith, all)),
-      le-ltb (length bytes) (number_at 2 2 bytes) (omega arith)) refl
+      rw (
+        domain-same,
+        length-same,
+        sequence-same,
+        version-same,
+        le-ltb (length (bytes ++ more)) 16 (omega (arith, all)),
+        le-ltb (length bytes) 16 long,
+        le-ltb (length (bytes ++ more)) (number_at 2 2 bytes) (omega (arith, all)),
+        le-ltb (length bytes) (number_at 2 2 bytes) (omega arith),
+      ) refl
 
   -- and so do the sets
   abbrev sets_of : Part → Result Contents StreamFault

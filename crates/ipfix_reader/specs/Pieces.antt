@@ -5,7 +5,7 @@ use Rattle.ipfix_reader.specs.declared.fault.StreamFault.{StreamFault}
 use Rattle.octets.specs.Outcome.{◌>>=◌}
 use Rattle.octets.specs.Numbers.{number_at}
 use Rattle.ipfix_reader.specs.Known.{Templates, Sequences}
-use Rattle.ipfix_reader.specs.Messages.{Progress, stream_messages, decode}
+use Rattle.ipfix_reader.specs.Messages.{stream_messages, decode}
 
 -- What is known behind some messages: the templates and the expected sequence numbers of each observation domain, and
 -- where in the stream the next message begins.

@@ -1,7 +1,6 @@
 -- What follows what was read, to the end.
 use Rattle.std.proofs.Common.{sym, subst}
 use Rattle.ipfix_reader.specs.Pieces.{WalkState, HasRead}
-use Rattle.ipfix_reader.specs.Taking.{progress_of}
 use Rattle.ipfix_reader.proofs.Pieces.{last-read, last-fault}
 use Rattle.ipfix_reader.proofs.Takings.{when-ok, weaken-err}
 use Rattle.ipfix_reader.proofs.walk.StreamWalk.read_last.Goals as goal

@@ -1,5 +1,5 @@
 -- Message by message, up to the last whole one.
-use Rattle.std.proofs.Common.{◌<◌, length, drop, refl, sym, ap, subst, arith, length-drop, length-append}
+use Rattle.std.proofs.Common.{length, refl, sym, ap, subst, arith, length-drop, length-append}
 use Rattle.ipfix_reader.proofs.Pieces.{HasWalked, walked-none, walked-more, walked-fault, walked-all, walked-within}
 use Rattle.ipfix_reader.proofs.walk.StreamWalk.read_whole.Goals as goal
 

@@ -1,5 +1,5 @@
 -- What was read of the piece, and the size of the message at the front of what is left.
-use Rattle.std.proofs.Common.{◌≡◌, ◌<◌, ◌^◌, ◌+◌, length}
+use Rattle.std.proofs.Common.{◌≡◌, ◌<◌, length}
 use Rattle.ipfix_reader.specs.Pieces.{IsFront}
 use Rattle.ipfix_reader.proofs.Pieces.{HasWalked}
 use Rattle.ipfix_reader.proofs.walk.StreamWalk.read_whole.Given as goal
