@@ -8,3 +8,4 @@ pub mod MessageSteps
 pub mod FlowFields
 pub mod Takings
 pub mod FlowLists
+pub mod Pieces

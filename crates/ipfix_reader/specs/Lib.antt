@@ -15,4 +15,5 @@ pub mod Numbers
 pub mod Flows
 pub mod Others
 pub mod Taking
+pub mod Pieces
 pub mod Laws

@@ -5,6 +5,8 @@
 //! of records and padding, and a record a list of values, each as long as its header or its template says. Templates
 //! and expected sequence numbers are kept by observation domain.
 //!
+//! [`StreamWalk`] reads a stream that comes in pieces, message by message, and holds no bytes of it.
+//!
 //! [`read_into`] keeps no data record: each is taken as it is read, by a [`RecordTaker`]. [`flow_of`] is the flow record
 //! that a data record is, where it is one, and [`read_flows`] gives those of a stream, by such a taker.
 //!
@@ -24,9 +26,11 @@ mod sets;
 mod specifiers;
 mod taking;
 mod values;
+mod walk;
 
 pub use fault::{StreamError, StreamFault};
 pub use flow::flow_of;
 pub use flows::{FlowsError, read_flows};
 pub use messages::{STREAM_LIMIT, read_into, read_stream};
 pub use taking::RecordTaker;
+pub use walk::StreamWalk;

@@ -63,7 +63,7 @@ pub fn read_into<T: RecordTaker>(
 }
 
 /// Reads the messages of a stream.
-fn read_messages<T: RecordTaker>(
+pub(crate) fn read_messages<T: RecordTaker>(
     alloc: Global,
     table: &mut TemplateTable,
     taker: &mut T,

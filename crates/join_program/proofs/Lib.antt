@@ -1,7 +1,14 @@
+pub mod AllShares
 pub mod Complete
 pub mod Counts
+pub mod Keyed
+pub mod Nested
+pub mod Numbered
+pub mod OneAnswer
 pub mod OneMore
+pub mod Regrouped
 pub mod Seen
 pub mod Shared
+pub mod Standing
 pub mod Together
 pub mod Whole

@@ -1,9 +1,8 @@
 -- The packets that records of several inputs share out, all of them and those of a share.
-use Rattle.std.proofs.Common.{◌≡◌, ℕ, ◌≤◌, Bool, true, false, cond, List, [], ◌∷◌, ◌++◌, Option, Some, None, refl, sym, ap}
-use Rattle.std.proofs.Common.{◌∙◌, subst, arith, filter, flat_map, All, Any, Contains, IsPermutation}
-use Rattle.std.specs.List.{AllZip}
+use Rattle.std.proofs.Common.{◌≡◌, ℕ, ◌≤◌, Bool, true, List, [], ◌∷◌, ◌++◌, Option, Some, None, refl, sym, ap}
+use Rattle.std.proofs.Common.{◌∙◌, subst, arith, filter, Any, Contains, IsPermutation}
 use Rattle.std.proofs.lemmas.List.{map-append}
-use Rattle.std.proofs.lemmas.List.Elements.{filter-append, All-tail, All-contains, All-weaker}
+use Rattle.std.proofs.lemmas.List.Elements.{All-contains, All-weaker}
 use Rattle.std.proofs.lemmas.List.Elements.{All-contains_itself}
 use Rattle.flow_key.specs.declared.key.FlowKey.{FlowKey}
 use Rattle.packet_accept.specs.declared.packet.Packet.{Packet}
@@ -19,6 +18,7 @@ use Rattle.record_ledger.specs.Lawful.{parts_of}
 use Rattle.record_ledger.proofs.Keyed.{All-of_map, All-unmap}
 use Rattle.record_ledger.proofs.Filtered.{IsPermutation-filter}
 use Rattle.join_program.specs.Joined.{together, EachSharesOut, IsLatest}
+use Rattle.join_program.proofs.Keyed.{flat, left_of}
 
 abbrev part_of : FlowRecord → Fragment
 part_of r = r.part
@@ -34,65 +34,17 @@ all_shared limits (p ∷ ps) (x ∷ xs) h =
     (both_shared limits p (together ps) (parts_of x) (parts_of (together xs)) h.0 (all_shared limits ps xs h.1))
 
 -- the packets of some keys are shared out by the fragments of these keys
-module _ (q : FlowKey → Bool) (limits : Timeouts) where
-  abbrev of_packet : Packet → Bool
-  of_packet p = q p.key
-
-  abbrev of_part : Fragment → Bool
-  of_part f = q f.key
-
-  abbrev flat : List (List Packet) → List Packet
-  flat heaps = flat_map (λ (heap : List Packet). heap) heaps
-
-  pass : (b : Bool) (key : FlowKey) (P : List Packet) → All (λ p. p.key ≡ key) P → q key ≡ b
-      → filter of_packet P ≡ cond b P []
-  pass true key [] h e = refl
-  pass false key [] h e = refl
-  pass true key (p ∷ P) h e =
-      ap (λ b. cond b (p ∷ filter of_packet P) (filter of_packet P)) (ap q (h 0 p (omega arith)) ∙ e)
-      ∙ ap (λ l. p ∷ l) (pass true key P (All-tail (λ p. p.key ≡ key) p P h) e)
-  pass false key (p ∷ P) h e =
-      ap (λ b. cond b (p ∷ filter of_packet P) (filter of_packet P)) (ap q (h 0 p (omega arith)) ∙ e)
-      ∙ pass false key P (All-tail (λ p. p.key ≡ key) p P h) e
-
-  record Left (heaps : List (List Packet)) (F : List Fragment) : Type 0 where
-    pub heaps_left : List (List Packet)
-    pub whole : filter of_packet (flat heaps) ≡ flat heaps_left
-    pub each : AllZip (IsHeap limits) heaps_left F
-
-  one_more : (x : List Packet) (heaps : List (List Packet)) (f : Fragment) (F : List Fragment) → IsHeap limits x f
-      → (b : Bool) → q f.key ≡ b → Left heaps F → Left (x ∷ heaps) (cond b (f ∷ F) F)
-  one_more x heaps f F heap true e left = record {
-    heaps_left = x ∷ left.heaps_left;
-    whole = filter-append of_packet x (flat heaps)
-        ∙ ap (λ l. l ++ filter of_packet (flat heaps)) (pass true f.key x heap.one_key e) ∙ ap (λ l. x ++ l) left.whole;
-    each = (heap, left.each);
-  }
-  one_more x heaps f F heap false e left = record {
-    heaps_left = left.heaps_left;
-    whole = filter-append of_packet x (flat heaps)
-        ∙ ap (λ l. l ++ filter of_packet (flat heaps)) (pass false f.key x heap.one_key e) ∙ left.whole;
-    each = left.each;
-  }
-
-  left_of : (heaps : List (List Packet)) (F : List Fragment) → AllZip (IsHeap limits) heaps F
-      → Left heaps (filter of_part F)
-  left_of [] [] h = record { heaps_left = []; whole = refl; each = tt }
-  left_of [] (f ∷ F) h = absurd h
-  left_of (x ∷ heaps) [] h = absurd h
-  left_of (x ∷ heaps) (f ∷ F) h =
-      one_more x heaps f (filter of_part F) h.0 (q f.key) refl (left_of heaps F h.1)
-
-  pub some_shared : (P : List Packet) (F : List Fragment) → SharesOut limits P F
-      → SharesOut limits (filter of_packet P) (filter of_part F)
-  some_shared P F shares =
-      let left = left_of shares.heaps F shares.each in
-      record {
-        heaps = left.heaps_left;
-        whole = subst (λ l. IsPermutation (filter of_packet P) l) left.whole
-            (IsPermutation-filter of_packet P (flat shares.heaps) shares.whole);
-        each = left.each;
-      }
+pub some_shared : (q : FlowKey → Bool) (limits : Timeouts) (P : List Packet) (F : List Fragment)
+    → SharesOut limits P F
+    → SharesOut limits (filter (λ (p : Packet). q p.key) P) (filter (λ (f : Fragment). q f.key) F)
+some_shared q limits P F shares =
+    let left = left_of (λ (p : Packet). p.key) (IsHeap limits) (λ heap f h. h.one_key) q shares.heaps F shares.each in
+    record {
+      heaps = left.lists_left;
+      whole = subst (λ l. IsPermutation (filter (λ (p : Packet). q p.key) P) l) left.whole
+          (IsPermutation-filter (λ (p : Packet). q p.key) P (flat shares.heaps) shares.whole);
+      each = left.each;
+    }
 
 -- all keys
 pub all_pass : {X : Type 0} (xs : List X) → filter (λ x. true) xs ≡ xs

@@ -14,7 +14,7 @@ use Rattle.join_program.specs.Joined.{together, kept, falling, falls_to, EachSha
 use Rattle.join_program.proofs.Shared.{all_shared, some_shared, all_pass, clock_of}
 
 -- without shares all fragments are kept
-kept_all : (share : Option OneOf) (flows : List FlowRecord) → share ≡ None → kept share flows ≡ parts_of flows
+pub kept_all : (share : Option OneOf) (flows : List FlowRecord) → share ≡ None → kept share flows ≡ parts_of flows
 kept_all share flows none = ap (λ s. kept s flows) none ∙ all_pass (parts_of flows)
 
 module _ (asked : Asked) (inputs : List (List FlowRecord)) (clock : Option ℕ) (limits : Timeouts)

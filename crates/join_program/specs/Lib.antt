@@ -4,3 +4,4 @@ pub mod Joined
 pub mod Statuses
 pub mod Outcome
 pub mod Taking
+pub mod Laws

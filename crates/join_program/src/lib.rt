@@ -6,10 +6,13 @@
 //! packets of all captures, and what is gathered of them is lawful for all these packets.
 //!
 //! Of a share, one of several, the records of the keys that fall to it are kept alone; the clock is that of all.
+//!
+//! [`laws`] holds laws about what inputs become, as contracts: a join of joins is a join, and all shares are the whole.
 #![tactic(auto)]
 
 mod flows;
 mod joining;
+pub mod laws;
 mod notes;
 mod opener;
 mod reading;

@@ -1,5 +1,5 @@
 -- What was taken has few enough packets and octets, and what is gathered of it is joined.
-use Rattle.std.proofs.Common.{ap, ◌∙◌, arith, sum_by, Result, Ok, Err}
+use Rattle.std.proofs.Common.{ap, arith, sum_by, Result, Ok, Err}
 use Rattle.std.specs.Result.{IfOk}
 use Rattle.flow_parts.specs.declared.fragment.Fragment.{Fragment}
 use Rattle.join_program.specs.Taking.{asked_of}

@@ -1,5 +1,5 @@
 -- What was taken was gathered, and that was written.
-use Rattle.std.proofs.Common.{ℕ, List, Option, sym, subst, map}
+use Rattle.std.proofs.Common.{ℕ, List, Option, map}
 use Rattle.std.specs.String.{string_bytes}
 use Rattle.meter_io.specs.Sides.{Side}
 use Rattle.record_ledger.specs.declared.record.FlowRecord.{FlowRecord}
