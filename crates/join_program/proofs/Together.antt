@@ -1,16 +1,19 @@
 -- What is gathered of the records of several inputs is joined.
 use Rattle.std.proofs.Common.{◌≡◌, ℕ, ◌*◌, List, Option, None, sym, ap, ◌∙◌, subst, All}
+use Rattle.std.specs.Option.{unwrap_or}
 use Rattle.packet_accept.specs.declared.packet.Packet.{Packet}
 use Rattle.packet_accept.specs.Clock.{IsClock}
 use Rattle.flow_parts.specs.declared.fragment.Fragment.{Fragment}
 use Rattle.flow_parts.specs.declared.timeouts.Timeouts.{Timeouts}
 use Rattle.flow_parts.specs.Sharing.{SharesOut}
 use Rattle.record_ledger.specs.declared.record.FlowRecord.{FlowRecord}
+use Rattle.record_ledger.specs.Gathered.{IsGathered}
+use Rattle.record_ledger.specs.Laws.{GatheredByKeys}
 use Rattle.record_ledger.specs.Lawful.{parts_of, IsLawful, IsLawfulBy}
 use Rattle.record_ledger.specs.Regrouping.{Regroups}
 use Rattle.record_ledger.specs.Sessions.{IsSessions, IsUncut, AreRecordsOf}
 use Rattle.join_program.specs.Words.{Asked, OneOf}
-use Rattle.join_program.specs.Joined.{together, kept, falling, falls_to, EachSharesOut, IsLatest, AreJoined}
+use Rattle.join_program.specs.Joined.{together, kept, falling, falls_to, EachSharesOut, IsLatest, AreJoined, AreGathered}
 use Rattle.join_program.proofs.Shared.{all_shared, some_shared, all_pass, clock_of}
 
 -- without shares all fragments are kept
@@ -52,3 +55,22 @@ module _ (asked : Asked) (inputs : List (List FlowRecord)) (clock : Option ℕ) 
     lawful = λ none packets shares. own (together packets) (whole none packets shares) (is_clock packets shares);
     sessions = λ none packets shares. sessions (together packets) (whole none packets shares) (is_clock packets shares);
   }
+
+-- and it is gathered exactly
+pub exact : (asked : Asked) (inputs : List (List FlowRecord)) (clock : Option ℕ) (limits : Timeouts)
+    (parts : List Fragment) (records : List FlowRecord) → GatheredByKeys
+    → limits.idle ≡ 1000 * asked.idle → limits.active ≡ 1000 * asked.active
+    → parts ≡ kept asked.share (together inputs) → IsLatest (together inputs) clock
+    → IsGathered limits (unwrap_or clock 0) parts records → AreGathered asked inputs clock records
+exact asked inputs clock limits parts records by_keys idle active are latest gathered =
+    let kept_ones : IsGathered limits (unwrap_or clock 0) (kept asked.share (together inputs)) records =
+    subst (λ fs. IsGathered limits (unwrap_or clock 0) fs records) are gathered in
+    record {
+      limits = limits;
+      idle = idle;
+      active = active;
+      latest = latest;
+      gathered = kept_ones;
+      of_whole = λ whole is. (by_keys limits (unwrap_or clock 0) (falls_to asked.share) (parts_of (together inputs))
+          whole records is).0 kept_ones;
+    }

@@ -2,6 +2,7 @@
 use Rattle.std.specs.Prelude.{◌≡◌, ℕ, ◌+◌, ◌*◌, ◌/◌, ◌%◌, ◌^◌, ◌<◌, ◌==◌, Bool, true, List, [], Option, Some, None}
 use Rattle.std.specs.Prelude.{MatchOption, filter, flat_map, sum_by, All}
 use Rattle.std.specs.List.{AllZip}
+use Rattle.std.specs.Option.{unwrap_or}
 use Rattle.flow_key.specs.declared.key.FlowKey.{FlowKey}
 use Rattle.flow_key.specs.Key.{set_number}
 use Rattle.packet_accept.specs.declared.packet.Packet.{Packet}
@@ -11,6 +12,7 @@ use Rattle.flow_parts.specs.declared.fragment.Fragment.{Fragment}
 use Rattle.flow_parts.specs.declared.timeouts.Timeouts.{Timeouts}
 use Rattle.flow_parts.specs.Sharing.{SharesOut}
 use Rattle.record_ledger.specs.declared.record.FlowRecord.{FlowRecord}
+use Rattle.record_ledger.specs.Gathered.{IsGathered}
 use Rattle.record_ledger.specs.Lawful.{parts_of, IsLawful, IsLawfulBy}
 use Rattle.record_ledger.specs.Regrouping.{Regroups}
 use Rattle.record_ledger.specs.Sessions.{IsSessions, IsUncut, AreRecordsOf}
@@ -74,6 +76,18 @@ pub record AreJoined (asked : Asked) (inputs : List (List FlowRecord)) (clock : 
       → (sessions : List (List Packet)) → IsSessions limits.idle (together packets) sessions
       → All (IsUncut limits) sessions → AreRecordsOf limits (together packets) sessions records
 
+-- The records are just what is gathered of the fragments that fall to the share, by the latest time of all. So those of
+-- a share are the records of its keys, of those that are gathered of the same inputs without shares.
+pub record AreGathered (asked : Asked) (inputs : List (List FlowRecord)) (clock : Option ℕ)
+    (records : List FlowRecord) : Type 0 where
+  pub limits : Timeouts
+  pub idle : limits.idle ≡ 1000 * asked.idle
+  pub active : limits.active ≡ 1000 * asked.active
+  pub latest : IsLatest (together inputs) clock
+  pub gathered : IsGathered limits (unwrap_or clock 0) (kept asked.share (together inputs)) records
+  pub of_whole : (whole : List FlowRecord) → IsGathered limits (unwrap_or clock 0) (parts_of (together inputs)) whole
+      → records ≡ filter (λ (r : FlowRecord). falls_to asked.share r.part.key) whole
+
 -- What is written is the stream of the records that the inputs become. It reads back as these.
 pub record IsAnswer (asked : Asked) (inputs : List (List FlowRecord)) (written : List ℕ) : Type 0 where
   pub clock : Option ℕ
@@ -81,3 +95,10 @@ pub record IsAnswer (asked : Asked) (inputs : List (List FlowRecord)) (written :
   pub joined : AreJoined asked inputs clock records
   pub layout : IsLayout asked.size (export_time clock) records written
   pub decoded : flows_of written ≡ Some records
+
+-- What is written is the stream of the records that are gathered of the inputs.
+pub record IsExact (asked : Asked) (inputs : List (List FlowRecord)) (written : List ℕ) : Type 0 where
+  pub clock : Option ℕ
+  pub records : List FlowRecord
+  pub gathered : AreGathered asked inputs clock records
+  pub layout : IsLayout asked.size (export_time clock) records written

@@ -14,7 +14,7 @@ use Rattle.join_program.specs.declared.status.FileFault.{FileFault}
 use Rattle.join_program.specs.declared.status.FileFault.TheVariants.{ReadFault, TooLarge, NotStream, NotFlows, TooMany}
 use Rattle.join_program.specs.declared.status.JoinStatus.{JoinStatus}
 use Rattle.join_program.specs.declared.status.JoinStatus.TheVariants.{Done, Usage, WriteFault, NoMemory, Refused}
-use Rattle.join_program.specs.Joined.{IsAnswer, AreFew, together}
+use Rattle.join_program.specs.Joined.{IsAnswer, IsExact, AreFew, together}
 use Rattle.join_program.specs.Statuses.{fault_line}
 use Rattle.join_program.specs.Words.{Asked, OneOf}
 
@@ -57,6 +57,7 @@ pub record IsDone (asked : Asked) (files : Files) (output : Side) : Type 0 where
   pub few : AreFew asked.share (together inputs)
   pub written : List ℕ
   pub answer : IsAnswer asked inputs written
+  pub exact : IsExact asked inputs written
   pub taken : HasTaken output written
 
 -- The output took a beginning of the answer.
@@ -66,6 +67,7 @@ pub record IsCutOff (asked : Asked) (files : Files) (output : Side) : Type 0 whe
   pub few : AreFew asked.share (together inputs)
   pub written : List ℕ
   pub answer : IsAnswer asked inputs written
+  pub exact : IsExact asked inputs written
   pub begun : HasBegun output written
   pub cause : HasFailed output
 

@@ -3,7 +3,7 @@
 ghost use Rattle.std.specs.Prelude.{◌≡◌, ◌≤◌, List, IfOk};
 ghost use Rattle.record_ledger.specs.declared.record.FlowRecord.{FlowRecord};
 ghost use Rattle.meter_io.specs.Sides.{side};
-ghost use Rattle.join_program.specs.Joined.{AreJoined, together, export_time};
+ghost use Rattle.join_program.specs.Joined.{AreJoined, AreGathered, together, export_time};
 ghost use Rattle.join_program.specs.Taking.{IsTaken, share_of, asked_of, EmitMeans};
 ghost use Rattle.std.specs.Prelude.{ℕ};
 
@@ -14,6 +14,7 @@ use flow_parts::Timeouts;
 use ipfix_writer::{Emitter, emit_all};
 use meter_io::{Failed, Sink};
 use no_memory::NoMemory;
+use record_ledger::laws::gathered_lists_are_one;
 use record_ledger::{FlowRecord, RecordList, gather};
 use std::alloc::Global;
 use std::thread::Threads;
@@ -30,10 +31,14 @@ pub(crate) fn gather_taken<R: Threads + Sync>(
     taken: Taken,
 ) -> Result<RecordList, NoMemory>
     requires { (flows : List FlowRecord) × IsTaken (share_of settings.now.share) flows taken }
-    ensures { IfOk result (λ records. (names : List (List ℕ)) (inputs : List (List FlowRecord))
+    ensures joined { IfOk result (λ records. (names : List (List ℕ)) (inputs : List (List FlowRecord))
         → IsTaken (share_of settings.now.share) (together inputs) taken
         → AreJoined (asked_of settings.now names) inputs taken.clock records) }
+    ensures gathered { IfOk result (λ records. (names : List (List ℕ)) (inputs : List (List FlowRecord))
+        → IsTaken (share_of settings.now.share) (together inputs) taken
+        → AreGathered (asked_of settings.now names) inputs taken.clock records) }
 {
+    gathered_lists_are_one();
     let limits = Timeouts::new(settings.idle, settings.active);
     gather(rt, alloc, taken.parts, limits, taken.clock, THREADS)
 }

@@ -5,7 +5,7 @@ use Rattle.meter_io.specs.Sides.{Side}
 use Rattle.record_ledger.specs.declared.record.FlowRecord.{FlowRecord}
 use Rattle.join_program.specs.declared.status.JoinStatus.{JoinStatus}
 use Rattle.join_program.specs.declared.status.JoinStatus.TheVariants.{Done, Usage, WriteFault, NoMemory, Refused}
-use Rattle.join_program.specs.Joined.{AreJoined, AreFew, together, export_time}
+use Rattle.join_program.specs.Joined.{AreJoined, AreGathered, AreFew, together, export_time}
 use Rattle.join_program.specs.Outcome.{Files, HaveGiven, files_seen}
 use Rattle.join_program.specs.Taking.{EmitMeans, JoinMeans, asked_of}
 use Rattle.join_program.specs.Words.{Asked}
@@ -13,7 +13,8 @@ use Rattle.join_program.proofs.running.join_files.Goals as goal
 
 module _ (asked : Asked) (files : Files) (output : Side) (inputs : List (List FlowRecord))
     (given : HaveGiven files.contents asked.files inputs) (few : AreFew asked.share (together inputs))
-    (clock : Option ℕ) (records : List FlowRecord) (joined : AreJoined asked inputs clock records) where
+    (clock : Option ℕ) (records : List FlowRecord) (joined : AreJoined asked inputs clock records)
+    (gathered : AreGathered asked inputs clock records) where
   means : (status : JoinStatus) → EmitMeans asked.size (export_time clock) records output status
       → JoinMeans asked files output status
   means Done e = record {
@@ -22,6 +23,7 @@ module _ (asked : Asked) (files : Files) (output : Side) (inputs : List (List Fl
     few = few;
     written = e.0;
     answer = record { clock = clock; records = records; joined = joined; layout = e.1; decoded = e.2 };
+    exact = record { clock = clock; records = records; gathered = gathered; layout = e.1 };
     taken = e.3;
   }
   means WriteFault e = record {
@@ -30,6 +32,7 @@ module _ (asked : Asked) (files : Files) (output : Side) (inputs : List (List Fl
     few = few;
     written = e.0;
     answer = record { clock = clock; records = records; joined = joined; layout = e.1; decoded = e.2 };
+    exact = record { clock = clock; records = records; gathered = gathered; layout = e.1 };
     begun = e.3;
     cause = e.4;
   }
@@ -44,5 +47,6 @@ returns g c =
     means (asked_of c.args.command.now.settings names)
     (files_seen g.O.Opener.contents g.O.Opener.faults c.args.opener.now c.take_files.new.opener) _
     taken.0 taken.1 taken.2.few c.in-Ok.taken.clock c.in-Ok-gather_taken.records
-    (c.in-Ok-gather_taken.ensures names taken.0 taken.2)
+    (c.in-Ok-gather_taken.ensures.joined names taken.0 taken.2)
+    (c.in-Ok-gather_taken.ensures.gathered names taken.0 taken.2)
     c.write_records.result c.write_records.ensures
