@@ -21,7 +21,8 @@ use std::thread::Threads;
 
 /// Gathers fragments into flow records.
 ///
-/// The fragments of one key are joined as long as two that follow each other by their last times are joinable. Each
+/// The fragments of one key are joined as long as two that follow each other by their last times are joinable; where last
+/// times are equal, by first times, packets, octets and flags, so that the order of `parts` plays no part. Each
 /// record gets its reason: [`END_OF_FLOW`](crate::END_OF_FLOW) where one of its packets ends the flow; else
 /// [`IDLE_TIMEOUT`](crate::IDLE_TIMEOUT) where the next record of its key begins more than the idle time-out after its
 /// last packet, or where there is none and `clock` is more than the idle time-out after it;
