@@ -1,9 +1,9 @@
 #!/bin/sh
 # Tries all must-fail edits, those that the gate tries and the further ones: the checker must refuse each.
 #
-#     checks/edits.sh [CRATE]..
+#     checks/edits.sh [--further] [CRATE]..
 #
-# Without words: the edits of all crates. What is committed is cloned into a temporary folder, where the edits of
+# Without crates: the edits of all of them. With --further those of more-edits/ alone, since the gate tries the others. What is committed is cloned into a temporary folder, where the edits of
 # crates/NAME/more-edits/ are laid beside those of crates/NAME/must-fail/; so nothing changes here. Crates are tried one after
 # another, with a line for each, and one that the checker doesn't refuse, or that can't be tried, is told. The last line counts; the
 # status is not 0 where an edit isn't refused. It takes hours where nothing is proved yet; this is no part of the gate.
@@ -15,6 +15,11 @@ work=$(mktemp -d) || exit 2
 trap 'rm -rf "$work"' EXIT
 trap 'exit 2' HUP INT TERM
 
+further=
+if [ "${1:-}" = --further ]; then
+    further=1
+    shift
+fi
 git clone -q "$top" "$work/copy" && cd "$work/copy" || exit 2
 if [ $# -eq 0 ]; then
     # shellcheck disable=SC2046 # names of crates, in the order of crates.txt
@@ -31,6 +36,7 @@ for name in "$@"; do
         echo "no crate $name" >&2
         exit 2
     fi
+    [ -z "$further" ] || rm -rf "$folder/must-fail"
     for edit in "$folder"/more-edits/*.edit; do
         [ -e "$edit" ] || continue
         mkdir -p "$folder/must-fail"
