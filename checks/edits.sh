@@ -3,10 +3,11 @@
 #
 #     checks/edits.sh [--further] [CRATE]..
 #
-# Without crates: the edits of all of them. With --further those of more-edits/ alone, since the gate tries the others. What is committed is cloned into a temporary folder, where the edits of
-# crates/NAME/more-edits/ are laid beside those of crates/NAME/must-fail/; so nothing changes here. Crates are tried one after
-# another, with a line for each, and one that the checker doesn't refuse, or that can't be tried, is told. The last line counts; the
-# status is not 0 where an edit isn't refused. It takes hours where nothing is proved yet; this is no part of the gate.
+# Without crates: the edits of all of them. With --further those of more-edits/ alone, since the gate tries the others. What is
+# committed is cloned into a temporary folder, where the edits of crates/NAME/more-edits/ are laid beside those of
+# crates/NAME/must-fail/; so nothing changes here. Crates are tried one after another, with a line for each, and one that the
+# checker doesn't refuse, or that can't be tried, is told. The last line counts; the status is not 0 where an edit isn't refused.
+# It takes hours where nothing is proved yet; this is no part of the gate.
 set -u
 
 top=$(dirname "$(cd "$(dirname "$0")" && pwd)")
