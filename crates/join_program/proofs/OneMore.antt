@@ -61,16 +61,3 @@ module _ (share : Option OneOf) (flows : List FlowRecord) (f : FlowRecord) (old 
   pub many_octets : 2 ^ 64 ≤ old.octets + f.part.octets → AreFew share (flows ++ f ∷ []) → ⊥
   many_octets many few = absurd (let all = octets-taken share flows f falls in let so_far = taken.octets in
       let fits = few.octets in omega arith)
-
--- too many at a place of some records
-pub many_in : (share : Option OneOf) (before flows : List FlowRecord) (p : ℕ) (d r : FlowRecord) → p < length flows
-    → get_or flows p d ≡ r
-    → (AreFew share ((before ++ take p flows) ++ r ∷ []) → ⊥) → AreFew share (before ++ flows) → ⊥
-many_in share before flows p d r low at many few =
-    let front : (before ++ take p flows) ++ r ∷ [] ≡ before ++ take (p + 1) flows =
-    append_assoc before (take p flows) (r ∷ []) ∙ ap (λ x. before ++ (take p flows ++ x ∷ [])) (sym at) ∙ ap (λ l. before ++ l) (sym (take_more flows p d low)) in
-    let whole : (before ++ take (p + 1) flows) ++ drop (p + 1) flows ≡ before ++ flows =
-    append_assoc before (take (p + 1) flows) (drop (p + 1) flows)
-    ∙ ap (λ l. before ++ l) (take-append-drop (p + 1) flows) in
-    many (subst (AreFew share) (sym front)
-    (few-front share (before ++ take (p + 1) flows) (drop (p + 1) flows) (subst (AreFew share) (sym whole) few)))

@@ -31,7 +31,7 @@ loop-place-preserved g c =
             (get_or-map string_bytes c.args.names.now c.loop-place.place c.index-names-place.result [] (omega arith)
             ∙ ap string_bytes (sym c.index-names-place.is) ∙ sym c.as_str-name.ensures.value)
             before.0 one.0 before.1 one.1,
-        subst (λ l. IsTaken (share_of c.args.settings.now.share) l c.take_file.new.taken)
+        subst (λ l. IsTaken (share_of c.args.settings.now.share) l c.in-Ok.kept)
             (sym (together_more before.0 one.0)) (one.2 _ before.2),
       );
     }
