@@ -1,15 +1,13 @@
 -- What is taken with one more record.
 use Rattle.std.proofs.Common.{◌≡◌, ℕ, ◌+◌, ◌<◌, ◌^◌, max, true, false, List, [], ◌∷◌, ◌++◌, Option, Some, sym}
-use Rattle.std.proofs.Common.{ap, ◌∙◌, subst, arith, sum_by, unwrap_or, take, drop, get_or, length, append_assoc, ◌≤◌}
-use Rattle.std.proofs.Common.{take-append-drop}
-use Rattle.std.proofs.lemmas.List.{take_more}
+use Rattle.std.proofs.Common.{ap, ◌∙◌, subst, arith, sum_by, unwrap_or, ◌≤◌}
 use Rattle.record_ledger.specs.declared.record.FlowRecord.{FlowRecord}
 use Rattle.join_program.specs.declared.taken.Taken.{Taken}
 use Rattle.join_program.specs.Words.{OneOf}
 use Rattle.join_program.specs.Joined.{falls_to, AreFew, IsLatest}
 use Rattle.join_program.specs.Taking.{IsTaken}
 use Rattle.join_program.proofs.Counts.{packets_in, octets_in, kept-taken, kept-left, packets-taken, octets-taken}
-use Rattle.join_program.proofs.Counts.{few-front, latest-more}
+use Rattle.join_program.proofs.Counts.{latest-more}
 
 module _ (share : Option OneOf) (flows : List FlowRecord) (f : FlowRecord) (old new : Taken) (had most : ℕ)
     (had_is : had ≡ unwrap_or old.clock 0) (most_is : most ≡ max had f.part.last) (clock : new.clock ≡ Some most)

@@ -1,5 +1,5 @@
 -- What was seen of a file, by what its source had left when it was opened and when it was closed.
-use Rattle.std.proofs.Common.{◌≡◌, ◌≤◌, ◌<◌, ◌+◌, ◌++◌, ℕ, List, [], ◌∷◌, length, Option, Some, None, Result, Ok, Err, refl, sym}
+use Rattle.std.proofs.Common.{◌≡◌, ◌<◌, ◌+◌, ◌++◌, ℕ, List, [], ◌∷◌, length, Option, refl, sym}
 use Rattle.std.proofs.Common.{ap, ◌∙◌, subst, arith, take, get_or, append-nil}
 use Rattle.std.proofs.KnownBytes.{Consumes-nil}
 use Rattle.std.proofs.lemmas.List.{take_more}

@@ -1,5 +1,5 @@
 -- Piece by piece, to the end.
-use Rattle.std.proofs.Common.{refl, arith, ap}
+use Rattle.std.proofs.Common.{arith, ap}
 use Rattle.join_program.proofs.Windows.{stops_later, rest_later, rest_on, got_on}
 use Rattle.join_program.proofs.pieces.drop_rest.Goals as goal
 

@@ -1,5 +1,5 @@
 -- Piece by piece, to the end or to a fault.
-use Rattle.std.proofs.Common.{◌≡◌, ◌<◌, ◌∙◌, ◌++◌, List, [], Err, length, drop, sym, ap, subst, arith, length-drop}
+use Rattle.std.proofs.Common.{◌≡◌, ◌∙◌, ◌++◌, [], Err, length, drop, sym, ap, subst, arith, length-drop}
 use Rattle.ipfix_reader.proofs.Takings.{when-ok, weaken-err}
 use Rattle.meter_io.specs.Sides.{side, IsWrong}
 use Rattle.ipfix_reader.specs.Messages.{decode}
