@@ -14,6 +14,7 @@ use crate::file_error::FileError;
 use crate::status::FileFault;
 use ipfix_reader::{RecordTaker, StreamError, StreamWalk};
 use meter_io::{Failed, Source};
+use no_memory::NoMemory;
 use pcap_reader::{FillEnd, Window};
 use std::alloc::Global;
 
@@ -22,6 +23,13 @@ const FILE_LIMIT: u64 = 1 << 32;
 
 /// The bytes of the window: it has room for four messages of the greatest length, and so always for a whole one.
 const WINDOW: usize = 262_184;
+
+/// The window that all files are read through, one after the other.
+pub(crate) fn open_window(alloc: Global) -> Result<Window, NoMemory>
+    ensures size { IfOk result (λ window. window.size ≡ 262184) }
+{
+    Window::open(alloc, WINDOW)
+}
 
 /// Reads on, until the window is full or the source at its end, and tells whether it is at its end. `left` is how many
 /// bytes may still come and one more, and falls by those that came.
@@ -65,6 +73,7 @@ fn read_on<S: Source>(
 fn drop_rest<S: Source>(source: &mut S, window: &mut Window, most: u64) -> Result<(), FileFault>
     requires some { 0 < most }
     requires size { 0 < window.old.size }
+    ensures size { window.new.size ≡ window.old.size }
     ensures rest { OnOk result (HasReadRest most (S.left source.old) (S.left source.new)) }
     ensures stopped { IfErr result (StopsReading most (S.left source.old) (S.left source.new)) }
     ensures cause { IsErrOf result FileFault.ReadFault → Rose (S.faults source.old) (S.faults source.new) }
@@ -112,8 +121,10 @@ fn read_through<S: Source, T: RecordTaker>(
     walk: &mut StreamWalk,
     taker: &mut T,
 ) -> Result<(), FileError>
-    requires window { window.old ≡ record { bytes = []; size = 262184 } }
+    requires window { window.old.bytes ≡ [] }
+    requires size { window.old.size ≡ 262184 }
     requires walk { HasRead [] [] walk.old }
+    ensures size { window.new.size ≡ 262184 }
     ensures taken { OnOk result (T.has_taken taker.old [] → (bytes : List ℕ)
         × IsRead (side S.left S.faults source.old source.new) (2 ^ 32) bytes
         × ((records : List DataRecord) × T.has_taken taker.new records × (decode bytes ≡ Ok records))) }
@@ -142,7 +153,7 @@ fn read_through<S: Source, T: RecordTaker>(
 }
 
 /// Reads all that the source has left, at most 2^32 bytes, as a stream, message by message. The data records are taken as
-/// they are read.
+/// they are read. What the window has is dropped.
 ///
 /// - `ReadFault`: only where a read failed, and the source counted it.
 /// - `TooLarge`: exactly where more bytes came.
@@ -151,8 +162,11 @@ fn read_through<S: Source, T: RecordTaker>(
 pub(crate) fn read_pieces<S: Source, T: RecordTaker>(
     alloc: Global,
     source: &mut S,
+    window: &mut Window,
     taker: &mut T,
 ) -> Result<(), FileError>
+    requires size { window.old.size ≡ 262184 }
+    ensures size { window.new.size ≡ 262184 }
     ensures taken { OnOk result (T.has_taken taker.old [] → (bytes : List ℕ)
         × IsRead (side S.left S.faults source.old source.new) (2 ^ 32) bytes
         × ((records : List DataRecord) × T.has_taken taker.new records × (decode bytes ≡ Ok records))) }
@@ -162,9 +176,7 @@ pub(crate) fn read_pieces<S: Source, T: RecordTaker>(
         → Rose (S.faults source.old) (S.faults source.new) }
     ensures later { S.faults source.old ≤ S.faults source.new }
 {
-    let Ok(mut window) = Window::open(alloc, WINDOW) else {
-        return Err(FileError::NoMemory);
-    };
+    window.keep(window.bytes().len());
     let mut walk = StreamWalk::new(alloc);
-    read_through(alloc, source, &mut window, &mut walk, taker)
+    read_through(alloc, source, window, &mut walk, taker)
 }

@@ -13,12 +13,13 @@ ghost use Rattle.join_program.specs.Taking.{IsTaken, share_of, asked_of, FileFai
 use crate::file_error::FileError;
 use crate::file_taker::{Begun, FileTaker};
 use crate::opener::Opener;
-use crate::pieces::read_pieces;
+use crate::pieces::{open_window, read_pieces};
 use crate::settings::{JoinSettings, Share};
 use crate::status::{FileFault, JoinStatus};
 use crate::taken::Taken;
 use crate::taking::nothing_taken;
 use meter_io::{Failed, Source};
+use pcap_reader::Window;
 use std::alloc::Global;
 use std::marker::{Brand, PhantomData};
 
@@ -26,11 +27,14 @@ use std::marker::{Brand, PhantomData};
 fn take_from_as<K: Begun, S: Source>(
     alloc: Global,
     source: &mut S,
+    window: &mut Window,
     share: Option<Share>,
     taken: Taken,
 ) -> Result<Taken, FileError>
+    requires size { window.old.size ≡ 262184 }
     requires start { K.start ≡ Some taken }
     requires share { share_of share ≡ K.share }
+    ensures size { window.new.size ≡ 262184 }
     ensures taken { IfOk result (λ kept. (flows : List FlowRecord)
         × HasGivenAll (side S.left S.faults source.old source.new) flows
         × ((before : List FlowRecord) → HasBegun K.start K.share before
@@ -50,7 +54,7 @@ fn take_from_as<K: Begun, S: Source>(
         are_many: false,
         begun: PhantomData,
     };
-    match read_pieces(alloc, source, &mut taker) {
+    match read_pieces(alloc, source, window, &mut taker) {
         Ok(()) => {}
         Err(error) => return Err(error),
     }
@@ -68,9 +72,12 @@ fn take_from_as<K: Begun, S: Source>(
 fn take_from<S: Source>(
     alloc: Global,
     source: &mut S,
+    window: &mut Window,
     share: Option<Share>,
     taken: Taken,
 ) -> Result<Taken, FileError>
+    requires { window.old.size ≡ 262184 }
+    ensures size { window.new.size ≡ 262184 }
     ensures taken { IfOk result (λ kept. (flows : List FlowRecord)
         × HasGivenAll (side S.left S.faults source.old source.new) flows
         × ((before : List FlowRecord) → IsTaken (share_of share) before taken
@@ -81,7 +88,7 @@ fn take_from<S: Source>(
         → Rose (S.faults source.old) (S.faults source.new) }
     ensures later { S.faults source.old ≤ S.faults source.new }
 {
-    take_from_as::<Brand, S>(alloc, source, share, taken)
+    take_from_as::<Brand, S>(alloc, source, window, share, taken)
 }
 
 /// What is kept with the records of the file of this name.
@@ -89,9 +96,12 @@ fn take_file<O: Opener>(
     alloc: Global,
     opener: &mut O,
     name: &str,
+    window: &mut Window,
     share: Option<Share>,
     taken: Taken,
 ) -> Result<Taken, FileError>
+    requires { window.old.size ≡ 262184 }
+    ensures size { window.new.size ≡ 262184 }
     ensures same { O.contents opener.new ≡ O.contents opener.old }
     ensures later { O.faults opener.old ≤ O.faults opener.new }
     ensures taken { IfOk result (λ kept. (flows : List FlowRecord) × HasGiven (O.contents opener.old) name.now flows
@@ -106,7 +116,7 @@ fn take_file<O: Opener>(
         Ok(file) => file,
         Err(Failed) => return Err(FileError::Fault(FileFault::ReadFault)),
     };
-    let kept = take_from(alloc, &mut file, share, taken);
+    let kept = take_from(alloc, &mut file, window, share, taken);
     opener.close(file);
     kept
 }
@@ -124,10 +134,13 @@ pub(crate) fn take_files<O: Opener>(
     ensures wrong { IfErr result (FilesFail (asked_of settings.now (map string_bytes names.now))
         (files_seen O.contents O.faults opener.old opener.new)) }
 {
+    let Ok(mut window) = open_window(alloc) else {
+        return Err(JoinStatus::NoMemory);
+    };
     let mut taken = nothing_taken(alloc);
     for place in 0..names.len() {
         let name = names[place].as_str();
-        match take_file(alloc, opener, name, settings.share, taken) {
+        match take_file(alloc, opener, name, &mut window, settings.share, taken) {
             Ok(kept) => taken = kept,
             Err(FileError::NoMemory) => return Err(JoinStatus::NoMemory),
             Err(FileError::Fault(fault)) => {

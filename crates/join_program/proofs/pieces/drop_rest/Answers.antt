@@ -1,5 +1,5 @@
 -- Piece by piece, to the end.
-use Rattle.std.proofs.Common.{arith, ap}
+use Rattle.std.proofs.Common.{◌∙◌, arith, ap}
 use Rattle.join_program.proofs.Windows.{stops_later, rest_later, rest_on, got_on}
 use Rattle.join_program.proofs.pieces.drop_rest.Goals as goal
 
@@ -16,10 +16,11 @@ rest-preserved g c =
       read = got_on _ (g.S.Source.left c.rest.source) _ so_far.0 _ _ c.args.most c.rest.left _ so_far.1 so_far.2
           c.in-Ok-false.ensures.read;
       some = c.in-Ok-false.ensures.read.some;
-      size =
+      size = c.in-Ok-false.ensures.size ∙ ap (λ w. w.size) c.keep.ensures ∙ c.rest.invariant.size;
+      room =
           let size = c.in-Ok-false.ensures.size in
           let kept = ap (λ w. w.size) c.keep.ensures in
-          let some = c.rest.invariant.size in
+          let some = c.rest.invariant.room in
           omega arith;
       later = (let one = c.rest.invariant.later in let two = c.in-Ok-false.ensures.later in omega arith);
     }

@@ -8,7 +8,8 @@ invariant-rest g l = record {
   read : (got : List ℕ) × Consumes (g.S.Source.left l.fn.source) (g.S.Source.left l.source) got
       × (length got + l.left ≡ l.most);
   some : 0 < l.left;
-  size : 0 < l.window.size;
+  size : l.window.size ≡ l.fn.window.size;
+  room : 0 < l.window.size;
   later : g.S.Source.faults l.fn.source ≤ g.S.Source.faults l.source;
 }
 
