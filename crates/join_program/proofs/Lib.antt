@@ -1,6 +1,5 @@
 pub mod AllShares
 pub mod Complete
-pub mod Filed
 pub mod Counts
 pub mod Keyed
 pub mod Nested
@@ -13,4 +12,3 @@ pub mod Shared
 pub mod Standing
 pub mod Together
 pub mod Whole
-pub mod Windows

@@ -10,13 +10,11 @@
 //! [`laws`] holds laws about what inputs become, as contracts: a join of joins is a join, and all shares are the whole.
 #![tactic(auto)]
 
-mod file_error;
-mod file_taker;
+mod flows;
 mod joining;
 pub mod laws;
 mod notes;
 mod opener;
-mod pieces;
 mod reading;
 mod running;
 mod settings;
