@@ -61,5 +61,5 @@ pub fn gather<R: Threads + Sync>(
 {
     let mut buckets = deal(alloc, parts)?;
     settle_all(rt, &mut buckets, &timeouts, clock.unwrap_or(0), threads);
-    RecordList::in_order(alloc, buckets)
+    RecordList::in_order(rt, alloc, buckets, threads)
 }

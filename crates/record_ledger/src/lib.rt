@@ -25,6 +25,7 @@ mod reasons;
 mod record;
 mod record_list;
 mod settling;
+mod sorting;
 
 pub use gathering::gather;
 pub use no_memory::NoMemory;

@@ -21,15 +21,6 @@ pub fn sort_by_key(records: &mut Vec<FlowRecord>)
     records.sort_unstable_by(|one, other| by_key(one, other));
 }
 
-/// Sorts places into the written order of their records: by last time, which is in the place, and only where two tie by
-/// the keys, which are looked up in the buckets. Records that tie by both stay in the order of the buckets.
-pub fn sort_places(buckets: &[Vec<FlowRecord>], order: &mut Vec<Place>)
-    ensures permutation { IsPermutation order.old.items order.new.items }
-    ensures order { IsSorted (place_order buckets.now) order.new.items }
-{
-    order.sort_unstable_by(|one, other| by_place(buckets, one, other));
-}
-
 /// How two records stand in the order of joining.
 fn by_key(one: &FlowRecord, other: &FlowRecord) -> Ordering
     ensures { result ≡ joining_order one.now.part other.now.part }
@@ -53,8 +44,9 @@ fn by_numbers(one: &Fragment, other: &Fragment) -> Ordering
     one.last.cmp(&other.last).then(times)
 }
 
-/// How two places stand by last time, then by the keys of their records, then by where they are.
-fn by_place(buckets: &[Vec<FlowRecord>], one: &Place, other: &Place) -> Ordering
+/// How two places stand in the written order of their records: by last time, which is in the place, and only where two tie
+/// by the keys, which are looked up in the buckets. Those of records that tie by both stand as they lie in the buckets.
+pub fn by_place(buckets: &[Vec<FlowRecord>], one: &Place, other: &Place) -> Ordering
     ensures { result ≡ place_order buckets.now one.now other.now }
 {
     match one.last.cmp(&other.last) {
