@@ -32,8 +32,8 @@ pub fn sort_places<R: Threads + Sync>(
     order.sort_unstable_by(|one, other| by_place(buckets, one, other));
 }
 
-/// Sorts places by so many threads, where they are many: those before one near the middle are brought in front of it, and
-/// each side is sorted by threads of its own.
+/// Sorts places by so many threads, where they are many: those before one near the middle are brought in front of it,
+/// and each side is sorted by threads of its own.
 #[cycle(parts)]
 fn sort_parts<R: Threads + Sync>(
     rt: &R,
