@@ -4,4 +4,3 @@ pub mod Shares
 pub mod Working
 pub mod Whole
 pub mod Batched
-pub mod Seats

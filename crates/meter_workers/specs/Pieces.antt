@@ -1,5 +1,5 @@
 -- The pieces of some answers.
-use Rattle.std.specs.Prelude.{ℕ, ◌+◌, ◌*◌, min, List, [], ◌∷◌, ◌++◌, length, slice_range}
+use Rattle.std.specs.Prelude.{ℕ, ◌+◌, ◌*◌, min, List, length, flat_map, slice_range}
 use Rattle.capture_input.specs.Parts.{Answer}
 
 -- The answers of piece k, where a piece has so many records.
@@ -8,5 +8,4 @@ piece_of size answers k = slice_range answers (k * size) (min ((k + 1) * size) (
 
 -- The answers of these pieces, one piece behind the other.
 abbrev pub pieces_of : ℕ → List Answer → List ℕ → List Answer
-pieces_of size answers [] = []
-pieces_of size answers (k ∷ ks) = piece_of size answers k ++ pieces_of size answers ks
+pieces_of size answers pieces = flat_map (piece_of size answers) pieces
