@@ -1,3 +1,4 @@
 pub mod Batches
 pub mod Queueing
 pub mod Passes
+pub mod Uniting

@@ -9,6 +9,7 @@ use crossbeam_queue::{Pass, RuledArrayQueue};
 use std::alloc::Global;
 use std::sync::atomic::AtomicBool;
 
+mod all;
 mod calls;
 
 /// A queue of batches.
