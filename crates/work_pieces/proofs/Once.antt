@@ -54,7 +54,7 @@ once-together f (suc n) ks h =
     let a : List ℕ = at.0 in
     let b : List ℕ = at.1 in
     let rest : EachOnce n (a ++ b) = λ x. (let e = each x in let o = once-suc x n in let t = times-append x a b in
-        let u = times-append x a (n ∷ b) in let w = ap (times x) at.2 in omega (arith, e, o, t, u, w)) in
+    let u = times-append x a (n ∷ b) in let w = ap (times x) at.2 in omega (arith, e, o, t, u, w)) in
     let F = flat_map f in
     let all = F (upto n) ++ f n in
     let last : IsPermutation all (F a ++ (F b ++ f n)) =
