@@ -24,6 +24,7 @@ use Rattle.batch_queue.specs.declared.queue.QueuePass.{QueuePass}
 use Rattle.batch_queue.specs.Batches.{count_of, IsBefore}
 use Rattle.batch_queue.specs.Passes.{IsPassOf, IsReaders, IsMore, StandsForAll, put_of, took_of, seats_of, others_of}
 use Rattle.batch_queue.specs.Passes.{reader_of, IsSame, WasTold}
+use Rattle.batch_queue.specs.Uniting.{IsForAll}
 use Rattle.batch_queue.proofs.Passing.{more-keeps}
 use Rattle.meter_workers.specs.declared.share.Share.{Share}
 use Rattle.meter_workers.specs.declared.worker.Worker.{Worker}
@@ -31,7 +32,7 @@ use Rattle.meter_workers.specs.declared.worker.WorkState.TheVariants.{Finished}
 use Rattle.meter_workers.specs.declared.batches.Reader.{Reader}
 use Rattle.meter_workers.specs.Shares.{IsShareOf, HasMetered, HaveMetered}
 use Rattle.meter_workers.specs.Batched.{answers_of_batch, answers_in, IsReadyFor, IsToTake, HasTaken, HasTakenAll}
-use Rattle.meter_workers.specs.Batched.{HasHandedOn, HasReadAll, IsForAll}
+use Rattle.meter_workers.specs.Batched.{HasHandedOn, HasReadAll}
 use Rattle.meter_workers.proofs.Several.{flat-flat, one-more, told-each}
 
 -- all answers to a batch

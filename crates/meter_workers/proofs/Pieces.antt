@@ -1,80 +1,28 @@
 -- A part that all workers metered, piece by piece.
-use Rattle.std.proofs.Common.{◌≡◌, ℕ, zero, suc, ◌+◌, ◌-◌, ◌*◌, ◌<◌, ◌≤◌, min, List, [], ◌∷◌, ◌++◌, length, map, take, drop}
-use Rattle.std.proofs.Common.{sym, ap, ◌∙◌, subst, arith, append_assoc, length-drop, mul-le-mul_right, All}
+use Rattle.std.proofs.Common.{◌≡◌, ◌*◌, ◌≤◌, List, [], ◌∷◌, ◌++◌, length, map, sym, ap, ◌∙◌, subst, arith, append_assoc, All}
 use Rattle.std.specs.Prelude.{flat_map, IsPermutation}
 use Rattle.std.specs.List.{AllZip}
-use Rattle.std.proofs.lemmas.List.{take_min, take_all, length-map}
+use Rattle.std.proofs.lemmas.List.{length-map}
 use Rattle.std.proofs.lemmas.List.Elements.{All-map, All-tail, AllZip-get_or}
 use Rattle.std.proofs.lemmas.List.Folds.{flat_map-map}
 use Rattle.std.proofs.lemmas.List.Sorted.{IsPermutation-refl, IsPermutation-trans, IsPermutation-append_left}
 use Rattle.std.proofs.lemmas.List.Sorted.{IsPermutation-append_right}
 use Rattle.std.proofs.lemmas.Slice.Zip.{AllZip-long}
-use Rattle.std.proofs.Math.Seq.{take-add}
-use Rattle.packet_accept.proofs.Permuted.{flat_map-permutation}
 use Rattle.cache_face.specs.declared.caches.FlowCache.{Ghosts}
-use Rattle.cache_face.proofs.Apart.{moved, snoc}
+use Rattle.cache_face.proofs.Apart.{moved}
 use Rattle.capture_input.specs.Parts.{Answer}
 use Rattle.work_pieces.specs.declared.pieces.Pieces.{Pieces}
 use Rattle.work_pieces.specs.declared.pieces.DrawPass.{DrawPass}
-use Rattle.work_pieces.specs.Dealing.{times, EachOnce}
+use Rattle.work_pieces.specs.Dealing.{EachOnce}
 use Rattle.work_pieces.specs.Passes.{HasEnded, size_of, number_of, drawn_of}
-use Rattle.work_pieces.proofs.Once.{upto, times-last, once-permuted}
+use Rattle.work_pieces.proofs.Cutting.{covered}
 use Rattle.meter_workers.specs.declared.share.Share.{Share}
 use Rattle.meter_workers.specs.declared.worker.Worker.{Worker}
 use Rattle.meter_workers.specs.declared.worker.WorkState.TheVariants.{Finished}
-use Rattle.meter_workers.specs.Pieces.{piece_of, pieces_of}
+use Rattle.work_pieces.specs.Cutting.{piece_of, pieces_of}
 use Rattle.meter_workers.specs.Shares.{IsShareOf, HaveMetered}
 use Rattle.meter_workers.specs.Working.{HasDrawnAll}
 use Rattle.meter_workers.proofs.Several.{all-of, flat-flat}
-
--- All pieces that can still be drawn lie behind what was metered. `place` is the number of the first such, and
--- `counted` how many records were tallied before the part.
-pub record IsBehind (size counted : ℕ) (drawn : List ℕ) (captured : ℕ) : Type 0 where
-  pub place : ℕ
-  pub next : (n : ℕ) → ((x : ℕ) → 0 < times x drawn → x < n) → place ≤ n
-  pub few : captured ≤ counted + place * size
-
-module _ (size counted : ℕ) where
-  -- nothing is drawn before the first piece
-  pub behind-none : (drawn : List ℕ) → IsBehind size counted drawn counted
-  behind-none drawn = record { place = 0; next = λ n all. omega arith; few = omega arith }
-
-  -- no more records were tallied than stand before a piece that is drawn
-  pub behind-next : (n captured : ℕ) (drawn : List ℕ) → IsBehind size counted drawn captured
-      → ((x : ℕ) → 0 < times x drawn → x < n) → captured ≤ counted + n * size
-  behind-next n captured drawn b rises =
-      let m = mul-le-mul_right {m = b.place} {n = n} size (b.next n rises) in
-      let few = b.few in
-      omega (arith, m, few)
-
-  -- and once it was metered
-  pub behind-more : (n captured captured' stop : ℕ) (drawn : List ℕ) → stop ≤ (n + 1) * size
-      → captured ≤ counted + n * size → captured' + n * size ≡ captured + stop
-      → IsBehind size counted (drawn ++ n ∷ []) captured'
-  behind-more n captured captured' stop drawn within few grown = record {
-    place = n + 1;
-    next = λ m all. (let h = all n (times-last n drawn) in omega (arith, h));
-    few = omega (arith, within, few, grown);
-  }
-
-module _ (size : ℕ) (answers : List Answer) where
-  piece_is : (n : ℕ) → piece_of size answers n ≡ take size (drop (n * size) answers)
-  piece_is n = let e : min ((n + 1) * size) (length answers) - n * size ≡ min size (length (drop (n * size) answers)) =
-      rw length-drop (omega arith) in
-      ap (λ k. take k (drop (n * size) answers)) e ∙ take_min size (drop (n * size) answers)
-
-  taken : (n : ℕ) → pieces_of size answers (upto n) ≡ take (n * size) answers
-  taken zero = ap (λ k. take k answers) (let e : 0 ≡ 0 * size = omega arith in e)
-  taken (suc n) = snoc (piece_of size answers) (upto n) n ∙ ap (λ l. l ++ piece_of size answers n) (taken n)
-      ∙ ap (λ l. take (n * size) answers ++ l) (piece_is n) ∙ sym (take-add (n * size) size answers)
-      ∙ ap (λ k. take k answers) (let e : n * size + size ≡ suc n * size = omega arith in e)
-
-  -- pieces that are drawn once each are all the answers
-  pub covered : (n : ℕ) (ks : List ℕ) → length answers ≤ n * size → EachOnce n ks
-      → IsPermutation answers (pieces_of size answers ks)
-  covered n ks le once =
-      subst (λ l. IsPermutation l (pieces_of size answers ks)) (taken n ∙ take_all (n * size) answers le)
-      (flat_map-permutation (piece_of size answers) (upto n) ks (once-permuted n ks once))
 
 -- a, then b of each, are all a and all b
 grown-both : (a b c d : List Answer) → IsPermutation ((a ++ c) ++ (b ++ d)) ((a ++ b) ++ (c ++ d))

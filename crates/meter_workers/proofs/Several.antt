@@ -1,14 +1,16 @@
 -- What several shares have metered, each its own list of answers.
-use Rattle.std.proofs.Common.{◌≡◌, ℕ, ◌≤◌, List, [], ◌∷◌, ◌++◌, length, map, refl, sym, ap, ◌∙◌, subst, arith, append_assoc}
-use Rattle.std.proofs.Common.{length-append, All}
+use Rattle.std.proofs.Common.{◌≡◌, ◌<◌, ◌≤◌, List, [], ◌∷◌, ◌++◌, length, map, get_or, refl, sym, ap, ◌∙◌, subst, arith}
+use Rattle.std.proofs.Common.{append_assoc, All}
 use Rattle.std.specs.Prelude.{flat_map, IsPermutation}
 use Rattle.std.specs.List.{AllZip}
 use Rattle.std.proofs.lemmas.Grind.{flat_map-append}
-use Rattle.std.proofs.lemmas.List.{get_or-map, length-map}
-use Rattle.std.proofs.lemmas.List.Elements.{All-tail, All-cons}
+use Rattle.std.proofs.lemmas.List.{get_or-map, length-map, nil_from_length}
+use Rattle.std.proofs.lemmas.List.Elements.{All-tail}
+use Rattle.std.proofs.lemmas.List.Folds.{length-flat_map-take}
 use Rattle.std.proofs.lemmas.List.Sorted.{IsPermutation-refl, IsPermutation-trans}
 use Rattle.std.proofs.lemmas.List.Sorted.{IsPermutation-append_left, IsPermutation-append_right, length_permutation}
 use Rattle.std.proofs.lemmas.Slice.Zip.{all_zipped_more}
+use Rattle.flow_parts.proofs.Permuted.{AllZip-at, AllZip-length}
 use Rattle.cache_face.proofs.Apart.{snoc}
 use Rattle.cache_face.proofs.Keeping.{swapped}
 use Rattle.capture_input.specs.Parts.{Answer}
@@ -59,15 +61,11 @@ module _ {S : Type 0} (Has : List Answer → S → Type 0) where
         subst (λ l. IsPermutation answers l) all have.whole,
       )
 
-  no-lists : (rest : List Answer) (lists : List (List Answer)) → AllZip Has lists [] → IsPermutation rest (all-of lists)
-      → IsPermutation rest []
-  no-lists rest [] each whole = whole
-  no-lists rest (l ∷ lists) each whole = absurd each
-
   -- of no shares nothing is left
   pub none-left : (rest : List Answer) (xs : List S) → xs ≡ [] → HaveMetered Has rest xs → IsPermutation rest []
   none-left rest xs none have =
-      no-lists rest have.lists (subst (λ l. AllZip Has have.lists l) none have.each) have.whole
+      let long = AllZip-length Has have.lists xs have.each ∙ ap length none in
+      subst (λ l. IsPermutation rest (all-of l)) (nil_from_length have.lists long) have.whole
 
   -- shares that have done nothing have metered no answers
   pub nothing-metered : (xs : List S) → All (Has []) xs → HaveMetered Has [] xs
@@ -99,21 +97,11 @@ module _ {S : Type 0} (Has : List Answer → S → Type 0) where
         each = (all 0 w (omega arith), rest.each);
       }
 
-  each-list : (lists : List (List Answer)) (xs : List S) → AllZip Has lists xs
-      → All (λ x. (list : List Answer) × (length list ≤ length (all-of lists)) × Has list x) xs
-  each-list [] [] each = λ k d inside. absurd (omega (arith, inside))
-  each-list [] (x ∷ xs) each = absurd each
-  each-list (l ∷ lists) [] each = absurd each
-  each-list (l ∷ lists) (x ∷ xs) each =
-      let long = length-append l (all-of lists) in
-      All-cons (λ x. (list : List Answer) × (length list ≤ length (all-of (l ∷ lists))) × Has list x) x xs
-      (l, omega (arith, long), each.0)
-      (λ k d inside. (let h = each-list lists xs each.1 k d inside in
-      (h.0, (let le = h.1 in omega (arith, long, le)), h.2)))
-
   -- each share metered some of the answers
   pub each-metered : (answers : List Answer) (xs : List S) → HaveMetered Has answers xs
       → All (λ x. (list : List Answer) × (length list ≤ length answers) × Has list x) xs
   each-metered answers xs have = λ k d inside.
-      let h = each-list have.lists xs have.each k d inside in
-      (h.0, (let le = h.1 in let same = length_permutation _ _ have.whole in omega (arith, le, same)), h.2)
+      let there : k < length have.lists = omega (arith, inside, AllZip-length Has have.lists xs have.each) in
+      let few = length-flat_map-take (λ (list : List Answer). list) have.lists k [] there in
+      let same = length_permutation _ _ have.whole in
+      (get_or have.lists k [], omega (arith, few, same), AllZip-at Has have.lists xs k [] d have.each there)

@@ -111,13 +111,3 @@ pub record HasReadAll {X P : Type 0} (the : Ghosts X P) (cache : X) (queue : Bat
   pub answers : List Answer
   pub whole : IsReadWhole before left limit answers tail
   pub handed : HasHandedOn the cache answers new
-
--- ---- all seats of the queue
-
--- One pass of the queue stands for the reader's and for these others.
-pub record IsForAll (seats : List QueuePass) (first all : QueuePass) : Type 0 where
-  pub reader : IsReaders first → IsReaders all
-  pub put : put_of all ≡ put_of first
-  pub others : others_of all ≡ others_of first
-  pub many : seats_of all ≡ seats_of first + length seats
-  pub took : IsPermutation (took_of first ++ flat_map took_of seats) (took_of all)

@@ -1,5 +1,4 @@
 -- The definitions that contracts cite, a file for each subject.
-pub mod Pieces
 pub mod Shares
 pub mod Working
 pub mod Whole

@@ -8,7 +8,7 @@ use Rattle.work_pieces.specs.Passes.{IsPassOf, IsFresh, HasEnded, size_of, drawn
 use Rattle.meter_workers.specs.declared.share.Share.{Share}
 use Rattle.meter_workers.specs.declared.worker.Worker.{Worker}
 use Rattle.meter_workers.specs.declared.worker.WorkState.TheVariants.{Finished}
-use Rattle.meter_workers.specs.Pieces.{pieces_of}
+use Rattle.work_pieces.specs.Cutting.{pieces_of}
 use Rattle.meter_workers.specs.Shares.{IsShareOf, HasMetered}
 
 -- A share and a seat before a part, behind so many records: the seat drew nothing of it.

@@ -1,6 +1,6 @@
 //! A capture that is metered while it is read.
 
-ghost use Rattle.std.specs.Prelude.{◌≡◌, ◌↔◌, ◌+◌, ◌++◌, ◌^◌, ◌<◌, ◌≤◌, [], List, ℕ, length, flat_map, All, None};
+ghost use Rattle.std.specs.Prelude.{◌≡◌, ◌↔◌, ◌+◌, ◌++◌, ◌^◌, ◌<◌, ◌≤◌, [], List, ℕ, length, All};
 ghost use Rattle.std.specs.Prelude.{IfOk, IfErr, IfSome, OnOk, IsPermutation};
 ghost use Rattle.std.specs.Thread.{IsSync};
 ghost use Rattle.std.specs.declared.option.Option.{Option};
@@ -8,17 +8,16 @@ ghost use Rattle.meter_io.specs.Sides.{side};
 ghost use Rattle.pcap_reader.specs.Index.{IsIndexOf};
 ghost use Rattle.cache_face.specs.Meaning.{IsFresh as IsFreshPass};
 ghost use Rattle.capture_input.specs.Refusals.{IsRefused, HasFaults};
-ghost use Rattle.capture_input.specs.Inputs.{side_from};
 ghost use Rattle.capture_input.specs.Parts.{Answer, answers_from};
 ghost use Rattle.capture_input.specs.Giving.{HasGiven, IsLast, part_in, base_in, size_in, left_in};
 ghost use Rattle.batch_queue.specs.Batches.{count_of};
-ghost use Rattle.batch_queue.specs.Passes.{IsPassOf, IsReaders, IsFresh, IsMore, StandsForAll, put_of, took_of};
-ghost use Rattle.batch_queue.specs.Passes.{seats_of, others_of, reader_of, IsOpen, WasTold};
+ghost use Rattle.batch_queue.specs.Passes.{IsPassOf, IsReaders, IsFresh, IsMore, StandsForAll, IsOpen, put_of, took_of};
+ghost use Rattle.batch_queue.specs.Passes.{seats_of, others_of, reader_of, WasTold};
 ghost use Rattle.batch_queue.specs.declared.batch.Batch.{Batch};
 ghost use Rattle.meter_workers.specs.Shares.{IsShareOf, HasMetered};
 ghost use Rattle.meter_workers.specs.Batched.{answers_of_batch, answers_in, IsReadyFor, IsToTake, HasTakenAll};
 ghost use Rattle.meter_workers.specs.Batched.{IsToRead, IsReading, HandsOn, IsReaderAt, HasHandedOn, HasReadAll};
-ghost use Rattle.meter_workers.specs.Batched.{IsForAll, IsAtQueue};
+ghost use Rattle.meter_workers.specs.Batched.{IsAtQueue};
 ghost use Rattle.meter_workers.specs.Whole.{HasGathered, IsMeteredWhole};
 
 use crate::gate::Gate;
@@ -441,22 +440,6 @@ fn open_crew<C: FlowCache>(
     })
 }
 
-/// One pass of the queue for the reader and all others.
-fn unite_seats(queue: &BatchQueue, reader: QueuePass, seats: Vec<QueuePass>) -> QueuePass
-    requires own { IsPassOf queue.now reader }
-    requires others { All (λ s. IsPassOf queue.now s × (put_of s ≡ []) × (seats_of s ≡ 1) × (others_of s ≡ 0))
-        seats.items }
-    ensures own { IsPassOf queue.now result }
-    ensures all { IsForAll seats.items reader result }
-{
-    let mut all = reader;
-    let mut seats = seats;
-    while let Some(seat) = seats.pop() {
-        all = queue.unite(all, seat);
-    }
-    all
-}
-
 /// What all did together, once the reader has read and the workers have worked. What is left in the queue is metered
 /// here. So many bytes are left behind the last record.
 fn gather<C: FlowCache, G: Gate, R: Wait>(
@@ -488,7 +471,7 @@ fn gather<C: FlowCache, G: Gate, R: Wait>(
     } = crew;
     let drain = workers.len() + 1;
     let (mut shares, seats) = unseat_workers(alloc, workers)?;
-    let mut seat = unite_seats(&shared.queue, reader.feed.into_pass(), seats);
+    let mut seat = shared.queue.unite_all(reader.feed.into_pass(), seats);
     work_batches(rt, &shared, cache, gate, drain, &mut seat, &mut last)?;
     shares.push(reader.share)?;
     shares.push(last)?;

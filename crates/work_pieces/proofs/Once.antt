@@ -1,10 +1,10 @@
 -- Numbers that stand in a list once each.
-use Rattle.std.proofs.Common.{◌≡◌, ℕ, zero, suc, ◌+◌, ◌-◌, ◌*◌, ◌/◌, ◌%◌, ◌<◌, ◌≤◌, eqb, cond, Bool, List, [], ◌∷◌, ◌++◌}
-use Rattle.std.proofs.Common.{sym, refl, ap, ◌∙◌, subst, arith, append_assoc, eq-eqb, ne_eqb, mod-lt, div-add-mod'}
-use Rattle.std.proofs.lemmas.Grind.{common_steps}
+use Rattle.std.proofs.Common.{◌≡◌, ℕ, zero, suc, ◌+◌, ◌<◌, eqb, cond, Bool, List, [], ◌∷◌, ◌++◌, sym, refl, ap, ◌∙◌}
+use Rattle.std.proofs.Common.{subst, arith, append_assoc, append-nil, eq-eqb, ne_eqb}
+use Rattle.std.proofs.lemmas.Grind.{common_steps, flat_map-append}
 use Rattle.std.proofs.lemmas.List.Sorted.{IsPermutation-refl, IsPermutation-trans, IsPermutation-append_comm}
 use Rattle.std.proofs.lemmas.List.Sorted.{IsPermutation-append_left, IsPermutation-append_right}
-use Rattle.std.specs.Prelude.{IsPermutation}
+use Rattle.std.specs.Prelude.{flat_map, IsPermutation}
 use mathlib.Core.Logic.{dite}
 use native.Mathlib.Decide.{ℕ_discrete}
 use Rattle.work_pieces.specs.Dealing.{times, once_below, EachOnce}
@@ -41,26 +41,27 @@ once-suc x n = grind (arith, common_steps)
 once-here : (n : ℕ) → once_below n (n + 1) ≡ 1
 once-here n = grind (arith, common_steps)
 
--- they are these numbers in some order
-pub once-permuted : (n : ℕ) (ks : List ℕ) → EachOnce n ks → IsPermutation (upto n) ks
-once-permuted zero ks h =
-    subst (λ (l : List ℕ). IsPermutation [] l) (sym (empty ks (λ x. h x ∙ once-zero x))) (IsPermutation-refl [])
-once-permuted (suc n) ks h =
+-- what is taken of each of them, together, is what is taken of each number below n, in some order
+pub once-together : {A : Type 0} (f : ℕ → List A) (n : ℕ) (ks : List ℕ) → EachOnce n ks
+    → IsPermutation (flat_map f (upto n)) (flat_map f ks)
+once-together f zero ks h =
+    subst (λ (l : List ℕ). IsPermutation [] (flat_map f l)) (sym (empty ks (λ x. h x ∙ once-zero x)))
+    (IsPermutation-refl [])
+once-together f (suc n) ks h =
     let one : suc n ≡ n + 1 = omega arith in
     let each : (x : ℕ) → times x ks ≡ once_below x (n + 1) = λ x. h x ∙ ap (once_below x) one in
     let at = found n ks (let e = each n in let o = once-here n in omega (arith, e, o)) in
     let a : List ℕ = at.0 in
     let b : List ℕ = at.1 in
     let rest : EachOnce n (a ++ b) = λ x. (let e = each x in let o = once-suc x n in let t = times-append x a b in
-        let u = times-append x a (n ∷ b) in let w = ap (times x) at.2 in omega (arith, e, o, t, u, w)) in
-    let last : IsPermutation (upto n ++ n ∷ []) (a ++ (b ++ n ∷ [])) =
-    subst (λ (l : List ℕ). IsPermutation (upto n ++ n ∷ []) l) (append_assoc a b (n ∷ []))
-    (IsPermutation-append_left (n ∷ []) (upto n) (a ++ b) (once-permuted n (a ++ b) rest)) in
-    subst (λ (l : List ℕ). IsPermutation (upto (suc n)) l) (sym at.2) (IsPermutation-trans _ (a ++ (b ++ n ∷ [])) _ last
-    (IsPermutation-append_right a (b ++ n ∷ []) (n ∷ b) (IsPermutation-append_comm b (n ∷ []))))
-
--- so many pieces of one size are enough
-pub enough : (count size : ℕ) → 0 < size → count ≤ (count + size - 1) / size * size
-enough count size pos = let a : ℕ = count + size - 1 in let d = div-add-mod' a size in let m = mod-lt a pos in
-    let q : ℕ = a / size * size in let r : ℕ = a % size in let d' : q + r ≡ a = d in let m' : r < size = m in
-    omega (arith, d', m', pos)
+    let u = times-append x a (n ∷ b) in let w = ap (times x) at.2 in omega (arith, e, o, t, u, w)) in
+    let F = flat_map f in
+    let all = F (upto n) ++ f n in
+    let last : IsPermutation all (F a ++ (F b ++ f n)) =
+    subst (λ l. IsPermutation all l) (ap (λ l. l ++ f n) (flat_map-append f a b) ∙ append_assoc (F a) (F b) (f n))
+    (IsPermutation-append_left (f n) (F (upto n)) (F (a ++ b)) (once-together f n (a ++ b) rest)) in
+    subst (λ l. IsPermutation l (F ks))
+    (sym (flat_map-append f (upto n) (n ∷ []) ∙ ap (λ l. F (upto n) ++ l) (append-nil (f n))))
+    (subst (λ l. IsPermutation all l) (sym (ap F at.2 ∙ flat_map-append f a (n ∷ b)))
+    (IsPermutation-trans _ _ _ last
+    (IsPermutation-append_right (F a) (F b ++ f n) (f n ++ F b) (IsPermutation-append_comm (F b) (f n)))))

@@ -5,7 +5,7 @@ use Rattle.std.proofs.lemmas.List.{length-map, length-append}
 use Rattle.std.proofs.lemmas.List.Elements.{All-map}
 use Rattle.capture_input.specs.Parts.{Answer}
 use Rattle.batch_queue.specs.declared.queue.QueuePass.{QueuePass}
-use Rattle.batch_queue.specs.Passes.{IsPassOf, put_of, seats_of, others_of}
+use Rattle.batch_queue.specs.Uniting.{IsOther}
 use Rattle.meter_workers.specs.declared.worker.Worker.{Worker}
 use Rattle.meter_workers.specs.Batched.{HasHandedOn}
 use Rattle.meter_workers.specs.Shares.{IsShareOf, HaveMetered}
@@ -17,13 +17,11 @@ use Rattle.meter_workers.proofs.batches.gather.Goals as goal
 pub unseat_workers-requires-clause-ended : goal.unseat_workers-requires-clause-ended
 unseat_workers-requires-clause-ended g c κs within = λ k d inside. (c.requires.workers k d inside).0
 
-pub unite_seats-seat-requires-clause-others : goal.unite_seats-seat-requires-clause-others
-unite_seats-seat-requires-clause-others g c =
+pub unite_all-seat-requires-clause-others : goal.unite_all-seat-requires-clause-others
+unite_all-seat-requires-clause-others g c =
     let W : Type 0 = Worker g.row.C.Denot QueuePass g.row.C-Pass.Denot in
-    let Q : QueuePass → Type 0 =
-    λ s. IsPassOf c.args.crew.shared.queue s × (put_of s ≡ []) × (seats_of s ≡ 1) × (others_of s ≡ 0) in
-    subst (All Q) (sym c.in_ok-shares.ensures.seats)
-    (All-map Q (λ (w : W). w.seat) c.args.crew.workers.items (λ k d inside.
+    subst (All (IsOther c.args.crew.shared.queue)) (sym c.in_ok-shares.ensures.seats)
+    (All-map (IsOther c.args.crew.shared.queue) (λ (w : W). w.seat) c.args.crew.workers.items (λ k d inside.
     let has = (c.requires.workers k d inside).1 (c.in_ok-shares.ensures.finished k d inside) in
     (has.of, has.put, has.single, has.apart)))
 
@@ -36,10 +34,10 @@ all g c answers handed =
     let r = c.requires.reader in
     let drained = c.in_ok-work_batches.ensures in
     gathered g.C.FlowCache c.args.cache.now c.args.crew.shared.queue c.args.crew.workers.items answers
-    c.args.crew.reader c.in_ok-shares.seats.items c.into_pass.result c.unite_seats-seat.result c.work_batches.new.seat
+    c.args.crew.reader c.in_ok-shares.seats.items c.into_pass.result c.unite_all-seat.result c.work_batches.new.seat
     drained.did.0 c.in_ok-shares.shares.items c.push.new.self.items c.push-2.new.self.items c.args.crew.last
     c.work_batches.new.share c.requires.workers told.finished told.shares told.seats c.in_ok-push.ensures.items
-    c.in_ok-push-2.ensures.items (r.1, r.2, r.3, c.requires.many.0) c.into_pass.ensures c.unite_seats-seat.ensures.all
+    c.in_ok-push-2.ensures.items (r.1, r.2, r.3, c.requires.many.0) c.into_pass.ensures c.unite_all-seat.ensures.all
     drained.did.1 drained.all c.requires.last drained.did.2 handed
 
 pub gather_all-requires-clause-metered : goal.gather_all-requires-clause-metered

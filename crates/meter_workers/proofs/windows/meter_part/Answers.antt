@@ -3,7 +3,7 @@ use Rattle.std.specs.Prelude.{All}
 use Rattle.pcap_reader.specs.Views.{file_of}
 use Rattle.work_pieces.specs.declared.pieces.DrawPass.{DrawPass}
 use Rattle.work_pieces.specs.Passes.{IsPassOf, IsFresh}
-use Rattle.work_pieces.proofs.Once.{enough}
+use Rattle.work_pieces.proofs.Cutting.{enough}
 use Rattle.capture_input.specs.Parts.{Answer, answers_by}
 use Rattle.capture_input.proofs.Ranges.{answers-count}
 use Rattle.meter_workers.specs.declared.share.Share.{Share}

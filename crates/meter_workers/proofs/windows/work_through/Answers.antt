@@ -5,9 +5,9 @@ use Rattle.work_pieces.specs.Passes.{size_of, drawn_of}
 use Rattle.cache_face.proofs.Apart.{snoc}
 use Rattle.capture_input.specs.Parts.{Answer, answers_by}
 use Rattle.capture_input.proofs.Ranges.{answers-count}
-use Rattle.meter_workers.specs.Pieces.{piece_of, pieces_of}
+use Rattle.work_pieces.specs.Cutting.{piece_of, pieces_of}
 use Rattle.meter_workers.specs.Shares.{HasMetered}
-use Rattle.meter_workers.proofs.Pieces.{IsBehind, behind-none, behind-next, behind-more}
+use Rattle.work_pieces.proofs.Cutting.{IsBehind, behind-none, behind-next, behind-more}
 use Rattle.meter_workers.proofs.Shares.{metered-none, metered-more}
 use Rattle.meter_workers.proofs.windows.work_through.Given as given
 use Rattle.meter_workers.proofs.windows.work_through.Goals.{In-Some}

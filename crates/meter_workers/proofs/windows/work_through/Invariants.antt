@@ -1,9 +1,9 @@
 use Rattle.std.proofs.Common.{◌≡◌, ◌≤◌, ◌+◌, ◌-◌, length}
 use Rattle.work_pieces.specs.Passes.{IsPassOf, size_of, drawn_of, seats_of}
 use Rattle.capture_input.specs.Parts.{answers_by}
-use Rattle.meter_workers.specs.Pieces.{pieces_of}
+use Rattle.work_pieces.specs.Cutting.{pieces_of}
 use Rattle.meter_workers.specs.Shares.{HasMetered}
-use Rattle.meter_workers.proofs.Pieces.{IsBehind}
+use Rattle.work_pieces.proofs.Cutting.{IsBehind}
 use Rattle.meter_workers.proofs.windows.work_through.Given as goal
 
 abbrev pub invariant-loop-draw : goal.invariant-loop-draw

@@ -1,5 +1,5 @@
 use Rattle.std.proofs.Common.{◌∙◌, ◌<◌, ◌%◌, length, rules}
-use Rattle.std.proofs.lemmas.List.Elements.{All-push, All-same}
+use Rattle.meter_workers.proofs.Taken.{all_pushed}
 use Rattle.watch_program.specs.Answers.{IsSound}
 use Rattle.watch_program.proofs.Turns.{next-in-turn}
 use Rattle.watch_program.proofs.asking.ask_in_turn.Goals as goal
@@ -13,8 +13,8 @@ loop-k-preserved g c =
       idle = c.ask.ensures.idle;
       note = c.ask.ensures.note ∙ before.note;
       many = search rules;
-      sound = All-same IsSound _ _ c.in_ok-push.ensures.items
-          (All-push IsSound c.loop-k.answers.items c.ask.result before.sound c.ask.ensures.sound);
+      sound = all_pushed IsSound c.loop-k.answers.items c.push.new.self.items c.ask.result before.sound
+          c.ask.ensures.sound c.in_ok-push.ensures.items;
       in_turn = next-in-turn c.args.keys.now c.loop-k.answers.items c.push.new.self.items c.ask.result
           c.index-keys-k.result c.loop-k.k before.many
           c.index-keys-k.is below c.ask.ensures.key c.in_ok-push.ensures.items before.in_turn;

@@ -1,18 +1,15 @@
 use Rattle.std.proofs.Common.{◌≡◌, ◌+◌, List, [], ◌∷◌, ◌++◌, Some, length, sym, ap, ◌∙◌, subst, arith, append_assoc}
 use Rattle.std.proofs.Common.{append-nil, length-append}
 use Rattle.std.specs.Prelude.{flat_map, IsPermutation}
+use Rattle.std.proofs.lemmas.Grind.{flat_map-append}
 use Rattle.std.proofs.lemmas.List.Elements.{All-pop}
 use Rattle.std.proofs.lemmas.List.Sorted.{IsPermutation-trans, IsPermutation-append_comm}
 use Rattle.std.proofs.lemmas.List.Sorted.{IsPermutation-append_right}
-use Rattle.cache_face.proofs.Apart.{snoc}
 use Rattle.batch_queue.specs.declared.batch.Batch.{Batch}
-use Rattle.batch_queue.specs.declared.queue.BatchQueue.{BatchQueue}
 use Rattle.batch_queue.specs.declared.queue.QueuePass.{QueuePass}
-use Rattle.batch_queue.specs.Passes.{IsPassOf, put_of, took_of, seats_of, others_of}
-use Rattle.meter_workers.proofs.batches.unite_seats.Goals as goal
-
-abbrev Other : BatchQueue → QueuePass → Type 0
-Other queue s = IsPassOf queue s × (put_of s ≡ []) × (seats_of s ≡ 1) × (others_of s ≡ 0)
+use Rattle.batch_queue.specs.Passes.{put_of, took_of, seats_of, others_of}
+use Rattle.batch_queue.specs.Uniting.{IsOther}
+use Rattle.batch_queue.proofs.queue.BatchQueue.unite_all.Goals as goal
 
 -- what one of them took goes from the others to those that are united
 took : (whole a b : List Batch) (seats seats' : List QueuePass) (s : QueuePass) → seats ≡ seats' ++ s ∷ []
@@ -22,12 +19,13 @@ took whole a b seats seats' s is more all =
     let rest = flat_map took_of seats' in
     subst (λ l. IsPermutation whole l) (sym (ap (λ l. l ++ rest) more ∙ append_assoc a (took_of s) rest))
     (IsPermutation-trans _ (a ++ (rest ++ took_of s)) _
-    (subst (λ l. IsPermutation whole (a ++ l)) (ap (flat_map took_of) is ∙ snoc took_of seats' s) all)
+    (subst (λ l. IsPermutation whole (a ++ l)) (ap (flat_map took_of) is ∙ flat_map-append took_of seats' (s ∷ [])
+    ∙ ap (λ l. rest ++ l) (append-nil (took_of s))) all)
     (IsPermutation-append_right a (rest ++ took_of s) (took_of s ++ rest) (IsPermutation-append_comm rest (took_of s))))
 
 pub unite-all-requires : goal.unite-all-requires
 unite-all-requires c =
-    let p = All-pop (Other c.args.queue.now) _ _ (Some c.in-Some.seat) c.in-Some.ensures.items
+    let p = All-pop (IsOther c.args.self.now) _ _ (Some c.in-Some.seat) c.in-Some.ensures.items
     c.loop-seat.invariant.left in
     record { own = (c.loop-seat.invariant.own, p.1.0) }
 
@@ -35,8 +33,8 @@ pub loop-seat-preserved : goal.loop-seat-preserved
 loop-seat-preserved c =
     let i = c.loop-seat.invariant in
     let is = c.in-Some.ensures.items in
-    let p = All-pop (Other c.args.queue.now) _ _ (Some c.in-Some.seat) is i.left in
-    let e : length c.loop-seat.seats.items ≡ length c.pop.new.self.items + 1 =
+    let p = All-pop (IsOther c.args.self.now) _ _ (Some c.in-Some.seat) is i.left in
+    let e : length c.loop-seat.others.items ≡ length c.pop.new.self.items + 1 =
     ap length is ∙ length-append c.pop.new.self.items (c.in-Some.seat ∷ []) in
     let told = c.unite-all.ensures in
     record {
