@@ -224,9 +224,12 @@ def cached(packets: list[Packet], limits: Limits, sets: int) -> list[list]:
 
 
 def gathered(parts: list[list], clock: int, limits: Limits) -> list[list]:
-    """Parts of flows gathered: those of one key that follow each other by their last times are joined as long as may be."""
+    """Parts of flows gathered: those of one key that follow each other are joined as long as may be.
+
+    They are taken by last time, first time, packets, octets and flags.
+    """
     by_key: dict[tuple, list[list]] = {}
-    for part in sorted(parts, key=lambda part: part[4]):
+    for part in sorted(parts, key=lambda part: (part[4], part[3], part[1], part[2], part[5])):
         flows, whole = by_key.setdefault(part[0], []), part
         while flows and joinable(flows[-1], whole, limits):
             whole = joined(flows.pop(), whole)
