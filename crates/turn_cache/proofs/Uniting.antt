@@ -53,7 +53,7 @@ joins told id v other w no_turn no_turn' s h at apart at' =
       turn = idle_turn v.read;
     } in
     let fits_spent : Fits told.sets s.words h.contents spent_hand =
-    record { seats = refl; gone = λ none. (refl, refl); live = tt; turn = tt } in
+    record { seats = refl; gone = λ none. (refl, refl, refl); live = tt; turn = tt } in
     let notes : map note_of (set views' other spent_hand)
     ≡ set (set (map note_of s.views) id (merged_note v.note w.note)) other empty_note
     = map-set note_of views' other spent_hand ∙ ap (λ ns. set ns other empty_note) (map-set note_of s.views id both) in
