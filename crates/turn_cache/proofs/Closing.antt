@@ -146,10 +146,6 @@ module _ (told : Told) (s : State (Unit {0}) Hand) (h : Ruled told s) (id : ℕ)
       from_map (x ∷ xs) zero note e = (x, refl, some-injective x.note note e)
       from_map (x ∷ xs) (suc j) note e = from_map xs j note e
 
-pub if_ok_weaker : {A E : Type 0} (r : Result A E) (P Q : A → Type 0) → ((a : A) → P a → Q a) → IfOk r P → IfOk r Q
-if_ok_weaker (Ok a) P Q f h = f a h
-if_ok_weaker (Err e) P Q f h = h
-
   pub closes : Reaches told.timeouts v.note.taken (parts_in (contents_at s.words told.sets) ++ v.note.handed)
   closes =
       let whole : h.contents ≡ contents_at s.words told.sets =
@@ -164,3 +160,7 @@ if_ok_weaker (Err e) P Q f h = h
 
   pub bears_out : All (IsBorne told.timeouts v.note.taken) v.note.seen
   bears_out = at_end.1
+
+pub if_ok_weaker : {A E : Type 0} (r : Result A E) (P Q : A → Type 0) → ((a : A) → P a → Q a) → IfOk r P → IfOk r Q
+if_ok_weaker (Ok a) P Q f h = f a h
+if_ok_weaker (Err e) P Q f h = h
