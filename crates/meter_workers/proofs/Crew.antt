@@ -2,7 +2,7 @@
 use Rattle.std.proofs.Common.{◌≡◌, ℕ, ◌<◌, ◌+◌, List, [], ◌∷◌, ◌++◌, length, get_or, map, take, drop, refl, sym, ap}
 use Rattle.std.proofs.Common.{◌∙◌, subst, arith}
 use Rattle.std.proofs.Common.{append_assoc, append-nil}
-use Rattle.std.specs.Prelude.{flat_map, All, IfOk, IsPermutation, Result, Ok}
+use Rattle.std.specs.Prelude.{flat_map, All, IfOk, IsPermutation, Result, Ok, Err}
 use Rattle.std.specs.List.{AllZip}
 use Rattle.std.proofs.lemmas.Grind.{flat_map-append}
 use Rattle.std.proofs.lemmas.List.{length-map}
@@ -19,7 +19,7 @@ use Rattle.batch_queue.specs.declared.batch.Batch.{Batch}
 use Rattle.batch_queue.specs.declared.queue.BatchQueue.{BatchQueue}
 use Rattle.batch_queue.specs.declared.queue.QueuePass.{QueuePass}
 use Rattle.batch_queue.specs.Passes.{IsPassOf, IsReaders, IsMore, StandsForAll, put_of, took_of, seats_of, others_of}
-use Rattle.batch_queue.specs.Passes.{reader_of}
+use Rattle.batch_queue.specs.Passes.{reader_of, WasTold}
 use Rattle.meter_workers.specs.declared.share.Share.{Share}
 use Rattle.meter_workers.specs.declared.worker.Worker.{Worker}
 use Rattle.meter_workers.specs.declared.worker.WorkState.TheVariants.{Finished}
@@ -45,6 +45,11 @@ behind-first P (x ∷ xs) ys all is = subst (All P) (sym is) (All-tail P x xs al
 -- what holds of a result that is Ok holds of its value
 pub if-ok : {T E : Type 0} (result : Result T E) (P : T → Type 0) (x : T) → result ≡ Ok x → IfOk result P → P x
 if-ok {T = T} {E = E} result P x is holds = subst (λ (r : Result T E). IfOk r P) is holds
+
+pub ok-weaker : {T E : Type 0} (result : Result T E) (P Q : T → Type 0) → IfOk result P
+    → ((x : T) → P x → Q x) → IfOk result Q
+ok-weaker (Ok x) P Q is more = more x is
+ok-weaker (Err e) P Q is more = is
 
 -- what one of them took goes from the others to those that are united
 pub took-one : {D Y : Type 0} (f : D → List Y) (whole a b : List Y) (ds ds' : List D) (d : D)
@@ -143,10 +148,10 @@ gathered {W} {S} Has share seat ws answers own put took more all seats shares on
 pub taken-all : {X P : Type 0} (the : Ghosts X P) (cache : X) (queue : BatchQueue) (old new : Share X P)
     (before after : QueuePass) (more : List Batch)
     → IsReadyToTake {X = X} {P = P} (the.is_of cache) the.shown (the.means cache).limits queue old before
-    → IsPassOf queue after → IsMore [] more before after
+    → IsPassOf queue after → IsMore [] more before after → WasTold after
     → ((done : List Answer) → IsShareOf the cache done old → IsShareOf the cache (done ++ answers_in more) new)
     → HasTaken {X = X} {P = P} (the.is_of cache) the.shown (the.means cache).limits queue new after
-taken-all the cache queue old new before after more ready of is did =
+taken-all the cache queue old new before after more ready of is told did =
     let seats = took-seats before after more is in
     let took : took_of after ≡ more = took-more before after more is ∙ ap (λ l. l ++ more) ready.fresh.2 in
     record {
@@ -155,6 +160,7 @@ taken-all the cache queue old new before after more ready of is did =
       put = seats.0 ∙ ready.fresh.1;
       single = seats.1 ∙ ready.fresh.0;
       apart = seats.2 ∙ ready.apart;
+      told = told;
     }
 
 -- a pass of the queue for this one and all these seats

@@ -6,16 +6,18 @@ use Rattle.std.proofs.lemmas.Grind.{flat_map-append}
 use Rattle.std.proofs.lemmas.List.Elements.{All-push}
 use Rattle.std.proofs.lemmas.List.Sorted.{IsPermutation-refl, IsPermutation-trans}
 use Rattle.std.proofs.lemmas.List.Sorted.{IsPermutation-append_comm, IsPermutation-append_left, IsPermutation-append_right}
+use Rattle.std.specs.declared.option.Option.{Option}
 use Rattle.flow_parts.specs.declared.timeouts.Timeouts.{Timeouts}
 use Rattle.cache_face.specs.Meaning.{PassMeans}
 use Rattle.capture_input.specs.Parts.{Answer}
 use Rattle.batch_queue.specs.declared.batch.Batch.{Batch}
+use Rattle.batch_queue.specs.declared.queue.BatchQueue.{BatchQueue}
 use Rattle.batch_queue.specs.declared.queue.QueuePass.{QueuePass}
 use Rattle.batch_queue.specs.Batches.{count_of, IsBefore}
-use Rattle.batch_queue.specs.Passes.{IsMore, IsSame, IsReaders, put_of, took_of, seats_of, others_of}
+use Rattle.batch_queue.specs.Passes.{IsPassOf, IsMore, IsSame, IsReaders, put_of, took_of, seats_of, others_of}
 use Rattle.meter_workers.specs.declared.share.Share.{Share}
 use Rattle.meter_workers.specs.Shares.{IsShare}
-use Rattle.meter_workers.specs.Batched.{answers_of_batch, answers_in, IsReadyFor, IsReadyAt, IsStill, HasHanded}
+use Rattle.meter_workers.specs.Batched.{answers_of_batch, answers_in, IsReadyFor, IsReadyAt, IsStill, HasHanded, HasRead}
 use Rattle.meter_workers.proofs.Taken.{all_popped}
 
 -- a pass that took nothing more, and one that took more twice
@@ -189,3 +191,18 @@ took-seats p q more is = (
   (λ i. (is i).others),
   (λ r. (λ i. (is i).reader) ∙ r),
 )
+
+-- what the reader has read stays, where it puts and takes nothing more
+pub read-same : {X P : Type 0} (is_of : P → Type 0) (shown : P → PassMeans) (limits : Timeouts) (queue : BatchQueue)
+    (before left : Option (List ℕ)) (limit : ℕ) (old read new : QueuePass) (share : Share X P) (tail : ℕ)
+    → IsPassOf queue new → IsSame read new
+    → HasRead {X = X} {P = P} is_of shown limits queue before left limit old read share tail
+    → HasRead {X = X} {P = P} is_of shown limits queue before left limit old new share tail
+read-same {X} {P} is_of shown limits queue before left limit old read new share tail of same has = record {
+  of = of;
+  still = still-again old read new has.still (still-same read new has.still.reader same);
+  answers = has.answers;
+  whole = has.whole;
+  handed = subst (λ (l : List Batch). HasHanded {X = X} {P = P} is_of shown limits has.answers l share)
+      (sym (put-same read new same)) has.handed;
+}

@@ -12,7 +12,7 @@ use Rattle.batch_queue.specs.declared.queue.BatchQueue.{BatchQueue}
 use Rattle.batch_queue.specs.declared.queue.QueuePass.{QueuePass}
 use Rattle.batch_queue.specs.Batches.{IsBefore, count_of}
 use Rattle.batch_queue.specs.Passes.{IsPassOf, IsReaders, IsFresh, put_of, took_of, seats_of, others_of}
-use Rattle.batch_queue.specs.Passes.{reader_of, IsOpen}
+use Rattle.batch_queue.specs.Passes.{reader_of, IsOpen, WasTold}
 use Rattle.meter_workers.specs.declared.share.Share.{Share}
 use Rattle.meter_workers.specs.declared.worker.Worker.{Worker}
 use Rattle.meter_workers.specs.declared.worker.WorkState.TheVariants.{Going, Finished}
@@ -39,7 +39,7 @@ pub record IsReadyToTake {X P : Type 0} (is_of : P → Type 0) (shown : P → Pa
   pub fresh : IsFresh seat
   pub apart : others_of seat ≡ 0
 
--- A worker that has metered just the batches that it took.
+-- A worker that has metered just the batches that it took, until it was told that no more come.
 pub record HasTaken {X P : Type 0} (is_of : P → Type 0) (shown : P → PassMeans) (limits : Timeouts) (queue : BatchQueue)
     (share : Share X P) (seat : QueuePass) : Type 0 where
   pub is : IsShare {X = X} {P = P} is_of shown limits (answers_in (took_of seat)) share
@@ -47,6 +47,7 @@ pub record HasTaken {X P : Type 0} (is_of : P → Type 0) (shown : P → PassMea
   pub put : put_of seat ≡ []
   pub single : seats_of seat ≡ 1
   pub apart : others_of seat ≡ 0
+  pub told : WasTold seat
 
 -- The reader handed these answers on: their batches were put, or it metered them itself.
 pub record HasHanded {X P : Type 0} (is_of : P → Type 0) (shown : P → PassMeans) (limits : Timeouts)
@@ -67,6 +68,10 @@ pub record IsStill (old new : QueuePass) : Type 0 where
   pub seats : seats_of new ≡ seats_of old
   pub others : others_of new ≡ others_of old
   pub took : took_of new ≡ took_of old
+
+-- The reader may put batches into the queue, and say that no more come.
+abbrev pub IsAtQueue : {X P : Type 0} → BatchQueue → Reader X P → Type 0
+IsAtQueue queue reader = IsPassOf queue (reader_of reader.feed) × IsOpen reader.feed
 
 -- A reader that has read nothing; `the` is what the type of the cache means.
 pub record IsToRead {X P : Type 0} (the : Ghosts X P) (cache : X) (queue : BatchQueue)

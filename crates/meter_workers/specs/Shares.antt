@@ -1,12 +1,11 @@
 -- What a share of the work has done.
-use Rattle.std.specs.Prelude.{◌≡◌, ℕ, ◌*◌, ◌<◌, ◌≤◌, ◌^◌, List, [], ◌++◌, flat_map, All, Option, Some, None, IsPermutation}
+use Rattle.std.specs.Prelude.{◌≡◌, ◌*◌, ◌<◌, ◌≤◌, ◌^◌, List, [], ◌++◌, flat_map, All, Option, Some, None, IsPermutation}
 use Rattle.std.specs.List.{AllZip}
 use Rattle.packet_accept.specs.declared.packet.Packet.{Packet}
 use Rattle.packet_accept.specs.Packets.{packets_in}
 use Rattle.flow_parts.specs.declared.fragment.Fragment.{Fragment}
 use Rattle.flow_parts.specs.declared.timeouts.Timeouts.{Timeouts}
 use Rattle.flow_parts.specs.Sharing.{SharesOut}
-use Rattle.capture_tally.specs.declared.tally.Tally.{Tally}
 use Rattle.capture_tally.specs.Tallies.{IsTallyOf}
 use Rattle.cache_face.specs.Meaning.{PassMeans}
 use Rattle.front_cache.specs.Fronts.{FrontMeans, open_in}

@@ -13,11 +13,12 @@ ghost use Rattle.capture_input.specs.Parts.{Answer, answers_from};
 ghost use Rattle.capture_input.specs.Giving.{HasGiven, IsLast, part_in, base_in, size_in, left_in};
 ghost use Rattle.batch_queue.specs.Batches.{count_of};
 ghost use Rattle.batch_queue.specs.Passes.{IsPassOf, IsReaders, IsFresh, IsMore, StandsForAll, put_of, took_of};
-ghost use Rattle.batch_queue.specs.Passes.{seats_of, others_of, reader_of, IsOpen};
+ghost use Rattle.batch_queue.specs.Passes.{seats_of, others_of, reader_of, IsOpen, WasTold};
 ghost use Rattle.batch_queue.specs.declared.batch.Batch.{Batch};
 ghost use Rattle.meter_workers.specs.Seats.{IsShareOf, AreSharesOf};
 ghost use Rattle.meter_workers.specs.Batched.{answers_of_batch, answers_in, IsReadyFor, IsToTake, HasTakenAll};
 ghost use Rattle.meter_workers.specs.Batched.{IsToRead, IsReading, HandsOn, IsReaderAt, HasHandedOn, HasReadAll};
+ghost use Rattle.meter_workers.specs.Batched.{IsAtQueue};
 ghost use Rattle.meter_workers.specs.Whole.{IsMeteredWhole};
 
 use crate::gate::Gate;
@@ -96,8 +97,8 @@ impl Shared {
     }
 }
 
-/// Takes batches and meters each, until no more come and none is left. The gate is told of each batch before. A seat
-/// that stands for all took all batches that were put then.
+/// Takes batches and meters each, until it is told that no more come and none is left. The gate is told of each batch
+/// before. A seat that stands for all took all batches that were put then.
 fn work_batches<C: FlowCache, G: Gate, R: Wait>(
     rt: &R,
     shared: &Shared,
@@ -115,9 +116,10 @@ fn work_batches<C: FlowCache, G: Gate, R: Wait>(
         × ((done : List Answer) → IsShareOf C.FlowCache cache.now done share.old
         → IsShareOf C.FlowCache cache.now (done ++ answers_in more) share.new)) }
     ensures all { OnOk result (StandsForAll seat.new → IsPermutation (put_of seat.new) (took_of seat.new)) }
+    ensures told { OnOk result (WasTold seat.new) }
 {
     for _ in rt.forever() {
-        let ended = shared.queue.is_ended();
+        let ended = shared.queue.is_ended(seat);
         match shared.queue.take(rt, seat) {
             Some(batch) => {
                 gate.reach(number, batch.number);
@@ -215,6 +217,7 @@ fn hand_over<C: FlowCache, G: Gate, R: Wait>(
     ensures next { OnOk result (reader.new.next ≡ reader.old.next) }
     ensures handed { OnOk result (HandsOn C.FlowCache cache.now shared.now.queue (answers_of_batch batch) reader.old
         reader.new) }
+    ensures open { IsAtQueue shared.now.queue reader.new }
 {
     match shared.queue.offer(rt, &mut reader.feed, batch) {
         Ok(()) => Ok(()),
@@ -253,6 +256,7 @@ fn hand_part<C: FlowCache, G: Gate, R: Wait>(
     ensures next { OnOk result (reader.new.next ≤ base_in read.0 + length read.1.offsets) }
     ensures handed { OnOk result (HandsOn C.FlowCache cache.now shared.now.queue
         (answers_from (base_in read.0) (part_in read.0)) reader.old reader.new) }
+    ensures open { IsAtQueue shared.now.queue reader.new }
 {
     let (reading, index) = read;
     if index.count() == 0 {
@@ -291,6 +295,7 @@ fn read_all<S: Source, C: FlowCache, G: Gate, R: Wait>(
         (S.left source.new) limit reader.old reader.new tail) }
     ensures refused { IfErr result (λ fault. IsRefused (side S.left S.faults source.old source.new) limit fault) }
     ensures faults { HasFaults (side S.left S.faults source.old source.new) result }
+    ensures open { IsAtQueue shared.now.queue reader.new }
 {
     let (mut reading, mut index) = Reading::begin(alloc, source, shared.size, limit)?;
     loop {
@@ -313,8 +318,31 @@ fn read_all<S: Source, C: FlowCache, G: Gate, R: Wait>(
     }
 }
 
-/// The reader and all workers at once. However the reader ends, it says then that no more batches come. The workers,
-/// once they have worked, and how the reader ended.
+/// The same, and however it ends: it says then that no more batches come.
+fn read_and_end<S: Source, C: FlowCache, G: Gate, R: Wait>(
+    rt: &R,
+    alloc: Global,
+    source: &mut S,
+    shared: &Shared,
+    cache: &C,
+    gate: &G,
+    reader: &mut Reader<C>,
+    limit: u64,
+) -> Result<u64, MeterFault>
+    requires limit { limit ≤ 2 ^ 30 }
+    requires reading { IsToRead C.FlowCache cache.now shared.now.queue reader.old }
+    ensures read { IfOk result (λ tail. HasReadAll C.FlowCache cache.now shared.now.queue (S.left source.old)
+        (S.left source.new) limit reader.old reader.new tail) }
+    ensures refused { IfErr result (λ fault. IsRefused (side S.left S.faults source.old source.new) limit fault) }
+    ensures faults { HasFaults (side S.left S.faults source.old source.new) result }
+    ensures said { WasTold (reader_of reader.new.feed) }
+{
+    let end = read_all(rt, alloc, source, shared, cache, gate, reader, limit);
+    shared.queue.end(&mut reader.feed);
+    end
+}
+
+/// The reader and all workers at once. The workers, once they have worked, and how the reader ended.
 fn run_both<S: Source, C: FlowCache, G: Gate, R: Threads + Wait + Sync>(
     rt: &R,
     alloc: Global,
@@ -336,6 +364,7 @@ fn run_both<S: Source, C: FlowCache, G: Gate, R: Threads + Wait + Sync>(
         (S.left source.new) limit reader.old reader.new tail) }
     ensures refused { IfErr result.1 (λ fault. IsRefused (side S.left S.faults source.old source.new) limit fault) }
     ensures faults { HasFaults (side S.left S.faults source.old source.new) result.1 }
+    ensures said { WasTold (reader_of reader.new.feed) }
 {
     join_mut(
         rt,
@@ -354,11 +383,8 @@ fn run_both<S: Source, C: FlowCache, G: Gate, R: Threads + Wait + Sync>(
             ensures refused { IfErr result
                 (λ fault. IsRefused (side S.left S.faults source.entry.now source.exit.now) limit fault) }
             ensures faults { HasFaults (side S.left S.faults source.entry.now source.exit.now) result }
-        {
-            let end = read_all(rt, alloc, source, shared, cache, gate, reader, limit);
-            shared.queue.end(&mut reader.feed);
-            end
-        },
+            ensures said { WasTold (reader_of reader.exit.now.feed) }
+        { read_and_end(rt, alloc, source, shared, cache, gate, reader, limit) },
     )
 }
 

@@ -37,7 +37,8 @@ impl BatchQueue {
         ensures many { IfOk result (λ r. length r.2.items ≡ others) }
         ensures passes { IfOk result (λ r. All (λ p. IsPassOf r.0 p × IsFresh p × (¬ IsReaders p) × (others_of p ≡ 0))
             r.2.items) }
-        ensures quiet { IfOk result (λ r. (¬ WasTold (reader_of r.1)) × All (λ p. (¬ WasTold p) × (¬ MayPut p)) r.2.items) }
+        ensures quiet { IfOk result (λ r. (¬ WasTold (reader_of r.1))
+            × All (λ p. (¬ WasTold p) × (¬ MayPut p)) r.2.items) }
     {
         let (line, pass) = RuledArrayQueue::ruled(alloc, room)?;
         let (ended, seat) = Table::of_words(alloc, &[0], &())?;
@@ -60,8 +61,8 @@ impl BatchQueue {
             × IsReaders (reader_of r.0) × (others_of (reader_of r.0) ≡ others)) }
         ensures open { IfOk result (λ r. IsOpen r.0 × (¬ WasTold (reader_of r.0))) }
         ensures many { IfOk result (λ r. length r.1.items ≡ others) }
-        ensures passes { IfOk result (λ r. All (λ p. IsPassOf self.now p × IsFresh p × (¬ IsReaders p) × (others_of p ≡ 0))
-            r.1.items) }
+        ensures passes { IfOk result (λ r.
+            All (λ p. IsPassOf self.now p × IsFresh p × (¬ IsReaders p) × (others_of p ≡ 0)) r.1.items) }
         ensures quiet { IfOk result (λ r. All (λ p. (¬ WasTold p) × (¬ MayPut p)) r.1.items) }
     {
         let mut reader = reader;
@@ -120,7 +121,8 @@ impl BatchQueue {
             .store::<Says>(&mut feed.pass.seat, END_WORD, 1);
     }
 
-    /// Whether it was said that no more batches come. Then who asks may put none, and is told so again at each later call.
+    /// Whether it was said that no more batches come. Who was told so may put none, and is told so again at each later
+    /// call.
     ///
     /// What is taken from then on was put before; that a batch is found by who looks for it then is in no clause.
     pub fn is_ended(&self, pass: &mut QueuePass) -> bool

@@ -117,12 +117,12 @@ fn check_send<T: Send>(value: T) -> T
 
 #[test]
 fn threads_share_a_queue(rt: HostRuntime) -> Result<(), Fail> {
-    let (queue, reader, second, third) = open_queue(rt.alloc())?;
+    let (queue, reader, mut second, third) = open_queue(rt.alloc())?;
     check_sync(&queue);
-    assert!(rt; !queue.is_ended());
+    assert!(rt; !queue.is_ended(&mut second));
     let mut reader = check_send(reader);
     queue.end(&mut reader);
-    assert!(rt; queue.is_ended());
+    assert!(rt; queue.is_ended(&mut second));
     let all = queue.unite(reader.into_pass(), second);
     let mut all = queue.unite(all, check_send(third));
     assert_eq!(rt; take(&rt, &queue, &mut all), None);

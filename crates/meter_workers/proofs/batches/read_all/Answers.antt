@@ -9,7 +9,6 @@ use Rattle.capture_input.specs.Giving.{base_in, part_in}
 use Rattle.batch_queue.specs.Passes.{put_of, reader_of}
 use Rattle.meter_workers.proofs.Taking.{handed-none, still-none, still-again, ready-later}
 use Rattle.meter_workers.proofs.Handing.{ready-first, given-first, given-few, base-next, refused-from}
-use Rattle.meter_workers.proofs.batches.read_all.Given as given
 use Rattle.meter_workers.proofs.batches.read_all.Goals as goal
 
 err-weaker : {T E : Type 0} (r : Result T E) (P Q : E → Type 0) → IsErrAnd r P → ((e : E) → P e → Q e) → IfErr r Q

@@ -21,7 +21,7 @@ returns g c = record {
           (let did = w.in-Ok.ensures.did in
           taken-all g.C.FlowCache c.args.cache.now c.args.shared.now.queue c.args.worker.now.share
           c.work_batches-end.new.share c.args.worker.now.seat c.work_batches-end.new.seat did.0 c.requires.ready
-          c.work_batches-end.ensures.own did.1 did.2),
+          c.work_batches-end.ensures.own did.1 w.in-Ok.ensures.told did.2),
     )
     | in-Err w ↦ (
       λ going. absurd (let e = sym w.worker-is ∙ going in cc),

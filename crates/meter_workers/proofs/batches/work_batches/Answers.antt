@@ -1,9 +1,11 @@
 use Rattle.std.proofs.Common.{◌≡◌, ◌++◌, ◌∷◌, List, [], length, sym, ap, subst, ◌∙◌, arith, append_assoc, append-nil}
-use Rattle.std.specs.Prelude.{slice_range}
+use Rattle.std.specs.Prelude.{slice_range, All}
 use Rattle.pcap_reader.specs.File.{CaptureFile}
 use Rattle.pcap_reader.specs.Index.{Offsets}
 use Rattle.pcap_reader.specs.Views.{part_of, file_of}
 use Rattle.capture_input.specs.Parts.{Answer, answers_by, answers_from}
+use Rattle.batch_queue.specs.declared.batch.Batch.{Batch}
+use Rattle.batch_queue.specs.Batches.{IsBefore}
 use Rattle.batch_queue.specs.Passes.{took_of}
 use Rattle.meter_workers.specs.declared.share.Share.{Share}
 use Rattle.meter_workers.specs.Shares.{IsShare}
@@ -39,7 +41,10 @@ loop-preserved-in-Some-take g c =
     IsShare (g.C.FlowCache.is_of c.args.cache.now) g.C.FlowCache.shown (g.C.FlowCache.means c.args.cache.now).limits in
     let known = c.loop.invariant in
     let batch = c.in-Some-take.batch in
+    let asked = c.is_ended-ended.new.pass in
+    let same = c.is_ended-ended.ensures.same.0 in
     let took = c.in-Some-take.ensures.took in
+    let before : took_of asked ≡ took_of c.loop.seat = took-same c.loop.seat asked same in
     let told = c.in_ok-meter_run-in-Some-take.ensures in
     let own : slice_range (answers_by c.part-part.result) 0 c.count.result ≡ answers_of_batch batch =
     whole-range (answers_by c.part-part.result) (answers_of_batch batch) c.count.result
@@ -51,13 +56,13 @@ loop-preserved-in-Some-take g c =
     record {
       of = c.take.ensures.own;
       ready = ready-more (took_of c.loop.seat) (took_of c.take.new.pass) batch c.meter_run.new.share.tally.captured
-          (took-more c.loop.seat c.take.new.pass (batch ∷ []) took.0)
+          (took-more asked c.take.new.pass (batch ∷ []) took.0 ∙ ap (λ (l : List Batch). l ++ batch ∷ []) before)
           (let t = told.captured in let n = c.count.ensures in
           let i = ap (λ (o : Offsets). length o.offsets) c.part-part.ensures.index in
-          let r = known.ready batch took.1 in omega (arith, t, n, i, r, batch.indexed.count));
+          let r = known.ready batch (subst (All (λ a. IsBefore a batch)) before took.1) in omega (arith, t, n, i, r, batch.indexed.count));
       did = (
         known.did.0 ++ batch ∷ [],
-        more-both c.args.seat.now c.loop.seat c.take.new.pass known.did.0 (batch ∷ []) known.did.1 took.0,
+        more-both c.args.seat.now asked c.take.new.pass known.did.0 (batch ∷ []) (same ∙ known.did.1) took.0,
         λ done share. subst (λ (l : List Answer). Has l c.meter_run.new.share)
             (append_assoc done (answers_in known.did.0) _
             ∙ ap (λ l. done ++ l) (ap (λ l. answers_in known.did.0 ++ l) own ∙ sym (answers-more known.did.0 batch)))
@@ -68,12 +73,13 @@ loop-preserved-in-Some-take g c =
 pub returns-then-ended-clause-did : goal.returns-then-ended-clause-did
 returns-then-ended-clause-did g c =
     let known = c.loop.invariant in
-    (known.did.0, (c.take.ensures.none c.in-None-take.is).0 ∙ known.did.1, known.did.2)
+    let same = (c.take.ensures.none c.in-None-take.is).0 ∙ c.is_ended-ended.ensures.same.0 in
+    (known.did.0, same ∙ known.did.1, known.did.2)
 
 pub loop-preserved : goal.loop-preserved
 loop-preserved g c =
     let known = c.loop.invariant in
-    let same = (c.take.ensures.none c.in-None-take.is).0 in
+    let same = (c.take.ensures.none c.in-None-take.is).0 ∙ c.is_ended-ended.ensures.same.0 in
     record {
       of = c.take.ensures.own;
       ready = ready-same (took_of c.loop.seat) (took_of c.take.new.pass) c.loop.share.tally.captured

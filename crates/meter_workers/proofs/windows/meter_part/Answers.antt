@@ -1,4 +1,4 @@
-use Rattle.std.proofs.Common.{◌≡◌, ◌≤◌, ◌-◌, ◌∙◌, List, sym, subst, length, arith}
+use Rattle.std.proofs.Common.{◌≡◌, ◌≤◌, ◌∙◌, List, sym, subst, length, arith}
 use Rattle.std.specs.Prelude.{All}
 use Rattle.pcap_reader.specs.Views.{file_of}
 use Rattle.work_pieces.specs.declared.pieces.DrawPass.{DrawPass}

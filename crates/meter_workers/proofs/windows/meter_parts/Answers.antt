@@ -1,4 +1,4 @@
-use Rattle.std.proofs.Common.{◌≡◌, ◌+◌, ◌++◌, ◌≤◌, ◌∙◌, ℕ, List, [], length, refl, sym, subst, arith}
+use Rattle.std.proofs.Common.{◌≡◌, ◌++◌, ◌≤◌, ◌∙◌, ℕ, List, [], length, refl, sym, subst, arith}
 use Rattle.capture_input.specs.Parts.{Answer, answers_from, answers_by}
 use Rattle.capture_input.specs.Giving.{HasGiven, part_in, base_in}
 use Rattle.capture_input.specs.Refusals.{IsRefused}

@@ -1,10 +1,9 @@
-use Rattle.std.proofs.Common.{◌≡◌, All, get_or, rules, refl, List, length, sym, subst}
-use Rattle.std.specs.Prelude.{◌≢◌}
+use Rattle.std.proofs.Common.{◌≡◌, get_or, rules, refl, List, length, sym, subst}
 use Rattle.std.specs.List.{AllZip}
 use Rattle.work_pieces.specs.declared.pieces.DrawPass.{DrawPass}
 use Rattle.capture_input.specs.Parts.{answers_by}
 use Rattle.meter_workers.specs.declared.worker.Worker.{Worker}
-use Rattle.meter_workers.specs.declared.worker.WorkState.TheVariants.{Going, Finished}
+use Rattle.meter_workers.specs.declared.worker.WorkState.TheVariants.{Finished}
 use Rattle.meter_workers.specs.Working.{HasWorked}
 use Rattle.meter_workers.proofs.Drawn.{taken_back}
 use Rattle.meter_workers.proofs.Sharing.{all-zip}

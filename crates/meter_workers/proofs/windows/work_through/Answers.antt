@@ -9,7 +9,6 @@ use Rattle.meter_workers.specs.Pieces.{piece_of, pieces_of}
 use Rattle.meter_workers.specs.Shares.{IsShare}
 use Rattle.meter_workers.proofs.Drawn.{IsBehind, behind-none, behind-next, behind-more, pieces-last}
 use Rattle.meter_workers.proofs.Records.{answers-count}
-use Rattle.meter_workers.proofs.windows.work_through.Given as given
 use Rattle.meter_workers.proofs.windows.work_through.Goals as goal
 
 pub loop-draw-init : goal.loop-draw-init

@@ -4,7 +4,6 @@ use Rattle.meter_workers.specs.declared.worker.Worker.{Worker}
 use Rattle.meter_workers.specs.declared.worker.WorkState.TheVariants.{Going, Finished}
 use Rattle.meter_workers.proofs.Taken.{all_popped, all_pushed}
 use Rattle.meter_workers.proofs.Sharing.{moved-front}
-use Rattle.meter_workers.proofs.worker.unseat_workers.Given as given
 use Rattle.meter_workers.proofs.worker.unseat_workers.Goals as goal
 
 pub loop-worker-preserved : goal.loop-worker-preserved
