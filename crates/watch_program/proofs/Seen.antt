@@ -1,7 +1,7 @@
 -- What was held are flows of some of the packets.
-use Rattle.std.proofs.Common.{◌≡◌, ℕ, List, [], ◌∷◌, ◌++◌, flat_map, All, sym, ap, ◌∙◌, subst, append-nil}
+use Rattle.std.proofs.Common.{◌≡◌, ◌<◌, ℕ, zero, suc, false, arith, List, [], ◌∷◌, ◌++◌, flat_map, All, sym, ap, ◌∙◌, subst, append-nil}
 use Rattle.std.specs.List.{AllZip}
-use Rattle.std.specs.Prelude.{IsPermutation}
+use Rattle.std.specs.Prelude.{IsPermutation, ◌==◌}
 use Rattle.std.proofs.lemmas.Grind.{flat_map-append}
 use Rattle.std.proofs.lemmas.List.Elements.{All-nil, All-cons, All-head, All-tail, All-weaker}
 use Rattle.pcap_reader.specs.File.{IsCaptureOf, capture_file}
@@ -103,3 +103,8 @@ pub seen-still : (answer : Answer) (old new : Note) (answers after : List Answer
 seen-still answer old new answers after is seen more =
     seen-now answer old new is ∙ ap (λ l. l ++ flow_in answer) seen
     ∙ sym (ap held_in more ∙ more-held answers answer)
+
+-- a number that isn't 0
+pub some-there : (n : ℕ) → (n == 0) ≡ false → 0 < n
+some-there zero e = absurd cc
+some-there (suc n) e = omega arith

@@ -1,15 +1,17 @@
-use Rattle.std.proofs.Common.{◌∙◌, ◌<◌, ◌%◌, length, rules}
+use Rattle.std.proofs.Common.{◌<◌, ◌%◌, ◌∙◌, sym, length, mod-lt, rules}
 use Rattle.meter_workers.proofs.Taken.{all_pushed}
 use Rattle.flow_watch.specs.Watching.{note_of}
 use Rattle.watch_program.specs.Answers.{IsSound}
-use Rattle.watch_program.proofs.Seen.{asker-still, seen-still}
+use Rattle.watch_program.proofs.Seen.{asker-still, seen-still, some-there}
 use Rattle.watch_program.proofs.Turns.{next-in-turn}
 use Rattle.watch_program.proofs.asking.ask_in_turn.Goals as goal
 
 pub loop-k-preserved : goal.loop-k-preserved
 loop-k-preserved g c =
     let before = c.loop-k.invariant in
-    let below : c.loop-k.k % length c.args.keys.now < length c.args.keys.now = search rules in
+    let some : 0 < length c.args.keys.now = some-there (length c.args.keys.now)
+    (sym c.is_empty.ensures ∙ c.if-is_empty.false) in
+    let below : c.loop-k.k % length c.args.keys.now < length c.args.keys.now = mod-lt c.loop-k.k some in
     record {
       of = c.ask-answer.ensures.of;
       idle = c.ask-answer.ensures.idle;

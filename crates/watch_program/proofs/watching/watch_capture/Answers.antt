@@ -68,5 +68,5 @@ returns-clause-answered g c =
           (subst (All (IsOfSome limits packets)) seen
           (of-file c.args.bytes.now (file_of c.args.capture.now)
           (λ file. All (IsOfSome limits (packets_of file)) (shown_of c.at_once-asking.result.0.pass).note.seen)
-          c.requires.capture.0 c.in_ok-total_behind.ensures.seen));
+          c.requires.capture.0 c.in_ok-packets.ensures.seen));
     }
