@@ -9,8 +9,8 @@ use std::alloc::Global;
 use std::marker::Model;
 use std::mem::replace;
 
-/// How many fragments a piece has room for: over 32 MiB of them, which the C library maps by themselves, so that what of
-/// the room isn't filled takes no memory, and what is let go of it is given back to the system.
+/// How many fragments a piece has room for. That is over 32 MiB, which the C library maps by itself: what of the room
+/// isn't filled takes no memory, and what is let go of it is given back to the system.
 const PIECE: usize = 350_000;
 
 /// A list of fragments, in pieces: those before the last, and the last, which grows. Contracts see it as the list.

@@ -15,8 +15,8 @@ use Rattle.record_ledger.specs.Order.{joining_order, written_order}
 abbrev pub parts_with : FlowKey → List Fragment → List Fragment
 parts_with key parts = filter (λ f. is_eq (key_order f.key key)) parts
 
--- What becomes of fragments, the latest of them first, when one more comes: where it is joinable with the latest, the two
--- are joined, and the whole comes in its turn to those before; else it stands behind them.
+-- What becomes of fragments, the latest of them first, when one more comes: where it is joinable with the latest, the
+-- two are joined, and the whole comes in its turn to those before; else it stands behind them.
 abbrev pub ComesTo : Timeouts → List Fragment → Fragment → List Fragment → Type 0
 ComesTo limits [] part after = after ≡ part ∷ []
 ComesTo limits (latest ∷ earlier) part after =
@@ -30,8 +30,8 @@ AllComeTo limits before [] after = after ≡ before
 AllComeTo limits before (part ∷ line) after =
     (next : List Fragment) × ComesTo limits before part next × AllComeTo limits next line after
 
--- The wholes, in their order, are what becomes of the fragments, whatever their order: in the order of joining, each comes
--- to those before it.
+-- The wholes, in their order, are what becomes of the fragments, whatever their order: in the order of joining, each
+-- comes to those before it.
 pub record AreJoined (limits : Timeouts) (parts wholes : List Fragment) : Type 0 where
   pub line : List Fragment
   pub same : IsPermutation parts line
@@ -40,7 +40,8 @@ pub record AreJoined (limits : Timeouts) (parts wholes : List Fragment) : Type 0
 
 -- The records are what is gathered of the fragments: they stand in the written order, those of each key are what becomes
 -- of the fragments of this key, and each has its reason, by the next one of its key and the clock.
-pub record IsGathered (limits : Timeouts) (clock : ℕ) (parts : List Fragment) (records : List FlowRecord) : Type 0 where
+pub record IsGathered (limits : Timeouts) (clock : ℕ) (parts : List Fragment)
+    (records : List FlowRecord) : Type 0 where
   pub ordered : IsSorted written_order records
   pub joined : (key : FlowKey) → AreJoined limits (parts_with key parts) (parts_of (of_key key records))
   pub reasons : (key : FlowKey) → EachWithNext (HasReason limits clock) (of_key key records)

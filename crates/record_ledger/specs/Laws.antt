@@ -1,5 +1,6 @@
 -- Laws about lawful lists.
-use Rattle.std.specs.Prelude.{◌≡◌, ◌≢◌, ◌↔◌, ℕ, Bool, List, ◌++◌, Option, filter, All, AllPairs, IsPermutation, IsSorted}
+use Rattle.std.specs.Prelude.{◌≡◌, ◌≢◌, ◌↔◌, ℕ, Bool, List, ◌++◌, Option, filter, All, AllPairs, IsPermutation}
+use Rattle.std.specs.Prelude.{IsSorted}
 use Rattle.std.specs.declared.cmp.Ordering.TheVariants.{Less}
 use Rattle.flow_key.specs.declared.key.FlowKey.{FlowKey}
 use Rattle.packet_accept.specs.Clock.{IsClock}

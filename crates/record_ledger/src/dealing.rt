@@ -22,8 +22,8 @@ const LET_GO: usize = 4096;
 
 /// Fragments as records, with no reason yet, each in the bucket that its key is of.
 ///
-/// The rooms of the buckets are taken first, and filled while those of the pieces are let go: so what is held at a time is
-/// hardly more than the records.
+/// The rooms of the buckets are taken first, and filled while those of the pieces are let go: so what is held at a time
+/// is hardly more than the records.
 pub fn deal(alloc: Global, parts: PartList) -> Result<Vec<Vec<FlowRecord>>, NoMemory>
     ensures { IfOk result (λ buckets. AreDealt parts buckets.items) }
 {

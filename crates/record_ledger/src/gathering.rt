@@ -21,19 +21,19 @@ use std::thread::Threads;
 
 /// Gathers fragments into flow records.
 ///
-/// The fragments of one key are joined as long as two that follow each other by their last times are joinable; where last
-/// times are equal, by first times, packets, octets and flags, so that the order of `parts` plays no part. Each
+/// The fragments of one key are joined as long as two that follow each other by their last times are joinable; where
+/// last times are equal, by first times, packets, octets and flags, so that the order of `parts` plays no part. Each
 /// record gets its reason: [`END_OF_FLOW`](crate::END_OF_FLOW) where one of its packets ends the flow; else
-/// [`IDLE_TIMEOUT`](crate::IDLE_TIMEOUT) where the next record of its key begins more than the idle time-out after its
-/// last packet, or where there is none and `clock` is more than the idle time-out after it;
+/// [`IDLE_TIMEOUT`](crate::IDLE_TIMEOUT) where the next record of its key begins more than the idle time-out after
+/// its last packet, or where there is none and `clock` is more than the idle time-out after it;
 /// [`ACTIVE_TIMEOUT`](crate::ACTIVE_TIMEOUT) where the next record of its key begins sooner; and else
-/// [`FORCED_END`](crate::FORCED_END). The records stand in the written order, by last time, then by key. `clock` is the
-/// time of the latest packet of all, in milliseconds; `None` without a packet. It is taken as given, also where `parts`
-/// are but some of the fragments: those of some keys, of which all are there.
+/// [`FORCED_END`](crate::FORCED_END). The records stand in the written order, by last time, then by key. `clock` is
+/// the time of the latest packet of all, in milliseconds; `None` without a packet. It is taken as given, also where
+/// `parts` are but some of the fragments: those of some keys, of which all are there.
 ///
-/// The fragments are dealt to buckets by their keys, and `threads` threads at most sort, join and give reasons there.
-/// It takes the time of sorting. The fragments of `parts` are let go as soon as they are dealt; held are a record for each
-/// part, and 24 bytes for its place in the order.
+/// The fragments are dealt to buckets by their keys; `threads` threads at most sort, join and give reasons there, and
+/// then sort the places of all records. It takes the time of sorting. The fragments of `parts` are let go as soon as
+/// they are dealt; held are a record for each part, and 24 bytes for its place in the order.
 ///
 /// # Errors
 ///
@@ -61,5 +61,5 @@ pub fn gather<R: Threads + Sync>(
 {
     let mut buckets = deal(alloc, parts)?;
     settle_all(rt, &mut buckets, &timeouts, clock.unwrap_or(0), threads);
-    RecordList::in_order(alloc, buckets)
+    RecordList::in_order(rt, alloc, buckets, threads)
 }

@@ -27,8 +27,8 @@ pub fn lawful_lists_go_together()
     ensures together { LawfulTogether }
 {}
 
-/// What is gathered of fragments is one list of records, whatever the order of the fragments. What is gathered of those of
-/// some keys are the records of these keys, of all that are gathered.
+/// What is gathered of fragments is one list of records, whatever the order of the fragments. What is gathered of those
+/// of some keys are the records of these keys, of all that are gathered.
 pub fn gathered_lists_are_one()
     ensures one { GatheredIsOne }
     ensures any_order { GatheredInAnyOrder }

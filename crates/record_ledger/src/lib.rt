@@ -4,12 +4,12 @@
 //! neighbours are joinable, gives each record the reason why its flow ended, and puts the records into the written
 //! order: by the time of the last packet, then by key. The list *regroups* the fragments, and it is *lawful* for every
 //! list of packets that the fragments share out. Where neither the active time-out nor a packet that ends its flow cuts
-//! a session, there is one lawful list: that of the sessions' records (`specs/Sessions.antt`). Wherever these cut, which
-//! list is gathered depends on the fragments and the clock alone, key by key (`specs/Gathered.antt`).
+//! a session, there is one lawful list: that of the sessions' records (`specs/Sessions.antt`). Where one of these cuts,
+//! which list is gathered depends on the fragments and the clock alone, key by key (`specs/Gathered.antt`).
 //!
 //! The fragments are dealt to buckets by their keys, so that all fragments of one key lie in one bucket. Threads settle
 //! the buckets: each is sorted by key, its front is the stack of what is joined, and its records get their reasons. A
-//! [`RecordList`] leaves the records there and holds their order beside them, as small places.
+//! [`RecordList`] leaves the records there and holds their order beside them, as small places, which threads sort.
 //!
 //! [`laws`] holds laws about lawful lists, as contracts.
 #![tactic(auto)]
@@ -25,6 +25,7 @@ mod reasons;
 mod record;
 mod record_list;
 mod settling;
+mod sorting;
 
 pub use gathering::gather;
 pub use no_memory::NoMemory;

@@ -12,22 +12,13 @@ use crate::record::FlowRecord;
 use flow_parts::Fragment;
 use std::cmp::Ordering;
 
-/// Sorts records into the order in which they are joined: by key, then by last time, then by all else, so that the order
-/// of those that are equal by key and last time is given too.
+/// Sorts records into the order in which they are joined: by key, then by last time, then by all else, so that there is
+/// one order of those, too, that have one key and one last time.
 pub fn sort_by_key(records: &mut Vec<FlowRecord>)
     ensures permutation { IsPermutation records.old.items records.new.items }
     ensures order { IsSorted (λ (one other : FlowRecord). joining_order one.part other.part) records.new.items }
 {
     records.sort_unstable_by(|one, other| by_key(one, other));
-}
-
-/// Sorts places into the written order of their records: by last time, which is in the place, and only where two tie by
-/// the keys, which are looked up in the buckets. Records that tie by both stay in the order of the buckets.
-pub fn sort_places(buckets: &[Vec<FlowRecord>], order: &mut Vec<Place>)
-    ensures permutation { IsPermutation order.old.items order.new.items }
-    ensures order { IsSorted (place_order buckets.now) order.new.items }
-{
-    order.sort_unstable_by(|one, other| by_place(buckets, one, other));
 }
 
 /// How two records stand in the order of joining.
@@ -53,8 +44,9 @@ fn by_numbers(one: &Fragment, other: &Fragment) -> Ordering
     one.last.cmp(&other.last).then(times)
 }
 
-/// How two places stand by last time, then by the keys of their records, then by where they are.
-fn by_place(buckets: &[Vec<FlowRecord>], one: &Place, other: &Place) -> Ordering
+/// How two places stand in the written order of their records: by last time, which is in the place, and only where two
+/// tie by the keys, which are looked up in the buckets. Those of records that tie by both stand as they lie there.
+pub fn by_place(buckets: &[Vec<FlowRecord>], one: &Place, other: &Place) -> Ordering
     ensures { result ≡ place_order buckets.now one.now other.now }
 {
     match one.last.cmp(&other.last) {

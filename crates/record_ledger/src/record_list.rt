@@ -6,13 +6,14 @@ ghost use Rattle.record_ledger.specs.Buckets.{records_of, EndInTurn};
 ghost use Rattle.record_ledger.specs.Lawful.{of_key};
 ghost use Rattle.record_ledger.specs.Order.{written_order};
 
-use crate::orders::sort_places;
 use crate::place::Place;
 use crate::placing::places_of;
 use crate::record::FlowRecord;
+use crate::sorting::sort_places;
 use no_memory::NoMemory;
 use std::alloc::Global;
 use std::marker::Model;
+use std::thread::Threads;
 
 /// Records in the written order: by last time, then by key. Contracts see it as the list.
 ///
@@ -36,10 +37,12 @@ impl Model for RecordList {
 }
 
 impl RecordList {
-    /// The records of some buckets, put into the written order.
-    pub(crate) fn in_order(
+    /// The records of some buckets, put into the written order by so many threads.
+    pub(crate) fn in_order<R: Threads + Sync>(
+        rt: &R,
         alloc: Global,
         buckets: Vec<Vec<FlowRecord>>,
+        threads: usize,
     ) -> Result<RecordList, NoMemory>
         ensures permutation { IfOk result (λ records. IsPermutation (records_of buckets.items) records) }
         ensures order { IfOk result (λ records. IsSorted written_order records) }
@@ -47,7 +50,7 @@ impl RecordList {
             → (key : FlowKey) → of_key key (records_of buckets.items) ≡ of_key key records) }
     {
         let mut order = places_of(alloc, &buckets)?;
-        sort_places(&buckets, &mut order);
+        sort_places(rt, &buckets, &mut order, threads);
         Ok(RecordList { buckets, order })
     }
 

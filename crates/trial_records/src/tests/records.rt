@@ -224,6 +224,24 @@ fn joins_again_below(rt: HostRuntime) -> Result<(), Fail> {
     Ok(())
 }
 
+/// Two fragments that end at one time, each longer than the active time-out, aren't joined: they stand by their first
+/// times, in whatever order they come.
+#[test]
+fn ties_stand_by_first_time(rt: HostRuntime) -> Result<(), Fail> {
+    let one = wide_fragment(4000, 0, 2_000_000);
+    let other = wide_fragment(4000, 100_000, 2_000_000);
+    let wanted = [
+        (4000, 2, 0, 2_000_000, 2),
+        (4000, 2, 100_000, 2_000_000, 4),
+    ];
+    let parts = [one, other];
+    assert!(rt; are_few(&parts));
+    expect_on(&rt, rt.alloc(), &parts, Some(2_000_000), &wanted, 1)?;
+    let turned = [other, one];
+    assert!(rt; are_few(&turned));
+    expect_on(&rt, rt.alloc(), &turned, Some(2_000_000), &wanted, 1)
+}
+
 #[test]
 fn web_exchange(rt: HostRuntime) -> Result<(), Fail> {
     let start = 1_700_000_000_000;

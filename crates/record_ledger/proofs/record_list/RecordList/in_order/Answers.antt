@@ -7,7 +7,7 @@ use Rattle.record_ledger.proofs.Placed.{all_sorted, key_in_order}
 use Rattle.record_ledger.proofs.record_list.RecordList.in_order.Goals as goal
 
 pub invariant_of-result : goal.invariant_of-result
-invariant_of-result c =
+invariant_of-result g c =
     let bs : List Bucket = c.args.buckets.items in
     (all_sorted bs c.in_ok-order.order.items c.sort_places.new.order.items
     (subst (λ bs. AllZip (IsPlaceOf bs) (records_of bs) c.in_ok-order.order.items) c.deref.ensures.value
@@ -17,7 +17,7 @@ invariant_of-result c =
     c.sort_places.ensures.order)).0
 
 pub returns-clause-permutation : goal.returns-clause-permutation
-returns-clause-permutation c =
+returns-clause-permutation g c =
     let bs : List Bucket = c.args.buckets.items in
     (all_sorted bs c.in_ok-order.order.items c.sort_places.new.order.items
     (subst (λ bs. AllZip (IsPlaceOf bs) (records_of bs) c.in_ok-order.order.items) c.deref.ensures.value
@@ -27,7 +27,7 @@ returns-clause-permutation c =
     c.sort_places.ensures.order)).1
 
 pub returns-clause-order : goal.returns-clause-order
-returns-clause-order c =
+returns-clause-order g c =
     let bs : List Bucket = c.args.buckets.items in
     (all_sorted bs c.in_ok-order.order.items c.sort_places.new.order.items
     (subst (λ bs. AllZip (IsPlaceOf bs) (records_of bs) c.in_ok-order.order.items) c.deref.ensures.value
@@ -37,7 +37,7 @@ returns-clause-order c =
     c.sort_places.ensures.order)).2
 
 pub returns-clause-by_key : goal.returns-clause-by_key
-returns-clause-by_key c = λ up key.
+returns-clause-by_key g c = λ up key.
     let bs : List Bucket = c.args.buckets.items in
     key_in_order bs key c.in_ok-order.order.items c.sort_places.new.order.items
     (subst (λ bs. AllZip (IsPlaceOf bs) (records_of bs) c.in_ok-order.order.items) c.deref.ensures.value
