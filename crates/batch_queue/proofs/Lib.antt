@@ -1,3 +1,4 @@
 pub mod Lists
 pub mod Queueing
 pub mod Saying
+pub mod Passing

@@ -2,3 +2,4 @@ pub mod Batches
 pub mod Queueing
 pub mod Saying
 pub mod Passes
+pub mod Uniting

@@ -11,6 +11,7 @@ use atomic_table::{Seat, Table};
 use crossbeam_queue::{Pass, RuledArrayQueue};
 use std::alloc::Global;
 
+mod all;
 mod calls;
 
 /// A queue of batches.

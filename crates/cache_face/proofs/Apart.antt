@@ -1,6 +1,6 @@
 -- A list of lists with one of them written anew.
 use Rattle.std.proofs.Common.{◌≡◌, ◌≢◌, ℕ, zero, suc, ◌+◌, List, [], ◌∷◌, ◌++◌, flat_map, sum_by, set, sym, refl, ap}
-use Rattle.std.proofs.Common.{◌∙◌, ◌<◌, length, subst, arith, append_assoc, All, IsPermutation}
+use Rattle.std.proofs.Common.{◌∙◌, ◌<◌, length, get_or, subst, arith, append_assoc, All, IsPermutation}
 use Rattle.std.proofs.lemmas.List.{append-nil}
 use Rattle.std.proofs.lemmas.List.Concat.{flat_map-append, flat_map-cons}
 use Rattle.std.proofs.lemmas.List.Sorted.{IsPermutation-refl, IsPermutation-trans, IsPermutation-append_left}
@@ -97,6 +97,12 @@ elsewhere (x ∷ xs) zero zero a b ne e = absurd (ne refl)
 elsewhere (x ∷ xs) zero (suc j) a b ne e = e
 elsewhere (x ∷ xs) (suc i) zero a b ne e = e
 elsewhere (x ∷ xs) (suc i) (suc j) a b ne e = elsewhere xs i j a b (λ s. ne (ap suc s)) e
+
+-- an element below the length stands at its place
+pub element_at : {A : Type 0} (l : List A) (i : ℕ) (d : A) → i < length l → get_elem? l i ≡ some (get_or l i d)
+element_at [] i d low = absurd (omega (arith, low))
+element_at (x ∷ xs) zero d low = refl
+element_at (x ∷ xs) (suc i) d low = element_at xs i d (omega (arith, low))
 
 -- where an element stands at a place, the place is below the length
 pub below : {A : Type 0} (l : List A) (i : ℕ) (a : A) → get_elem? l i ≡ some a → i < length l

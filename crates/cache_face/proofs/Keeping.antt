@@ -111,7 +111,7 @@ taken_is_small note own can =
     let bounded = can.bounded in (omega (arith, room), omega (arith, room, bounded))
 
 -- pieces put together in another order
-swapped : {B : Type 0} (a t r : List B) → IsPermutation ((a ++ t) ++ r) ((a ++ r) ++ t)
+pub swapped : {B : Type 0} (a t r : List B) → IsPermutation ((a ++ t) ++ r) ((a ++ r) ++ t)
 swapped a t r = subst (λ l. IsPermutation l ((a ++ r) ++ t)) (sym (append_assoc a t r))
     (subst (λ l. IsPermutation (a ++ (t ++ r)) l) (sym (append_assoc a r t))
     (IsPermutation-append_right a (t ++ r) (r ++ t) (IsPermutation-append_comm t r)))
@@ -303,7 +303,7 @@ module _ (limits : Timeouts) (sets : ℕ) (contents : List (List ℕ)) (notes : 
 pub keeps_passed : KeepsPassed
 keeps_passed limits sets contents notes i note own keeps at can = passed limits sets contents notes i note own keeps at can
 
-joins_in : (limits : Timeouts) (own kept : Fragment) (entry : Option Fragment)
+pub joins_in : (limits : Timeouts) (own kept : Fragment) (entry : Option Fragment)
     → MatchOption entry ⊥ (λ old. IsJoinable limits old own × IsJoined old own kept)
     → (old : Fragment) × (entry ≡ Some old) × IsJoinable limits old own × IsJoined old own kept
 joins_in limits own kept None h = absurd h

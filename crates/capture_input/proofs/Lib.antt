@@ -1,3 +1,4 @@
 pub mod Filling
 pub mod Walk
 pub mod Given
+pub mod Ranges

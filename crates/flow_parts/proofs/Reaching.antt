@@ -1,10 +1,11 @@
 -- What stands when fragments are permuted and joined.
-use Rattle.std.proofs.Common.{◌≡◌, ℕ, List, ◌∷◌, ◌++◌, length, sum_by, sym, ◌∙◌, ap, arith}
+use Rattle.std.proofs.Common.{◌≡◌, ℕ, List, ◌∷◌, ◌++◌, length, sum_by, sym, ◌∙◌, ap, subst, arith, append_assoc}
 use Rattle.std.proofs.Common.{IsPermutation}
 use Rattle.std.proofs.lemmas.List.{nil_from_length}
 use Rattle.std.proofs.lemmas.List.Sums.{sum_by-cons}
 use Rattle.std.proofs.lemmas.List.Sorted.{sum_by-IsPermutation, length_permutation, IsPermutation-refl}
 use Rattle.std.proofs.lemmas.List.Sorted.{IsPermutation-sym, IsPermutation-append_left, IsPermutation-append_comm}
+use Rattle.std.proofs.lemmas.List.Sorted.{IsPermutation-middle}
 use Rattle.packet_accept.specs.declared.packet.Packet.{Packet}
 use Rattle.flow_parts.specs.declared.fragment.Fragment.{Fragment}
 use Rattle.flow_parts.specs.declared.timeouts.Timeouts.{Timeouts}
@@ -59,6 +60,15 @@ module _ (limits : Timeouts) where
   both F G R W r q = onward (F ++ R) (G ++ R) (G ++ W) (beside F G R r)
       (turned (R ++ G) (G ++ R) (W ++ G) (G ++ W) (IsPermutation-append_comm R G) (IsPermutation-append_comm W G)
       (beside R W G q))
+
+  -- what left the front of a list stands behind others
+  pub put_behind : (f : Fragment) (taken out F G : List Fragment) → Reaches limits (f ∷ F) (out ++ G)
+      → Reaches limits (f ∷ (taken ++ F)) ((taken ++ out) ++ G)
+  put_behind f taken out F G r =
+      subst (λ (l : List Fragment). Reaches limits (f ∷ (taken ++ F)) l) (sym (append_assoc taken out G))
+      (turned (taken ++ f ∷ F) (f ∷ (taken ++ F)) (taken ++ (out ++ G)) (taken ++ (out ++ G))
+      (IsPermutation-middle taken f F) (IsPermutation-refl (taken ++ (out ++ G)))
+      (both taken taken (f ∷ F) (out ++ G) (itself taken) r))
 
   pub none_left : (F G : List Fragment) → Reaches limits F G → length G ≡ 0 → length F ≡ 0
   none_left F G (moved _ _ s) e = sym (length_permutation F G s) ∙ e

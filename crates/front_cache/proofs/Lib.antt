@@ -1,4 +1,2 @@
 pub mod Emptying
 pub mod Putting
-pub mod Two
-pub mod Words

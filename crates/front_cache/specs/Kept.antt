@@ -6,7 +6,7 @@ use Rattle.flow_parts.specs.declared.timeouts.Timeouts.{Timeouts}
 use Rattle.flow_parts.specs.Parts.{part_words}
 use Rattle.cache_face.specs.declared.metered.How.{How}
 use Rattle.cache_face.specs.Choice.{IsChoice, entry_at}
-use Rattle.cache_face.specs.Keeping.{IsWhole, IsBounded, entry_of}
+use Rattle.cache_face.specs.Keeping.{IsWhole, IsBounded, IsEmptyContent, entry_of}
 
 -- There are 4,096 contents; each is whole, and what it shows is bounded. Those below `next` are empty.
 pub record IsKept (contents : List (List ℕ)) (next : ℕ) : Type 0 where
@@ -15,6 +15,13 @@ pub record IsKept (contents : List (List ℕ)) (next : ℕ) : Type 0 where
   pub bounded : All (λ content. IfSome (entry_of content) IsBounded) contents
   pub within : next ≤ 4096
   pub emptied : (place : ℕ) → place < next → IsNone (entry_at (map entry_of contents) place)
+
+-- The place is that of the lowest content from `next` on that isn't empty, or their number.
+pub record IsNextOpen (contents : List (List ℕ)) (next place : ℕ) : Type 0 where
+  pub from : next ≤ place
+  pub within : place ≤ length contents
+  pub empty : (lower : ℕ) → next ≤ lower → lower < place → IsEmptyContent (slice_index_or contents lower [])
+  pub full : place < length contents → ¬ IsEmptyContent (slice_index_or contents place [])
 
 -- The two entries that the contents from `first` on show.
 abbrev pub two_shown : List (List ℕ) → ℕ → List (Option Fragment)

@@ -2,6 +2,7 @@
 
 ghost use Rattle.std.specs.Prelude.{◌≡◌, ◌↔◌, ◌+◌, ◌<◌, ℕ, [], ◌∷◌, All, IsTrue, MatchOption, None, length, slice_index_or};
 ghost use Rattle.std.specs.Bool.{OnTrue, OnFalse};
+ghost use Rattle.std.specs.Prelude.{IfNone, IfSome};
 ghost use Rattle.flow_key.specs.Key.{words_of};
 ghost use Rattle.flow_parts.specs.Parts.{part_words, IsJoined};
 ghost use Rattle.flow_parts.specs.declared.fragment.Fragment.{Fragment};
@@ -44,26 +45,32 @@ fn take_into(timeouts: &Timeouts, content: &mut [u64; 10], words: &[u64; 5], own
     }
 }
 
-/// Takes a fragment into the lower of the two contents from `first` on that can take it in, and tells whether one did.
+/// Takes a fragment into the lower of the two contents from `first` on that can take it in, and gives its place, if one
+/// did.
 #[inline(always)]
-pub(crate) fn take_into_one(
+fn take_into_one(
     timeouts: &Timeouts,
     contents: &mut [[u64; 10]],
     first: usize,
     words: &[u64; 5],
     own: &Fragment,
-) -> bool
+) -> Option<usize>
     requires both { first + 1 < length contents.old }
     requires whole { All IsWhole contents.old }
     requires words { words.now ≡ words_of own.now.key }
     requires small { IsSmall own.now }
-    ensures taken { OnTrue result ((place : ℕ)
-        × IsPutIn timeouts.now contents.old contents.new first own.now Joined place None) }
-    ensures left { OnFalse result ((contents.new ≡ contents.old)
+    ensures taken { IfSome result
+        (λ place. IsPutIn timeouts.now contents.old contents.new first own.now Joined place None) }
+    ensures left { IfNone result ((contents.new ≡ contents.old)
         × HasNone (CanJoin timeouts.now own.now) (two_shown contents.old first)) }
 {
-    take_into(timeouts, &mut contents[first], words, own)
-        || take_into(timeouts, &mut contents[first + 1], words, own)
+    if take_into(timeouts, &mut contents[first], words, own) {
+        return Some(first);
+    }
+    if take_into(timeouts, &mut contents[first + 1], words, own) {
+        return Some(first + 1);
+    }
+    None
 }
 
 /// Whether the content shows a fragment of the key with these words.
@@ -111,7 +118,7 @@ fn entry_to_open(
 
 /// Opens one of the two contents from `first` on, where neither can take the fragment in. What it showed leaves.
 #[inline(always)]
-pub(crate) fn open_one(
+fn open_one(
     _timeouts: &Timeouts,
     contents: &mut [[u64; 10]],
     first: usize,
@@ -135,4 +142,26 @@ pub(crate) fn open_one(
     let out = put_out(How::Replaced, &contents[place]);
     contents[place] = own.to_words();
     (place, out)
+}
+
+/// Puts a fragment in by the choice over the two contents from `first` on. The place of the one that it is in then, and
+/// what left that.
+#[inline(always)]
+pub(crate) fn put_into(
+    timeouts: &Timeouts,
+    contents: &mut [[u64; 10]],
+    first: usize,
+    words: &[u64; 5],
+    own: &Fragment,
+) -> (usize, Option<Fragment>)
+    requires both { first + 1 < length contents.old }
+    requires whole { All IsWhole contents.old }
+    requires words { words.now ≡ words_of own.now.key }
+    requires small { IsSmall own.now }
+    ensures { (how : How) × IsPutIn timeouts.now contents.old contents.new first own.now how result.0 result.1 }
+{
+    match take_into_one(timeouts, contents, first, words, own) {
+        Some(place) => (place, None),
+        None => open_one(timeouts, contents, first, words, own),
+    }
 }

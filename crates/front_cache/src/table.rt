@@ -11,9 +11,9 @@ ghost use Rattle.flow_parts.specs.declared.timeouts.Timeouts.{Timeouts};
 ghost use Rattle.cache_face.specs.Keeping.{IsBounded, IsEmptyContent, IsSmall, IsWhole, entry_of, packet_count};
 ghost use Rattle.cache_face.specs.declared.metered.How.{How};
 ghost use Rattle.front_cache.specs.Fronts.{IsTakenIn, entries_of, open_in, parts_in, place_of};
-ghost use Rattle.front_cache.specs.Kept.{IsKept};
+ghost use Rattle.front_cache.specs.Kept.{IsKept, IsNextOpen};
 
-use crate::contents::{open_one, take_into_one};
+use crate::contents::put_into;
 use cache_face::How;
 use flow_parts::{Fragment, Timeouts};
 use no_memory::NoMemory;
@@ -63,11 +63,7 @@ fn empty_contents(alloc: Global, count: usize) -> Result<Vec<[u64; 10]>, NoMemor
 /// The lowest content from `next` on that isn't empty, or their number.
 fn next_open(contents: &[[u64; 10]], next: usize) -> usize
     requires { next ≤ length contents.now }
-    ensures from { next ≤ result }
-    ensures within { result ≤ length contents.now }
-    ensures empty { (place : ℕ) → next ≤ place → place < result
-        → IsEmptyContent (slice_index_or contents.now place []) }
-    ensures found { result < length contents.now → ¬ IsEmptyContent (slice_index_or contents.now result []) }
+    ensures { IsNextOpen contents.now next result }
 {
     for place in next..contents.len() {
         if contents[place][5] != 0 {
@@ -126,10 +122,7 @@ impl Front {
         let words = own.key.to_words();
         let first = 2 * own.key.set_of(PLACES) as usize;
         let contents = self.contents.as_mut_slice();
-        if take_into_one(&self.timeouts, contents, first, &words, &own) {
-            return None;
-        }
-        let (place, out) = open_one(&self.timeouts, contents, first, &words, &own);
+        let (place, out) = put_into(&self.timeouts, contents, first, &words, &own);
         self.next = self.next.min(place);
         out
     }

@@ -1,9 +1,6 @@
-pub mod Taken
-pub mod Records
-pub mod Drawn
-pub mod Sharing
-pub mod Whole
-pub mod Taking
-pub mod Metering
-pub mod Handing
 pub mod Crew
+pub mod Pieces
+pub mod Several
+pub mod Shares
+pub mod Taken
+pub mod Whole

@@ -1,7 +1,5 @@
 -- The definitions that contracts cite, a file for each subject.
-pub mod Pieces
 pub mod Shares
 pub mod Working
 pub mod Whole
 pub mod Batched
-pub mod Seats

@@ -1,5 +1,5 @@
--- What a share of the work has done.
-use Rattle.std.specs.Prelude.{◌≡◌, ◌*◌, ◌<◌, ◌≤◌, ◌^◌, List, [], ◌++◌, flat_map, All, Option, Some, None, IsPermutation}
+-- What a share of the work has done; `the` is what the type of the cache means.
+use Rattle.std.specs.Prelude.{◌≡◌, ℕ, ◌*◌, ◌<◌, ◌≤◌, ◌^◌, List, [], ◌++◌, flat_map, All, Option, Some, None, IsPermutation}
 use Rattle.std.specs.List.{AllZip}
 use Rattle.packet_accept.specs.declared.packet.Packet.{Packet}
 use Rattle.packet_accept.specs.Packets.{packets_in}
@@ -8,6 +8,7 @@ use Rattle.flow_parts.specs.declared.timeouts.Timeouts.{Timeouts}
 use Rattle.flow_parts.specs.Sharing.{SharesOut}
 use Rattle.capture_tally.specs.Tallies.{IsTallyOf}
 use Rattle.cache_face.specs.Meaning.{PassMeans}
+use Rattle.cache_face.specs.declared.caches.FlowCache.{Ghosts}
 use Rattle.front_cache.specs.Fronts.{FrontMeans, open_in}
 use Rattle.capture_input.specs.Parts.{Answer}
 use Rattle.meter_workers.specs.declared.share.Share.{Share}
@@ -30,28 +31,32 @@ put_by pass front = pass.note.taken ++ open_of front
 abbrev pub AreSmall : List Packet → Type 0
 AreSmall packets = All (λ p. p.octets < 2 ^ 24) packets
 
--- These answers were metered and tallied: what was put in shares out their packets, the list is just what the pass was
--- handed, and the tally is theirs.
-pub record HasMetered {X P : Type 0} (shown : P → PassMeans) (limits : Timeouts) (answers : List Answer)
+-- A pass of one seat of the cache, and a front with its time-outs, or none.
+pub record IsSeatOf {X P : Type 0} (the : Ghosts X P) (cache : X) (pass : P) (front : Option FrontMeans) : Type 0 where
+  pub own : the.is_of cache pass
+  pub single : (the.shown pass).note.seats ≡ 1
+  pub front_is : HasLimits (the.means cache).limits front
+
+-- A share of one seat or several, which have metered and tallied these answers: what was put in shares out their
+-- packets, the list is just what the pass was handed, and the tally is theirs.
+pub record AreSharesOf {X P : Type 0} (the : Ghosts X P) (cache : X) (answers : List Answer)
     (share : Share X P) : Type 0 where
-  pub shared : SharesOut limits (packets_in answers) (put_by (shown share.pass) share.front)
-  pub handed : share.parts ≡ (shown share.pass).note.handed
+  pub shared : SharesOut (the.means cache).limits (packets_in answers) (put_by (the.shown share.pass) share.front)
+  pub handed : share.parts ≡ (the.shown share.pass).note.handed
   pub tallied : IsTallyOf share.tally answers
   pub small : AreSmall (packets_in answers)
-  pub few : share.tally.captured ≤ (shown share.pass).note.seats * 2 ^ 32
+  pub few : share.tally.captured ≤ (the.shown share.pass).note.seats * 2 ^ 32
 
--- A pass of one seat, of this cache, and a front with its time-outs, or none.
-pub record IsSeated {P : Type 0} (is_of : P → Type 0) (shown : P → PassMeans) (limits : Timeouts) (pass : P)
-    (front : Option FrontMeans) : Type 0 where
-  pub own : is_of pass
-  pub single : (shown pass).note.seats ≡ 1
-  pub front_is : HasLimits limits front
+-- The share of one seat of the cache, which has metered these answers.
+pub record IsShareOf {X P : Type 0} (the : Ghosts X P) (cache : X) (answers : List Answer)
+    (share : Share X P) : Type 0 where
+  pub seated : IsSeatOf the cache share.pass share.front
+  pub metered : AreSharesOf the cache answers share
 
--- The share of one seat of this cache, which has metered these answers.
-pub record IsShare {X P : Type 0} (is_of : P → Type 0) (shown : P → PassMeans) (limits : Timeouts)
-    (answers : List Answer) (share : Share X P) : Type 0 where
-  pub seated : IsSeated is_of shown limits share.pass share.front
-  pub metered : HasMetered shown limits answers share
+-- The share metered these answers besides, whatever it had metered before.
+pub record HasMetered {X P : Type 0} (the : Ghosts X P) (cache : X) (more : List Answer)
+    (old new : Share X P) : Type 0 where
+  pub besides : (done : List Answer) → IsShareOf the cache done old → IsShareOf the cache (done ++ more) new
 
 -- Several shares have metered these answers, each its own list of them.
 pub record HaveMetered {S : Type 0} (Has : List Answer → S → Type 0) (answers : List Answer)

@@ -1,6 +1,6 @@
 //! A capture that is metered while it is read.
 
-ghost use Rattle.std.specs.Prelude.{◌≡◌, ◌↔◌, ◌+◌, ◌++◌, ◌^◌, ◌<◌, ◌≤◌, [], List, ℕ, length, flat_map, All, None};
+ghost use Rattle.std.specs.Prelude.{◌≡◌, ◌↔◌, ◌+◌, ◌++◌, ◌^◌, ◌<◌, ◌≤◌, [], List, ℕ, length, All};
 ghost use Rattle.std.specs.Prelude.{IfOk, IfErr, IfSome, OnOk, IsPermutation};
 ghost use Rattle.std.specs.Thread.{IsSync};
 ghost use Rattle.std.specs.declared.option.Option.{Option};
@@ -8,21 +8,20 @@ ghost use Rattle.meter_io.specs.Sides.{side};
 ghost use Rattle.pcap_reader.specs.Index.{IsIndexOf};
 ghost use Rattle.cache_face.specs.Meaning.{IsFresh as IsFreshPass};
 ghost use Rattle.capture_input.specs.Refusals.{IsRefused, HasFaults};
-ghost use Rattle.capture_input.specs.Inputs.{side_from};
 ghost use Rattle.capture_input.specs.Parts.{Answer, answers_from};
 ghost use Rattle.capture_input.specs.Giving.{HasGiven, IsLast, part_in, base_in, size_in, left_in};
 ghost use Rattle.batch_queue.specs.Batches.{count_of};
-ghost use Rattle.batch_queue.specs.Passes.{IsPassOf, IsReaders, IsFresh, IsMore, StandsForAll, put_of, took_of};
-ghost use Rattle.batch_queue.specs.Passes.{seats_of, others_of, reader_of, IsOpen, WasTold};
+ghost use Rattle.batch_queue.specs.Passes.{IsPassOf, IsReaders, IsFresh, IsMore, StandsForAll, IsOpen, put_of, took_of};
+ghost use Rattle.batch_queue.specs.Passes.{seats_of, others_of, reader_of, WasTold};
 ghost use Rattle.batch_queue.specs.declared.batch.Batch.{Batch};
-ghost use Rattle.meter_workers.specs.Seats.{IsShareOf, AreSharesOf};
+ghost use Rattle.meter_workers.specs.Shares.{IsShareOf, HasMetered};
 ghost use Rattle.meter_workers.specs.Batched.{answers_of_batch, answers_in, IsReadyFor, IsToTake, HasTakenAll};
 ghost use Rattle.meter_workers.specs.Batched.{IsToRead, IsReading, HandsOn, IsReaderAt, HasHandedOn, HasReadAll};
 ghost use Rattle.meter_workers.specs.Batched.{IsAtQueue};
-ghost use Rattle.meter_workers.specs.Whole.{IsMeteredWhole};
+ghost use Rattle.meter_workers.specs.Whole.{HasGathered, IsMeteredWhole};
 
 use crate::gate::Gate;
-use crate::share::{Share, meter_run, open_shares, unite_all};
+use crate::share::{Share, meter_run, open_shares};
 use crate::windows::{Gathered, gather_all};
 use crate::worker::{WorkState, Worker, seat_workers, unseat_workers};
 use batch_queue::{Batch, BatchQueue, Feed, QueuePass};
@@ -113,8 +112,7 @@ fn work_batches<C: FlowCache, G: Gate, R: Wait>(
     requires ready { IsReadyFor (took_of seat.old) share.old.tally.captured }
     ensures own { IsPassOf shared.now.queue seat.new }
     ensures did { OnOk result ((more : List Batch) × IsMore [] more seat.old seat.new
-        × ((done : List Answer) → IsShareOf C.FlowCache cache.now done share.old
-        → IsShareOf C.FlowCache cache.now (done ++ answers_in more) share.new)) }
+        × HasMetered C.FlowCache cache.now (answers_in more) share.old share.new) }
     ensures all { OnOk result (StandsForAll seat.new → IsPermutation (put_of seat.new) (took_of seat.new)) }
     ensures told { OnOk result (WasTold seat.new) }
 {
@@ -442,34 +440,16 @@ fn open_crew<C: FlowCache>(
     })
 }
 
-/// One pass of the queue for the reader and all others.
-fn unite_seats(queue: &BatchQueue, reader: QueuePass, seats: Vec<QueuePass>) -> QueuePass
-    requires own { IsPassOf queue.now reader }
-    requires others { All (λ s. IsPassOf queue.now s × (put_of s ≡ []) × (seats_of s ≡ 1) × (others_of s ≡ 0))
-        seats.items }
-    ensures own { IsPassOf queue.now result }
-    ensures reader { IsReaders reader → IsReaders result }
-    ensures same { (put_of result ≡ put_of reader) × (others_of result ≡ others_of reader)
-        × (seats_of result ≡ seats_of reader + length seats.items) }
-    ensures took { IsPermutation (took_of reader ++ flat_map took_of seats.items) (took_of result) }
-{
-    let mut all = reader;
-    let mut seats = seats;
-    while let Some(seat) = seats.pop() {
-        all = queue.unite(all, seat);
-    }
-    all
-}
-
 /// What all did together, once the reader has read and the workers have worked. What is left in the queue is metered
-/// here.
+/// here. So many bytes are left behind the last record.
 fn gather<C: FlowCache, G: Gate, R: Wait>(
     rt: &R,
     alloc: Global,
     cache: &C,
     crew: Crew<C>,
+    tail: u64,
     gate: &G,
-) -> Result<Share<C>, NoMemory>
+) -> Result<Gathered<C>, NoMemory>
     requires reader { IsPassOf crew.shared.queue (reader_of crew.reader.feed) × IsReaders (reader_of crew.reader.feed)
         × (seats_of (reader_of crew.reader.feed) ≡ 1) × (took_of (reader_of crew.reader.feed) ≡ []) }
     requires many { (others_of (reader_of crew.reader.feed) ≡ length crew.workers.items)
@@ -477,10 +457,11 @@ fn gather<C: FlowCache, G: Gate, R: Wait>(
     requires handed { (answers : List Answer) × HasHandedOn C.FlowCache cache.now answers crew.reader }
     requires workers { All (HasTakenAll C.FlowCache cache.now crew.shared.queue) crew.workers.items }
     requires last { IsShareOf C.FlowCache cache.now [] crew.last }
-    ensures own { IfOk result (λ r. C.is_of cache.now r.pass × (r.front ≡ None)
+    ensures own { IfOk result (λ r. C.is_of cache.now r.pass
         × ((C.shown r.pass).note.seats ≡ length crew.workers.items + 2)) }
     ensures metered { (answers : List Answer) → HasHandedOn C.FlowCache cache.now answers crew.reader
-        → IfOk result (λ r. AreSharesOf C.FlowCache cache.now answers r) }
+        → IfOk result (HasGathered C.FlowCache cache.now answers) }
+    ensures tail { IfOk result (λ r. r.tail ≡ tail) }
 {
     let Crew {
         shared,
@@ -490,11 +471,11 @@ fn gather<C: FlowCache, G: Gate, R: Wait>(
     } = crew;
     let drain = workers.len() + 1;
     let (mut shares, seats) = unseat_workers(alloc, workers)?;
-    let mut seat = unite_seats(&shared.queue, reader.feed.into_pass(), seats);
+    let mut seat = shared.queue.unite_all(reader.feed.into_pass(), seats);
     work_batches(rt, &shared, cache, gate, drain, &mut seat, &mut last)?;
     shares.push(reader.share)?;
     shares.push(last)?;
-    unite_all(cache, shares)
+    gather_all(cache, shares, tail)
 }
 
 /// Meters a capture through a cache while it is read: the caller's thread reads it, in windows of so many bytes, into a
@@ -558,8 +539,8 @@ pub fn meter_batches<S: Source, C: FlowCache, G: Gate, R: Threads + Wait + Sync>
         workers,
         last,
     };
-    match gather(rt, alloc, cache, crew, gate) {
-        Ok(all) => Ok(gather_all(all, tail)),
+    match gather(rt, alloc, cache, crew, tail, gate) {
+        Ok(all) => Ok(all),
         Err(NoMemory) => Err(MeterFault::NoMemory),
     }
 }

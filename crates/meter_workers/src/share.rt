@@ -9,20 +9,18 @@ ghost use Rattle.cache_face.specs.Keeping.{IsBounded, packet_count};
 ghost use Rattle.cache_face.specs.Meaning.{IsFresh};
 ghost use Rattle.front_cache.specs.Fronts.{open_in};
 ghost use Rattle.capture_input.specs.Parts.{Answer, answers_by};
-ghost use Rattle.meter_workers.specs.Shares.{HaveMetered, put_by};
-ghost use Rattle.meter_workers.specs.Seats.{IsSeatOf, IsShareOf, AreSharesOf};
+ghost use Rattle.meter_workers.specs.Shares.{AreSharesOf, HasMetered, HaveMetered, IsSeatOf, IsShareOf, put_by};
 
 use cache_face::FlowCache;
 use capture_input::Part;
 use capture_tally::{Tally, order_law, room_law};
 use flow_parts::laws::{
-    reaching_goes_on, reaching_shares_out, sharing_out_counts, sharing_out_goes_on,
-    sharing_out_stands,
+    reaching_shares_out, sharing_out_counts, sharing_out_goes_on, sharing_out_stands,
 };
 use flow_parts::{Fragment, PartList, Timeouts};
 use front_cache::Front;
 use no_memory::NoMemory;
-use packet_accept::{Packet, accept, packets_law};
+use packet_accept::{Packet, accept};
 use std::alloc::Global;
 
 /// What a seat of the cache has done, or several together: its pass of the cache, its front, where it has one, the
@@ -77,8 +75,6 @@ fn meter_packet<C: FlowCache>(
     ensures handed { OnOk result (parts.old ≡ (C.shown pass.old).note.handed
         → parts.new ≡ (C.shown pass.new).note.handed) }
 {
-    reaching_goes_on();
-    reaching_shares_out();
     match front {
         Some(front) => match front.take_in(packet) {
             Some(out) => put_in(cache, pass, parts, &out),
@@ -98,11 +94,10 @@ fn meter_record<C: FlowCache>(
     requires share { (done : List Answer) × IsShareOf C.FlowCache cache.now done share.old }
     requires number { n < length part.now.index.now.offsets }
     requires room { share.old.tally.captured < 2 ^ 32 }
-    ensures share { OnOk result ((done : List Answer) → IsShareOf C.FlowCache cache.now done share.old
-        → IsShareOf C.FlowCache cache.now (done ++ slice_range (answers_by part.now) n (n + 1)) share.new) }
+    ensures share { OnOk result (HasMetered C.FlowCache cache.now (slice_range (answers_by part.now) n (n + 1))
+        share.old share.new) }
     ensures captured { OnOk result (share.new.tally.captured ≡ share.old.tally.captured + 1) }
 {
-    packets_law();
     room_law();
     sharing_out_counts();
     sharing_out_goes_on();
@@ -133,8 +128,8 @@ pub(crate) fn meter_run<C: FlowCache>(
     requires share { (done : List Answer) × IsShareOf C.FlowCache cache.now done share.old }
     requires run { (from ≤ to) × (to ≤ length part.now.index.now.offsets) }
     requires room { share.old.tally.captured + to ≤ 2 ^ 32 + from }
-    ensures share { OnOk result ((done : List Answer) → IsShareOf C.FlowCache cache.now done share.old
-        → IsShareOf C.FlowCache cache.now (done ++ slice_range (answers_by part.now) from to) share.new) }
+    ensures share { OnOk result (HasMetered C.FlowCache cache.now (slice_range (answers_by part.now) from to)
+        share.old share.new) }
     ensures captured { OnOk result (share.new.tally.captured + from ≡ share.old.tally.captured + to) }
 {
     for n in from..to {
@@ -253,7 +248,6 @@ pub(crate) fn unite<C: FlowCache>(
         → AreSharesOf C.FlowCache cache.now done share → AreSharesOf C.FlowCache cache.now rest other
         → IfOk result (λ r. AreSharesOf C.FlowCache cache.now (done ++ rest) r) }
 {
-    packets_law();
     room_law();
     sharing_out_stands();
     let mut parts = share.parts;
@@ -278,7 +272,6 @@ pub(crate) fn unite_all<C: FlowCache>(
     ensures metered { (answers : List Answer) → HaveMetered (IsShareOf C.FlowCache cache.now) answers shares.items
         → IfOk result (λ r. AreSharesOf C.FlowCache cache.now answers r) }
 {
-    packets_law();
     order_law();
     sharing_out_stands();
     let mut shares = shares;

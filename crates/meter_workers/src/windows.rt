@@ -1,26 +1,20 @@
 //! A capture that is read in windows, each metered before the next is read.
 
-ghost use Rattle.std.specs.Prelude.{◌≡◌, ◌≢◌, ◌+◌, ◌++◌, ◌^◌, ◌<◌, ◌≤◌, [], List, ℕ, length, flat_map, All};
+ghost use Rattle.std.specs.Prelude.{◌≡◌, ◌≢◌, ◌+◌, ◌++◌, ◌^◌, ◌<◌, ◌≤◌, [], List, length, All};
 ghost use Rattle.std.specs.Prelude.{IfOk, IfErr, IfSome, OnOk, IsPermutation};
 ghost use Rattle.std.specs.List.{AllZip};
-ghost use Rattle.std.specs.declared.option.Option.{Option};
 ghost use Rattle.meter_io.specs.Sides.{side};
-ghost use Rattle.pcap_reader.specs.Index.{IsIndexOf};
 ghost use Rattle.packet_accept.specs.Packets.{packets_in};
 ghost use Rattle.flow_parts.specs.Sharing.{SharesOut};
 ghost use Rattle.capture_tally.specs.Tallies.{IsTallyOf};
 ghost use Rattle.cache_face.specs.Meaning.{IsFresh as IsFreshPass};
 ghost use Rattle.capture_input.specs.Refusals.{IsRefused, HasFaults};
-ghost use Rattle.capture_input.specs.Inputs.{side_from};
-ghost use Rattle.capture_input.specs.Parts.{Answer, answers_from, answers_by};
-ghost use Rattle.capture_input.specs.Giving.{HasGiven, IsReadWhole, part_in, base_in};
-ghost use Rattle.work_pieces.specs.Dealing.{EachOnce};
-ghost use Rattle.work_pieces.specs.Passes.{IsPassOf, IsFresh, count_of, size_of, number_of, seats_in, drawn_of};
-ghost use Rattle.meter_workers.specs.Pieces.{pieces_of};
-ghost use Rattle.meter_workers.specs.Shares.{HaveMetered};
-ghost use Rattle.meter_workers.specs.Seats.{IsShareOf};
-ghost use Rattle.meter_workers.specs.Working.{IsReady, IsToDraw, HasDrawn, HasWorked, HasDrawnAll};
-ghost use Rattle.meter_workers.specs.Whole.{IsMeteredWhole};
+ghost use Rattle.capture_input.specs.Parts.{Answer, answers_by};
+ghost use Rattle.capture_input.specs.Giving.{IsReadWhole};
+ghost use Rattle.work_pieces.specs.Passes.{count_of};
+ghost use Rattle.meter_workers.specs.Shares.{IsShareOf, HaveMetered};
+ghost use Rattle.meter_workers.specs.Working.{IsReady, IsToDraw, HasWorked, HasDrawnAll};
+ghost use Rattle.meter_workers.specs.Whole.{HasGathered, IsMeteredWhole};
 
 use crate::gate::Gate;
 use crate::share::{Share, meter_run, open_shares, unite_all};
@@ -31,7 +25,6 @@ use capture_tally::Tally;
 use flow_parts::{PartList, Timeouts};
 use meter_io::Source;
 use no_memory::NoMemory;
-use pcap_reader::RecordIndex;
 use std::alloc::Global;
 use std::thread;
 use std::thread::Threads;
@@ -73,11 +66,10 @@ fn work_through<C: FlowCache, G: Gate>(
     draw: &mut DrawPass,
     share: &mut Share<C>,
 ) -> Result<(), NoMemory>
-    requires ready { IsReady (C.is_of cache.now) C.shown (C.means cache.now).limits pieces.now part.now.base share.old
-        draw.old }
+    requires ready { IsReady C.FlowCache cache.now pieces.now part.now.base share.old draw.old }
     requires whole { count_of pieces.now ≡ length part.now.index.now.offsets }
-    ensures worked { OnOk result (HasWorked (C.is_of cache.now) C.shown (C.means cache.now).limits pieces.now
-        (answers_by part.now) share.old share.new draw.new) }
+    ensures worked { OnOk result (HasWorked C.FlowCache cache.now pieces.now (answers_by part.now) share.old share.new
+        draw.new) }
 {
     while let Some(piece) = pieces.draw(draw) {
         gate.reach(number, piece.number);
@@ -146,23 +138,6 @@ fn run_workers<C: FlowCache, G: Gate, R: Threads + Sync>(
     workers
 }
 
-/// The seats of the pieces, which are all, drew each piece once.
-fn unite_draws(pieces: &Pieces, draws: Vec<DrawPass>)
-    requires drawn { All (HasDrawn pieces.now) draws.items }
-    requires all { (0 < length draws.items) × (length draws.items ≡ seats_in pieces.now) }
-    ensures { EachOnce (number_of pieces.now) (flat_map drawn_of draws.items) }
-{
-    let mut draws = draws;
-    let Some(mut all) = draws.pop() else {
-        unreachable!()
-    };
-    while let Some(draw) = draws.pop() {
-        all = pieces.unite(all, draw);
-    }
-    let all = pieces.complete(all);
-    drop(all);
-}
-
 /// Meters a part by a worker for each share, all at once. The shares, once all pieces were metered.
 fn meter_part<C: FlowCache, G: Gate, R: Threads + Sync>(
     rt: &R,
@@ -187,45 +162,34 @@ fn meter_part<C: FlowCache, G: Gate, R: Threads + Sync>(
     let workers = seat_workers(alloc, shares, draws)?;
     let workers = run_workers(rt, part, &pieces, cache, gate, workers);
     let (shares, draws) = unseat_workers(alloc, workers)?;
-    unite_draws(&pieces, draws);
+    pieces.complete_all(draws);
     Ok(shares)
 }
 
-/// Meters a capture of which the first part was read. How many bytes are left behind its last record, and the shares.
+/// Reads a capture in windows and meters each. The shares, and how many bytes are left behind the last record.
 fn meter_parts<S: Source, C: FlowCache, G: Gate, R: Threads + Sync>(
     rt: &R,
     alloc: Global,
     source: &mut S,
-    first: (Reading, RecordIndex),
     cache: &C,
     shares: Vec<Share<C>>,
-    piece: u64,
+    windows: Windows,
     gate: &G,
 ) -> Result<(Vec<Share<C>>, u64), MeterFault>
-    requires piece { (0 < piece) × (piece ≤ 65536) }
     requires some { (0 < length shares.items) × (length shares.items ≤ 64) }
-    requires part { IsIndexOf first.1 (part_in first.0) }
-    requires few { base_in first.0 + length first.1.offsets < 2 ^ 32 }
-    requires base { base_in first.0 ≡ 0 }
-    requires given { (before : Option (List ℕ)) × (limit : ℕ) × HasGiven before (S.left source.old) limit first.0
-        (answers_from 0 (part_in first.0)) }
     requires shares { All (IsShareOf C.FlowCache cache.now []) shares.items }
     ensures many { IfOk result (λ r. length r.0.items ≡ length shares.items) }
-    ensures metered { (before : Option (List ℕ)) (limit : ℕ)
-        → HasGiven before (S.left source.old) limit first.0 (answers_from 0 (part_in first.0))
-        → IfOk result (λ r. (answers : List Answer) × IsReadWhole before (S.left source.new) limit answers r.1
+    ensures metered { IfOk result
+        (λ r. (answers : List Answer) × IsReadWhole (S.left source.old) (S.left source.new) windows.limit answers r.1
         × HaveMetered (IsShareOf C.FlowCache cache.now) answers r.0.items) }
-    ensures refused { (before : Option (List ℕ)) (limit : ℕ)
-        → HasGiven before (S.left source.old) limit first.0 (answers_from 0 (part_in first.0))
-        → IfErr result
-        (λ fault. IsRefused (side_from before (side S.left S.faults source.old source.new)) limit fault) }
+    ensures refused { IfErr result (λ fault. IsRefused (side S.left S.faults source.old source.new) windows.limit fault) }
     ensures faults { HasFaults (side S.left S.faults source.old source.new) result }
 {
-    let (mut reading, mut index) = first;
+    let (mut reading, mut index) = Reading::begin(alloc, source, windows.size, windows.limit)?;
     let mut shares = shares;
     loop {
         let part = reading.part(&index);
-        shares = match meter_part(rt, alloc, &part, cache, shares, piece, gate) {
+        shares = match meter_part(rt, alloc, &part, cache, shares, windows.piece, gate) {
             Ok(shares) => shares,
             Err(NoMemory) => return Err(MeterFault::NoMemory),
         };
@@ -272,25 +236,33 @@ pub fn meter_windows<S: Source, C: FlowCache, G: Gate, R: Threads + Sync>(
     let Ok(shares) = open_shares(alloc, cache, passes, windows.front) else {
         return Err(MeterFault::NoMemory);
     };
-    let first = Reading::begin(alloc, source, windows.size, windows.limit)?;
-    let (shares, tail) = meter_parts(rt, alloc, source, first, cache, shares, windows.piece, gate)?;
-    match unite_all(cache, shares) {
-        Ok(all) => Ok(gather_all(all, tail)),
+    let (shares, tail) = meter_parts(rt, alloc, source, cache, shares, windows, gate)?;
+    match gather_all(cache, shares, tail) {
+        Ok(all) => Ok(all),
         Err(NoMemory) => Err(MeterFault::NoMemory),
     }
 }
 
 /// What all shares did together, with so many bytes left behind the last record.
-pub(crate) fn gather_all<C: FlowCache>(all: Share<C>, tail: u64) -> Gathered<C>
-    ensures { (result.pass ≡ all.pass) × (result.parts ≡ all.parts) × (result.tally ≡ all.tally)
-        × (result.tail ≡ tail) }
+pub(crate) fn gather_all<C: FlowCache>(
+    cache: &C,
+    shares: Vec<Share<C>>,
+    tail: u64,
+) -> Result<Gathered<C>, NoMemory>
+    requires many { (0 < length shares.items) × (length shares.items ≤ 64) }
+    requires metered { (answers : List Answer) × HaveMetered (IsShareOf C.FlowCache cache.now) answers shares.items }
+    ensures own { IfOk result (λ r. C.is_of cache.now r.pass × ((C.shown r.pass).note.seats ≡ length shares.items)) }
+    ensures metered { (answers : List Answer) → HaveMetered (IsShareOf C.FlowCache cache.now) answers shares.items
+        → IfOk result (HasGathered C.FlowCache cache.now answers) }
+    ensures tail { IfOk result (λ r. r.tail ≡ tail) }
 {
-    Gathered {
+    let all = unite_all(cache, shares)?;
+    Ok(Gathered {
         pass: all.pass,
         parts: all.parts,
         tally: all.tally,
         tail,
-    }
+    })
 }
 
 /// Meters a capture that is in memory, as its first and only part, through a cache, by one worker for each of its
@@ -321,6 +293,5 @@ pub fn meter_all<C: FlowCache, G: Gate, R: Threads + Sync>(
 {
     let shares = open_shares(alloc, cache, passes, None)?;
     let shares = meter_part(rt, alloc, part, cache, shares, piece, gate)?;
-    let all = unite_all(cache, shares)?;
-    Ok(gather_all(all, part.index.tail()))
+    gather_all(cache, shares, part.index.tail())
 }

@@ -38,7 +38,7 @@ chosen_is limits contents entries own kept how place out words same shown chosen
     )
 
 -- an entry that can be one with a fragment has its key
-joins_key : (limits : Timeouts) (own : Fragment) (entry : Option Fragment) → CanJoin limits own entry
+pub joins_key : (limits : Timeouts) (own : Fragment) (entry : Option Fragment) → CanJoin limits own entry
     → HasKey own.key entry
 joins_key limits own None joins = joins
 joins_key limits own (Some old) joins = joins.one_key

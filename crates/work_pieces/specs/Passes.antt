@@ -1,5 +1,5 @@
 -- What a clause says of the pieces and of a pass.
-use Rattle.std.specs.Prelude.{◌≡◌, ℕ, List, [], false}
+use Rattle.std.specs.Prelude.{◌≡◌, ◌<◌, ℕ, List, [], false}
 use Rattle.work_pieces.specs.declared.pieces.Pieces.{Pieces}
 use Rattle.work_pieces.specs.declared.pieces.DrawPass.{DrawPass}
 
@@ -35,3 +35,9 @@ nones_of d = d.seat.me.0.done
 -- a pass of one seat that has drawn nothing
 abbrev pub IsFresh : DrawPass → Type 0
 IsFresh d = (d.done ≡ false) × (d.seat.me.0.seats ≡ 1) × (d.seat.me.0.done ≡ 0) × (d.seat.me.0.drawn ≡ [])
+
+-- a pass of one seat of these pieces that had its None
+pub record HasEnded (p : Pieces) (d : DrawPass) : Type 0 where
+  pub of : IsPassOf p d
+  pub single : seats_of d ≡ 1
+  pub ended : 0 < nones_of d

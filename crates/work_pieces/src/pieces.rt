@@ -7,6 +7,7 @@ use crate::views::{Hand, Plan};
 use atomic_table::{Seat, Table};
 use std::alloc::Global;
 
+mod all;
 mod calls;
 
 /// So many things, cut into pieces of one size.

@@ -1,69 +1,75 @@
-use Rattle.std.proofs.Common.{◌≡◌, ℕ, ◌+◌, [], None, MatchOption, get_or, set, sym, subst, arith, ap, ◌∙◌}
-use Rattle.std.proofs.lemmas.Bool.{OnTrue_at, OnTrue_from, OnFalse_at, OnFalse_from}
+use Rattle.std.proofs.Common.{◌≡◌, ℕ, ◌+◌, List, [], ◌∷◌, Option, MatchOption, get_or, set, refl, sym, subst, arith, ap, ◌∙◌}
 use Rattle.std.proofs.lemmas.List.{get_or-set_other, set-get_or}
 use Rattle.std.proofs.lemmas.List.Elements.{All-get_or}
 use Rattle.flow_parts.specs.declared.fragment.Fragment.{Fragment}
-use Rattle.flow_parts.specs.Parts.{IsJoined, part_words}
+use Rattle.flow_parts.specs.Parts.{IsJoined}
 use Rattle.cache_face.specs.Choice.{CanJoin}
 use Rattle.cache_face.specs.Keeping.{IsWhole, entry_of}
-use Rattle.cache_face.specs.declared.metered.How.TheVariants.{Joined}
-use Rattle.front_cache.specs.Kept.{IsPutIn}
-use Rattle.front_cache.proofs.Putting.{put_first, put_second, left_both}
+use Rattle.set_choice.proofs.Lowest.{lowest_here, lowest_behind, none_of_more, none_of_none}
+use Rattle.front_cache.proofs.contents.take_into_one.Goals.{Else-take_into}
 use Rattle.front_cache.proofs.contents.take_into_one.Goals as goal
 
-pub take_into-requires-else-take_into-clause-whole : goal.take_into-requires-else-take_into-clause-whole
-take_into-requires-else-take_into-clause-whole c =
-    subst IsWhole
-    (sym
-    (get_or-set_other c.args.contents.now c.args.first (c.args.first + 1) c.take_into.new.content []
-    (λ e. omega (arith, e))))
-    (All-get_or IsWhole c.args.contents.now (c.args.first + 1) [] c.requires.both c.requires.whole)
+-- the first content was left as it was, and the second is beside it
+same : (c : Else-take_into) → set c.args.contents.now c.args.first c.take_into.new.content ≡ c.args.contents.now
+same c = ap (set c.args.contents.now c.args.first) c.if-take_into.ensures.left.0
+    ∙ set-get_or c.args.contents.now c.args.first []
+
+beside : (contents : List (List ℕ)) (first : ℕ) (new : List ℕ)
+    → get_or (set contents first new) (first + 1) [] ≡ get_or contents (first + 1) []
+beside contents first new = get_or-set_other contents first (first + 1) new [] (λ e. omega (arith, e))
 
 pub returns-then-take_into-clause-taken : goal.returns-then-take_into-clause-taken
-returns-then-take_into-clause-taken c = OnTrue_from c.take_into.result
-    ((place : ℕ) × IsPutIn c.args.timeouts.now c.args.contents.now
-    (set c.args.contents.now c.args.first c.take_into.new.content) c.args.first c.args.own.now Joined place None) (λ yes. (
-      c.args.first,
-      put_first c.args.timeouts.now c.args.contents.now c.args.first c.args.own.now c.if-take_into.ensures.taken.0
-          c.take_into.new.content c.if-take_into.ensures.taken.2 c.if-take_into.ensures.taken.3
-          c.if-take_into.ensures.taken.1,
-    ))
+returns-then-take_into-clause-taken c =
+    let taken = c.if-take_into.ensures.taken in
+    record {
+      entry = 0;
+      kept = taken.0;
+      chosen = record {
+        lowest = lowest_here (CanJoin c.args.timeouts.now c.args.own.now) _ _ taken.2;
+        joined = taken.3;
+        none_out = refl;
+      };
+      at = omega arith;
+      written = ap (set c.args.contents.now c.args.first) taken.1;
+    }
 
-pub returns-else-take_into-clause-taken : goal.returns-else-take_into-clause-taken
-returns-else-take_into-clause-taken c = OnTrue_from c.take_into-else-take_into.result
-    ((place : ℕ) × IsPutIn c.args.timeouts.now c.args.contents.now
-    (set (set c.args.contents.now c.args.first c.take_into.new.content) (c.args.first + 1)
-    c.take_into-else-take_into.new.content) c.args.first c.args.own.now Joined place None) (λ yes.
-    let taken : (kept : Fragment) × (c.take_into-else-take_into.new.content ≡ part_words kept)
-    × CanJoin c.args.timeouts.now c.args.own.now
-    (entry_of (get_or (set c.args.contents.now c.args.first c.take_into.new.content) (c.args.first + 1) []))
-    × MatchOption
-    (entry_of (get_or (set c.args.contents.now c.args.first c.take_into.new.content) (c.args.first + 1) [])) ⊥
-    (λ old. IsJoined old c.args.own.now kept) = OnTrue_at yes c.take_into-else-take_into.ensures.taken in (
-      c.args.first + 1,
-      put_second c.args.timeouts.now c.args.contents.now
-          (set c.args.contents.now c.args.first c.take_into.new.content) c.args.first c.args.own.now
-          taken.0
-          c.take_into-else-take_into.new.content
-          (ap (set c.args.contents.now c.args.first) c.if-take_into.ensures.left.0
-          ∙ set-get_or c.args.contents.now c.args.first [])
-          c.if-take_into.ensures.left.1
-          taken.2
-          taken.3
-          taken.1,
-    ))
+pub take_into-requires-2-clause-whole : goal.take_into-requires-2-clause-whole
+take_into-requires-2-clause-whole c =
+    subst IsWhole (sym (beside c.args.contents.now c.args.first c.take_into.new.content))
+    (All-get_or IsWhole c.args.contents.now (c.args.first + 1) [] c.requires.both c.requires.whole)
 
-pub returns-else-take_into-clause-left : goal.returns-else-take_into-clause-left
-returns-else-take_into-clause-left c = OnFalse_from c.take_into-else-take_into.result _ (λ no.
-    let left : (c.take_into-else-take_into.new.content
-    ≡ get_or (set c.args.contents.now c.args.first c.take_into.new.content) (c.args.first + 1) [])
-    × ¬ CanJoin c.args.timeouts.now c.args.own.now
-    (entry_of (get_or (set c.args.contents.now c.args.first c.take_into.new.content) (c.args.first + 1) [])) =
-    OnFalse_at no c.take_into-else-take_into.ensures.left in
-    left_both c.args.timeouts.now c.args.contents.now
-    (set c.args.contents.now c.args.first c.take_into.new.content) c.args.first c.args.own.now
-    c.take_into-else-take_into.new.content
-    (ap (set c.args.contents.now c.args.first) c.if-take_into.ensures.left.0
-    ∙ set-get_or c.args.contents.now c.args.first [])
-    c.if-take_into.ensures.left.1
-    left.0 left.1)
+pub returns-then-take_into-2-clause-taken : goal.returns-then-take_into-2-clause-taken
+returns-then-take_into-2-clause-taken c =
+    let Can : Option Fragment → Type 0 = CanJoin c.args.timeouts.now c.args.own.now in
+    let contents = c.args.contents.now in
+    let next = c.args.first + 1 in
+    let taken = c.if-take_into-2.ensures.taken in
+    let at = beside contents c.args.first c.take_into.new.content in
+    record {
+      entry = 1;
+      kept = taken.0;
+      chosen = record {
+        lowest = lowest_behind Can _ _ 0 c.if-take_into.ensures.left.1
+            (lowest_here Can _ [] (subst (λ (x : List ℕ). Can (entry_of x)) at taken.2));
+        joined = subst (λ (x : List ℕ). MatchOption (entry_of x) ⊥ (λ old. IsJoined old c.args.own.now taken.0)) at
+            taken.3;
+        none_out = refl;
+      };
+      at = refl;
+      written = ap (λ b. set b next c.take_into-2.new.content)
+          (same (goal.at.returns-then-take_into-2-clause-taken c).Else-take_into) ∙ ap (set contents next) taken.1;
+    }
+
+pub returns-clause-left : goal.returns-clause-left
+returns-clause-left c =
+    let Can : Option Fragment → Type 0 = CanJoin c.args.timeouts.now c.args.own.now in
+    let contents = c.args.contents.now in
+    let left = c.if-take_into-2.ensures.left in
+    let there = set contents c.args.first c.take_into.new.content in (
+      ap (set there (c.args.first + 1)) left.0 ∙ set-get_or there (c.args.first + 1) []
+          ∙ same (goal.at.returns-clause-left c).Else-take_into,
+      none_of_more Can _ (entry_of (get_or contents (c.args.first + 1) []) ∷ []) c.if-take_into.ensures.left.1
+          (none_of_more Can _ []
+          (subst (λ (x : List ℕ). ¬ Can (entry_of x)) (beside contents c.args.first c.take_into.new.content) left.1)
+          (none_of_none Can)),
+    )

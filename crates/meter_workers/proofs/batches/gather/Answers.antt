@@ -1,59 +1,54 @@
 -- Who has metered what, once all have worked.
-use Rattle.std.proofs.Common.{◌≡◌, ◌+◌, [], ◌∷◌, None, length, sym, ap, ◌∙◌, subst, arith}
+use Rattle.std.proofs.Common.{◌≡◌, ◌+◌, List, [], ◌∷◌, length, sym, ap, ◌∙◌, subst, arith}
 use Rattle.std.specs.Prelude.{All, IfOk}
 use Rattle.std.proofs.lemmas.List.{length-map, length-append}
 use Rattle.std.proofs.lemmas.List.Elements.{All-map}
+use Rattle.capture_input.specs.Parts.{Answer}
 use Rattle.batch_queue.specs.declared.queue.QueuePass.{QueuePass}
-use Rattle.batch_queue.specs.Passes.{IsPassOf, put_of, seats_of, others_of}
+use Rattle.batch_queue.specs.Uniting.{IsOther}
 use Rattle.meter_workers.specs.declared.worker.Worker.{Worker}
-use Rattle.meter_workers.proofs.Crew.{crew-gathered}
+use Rattle.meter_workers.specs.Batched.{HasHandedOn}
+use Rattle.meter_workers.specs.Shares.{IsShareOf, HaveMetered}
+use Rattle.meter_workers.proofs.Crew.{gathered}
+use Rattle.meter_workers.proofs.batches.gather.Given as given
+use Rattle.meter_workers.proofs.batches.gather.Goals.{In_ok-push-2}
 use Rattle.meter_workers.proofs.batches.gather.Goals as goal
 
 pub unseat_workers-requires-clause-ended : goal.unseat_workers-requires-clause-ended
 unseat_workers-requires-clause-ended g c κs within = λ k d inside. (c.requires.workers k d inside).0
 
-pub unite_seats-seat-requires-clause-others : goal.unite_seats-seat-requires-clause-others
-unite_seats-seat-requires-clause-others g c =
+pub unite_all-seat-requires-clause-others : goal.unite_all-seat-requires-clause-others
+unite_all-seat-requires-clause-others g c =
     let W : Type 0 = Worker g.row.C.Denot QueuePass g.row.C-Pass.Denot in
-    let Q : QueuePass → Type 0 =
-    λ s. IsPassOf c.args.crew.shared.queue s × (put_of s ≡ []) × (seats_of s ≡ 1) × (others_of s ≡ 0) in
-    subst (All Q) (sym c.in_ok-shares.ensures.seats)
-    (All-map Q (λ (w : W). w.seat) c.args.crew.workers.items (λ k d inside.
+    subst (All (IsOther c.args.crew.shared.queue)) (sym c.in_ok-shares.ensures.seats)
+    (All-map (IsOther c.args.crew.shared.queue) (λ (w : W). w.seat) c.args.crew.workers.items (λ k d inside.
     let has = (c.requires.workers k d inside).1 (c.in_ok-shares.ensures.finished k d inside) in
     (has.of, has.put, has.single, has.apart)))
 
-pub unite_all-requires-clause-metered : goal.unite_all-requires-clause-metered
-unite_all-requires-clause-metered g c κs within =
-    let crew = c.args.crew in
+-- all that the reader handed on was metered
+all : (g : given.Over) (c : In_ok-push-2 g) (answers : List Answer)
+    → HasHandedOn g.C.FlowCache c.args.cache.now answers c.args.crew.reader
+    → HaveMetered (IsShareOf g.C.FlowCache c.args.cache.now) answers c.push-2.new.self.items
+all g c answers handed =
     let told = c.in_ok-shares.ensures in
     let r = c.requires.reader in
-    let u = c.unite_seats-seat.ensures in
-    let d = c.in_ok-work_batches.ensures in (
-      c.requires.handed.0,
-      (crew-gathered g.C.FlowCache c.args.cache.now crew.shared.queue crew.workers.items c.requires.handed.0 crew.reader
-          c.in_ok-shares.seats.items c.into_pass.result c.unite_seats-seat.result c.work_batches.new.seat d.did.0
-          c.in_ok-shares.shares.items c.push.new.self.items c.push-2.new.self.items crew.last c.work_batches.new.share
-          c.requires.workers told.finished told.shares told.seats c.in_ok-push.ensures.items
-          c.in_ok-push-2.ensures.items
-          (r.1, r.2, r.3, c.requires.many.0) c.requires.handed.1 c.into_pass.ensures (u.reader, u.same, u.took)
-          d.did.1 d.all
-          c.requires.last d.did.2),
-    )
+    let drained = c.in_ok-work_batches.ensures in
+    gathered g.C.FlowCache c.args.cache.now c.args.crew.shared.queue c.args.crew.workers.items answers
+    c.args.crew.reader c.in_ok-shares.seats.items c.into_pass.result c.unite_all-seat.result c.work_batches.new.seat
+    drained.did.0 c.in_ok-shares.shares.items c.push.new.self.items c.push-2.new.self.items c.args.crew.last
+    c.work_batches.new.share c.requires.workers told.finished told.shares told.seats c.in_ok-push.ensures.items
+    c.in_ok-push-2.ensures.items (r.1, r.2, r.3, c.requires.many.0) c.into_pass.ensures c.unite_all-seat.ensures.all
+    drained.did.1 drained.all c.requires.last drained.did.2 handed
+
+pub gather_all-requires-clause-metered : goal.gather_all-requires-clause-metered
+gather_all-requires-clause-metered g c κs within =
+    let handed = c.requires.handed in
+    (handed.0, all g (goal.at.gather_all-requires-clause-metered g c).In_ok-push-2 handed.0 handed.1)
 
 pub returns-clause-metered : goal.returns-clause-metered
 returns-clause-metered g c = λ answers handed.
-    let crew = c.args.crew in
-    let told = c.in_ok-shares.ensures in
-    let r = c.requires.reader in
-    let u = c.unite_seats-seat.ensures in
-    let d = c.in_ok-work_batches.ensures in
-    c.unite_all.ensures.metered answers
-    (crew-gathered g.C.FlowCache c.args.cache.now crew.shared.queue crew.workers.items answers crew.reader
-    c.in_ok-shares.seats.items c.into_pass.result c.unite_seats-seat.result c.work_batches.new.seat d.did.0
-    c.in_ok-shares.shares.items c.push.new.self.items c.push-2.new.self.items crew.last c.work_batches.new.share
-    c.requires.workers told.finished told.shares told.seats c.in_ok-push.ensures.items c.in_ok-push-2.ensures.items
-    (r.1, r.2, r.3, c.requires.many.0) handed c.into_pass.ensures (u.reader, u.same, u.took) d.did.1 d.all
-    c.requires.last d.did.2)
+    c.gather_all.ensures.metered answers
+    (all g (goal.at.returns-clause-metered g c).In_ok-push-2 answers handed)
 
 pub returns-clause-own : goal.returns-clause-own
 returns-clause-own g c =
@@ -65,6 +60,6 @@ returns-clause-own g c =
     ∙ length-append c.in_ok-shares.shares.items (c.args.crew.reader.share ∷ [])
     ∙ ap (λ k. k + 1) (ap length c.in_ok-shares.ensures.shares ∙ length-map ws (λ (w : W). w.share))) in
     let all : length c.push-2.new.self.items ≡ length ws + 2 = omega (arith, counted) in
-    subst (λ k. IfOk c.unite_all.result
-    (λ r. g.C.FlowCache.is_of c.args.cache.now r.pass × (r.front ≡ None)
-    × ((g.C.FlowCache.shown r.pass).note.seats ≡ k))) all c.unite_all.ensures.own
+    subst (λ k. IfOk c.gather_all.result
+    (λ r. g.C.FlowCache.is_of c.args.cache.now r.pass × ((g.C.FlowCache.shown r.pass).note.seats ≡ k))) all
+    c.gather_all.ensures.own

@@ -1,36 +1,36 @@
 -- Who has which share.
-use Rattle.std.proofs.Common.{◌≡◌, ◌<◌, [], length, sym, subst, arith}
+use Rattle.std.proofs.Common.{◌≡◌, ◌<◌, List, [], ◌++◌, length, take, drop, sym, subst, arith}
 use Rattle.std.specs.Prelude.{All}
+use Rattle.std.proofs.lemmas.List.Elements.{All-append, All-drop, All-same, All-take}
 use Rattle.batch_queue.specs.declared.queue.QueuePass.{QueuePass}
 use Rattle.batch_queue.specs.Passes.{IsPassOf, IsReaders, IsFresh, others_of}
 use Rattle.meter_workers.specs.declared.share.Share.{Share}
 use Rattle.meter_workers.specs.declared.worker.Worker.{Worker}
-use Rattle.meter_workers.specs.Shares.{IsShare}
-use Rattle.meter_workers.proofs.Sharing.{all-mapped}
-use Rattle.meter_workers.proofs.Crew.{first-of, behind-first}
+use Rattle.meter_workers.specs.Shares.{IsShareOf}
+use Rattle.meter_workers.proofs.Several.{all-mapped}
 use Rattle.meter_workers.proofs.batches.open_crew.Goals as goal
+
+behind-first : {X : Type 0} (P : X → Type 0) (xs ys : List X) → All P xs → ys ≡ take 0 xs ++ drop 1 xs → All P ys
+behind-first P xs ys all is =
+    All-same P ys _ is (All-append P (take 0 xs) (drop 1 xs) (All-take P 0 xs all) (All-drop P 1 xs all))
 
 pub returns-clause-shares : goal.returns-clause-shares
 returns-clause-shares g c =
-    let P : Share g.row.C.Denot g.row.C-Pass.Denot → Type 0 =
-    IsShare (g.C.FlowCache.is_of c.args.cache.now) g.C.FlowCache.shown (g.C.FlowCache.means c.args.cache.now).limits
-    [] in
+    let P : Share g.row.C.Denot g.row.C-Pass.Denot → Type 0 = IsShareOf g.C.FlowCache c.args.cache.now [] in
     let told = c.in_ok-shares.ensures in
     let least = c.requires.passes.0 in
     let some' : 0 < length c.remove-share.new.self.items =
     (let len = c.remove-share.ensures.len in
     omega (arith, told.many, least, len, c.remove-share.new.self.ok.0, c.in_ok-shares.shares.ok.0)) in (
-      first-of P _ _ told.shares (omega (arith, told.many, least)) c.remove-share.ensures.value,
-      first-of P _ _ (behind-first P _ _ told.shares c.remove-share.ensures.by_index.2) some'
-          c.remove-last.ensures.value,
+      subst P (sym c.remove-share.ensures.value) (told.shares 0 _ (omega (arith, told.many, least))),
+      subst P (sym c.remove-last.ensures.value)
+          (behind-first P _ _ told.shares c.remove-share.ensures.by_index.2 0 _ some'),
     )
 
 pub returns-clause-workers : goal.returns-clause-workers
 returns-clause-workers g c =
     let W : Type 0 = Worker g.row.C.Denot QueuePass g.row.C-Pass.Denot in
-    let P : Share g.row.C.Denot g.row.C-Pass.Denot → Type 0 =
-    IsShare (g.C.FlowCache.is_of c.args.cache.now) g.C.FlowCache.shown (g.C.FlowCache.means c.args.cache.now).limits
-    [] in
+    let P : Share g.row.C.Denot g.row.C-Pass.Denot → Type 0 = IsShareOf g.C.FlowCache c.args.cache.now [] in
     let Q : QueuePass → Type 0 =
     λ p. IsPassOf c.in_ok-queue.queue p × IsFresh p × (¬ IsReaders p) × (others_of p ≡ 0) in
     let told = c.in_ok-workers.ensures in

@@ -1,113 +1,83 @@
 -- A part after the other is handed on.
-use Rattle.std.proofs.Common.{◌≡◌, ◌+◌, ◌++◌, [], length, refl, ◌∙◌, subst, arith}
-use Rattle.std.specs.Prelude.{Result, Ok, Err, IfErr, IsErrAnd}
-use Rattle.meter_io.specs.Sides.{side}
-use Rattle.capture_input.specs.declared.fault.MeterFault.{MeterFault}
+use Rattle.std.proofs.Common.{◌≡◌, ℕ, ◌+◌, ◌<◌, ◌≤◌, ◌++◌, [], length, length-append, refl, sym, ◌∙◌, subst, arith}
+use Rattle.std.specs.Prelude.{All}
+use Rattle.std.proofs.lemmas.List.Elements.{All-nil}
+use Rattle.std.proofs.lemmas.Result.{err_from_is_err_and}
 use Rattle.capture_input.specs.Refusals.{IsRefused}
 use Rattle.capture_input.specs.Parts.{answers_from}
-use Rattle.capture_input.specs.Giving.{base_in, part_in}
-use Rattle.batch_queue.specs.Passes.{put_of, reader_of}
-use Rattle.meter_workers.proofs.Taking.{handed-none, still-none, still-again, ready-later}
-use Rattle.meter_workers.proofs.Handing.{ready-first, given-first, given-few, base-next, refused-from}
+use Rattle.capture_input.specs.Giving.{HasGiven, base_in, part_in}
+use Rattle.capture_input.proofs.Filling.{seen}
+use Rattle.capture_input.proofs.Ranges.{answers-count}
+use Rattle.batch_queue.specs.declared.batch.Batch.{Batch}
+use Rattle.batch_queue.specs.Batches.{count_of}
+use Rattle.batch_queue.specs.Passes.{reader_of}
+use Rattle.batch_queue.proofs.Passing.{more-none, more-both}
+use Rattle.meter_workers.specs.Batched.{IsReaderAt}
+use Rattle.meter_workers.proofs.Crew.{handed-none}
 use Rattle.meter_workers.proofs.batches.read_all.Goals as goal
-
-err-weaker : {T E : Type 0} (r : Result T E) (P Q : E → Type 0) → IsErrAnd r P → ((e : E) → P e → Q e) → IfErr r Q
-err-weaker (Ok x) P Q is more = absurd is
-err-weaker (Err e) P Q is more = more e is
 
 pub loop-read-init : goal.loop-read-init
 loop-read-init g c =
-    let is_of = g.C.FlowCache.is_of c.args.cache.now in
-    let limits = (g.C.FlowCache.means c.args.cache.now).limits in
     let told = c.in_ok-reading.ensures in
-    let pass = reader_of c.args.reader.now.feed in
-    let share = c.args.reader.now.share in
-    let none = c.requires.reading.fresh.1 in
+    let reading = c.in_ok-reading.reading in
+    let is = c.requires.reading in
+    let Before : Batch → Type 0 =
+    λ b. (b.number < c.args.reader.now.next) × (b.base + count_of b ≤ base_in reading) in
     record {
       part = told.part;
       few = told.few;
-      low = (let n = c.requires.reading.first in omega (arith, n));
+      low = (let n = is.first in omega (arith, n));
       size = told.first.1;
-      of = c.requires.reading.of;
-      «open» = c.requires.reading.goes;
-      still = still-none pass c.requires.reading.puts;
-      ready = ready-first is_of g.C.FlowCache.shown limits c.args.reader.now.next (base_in c.in_ok-reading.reading)
-          (put_of pass) share none c.requires.reading.share;
+      of = is.of;
+      puts = is.puts;
+      «open» = is.goes;
+      put = ([], more-none (reader_of c.args.reader.now.feed));
+      ready = record {
+        behind = subst (All Before) (sym is.fresh.1) (All-nil Before);
+        few = (let none = is.share.metered.tallied.captured in omega (arith, none));
+      };
       quiet = told.faults;
       done = (
         [],
         told.first.0,
-        given-first (g.S.Source.left c.args.source.now) (g.S.Source.left c.begin.new.source) c.args.limit
-            c.in_ok-reading.reading told.first.0 told.given,
-        handed-none is_of g.C.FlowCache.shown limits (put_of pass) share none c.requires.reading.share,
+        subst (λ (n : ℕ). HasGiven (g.S.Source.left c.args.source.now) (g.S.Source.left c.begin.new.source)
+            c.args.limit reading (answers_from n (part_in reading))) (sym told.first.0) told.given,
+        handed-none g.C.FlowCache c.args.cache.now c.args.reader.now is.fresh.1 is.share,
       );
     }
 
 pub returns-in-Err-clause-refused : goal.returns-in-Err-clause-refused
 returns-in-Err-clause-refused g c =
-    let done = c.loop-read.invariant.done in
-    given-few (g.S.Source.left c.args.source.now) (g.S.Source.left c.loop-read.source) c.args.limit
-    c.loop-read.reading (done.0 ++ answers_from (base_in c.loop-read.reading) (part_in c.loop-read.reading)) done.2
+    let given = c.loop-read.invariant.done.2 in
+    (given.file.bytes, (let w = given.within in let n = given.count in omega (arith, w, n)), given.given)
 
 pub tail-requires : goal.tail-requires
-tail-requires g c =
-    let done = c.loop-read.invariant.done in
-    let answers = done.0 ++ answers_from (base_in c.loop-read.reading) (part_in c.loop-read.reading) in
-    record {
-      given = (
-        g.S.Source.left c.args.source.now,
-        g.S.Source.left c.loop-read.source,
-        c.args.limit,
-        answers,
-        c.in-Ok.ensures.given (g.S.Source.left c.args.source.now) (g.S.Source.left c.loop-read.source) c.args.limit
-            answers done.2,
-      );
-    }
+tail-requires g c = record { given = (_, _, _, _, c.in-Ok.ensures.given _ _ _ _ c.loop-read.invariant.done.2) }
 
 pub returns-then-is_last-clause-read : goal.returns-then-is_last-clause-read
 returns-then-is_last-clause-read g c =
     let known = c.loop-read.invariant in
     let told = c.in-Ok.ensures in
-    let done = known.done in
-    let answers = done.0 ++ answers_from (base_in c.loop-read.reading) (part_in c.loop-read.reading) in
     record {
       of = told.handed.of;
-      still = still-again (reader_of c.args.reader.now.feed) (reader_of c.loop-read.reader.feed)
-          (reader_of c.hand_part.new.reader.feed) known.still told.handed.still;
-      answers = answers;
-      whole = c.tail.ensures (g.S.Source.left c.args.source.now) (g.S.Source.left c.loop-read.source) c.args.limit
-          answers
-          (told.given (g.S.Source.left c.args.source.now) (g.S.Source.left c.loop-read.source) c.args.limit
-          answers done.2)
-          (c.is_last.ensures.0 c.if-is_last.true);
-      handed = told.handed.handed done.0 done.3;
+      batches = known.put.0 ++ told.handed.batches;
+      put = more-both (reader_of c.args.reader.now.feed) (reader_of c.loop-read.reader.feed)
+          (reader_of c.hand_part.new.reader.feed) known.put.0 [] told.handed.batches [] known.put.1 told.handed.put;
+      answers = _;
+      whole = c.tail.ensures _ _ _ _ (told.given _ _ _ _ known.done.2) (c.is_last.ensures.0 c.if-is_last.true);
+      handed = told.handed.handed known.done.0 known.done.3;
     }
 
 pub next-requires-clause-given : goal.next-requires-clause-given
-next-requires-clause-given g c =
-    let done = c.loop-read.invariant.done in
-    let answers = done.0 ++ answers_from (base_in c.loop-read.reading) (part_in c.loop-read.reading) in (
-      g.S.Source.left c.args.source.now,
-      c.args.limit,
-      answers,
-      c.in-Ok.ensures.given (g.S.Source.left c.args.source.now) (g.S.Source.left c.loop-read.source) c.args.limit
-          answers done.2,
-    )
+next-requires-clause-given g c = (_, _, _, c.in-Ok.ensures.given _ _ _ _ c.loop-read.invariant.done.2)
 
 pub returns-in_err-reading-2-clause-refused : goal.returns-in_err-reading-2-clause-refused
 returns-in_err-reading-2-clause-refused g c =
-    let known = c.loop-read.invariant in
-    let done = known.done in
-    let answers = done.0 ++ answers_from (base_in c.loop-read.reading) (part_in c.loop-read.reading) in
-    let before = g.S.Source.left c.args.source.now in
-    let refused = refused-from before (g.S.Source.left c.next.new.source) (g.S.Source.faults c.loop-read.source)
-    (g.S.Source.faults c.args.source.now) (g.S.Source.faults c.next.new.source) c.args.limit
-    c.in_err-reading-2.field-0.0 known.quiet (c.in_err-reading-2.ensures.refused before c.args.limit answers
-    (c.in-Ok.ensures.given before (g.S.Source.left c.loop-read.source) c.args.limit answers done.2)) in
-    err-weaker c.from_residual-in_err-reading-2.result _ _ c.from_residual-in_err-reading-2.ensures.1
-    (λ fault same. (let is : c.in_err-reading-2.field-0.0 ≡ fault = cc same in
-    subst (λ (f : MeterFault). IsRefused (side g.S.Source.left g.S.Source.faults c.args.source.now c.next.new.source)
-    c.args.limit f) is refused))
+    let p = err_from_is_err_and c.from_residual-in_err-reading-2.result c.from_residual-in_err-reading-2.ensures.1 in
+    rw (p.1, p.2)
+    (subst (λ (n : ℕ). IsRefused (seen (g.S.Source.left c.args.source.now) (g.S.Source.left c.next.new.source) n
+    (g.S.Source.faults c.next.new.source)) c.args.limit c.in_err-reading-2.field-0.0) c.loop-read.invariant.quiet
+    (c.in_err-reading-2.ensures.refused _ _ _ (c.in-Ok.ensures.given _ _ _ _ c.loop-read.invariant.done.2)))
 
 pub loop-read-preserved : goal.loop-read-preserved
 loop-read-preserved g c =
@@ -116,27 +86,30 @@ loop-read-preserved g c =
     let then = c.in_ok-reading-2.ensures in
     let done = known.done in
     let old = c.loop-read.reading in
-    let reading = c.in_ok-reading-2.field-0-0 in
-    let answers = done.0 ++ answers_from (base_in old) (part_in old) in
-    let given = then.given (g.S.Source.left c.args.source.now) c.args.limit answers
-    (told.given (g.S.Source.left c.args.source.now) (g.S.Source.left c.loop-read.source) c.args.limit answers done.2) in
-    let base : base_in reading ≡ base_in old + length c.loop-read.index.offsets =
-    base-next done.0 (base_in old) (base_in reading) (length c.loop-read.index.offsets) (part_in old) done.1
-    known.part.count given.0 in
+    let given = then.given _ _ _ (told.given _ _ _ _ done.2) in
+    let base : base_in c.in_ok-reading-2.field-0-0 ≡ base_in old + length c.loop-read.index.offsets =
+    omega (
+      arith,
+      done.1,
+      known.part.count,
+      given.0,
+      length-append done.0 (answers_from (base_in old) (part_in old)),
+      answers-count (base_in old) (part_in old),
+    ) in
     record {
       part = then.part;
       few = then.few;
       low = (let n = told.next in omega (arith, n, base));
       size = then.same ∙ told.same.0 ∙ known.size;
       of = told.handed.of;
+      puts = (λ i. (told.handed.put i).reader) ∙ known.puts;
       «open» = told.handed.goes;
-      still = still-again (reader_of c.args.reader.now.feed) (reader_of c.loop-read.reader.feed)
-          (reader_of c.hand_part.new.reader.feed) known.still told.handed.still;
-      ready = ready-later (put_of (reader_of c.hand_part.new.reader.feed))
-          (put_of (reader_of c.hand_part.new.reader.feed)) c.hand_part.new.reader.next c.hand_part.new.reader.next
-          (base_in old + length c.loop-read.index.offsets) (base_in reading)
-          c.hand_part.new.reader.share.tally.captured c.hand_part.new.reader.share.tally.captured refl (omega arith)
-          (omega (arith, base)) (let f = told.ready.few in omega (arith, f, base)) told.ready;
+      put = (
+        known.put.0 ++ told.handed.batches,
+        more-both (reader_of c.args.reader.now.feed) (reader_of c.loop-read.reader.feed)
+            (reader_of c.hand_part.new.reader.feed) known.put.0 [] told.handed.batches [] known.put.1 told.handed.put,
+      );
+      ready = subst (λ k. IsReaderAt c.hand_part.new.reader.next k c.hand_part.new.reader) (sym base) told.ready;
       quiet = then.faults ∙ known.quiet;
-      done = (answers, given.0, given.1, told.handed.handed done.0 done.3);
+      done = (_, given.0, given.1, told.handed.handed done.0 done.3);
     }

@@ -1,10 +1,11 @@
 -- The records of the parts so far were handed on, and the part that was read last comes next.
-use Rattle.std.proofs.Common.{◌≡◌, ◌≤◌, ◌<◌, ◌+◌, ◌^◌, ◌++◌, List, length}
+use Rattle.std.proofs.Common.{◌≡◌, ◌≤◌, ◌<◌, ◌+◌, ◌^◌, ◌++◌, List, [], length}
 use Rattle.pcap_reader.specs.Index.{IsIndexOf}
 use Rattle.capture_input.specs.Parts.{Answer, answers_from}
 use Rattle.capture_input.specs.Giving.{HasGiven, part_in, base_in, size_in, left_in}
-use Rattle.batch_queue.specs.Passes.{IsPassOf, IsOpen, reader_of, put_of}
-use Rattle.meter_workers.specs.Batched.{IsReadyAt, IsStill, HasHanded}
+use Rattle.batch_queue.specs.declared.batch.Batch.{Batch}
+use Rattle.batch_queue.specs.Passes.{IsPassOf, IsReaders, IsMore, IsOpen, reader_of}
+use Rattle.meter_workers.specs.Batched.{HasHandedOn, IsReaderAt}
 use Rattle.meter_workers.proofs.batches.read_all.Given as goal
 
 abbrev pub invariant-loop-read : goal.invariant-loop-read
@@ -14,15 +15,15 @@ invariant-loop-read g l = record {
   low : l.reader.next ≤ base_in l.reading;
   size : size_in l.reading ≡ l.shared.size;
   of : IsPassOf l.shared.queue (reader_of l.reader.feed);
+  puts : IsReaders (reader_of l.reader.feed);
   «open» : IsOpen l.reader.feed;
-  still : IsStill (reader_of l.initial.reader.feed) (reader_of l.reader.feed);
-  ready : IsReadyAt l.reader.next (base_in l.reading) (put_of (reader_of l.reader.feed)) l.reader.share.tally.captured;
+  put : (batches : List Batch) × IsMore batches [] (reader_of l.initial.reader.feed) (reader_of l.reader.feed);
+  ready : IsReaderAt l.reader.next (base_in l.reading) l.reader;
   quiet : g.S.Source.faults l.source ≡ g.S.Source.faults l.fn.source;
   done : (done : List Answer) × (base_in l.reading ≡ length done)
       × HasGiven (g.S.Source.left l.fn.source) (g.S.Source.left l.source) l.limit l.reading
       (done ++ answers_from (base_in l.reading) (part_in l.reading))
-      × HasHanded {X = g.row.C.Denot} {P = g.row.C-Pass.Denot} (g.C.FlowCache.is_of l.cache) g.C.FlowCache.shown
-      (g.C.FlowCache.means l.cache).limits done (put_of (reader_of l.reader.feed)) l.reader.share;
+      × HasHandedOn g.C.FlowCache l.cache done l.reader;
 }
 
 abbrev pub decreases-loop-read : goal.decreases-loop-read

@@ -1,6 +1,5 @@
-use Rattle.std.proofs.Common.{[], ◌∙◌, sym}
-use Rattle.batch_queue.specs.Passes.{took_of}
-use Rattle.meter_workers.proofs.Crew.{ready-nothing, taken-all}
+use Rattle.std.proofs.Common.{[], ◌∙◌, sym, arith}
+use Rattle.meter_workers.proofs.Crew.{taken-all}
 use Rattle.meter_workers.proofs.batches.work.Goals.{in-Ok, in-Err}
 use Rattle.meter_workers.proofs.batches.work.Goals as goal
 
@@ -9,8 +8,7 @@ work_batches-end-requires-clause-share g c κs within = ([], c.requires.ready.is
 
 pub work_batches-end-requires-clause-ready : goal.work_batches-end-requires-clause-ready
 work_batches-end-requires-clause-ready g c κs within =
-    ready-nothing (took_of c.args.worker.now.seat) c.args.worker.now.share.tally.captured
-    c.requires.ready.is.metered.tallied.captured
+    λ next all. (let none = c.requires.ready.is.metered.tallied.captured in omega (arith, none))
 
 pub returns : goal.returns
 returns g c = record {
@@ -19,8 +17,7 @@ returns g c = record {
       λ going. absurd (let e = sym w.worker-is ∙ going in cc),
       λ finished.
           (let did = w.in-Ok.ensures.did in
-          taken-all g.C.FlowCache c.args.cache.now c.args.shared.now.queue c.args.worker.now.share
-          c.work_batches-end.new.share c.args.worker.now.seat c.work_batches-end.new.seat did.0 c.requires.ready
+          taken-all g.C.FlowCache c.args.cache.now c.args.shared.now.queue c.args.worker.now _ did.0 c.requires.ready
           c.work_batches-end.ensures.own did.1 w.in-Ok.ensures.told did.2),
     )
     | in-Err w ↦ (

@@ -1,72 +1,54 @@
-use Rattle.std.proofs.Common.{◌≡◌, ◌++◌, ◌∷◌, List, [], length, sym, ap, subst, ◌∙◌, arith, append_assoc, append-nil}
-use Rattle.std.specs.Prelude.{slice_range, All}
-use Rattle.pcap_reader.specs.File.{CaptureFile}
+use Rattle.std.proofs.Common.{◌≡◌, ◌++◌, ◌∷◌, List, [], length, sym, ap, subst, ◌∙◌, arith}
+use Rattle.std.specs.Prelude.{All}
 use Rattle.pcap_reader.specs.Index.{Offsets}
-use Rattle.pcap_reader.specs.Views.{part_of, file_of}
-use Rattle.capture_input.specs.Parts.{Answer, answers_by, answers_from}
+use Rattle.cache_face.proofs.Apart.{snoc}
+use Rattle.capture_input.specs.Parts.{Answer}
 use Rattle.batch_queue.specs.declared.batch.Batch.{Batch}
 use Rattle.batch_queue.specs.Batches.{IsBefore}
-use Rattle.batch_queue.specs.Passes.{took_of}
-use Rattle.meter_workers.specs.declared.share.Share.{Share}
-use Rattle.meter_workers.specs.Shares.{IsShare}
-use Rattle.meter_workers.specs.Batched.{answers_of_batch, answers_in}
-use Rattle.meter_workers.proofs.Records.{answers-count, whole-range}
-use Rattle.meter_workers.proofs.Taking.{more-none, more-both, took-more, took-same, answers-more, ready-more}
-use Rattle.meter_workers.proofs.Taking.{ready-same}
+use Rattle.batch_queue.specs.Queueing.{more_of}
+use Rattle.batch_queue.specs.Passes.{IsMore, took_of}
+use Rattle.batch_queue.proofs.Passing.{more-none, more-both, more-keeps}
+use Rattle.meter_workers.specs.Shares.{HasMetered}
+use Rattle.meter_workers.specs.Batched.{answers_of_batch, answers_in, IsReadyFor}
+use Rattle.meter_workers.proofs.Crew.{batch-answers, ready-more}
+use Rattle.meter_workers.proofs.Shares.{metered-none, metered-more}
 use Rattle.meter_workers.proofs.batches.work_batches.Goals as goal
 
 pub loop-init : goal.loop-init
-loop-init g c =
-    let Has : List Answer → Share g.row.C.Denot g.row.C-Pass.Denot → Type 0 =
-    IsShare (g.C.FlowCache.is_of c.args.cache.now) g.C.FlowCache.shown (g.C.FlowCache.means c.args.cache.now).limits in
-    record {
-      of = c.requires.own;
-      ready = c.requires.ready;
-      did = (
-        [],
-        more-none c.args.seat.now,
-        λ done share. subst (λ (l : List Answer). Has l c.args.share.now) (sym (append-nil done)) share,
-      );
-    }
+loop-init g c = record {
+  of = c.requires.own;
+  ready = c.requires.ready;
+  did = ([], more-none c.args.seat.now, metered-none g.C.FlowCache c.args.cache.now c.args.share.now);
+}
 
 pub meter_run-requires-clause-share : goal.meter_run-requires-clause-share
 meter_run-requires-clause-share g c κs within =
-    let had = c.requires.share in
-    let did = c.loop.invariant.did in
-    (had.0 ++ answers_in did.0, did.2 had.0 had.1)
+    let had = c.requires.share in (_, c.loop.invariant.did.2.besides had.0 had.1)
 
 pub loop-preserved-in-Some-take : goal.loop-preserved-in-Some-take
 loop-preserved-in-Some-take g c =
-    let Has : List Answer → Share g.row.C.Denot g.row.C-Pass.Denot → Type 0 =
-    IsShare (g.C.FlowCache.is_of c.args.cache.now) g.C.FlowCache.shown (g.C.FlowCache.means c.args.cache.now).limits in
     let known = c.loop.invariant in
     let batch = c.in-Some-take.batch in
-    let asked = c.is_ended-ended.new.pass in
-    let same = c.is_ended-ended.ensures.same.0 in
+    let asked = c.is_ended-ended.ensures.same.0 in
     let took = c.in-Some-take.ensures.took in
-    let before : took_of asked ≡ took_of c.loop.seat = took-same c.loop.seat asked same in
+    let more : IsMore [] (batch ∷ []) c.loop.seat c.take.new.pass = took.0 ∙ (λ i. more_of [] (batch ∷ []) (asked i)) in
+    let before : All (λ b. IsBefore b batch) (took_of c.loop.seat) =
+    subst (All (λ b. IsBefore b batch)) (λ i. (asked i).took) took.1 in
     let told = c.in_ok-meter_run-in-Some-take.ensures in
-    let own : slice_range (answers_by c.part-part.result) 0 c.count.result ≡ answers_of_batch batch =
-    whole-range (answers_by c.part-part.result) (answers_of_batch batch) c.count.result
-    (ap (λ k. answers_from k (file_of c.part-part.result.capture)) c.part-part.ensures.base
-    ∙ ap (λ (f : CaptureFile). answers_from batch.base f) c.part-part.ensures.file)
-    (let n = c.count.ensures in let i = ap (λ (o : Offsets). length o.offsets) c.part-part.ensures.index in
-    let a = answers-count batch.base (part_of batch.head batch.bytes.items) in
-    omega (arith, n, i, a, batch.indexed.count)) in
+    let part = c.part-part.ensures in
+    let count = c.count.ensures ∙ ap (λ (o : Offsets). length o.offsets) part.index in
+    let own = batch-answers c.part-part.result c.count.result batch part.base part.file count in
     record {
       of = c.take.ensures.own;
       ready = ready-more (took_of c.loop.seat) (took_of c.take.new.pass) batch c.meter_run.new.share.tally.captured
-          (took-more asked c.take.new.pass (batch ∷ []) took.0 ∙ ap (λ (l : List Batch). l ++ batch ∷ []) before)
-          (let t = told.captured in let n = c.count.ensures in
-          let i = ap (λ (o : Offsets). length o.offsets) c.part-part.ensures.index in
-          let r = known.ready batch (subst (All (λ a. IsBefore a batch)) before took.1) in omega (arith, t, n, i, r, batch.indexed.count));
+          (more-keeps c.loop.seat c.take.new.pass [] (batch ∷ []) more).1
+          (let t = told.captured in let r = known.ready batch before in omega (arith, t, count, r, batch.indexed.count));
       did = (
         known.did.0 ++ batch ∷ [],
-        more-both c.args.seat.now asked c.take.new.pass known.did.0 (batch ∷ []) (same ∙ known.did.1) took.0,
-        λ done share. subst (λ (l : List Answer). Has l c.meter_run.new.share)
-            (append_assoc done (answers_in known.did.0) _
-            ∙ ap (λ l. done ++ l) (ap (λ l. answers_in known.did.0 ++ l) own ∙ sym (answers-more known.did.0 batch)))
-            (told.share (done ++ answers_in known.did.0) (known.did.2 done share)),
+        more-both c.args.seat.now c.loop.seat c.take.new.pass [] known.did.0 [] (batch ∷ []) known.did.1 more,
+        subst (λ (l : List Answer). HasMetered g.C.FlowCache c.args.cache.now l c.args.share.now c.meter_run.new.share)
+            (ap (λ l. answers_in known.did.0 ++ l) own ∙ sym (snoc answers_of_batch known.did.0 batch))
+            (metered-more g.C.FlowCache c.args.cache.now _ _ _ c.loop.share _ known.did.2 told.share),
       );
     }
 
@@ -82,7 +64,6 @@ loop-preserved g c =
     let same = (c.take.ensures.none c.in-None-take.is).0 ∙ c.is_ended-ended.ensures.same.0 in
     record {
       of = c.take.ensures.own;
-      ready = ready-same (took_of c.loop.seat) (took_of c.take.new.pass) c.loop.share.tally.captured
-          (took-same c.loop.seat c.take.new.pass same) known.ready;
+      ready = subst (λ l. IsReadyFor l c.loop.share.tally.captured) (sym (λ i. (same i).took)) known.ready;
       did = (known.did.0, same ∙ known.did.1, known.did.2);
     }

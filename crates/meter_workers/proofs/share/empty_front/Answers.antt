@@ -1,6 +1,6 @@
 use Rattle.std.proofs.Common.{◌++◌, ◌∷◌, [], length, sym, ap, ◌∙◌, arith, append_assoc}
 use Rattle.front_cache.specs.Fronts.{open_in}
-use Rattle.meter_workers.proofs.Sharing.{room-out}
+use Rattle.meter_workers.proofs.Shares.{room-out}
 use Rattle.meter_workers.proofs.share.empty_front.Goals as goal
 
 pub put_in-requires-clause-room : goal.put_in-requires-clause-room

@@ -1,17 +1,12 @@
-use Rattle.std.proofs.Common.{◌+◌, ◌∷◌, ◌≤◌, ◌^◌, [], sym, arith, append-nil}
-use Rattle.cache_face.specs.Keeping.{packet_count}
-use Rattle.meter_workers.proofs.Records.{reached-alone, reached-through, room-through, on-ok}
+use Rattle.std.proofs.Common.{[], ◌∷◌, sym, append-nil}
+use Rattle.meter_workers.proofs.Shares.{reached-alone, reached-through, room-through, on-ok}
 use Rattle.meter_workers.proofs.share.meter_packet.Goals as goal
 
 pub put_in-requires-clause-room : goal.put_in-requires-clause-room
 put_in-requires-clause-room g c κs within =
     let told = c.in-Some-take_in.ensures.reached in
-    let taken = (g.C.FlowCache.shown c.args.pass.now).note.taken in
-    let out = c.in-Some-take_in.out in
-    let room : packet_count taken + (0 + out.packets) ≤ 2 ^ 32 =
-    room-through c.in-Some.front.limits told.0 taken (out ∷ []) c.args.front.now c.in-Some.front c.take_in.new.self
-    c.reaching_shares_out.ensures.counts c.in-Some.is told.1.packets c.requires.room told.2 in
-    omega (arith, room)
+    room-through c.in-Some.front.limits told.0 c.in-Some-take_in.out
+    (g.C.FlowCache.shown c.args.pass.now).note.taken c.args.front.now c.in-Some.front c.take_in.new.self c.in-Some.is told.1.packets c.requires.room told.2
 
 pub returns-in-Some-take_in-clause-reached : goal.returns-in-Some-take_in-clause-reached
 returns-in-Some-take_in-clause-reached g c =
@@ -20,19 +15,17 @@ returns-in-Some-take_in-clause-reached g c =
       told.0,
       told.1,
       reached-through _ told.0 _ _ (c.in-Some-take_in.out ∷ []) c.args.front.now c.in-Some.front c.take_in.new.self
-          c.reaching_goes_on.ensures.onward c.reaching_goes_on.ensures.permuted c.reaching_goes_on.ensures.together
           c.requires.seated.front_is c.in-Some.is told.2 c.put_in.ensures.taken,
     )
 
 pub returns-in-None-take_in-clause-reached : goal.returns-in-None-take_in-clause-reached
 returns-in-None-take_in-clause-reached g c =
-    let told = c.in-None-take_in.ensures.reached in
-    let taken = (g.C.FlowCache.shown c.args.pass.now).note.taken in (
+    let told = c.in-None-take_in.ensures.reached in (
       told.0,
       told.1,
       reached-through _ told.0 _ _ [] c.args.front.now c.in-Some.front c.take_in.new.self
-          c.reaching_goes_on.ensures.onward c.reaching_goes_on.ensures.permuted c.reaching_goes_on.ensures.together
-          c.requires.seated.front_is c.in-Some.is told.2 (sym (append-nil taken)),
+          c.requires.seated.front_is c.in-Some.is told.2
+          (sym (append-nil (g.C.FlowCache.shown c.args.pass.now).note.taken)),
     )
 
 pub returns-in-None-clause-reached : goal.returns-in-None-clause-reached
@@ -40,7 +33,5 @@ returns-in-None-clause-reached g c =
     on-ok c.put_in-in-None.result (
       c.of.result,
       c.of.ensures.alone,
-      reached-alone _ c.of.result _ _ c.args.front.now c.reaching_goes_on.ensures.onward
-          c.reaching_goes_on.ensures.permuted c.reaching_goes_on.ensures.together c.in-None.is
-          c.put_in-in-None.ensures.taken,
+      reached-alone _ c.of.result _ _ c.args.front.now c.in-None.is c.put_in-in-None.ensures.taken,
     )

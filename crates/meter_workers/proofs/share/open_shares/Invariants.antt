@@ -1,15 +1,14 @@
 use Rattle.std.proofs.Common.{◌≡◌, ◌+◌, [], length, vec_len}
 use Rattle.std.specs.Prelude.{All}
 use Rattle.cache_face.specs.Meaning.{IsFresh}
-use Rattle.meter_workers.specs.Shares.{IsShare}
+use Rattle.meter_workers.specs.Shares.{IsShareOf}
 use Rattle.meter_workers.proofs.share.open_shares.Given as goal
 
 abbrev pub invariant-loop-pass : goal.invariant-loop-pass
 invariant-loop-pass g l = record {
   many : length l.shares.items + length l.passes.items ≡ length l.initial.passes.items;
   left : All (λ p. g.C.FlowCache.is_of l.cache p × IsFresh (g.C.FlowCache.shown p)) l.passes.items;
-  shares : All (IsShare {X = g.row.C.Denot} {P = g.row.C-Pass.Denot} (g.C.FlowCache.is_of l.cache)
-      g.C.FlowCache.shown (g.C.FlowCache.means l.cache).limits []) l.shares.items;
+  shares : All (IsShareOf g.C.FlowCache l.cache []) l.shares.items;
 }
 
 abbrev pub decreases-loop-pass : goal.decreases-loop-pass

@@ -1,8 +1,7 @@
 use Rattle.std.proofs.Common.{◌≡◌, ◌+◌, ◌++◌, ◌<◌, List, None, length, vec_len}
 use Rattle.std.specs.Prelude.{IsPermutation}
 use Rattle.capture_input.specs.Parts.{Answer}
-use Rattle.meter_workers.specs.declared.share.Share.{Share}
-use Rattle.meter_workers.specs.Shares.{IsShare, HasMetered, HaveMetered}
+use Rattle.meter_workers.specs.Shares.{IsShareOf, AreSharesOf, HaveMetered}
 use Rattle.meter_workers.proofs.share.unite_all.Given as goal
 
 abbrev pub invariant-loop-share : goal.invariant-loop-share
@@ -11,15 +10,9 @@ invariant-loop-share g l = record {
   front : l.all.front ≡ None;
   many : (g.C.FlowCache.shown l.all.pass).note.seats + length l.shares.items ≡ length l.fn.shares.items;
   some : 0 < (g.C.FlowCache.shown l.all.pass).note.seats;
-  metered : (answers : List Answer)
-      → HaveMetered {S = Share g.row.C.Denot g.row.C-Pass.Denot} (IsShare {X = g.row.C.Denot} {P = g.row.C-Pass.Denot}
-      (g.C.FlowCache.is_of l.cache) g.C.FlowCache.shown (g.C.FlowCache.means l.cache).limits) answers l.fn.shares.items
-      → (rest done : List Answer)
-      × HaveMetered {S = Share g.row.C.Denot g.row.C-Pass.Denot} (IsShare {X = g.row.C.Denot} {P = g.row.C-Pass.Denot}
-      (g.C.FlowCache.is_of l.cache) g.C.FlowCache.shown (g.C.FlowCache.means l.cache).limits) rest l.shares.items
-      × HasMetered {X = g.row.C.Denot} {P = g.row.C-Pass.Denot} g.C.FlowCache.shown
-      (g.C.FlowCache.means l.cache).limits done l.all
-      × IsPermutation answers (rest ++ done);
+  metered : (answers : List Answer) → HaveMetered (IsShareOf g.C.FlowCache l.cache) answers l.fn.shares.items
+      → (rest done : List Answer) × HaveMetered (IsShareOf g.C.FlowCache l.cache) rest l.shares.items
+      × AreSharesOf g.C.FlowCache l.cache done l.all × IsPermutation answers (rest ++ done);
 }
 
 abbrev pub decreases-loop-share : goal.decreases-loop-share

@@ -1,87 +1,85 @@
-use Rattle.std.proofs.Common.{◌≡◌, ◌+◌, ◌*◌, ◌≤◌, ◌++◌, List, [], length, min, sym, ap}
-use Rattle.std.proofs.Common.{◌∙◌, subst, arith, append-nil, append_assoc}
+use Rattle.std.proofs.Common.{◌≡◌, ◌+◌, ◌*◌, ◌≤◌, ◌++◌, List, length, min, sym, ap, ◌∙◌, subst, arith}
 use Rattle.std.specs.Prelude.{slice_range}
 use Rattle.pcap_reader.specs.Views.{file_of}
 use Rattle.work_pieces.specs.Passes.{size_of, drawn_of}
+use Rattle.cache_face.proofs.Apart.{snoc}
 use Rattle.capture_input.specs.Parts.{Answer, answers_by}
-use Rattle.meter_workers.specs.declared.share.Share.{Share}
-use Rattle.meter_workers.specs.Pieces.{piece_of, pieces_of}
-use Rattle.meter_workers.specs.Shares.{IsShare}
-use Rattle.meter_workers.proofs.Drawn.{IsBehind, behind-none, behind-next, behind-more, pieces-last}
-use Rattle.meter_workers.proofs.Records.{answers-count}
+use Rattle.capture_input.proofs.Ranges.{answers-count}
+use Rattle.work_pieces.specs.Cutting.{piece_of, pieces_of}
+use Rattle.meter_workers.specs.Shares.{HasMetered}
+use Rattle.work_pieces.proofs.Cutting.{IsBehind, behind-none, behind-next, behind-more}
+use Rattle.meter_workers.proofs.Shares.{metered-none, metered-more}
+use Rattle.meter_workers.proofs.windows.work_through.Given as given
+use Rattle.meter_workers.proofs.windows.work_through.Goals.{In-Some}
 use Rattle.meter_workers.proofs.windows.work_through.Goals as goal
 
 pub loop-draw-init : goal.loop-draw-init
 loop-draw-init g c =
-    let Has : List Answer → Share g.row.C.Denot g.row.C-Pass.Denot → Type 0 =
-    IsShare (g.C.FlowCache.is_of c.args.cache.now) g.C.FlowCache.shown (g.C.FlowCache.means c.args.cache.now).limits in
     let fresh = c.requires.ready.fresh in
     let size = size_of c.args.pieces.now in
-    let none : pieces_of size (answers_by c.args.part.now) (drawn_of c.args.draw.now) ≡ [] =
-    ap (pieces_of size (answers_by c.args.part.now)) fresh.3 in
+    let share = c.args.share.now in
     record {
       draws = c.requires.ready.draws;
       seat = fresh.1;
-      share = λ done share. subst (λ (l : List Answer). Has l c.args.share.now)
-          (sym (ap (λ (l : List Answer). done ++ l) none ∙ append-nil done)) share;
+      share = subst (λ (l : List Answer). HasMetered g.C.FlowCache c.args.cache.now l share share)
+          (sym (ap (pieces_of size (answers_by c.args.part.now)) fresh.3))
+          (metered-none g.C.FlowCache c.args.cache.now share);
       few = omega arith;
-      behind = behind-none size c.args.share.now.tally.captured (drawn_of c.args.draw.now);
+      behind = behind-none size share.tally.captured (drawn_of c.args.draw.now);
     }
 
 pub meter_run-requires-clause-share : goal.meter_run-requires-clause-share
 meter_run-requires-clause-share g c κs within =
-    let r = c.requires.ready in (
-      r.done ++ pieces_of (size_of c.args.pieces.now) (answers_by c.args.part.now) (drawn_of c.loop-draw.draw),
-      c.loop-draw.invariant.share r.done r.is,
-    )
+    (_, c.loop-draw.invariant.share.besides c.requires.ready.done c.requires.ready.is)
+
+-- no more records were tallied than stand before the piece that was drawn
+tallied : (g : given.Over) (c : In-Some g) → c.loop-draw.share.tally.captured
+    ≤ c.args.share.now.tally.captured + c.in-Some.piece.number * size_of c.args.pieces.now
+tallied g c = behind-next _ _ _ _ _ c.loop-draw.invariant.behind c.in-Some.ensures.rises
 
 pub meter_run-requires-clause-room : goal.meter_run-requires-clause-room
 meter_run-requires-clause-room g c κs within =
-    let next = behind-next (size_of c.args.pieces.now) c.args.share.now.tally.captured c.in-Some.piece.number
-    c.loop-draw.share.tally.captured (drawn_of c.loop-draw.draw) c.loop-draw.invariant.behind
-    c.in-Some.ensures.rises in
-    let few = c.args.part.now.few in
-    let less = c.requires.ready.few in
-    omega (arith, next, few, less, c.in-Some.ensures.some.0, c.in-Some.ensures.within.2, c.requires.whole)
+    let next = tallied g (goal.at.meter_run-requires-clause-room g c).In-Some in
+    omega (
+      arith,
+      next,
+      c.args.part.now.few,
+      c.requires.ready.few,
+      c.in-Some.ensures.some.0,
+      c.in-Some.ensures.within.2,
+      c.requires.whole,
+    )
 
 pub loop-draw-preserved : goal.loop-draw-preserved
 loop-draw-preserved g c =
-    let Has : List Answer → Share g.row.C.Denot g.row.C-Pass.Denot → Type 0 =
-    IsShare (g.C.FlowCache.is_of c.args.cache.now) g.C.FlowCache.shown (g.C.FlowCache.means c.args.cache.now).limits in
     let part = c.args.part.now in
     let answers = answers_by part in
     let size = size_of c.args.pieces.now in
-    let n = c.in-Some.piece.number in
+    let piece = c.in-Some.piece in
+    let n = piece.number in
     let some = c.in-Some.ensures.some in
     let told = c.in_ok-meter_run.ensures in
     let drawn = drawn_of c.loop-draw.draw in
-    let i = c.loop-draw.invariant in
-    let all : length part.index.now.offsets ≡ length answers =
-    part.indexed.count ∙ sym (answers-count part.base (file_of part.capture)) in
-    let stop : c.in-Some.piece.end ≡ min ((n + 1) * size) (length answers) =
-    some.1 ∙ ap (min ((n + 1) * size)) (c.requires.whole ∙ all) in
-    let within : c.in-Some.piece.end ≤ (n + 1) * size = omega (arith, stop) in
-    let next = behind-next size c.args.share.now.tally.captured n c.loop-draw.share.tally.captured drawn i.behind
-    c.in-Some.ensures.rises in
-    let own : slice_range answers c.in-Some.piece.start c.in-Some.piece.end ≡ piece_of size answers n =
-    ap (λ k. slice_range answers k c.in-Some.piece.end) some.0
-    ∙ ap (λ k. slice_range answers (n * size) k) stop in
+    let stop : piece.end ≡ min ((n + 1) * size) (length answers) =
+    some.1 ∙ ap (min ((n + 1) * size))
+    (c.requires.whole ∙ part.indexed.count ∙ sym (answers-count part.base (file_of part.capture))) in
+    let within : piece.end ≤ (n + 1) * size = omega (arith, stop) in
+    let next = tallied g (goal.at.loop-draw-preserved g c).In-Some in
+    let own : slice_range answers piece.start piece.end ≡ piece_of size answers n =
+    (λ i. slice_range answers (some.0 i) (stop i)) in
     record {
       draws = c.draw.ensures.own.0;
       seat = c.draw.ensures.own.1;
-      share = λ done share. subst (λ (l : List Answer). Has l c.meter_run.new.share)
-          (append_assoc done (pieces_of size answers drawn)
-          (slice_range answers c.in-Some.piece.start c.in-Some.piece.end)
-          ∙ ap (λ (l : List Answer). done ++ l)
-          (ap (λ (l : List Answer). pieces_of size answers drawn ++ l) own ∙ sym (pieces-last size answers drawn n)
-          ∙ ap (pieces_of size answers) (sym some.2)))
-          (told.share (done ++ pieces_of size answers drawn) (i.share done share));
+      share = subst (λ (l : List Answer). HasMetered g.C.FlowCache c.args.cache.now l c.args.share.now
+          c.meter_run.new.share)
+          (ap (λ (l : List Answer). pieces_of size answers drawn ++ l) own
+          ∙ sym (ap (pieces_of size answers) some.2 ∙ snoc (piece_of size answers) drawn n))
+          (metered-more g.C.FlowCache c.args.cache.now _ _ _ c.loop-draw.share _ c.loop-draw.invariant.share told.share);
       few = omega (arith, told.captured, next, some.0, c.in-Some.ensures.within.2, c.requires.whole);
       behind = subst (λ l. IsBehind size c.args.share.now.tally.captured l c.meter_run.new.share.tally.captured)
           (sym some.2)
           (behind-more size c.args.share.now.tally.captured n c.loop-draw.share.tally.captured
-          c.meter_run.new.share.tally.captured c.in-Some.piece.end drawn within next
-          (omega (arith, told.captured, some.0)));
+          c.meter_run.new.share.tally.captured piece.end drawn within next (omega (arith, told.captured, some.0)));
     }
 
 -- Each piece has a record at least, and no more are tallied than there are.
@@ -89,6 +87,5 @@ pub loop-draw-smaller : goal.loop-draw-smaller
 loop-draw-smaller g c =
     let told = c.in_ok-meter_run.ensures in
     let piece = c.in-Some.ensures in
-    let next = behind-next (size_of c.args.pieces.now) c.args.share.now.tally.captured c.in-Some.piece.number
-    c.loop-draw.share.tally.captured (drawn_of c.loop-draw.draw) c.loop-draw.invariant.behind piece.rises in
+    let next = tallied g (goal.at.loop-draw-smaller g c).In-Some in
     omega (arith, told.captured, next, piece.some.0, piece.within.0, piece.within.1, piece.within.2, c.requires.whole)

@@ -1,21 +1,17 @@
-use Rattle.std.proofs.Common.{◌≡◌, ◌≤◌, ◌+◌, ◌-◌, ◌++◌, List, length}
+use Rattle.std.proofs.Common.{◌≡◌, ◌≤◌, ◌+◌, ◌-◌, length}
 use Rattle.work_pieces.specs.Passes.{IsPassOf, size_of, drawn_of, seats_of}
-use Rattle.capture_input.specs.Parts.{Answer, answers_by}
-use Rattle.meter_workers.specs.Pieces.{pieces_of}
-use Rattle.meter_workers.specs.Shares.{IsShare}
-use Rattle.meter_workers.proofs.Drawn.{IsBehind}
+use Rattle.capture_input.specs.Parts.{answers_by}
+use Rattle.work_pieces.specs.Cutting.{pieces_of}
+use Rattle.meter_workers.specs.Shares.{HasMetered}
+use Rattle.work_pieces.proofs.Cutting.{IsBehind}
 use Rattle.meter_workers.proofs.windows.work_through.Given as goal
 
 abbrev pub invariant-loop-draw : goal.invariant-loop-draw
 invariant-loop-draw g l = record {
   draws : IsPassOf l.pieces l.draw;
   seat : seats_of l.draw ≡ 1;
-  share : (done : List Answer)
-      → IsShare {X = g.row.C.Denot} {P = g.row.C-Pass.Denot} (g.C.FlowCache.is_of l.cache) g.C.FlowCache.shown
-      (g.C.FlowCache.means l.cache).limits done l.initial.share
-      → IsShare {X = g.row.C.Denot} {P = g.row.C-Pass.Denot} (g.C.FlowCache.is_of l.cache) g.C.FlowCache.shown
-      (g.C.FlowCache.means l.cache).limits
-      (done ++ pieces_of (size_of l.pieces) (answers_by l.part) (drawn_of l.draw)) l.share;
+  share : HasMetered g.C.FlowCache l.cache (pieces_of (size_of l.pieces) (answers_by l.part) (drawn_of l.draw))
+      l.initial.share l.share;
   few : l.share.tally.captured ≤ l.initial.share.tally.captured + length l.part.index.now.offsets;
   behind : IsBehind (size_of l.pieces) l.initial.share.tally.captured (drawn_of l.draw) l.share.tally.captured;
 }

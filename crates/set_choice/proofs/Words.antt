@@ -1,6 +1,6 @@
--- Contents of a key, and one that takes a fragment in.
-use Rattle.std.proofs.Common.{◌≡◌, ◌≢◌, inl, inr, ℕ, List, [], ◌∷◌, ◌++◌, Option, Some, None, MatchOption, get_or}
-use Rattle.std.proofs.Common.{set, take, ap, sym, ◌∙◌, subst}
+-- A content of a key, and one that takes a fragment in.
+use Rattle.std.proofs.Common.{◌≡◌, ◌≢◌, inl, inr, ℕ, List, ◌∷◌, [], ◌++◌, Option, Some, None, MatchOption, get_or, set, take}
+use Rattle.std.proofs.Common.{ap, sym, ◌∙◌, subst}
 use Rattle.flow_key.specs.declared.key.FlowKey.{FlowKey}
 use Rattle.flow_key.specs.Key.{words_of}
 use Rattle.flow_key.proofs.KeyWords.{same_words}
@@ -11,6 +11,7 @@ use Rattle.cache_face.specs.Choice.{CanJoin, HasKey}
 use Rattle.cache_face.specs.Keeping.{IsWhole, entry_of}
 use Rattle.cache_face.proofs.Contents.{words_show, empty_shows, some_is}
 use Rattle.set_choice.proofs.ByWords.{key_words}
+use Rattle.set_choice.proofs.Putting.{joins_key}
 
 -- a content with the words of a key that isn't empty shows a fragment of the key
 pub has_key : (content : List ℕ) (key : FlowKey) → IsWhole content → take 5 content ≡ words_of key
@@ -27,11 +28,8 @@ has_no_key content key empty has = subst (HasKey key) (empty_shows content empty
 -- where a content shows a fragment that can be one with another it has the words of the other's key
 pub join_words : (limits : Timeouts) (content : List ℕ) (own : Fragment) → IsWhole content
     → CanJoin limits own (entry_of content) → take 5 content ≡ words_of own.key
-join_words limits content own whole can = key_words content own.key whole (of_key (entry_of content) can)
-  where
-    of_key : (entry : Option Fragment) → CanJoin limits own entry → HasKey own.key entry
-    of_key None joins = absurd joins
-    of_key (Some old) joins = joins.one_key
+join_words limits content own whole can =
+    key_words content own.key whole (joins_key limits own (entry_of content) can)
 
 -- the content with the five words behind the key written anew
 abbrev pub rewritten : List ℕ → Fragment → List ℕ
