@@ -1,7 +1,6 @@
 //! Who asks for open flows while workers meter.
 
 ghost use Rattle.std.specs.Prelude.{◌≡◌, ◌≢◌, None};
-ghost use Rattle.cache_face.specs.Notes.{first_note};
 ghost use Rattle.flow_cache.specs.Shown.{shown_of};
 ghost use Rattle.flow_cache.specs.Shown as shown;
 ghost use Rattle.flow_watch.specs.Watching.{IsOf, held_by, note_of};
@@ -30,7 +29,7 @@ fn read_some(cache: &PebrCache, watcher: &mut Watcher)
     requires holding { held_by watcher.old ≢ None }
     ensures of { IsOf cache.now watcher.new }
     ensures holding { held_by watcher.new ≡ held_by watcher.old }
-    ensures note { note_of watcher.new ≡ note_of watcher.old }
+    ensures seats { (note_of watcher.new).seats ≡ (note_of watcher.old).seats }
 {
     for _turn in 0..READS {
         watcher.read(cache);
@@ -43,7 +42,7 @@ fn try_once(cache: &PebrCache, watcher: &mut Watcher, key: &FlowKey) -> bool
     requires idle { held_by watcher.old ≡ None }
     ensures of { IsOf cache.now watcher.new }
     ensures idle { held_by watcher.new ≡ None }
-    ensures note { note_of watcher.new ≡ note_of watcher.old }
+    ensures seats { (note_of watcher.new).seats ≡ (note_of watcher.old).seats }
 {
     match watcher.hold(cache, key) {
         Watch::Held => {
@@ -62,7 +61,7 @@ fn ask(cache: &PebrCache, watcher: &mut Watcher, key: &FlowKey) -> bool
     requires idle { held_by watcher.old ≡ None }
     ensures of { IsOf cache.now watcher.new }
     ensures idle { held_by watcher.new ≡ None }
-    ensures note { note_of watcher.new ≡ note_of watcher.old }
+    ensures seats { (note_of watcher.new).seats ≡ (note_of watcher.old).seats }
 {
     for _turn in 0..TRIES {
         if try_once(cache, watcher, key) {
@@ -75,9 +74,9 @@ fn ask(cache: &PebrCache, watcher: &mut Watcher, key: &FlowKey) -> bool
 /// Asks for the flow of a key by a watcher at the seat of a pass, and looks at the pass behind it.
 fn ask_by(cache: &PebrCache, asked: Asked, key: &FlowKey) -> Asked
     requires own { shown.IsOf cache.now asked.pass }
-    requires fresh { (shown_of asked.pass).note ≡ first_note }
+    requires single { (shown_of asked.pass).note.seats ≡ 1 }
     ensures own { shown.IsOf cache.now result.pass }
-    ensures fresh { (shown_of result.pass).note ≡ first_note }
+    ensures single { (shown_of result.pass).note.seats ≡ 1 }
 {
     let Asked { pass, held, most } = asked;
     let mut watcher = Watcher::open(pass);
@@ -91,13 +90,12 @@ fn ask_by(cache: &PebrCache, asked: Asked, key: &FlowKey) -> Asked
     }
 }
 
-/// Asks for the flow of each key in turn, at the seat of a pass that has done nothing. It has metered nothing then
-/// either.
+/// Asks for the flow of each key in turn, at the seat of a pass.
 pub(crate) fn ask_all(cache: &PebrCache, pass: PebrPass, keys: &[FlowKey]) -> Asked
     requires own { shown.IsOf cache.now pass }
-    requires fresh { (shown_of pass).note ≡ first_note }
+    requires single { (shown_of pass).note.seats ≡ 1 }
     ensures own { shown.IsOf cache.now result.pass }
-    ensures fresh { (shown_of result.pass).note ≡ first_note }
+    ensures single { (shown_of result.pass).note.seats ≡ 1 }
 {
     let mut asked = Asked {
         pass,

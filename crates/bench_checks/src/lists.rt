@@ -8,7 +8,6 @@ ghost use Rattle.std.specs.Prelude.{◌≡◌, ◌+◌, ◌^◌, ◌<◌, ◌≤
 ghost use Rattle.pcap_reader.specs.File.{IsCaptureOf};
 ghost use Rattle.pcap_reader.specs.Index.{IsIndexOf};
 ghost use Rattle.cache_face.specs.Meaning.{IsFresh};
-ghost use Rattle.cache_face.specs.Notes.{first_note};
 ghost use Rattle.flow_cache.specs.Shown as inner;
 ghost use Rattle.bench_checks.specs.Looked.{means_of, shown_of, IsOf};
 
@@ -143,7 +142,7 @@ fn at_once<R: Threads + Sync>(
     requires passes { (0 < length passes.items) × (length passes.items ≤ 64)
         × All (λ p. IsOf cache.now p × IsFresh (shown_of p)) passes.items }
     requires own { inner.IsOf cache.now.inner own × IsFresh (inner.shown_of own) }
-    ensures asked { inner.IsOf cache.now.inner result.0.pass × ((inner.shown_of result.0.pass).note ≡ first_note) }
+    ensures asked { inner.IsOf cache.now.inner result.0.pass × ((inner.shown_of result.0.pass).note.seats ≡ 1) }
     ensures metered { IfSome result.1 (λ r. IsOf cache.now r.pass
         × ((shown_of r.pass).note.seats ≡ length passes.items)) }
 {
@@ -151,7 +150,7 @@ fn at_once<R: Threads + Sync>(
         rt,
         move || -> Asked
             requires own { inner.IsOf cache.now.inner own × IsFresh (inner.shown_of own) }
-            ensures { inner.IsOf cache.entry.now.inner result.pass × ((inner.shown_of result.pass).note ≡ first_note) }
+            ensures { inner.IsOf cache.entry.now.inner result.pass × ((inner.shown_of result.pass).note.seats ≡ 1) }
         { ask_all(&cache.inner, own, keys) },
         move || -> Option<Gathered<LookedCache>>
             requires capture { IsCaptureOf (λ file. IsIndexOf index.now file) bytes.now }
@@ -172,7 +171,7 @@ fn close_cache(
     asked: Asked,
     seats: usize,
 ) -> Option<Came>
-    requires asked { inner.IsOf cache.inner asked.pass × ((inner.shown_of asked.pass).note ≡ first_note) }
+    requires asked { inner.IsOf cache.inner asked.pass × ((inner.shown_of asked.pass).note.seats ≡ 1) }
     requires own { IsOf cache gathered.pass }
     requires seats { (shown_of gathered.pass).note.seats + 1 ≡ (means_of cache).seats }
     requires some { seats ≤ 64 }

@@ -9,7 +9,7 @@ use Rattle.std.proofs.lemmas.List.Elements.{All-push}
 use Rattle.std.proofs.lemmas.List.Sums.{sum_by-cons, sum_by-append, sum_by_push}
 use Rattle.std.proofs.lemmas.List.Sorted.{IsPermutation-refl, IsPermutation-sym, IsPermutation-trans}
 use Rattle.std.proofs.lemmas.List.Sorted.{IsPermutation-append_left, IsPermutation-append_right}
-use Rattle.std.proofs.lemmas.List.Sorted.{IsPermutation-append_comm}
+use Rattle.std.proofs.lemmas.List.Sorted.{IsPermutation-append_comm, All-permutation}
 use mathlib.Core.Logic.{dite}
 use native.Mathlib.Decide.{ℕ_discrete}
 use mathlib.Core.Option.{some}
@@ -23,10 +23,11 @@ use Rattle.flow_parts.specs.Parts.{IsJoined}
 use Rattle.flow_parts.specs.Reaching.{Reaches}
 use Rattle.flow_parts.proofs.Reaching.{same_packets, same_octets, beside, itself, turned, reaches_joined}
 use Rattle.cache_face.specs.Keeping.{Keeps, IsWhole, IsSmall, IsEmptyContent, IsBounded, IsInSet, IsWithin}
-use Rattle.cache_face.specs.Keeping.{entry_of, parts_in, taken_in, handed_in, packet_count}
+use Rattle.cache_face.specs.Keeping.{entry_of, parts_in, taken_in, handed_in, seen_in, packet_count, IsBorne}
 use Rattle.cache_face.specs.Laws.{CanTake, IsUnused, KeepsOpening, KeepsSplit, KeepsMerged, KeepsTaken, KeepsPassed}
-use Rattle.cache_face.specs.Laws.{KeptAtEnd, TakenIsSmall}
-use Rattle.cache_face.specs.Notes.{Note, unused_note, first_note, empty_note, merged_note, note_with}
+use Rattle.cache_face.specs.Laws.{KeptAtEnd, TakenIsSmall, KeepsSeen, BacksTaken, BacksSeen, BacksMerged, KeptIsBacked}
+use Rattle.cache_face.specs.Laws.{EmptyIsBacked}
+use Rattle.cache_face.specs.Notes.{Note, unused_note, first_note, empty_note, merged_note, note_with, note_seeing}
 use Rattle.cache_face.proofs.Apart.{same, others, apart, anew, snoc, sum_anew, sum_snoc, all_at, all_others, elsewhere}
 use Rattle.cache_face.proofs.Apart.{below}
 use Rattle.cache_face.proofs.Contents.{words_show, empty_shows, none_some, some_is}
@@ -36,6 +37,9 @@ taken_of note = note.taken
 
 abbrev handed_of : Note → List Fragment
 handed_of note = note.handed
+
+abbrev seen_of : Note → List Fragment
+seen_of note = note.seen
 
 abbrev seats_of : Note → ℕ
 seats_of note = note.seats
@@ -134,6 +138,32 @@ kept_pieces : {A B : Type 0} (f : A → List B) (l : List A) (i : ℕ) (a b : A)
 kept_pieces f l i a b e is = subst (λ x. IsPermutation (flat_map f (set l i b)) x) (append-nil (flat_map f l))
     (grown f l i a b [] e (is ∙ sym (append-nil (f a))))
 
+-- what is borne out stays so when more is put in, and in any order
+borne_more : (limits : Timeouts) (taken taken' more : List Fragment) (part : Fragment)
+    → IsPermutation taken' (taken ++ more) → IsBorne limits taken part → IsBorne limits taken' part
+borne_more limits taken taken' more part is borne = (
+  borne.0 ++ more,
+  turned limits (taken ++ more) taken' (part ∷ (borne.0 ++ more)) (part ∷ (borne.0 ++ more))
+      (IsPermutation-sym taken' (taken ++ more) is) (IsPermutation-refl (part ∷ (borne.0 ++ more)))
+      (beside limits taken (part ∷ borne.0) more borne.1),
+)
+
+borne_same : (limits : Timeouts) (taken taken' : List Fragment) (part : Fragment) → IsPermutation taken' taken
+    → IsBorne limits taken part → IsBorne limits taken' part
+borne_same limits taken taken' part is borne = (
+  borne.0,
+  turned limits taken taken' (part ∷ borne.0) (part ∷ borne.0) (IsPermutation-sym taken' taken is)
+      (IsPermutation-refl (part ∷ borne.0)) borne.1,
+)
+
+-- so is all that was seen
+all_borne : (limits : Timeouts) (taken taken' seen seen' : List Fragment) → IsPermutation seen' seen
+    → ((part : Fragment) → IsBorne limits taken part → IsBorne limits taken' part)
+    → All (IsBorne limits taken) seen → All (IsBorne limits taken') seen'
+all_borne limits taken taken' seen seen' is still borne =
+    All-permutation (IsBorne limits taken') seen seen' (IsPermutation-sym seen' seen is)
+    (All-weaker (IsBorne limits taken) (IsBorne limits taken') still seen borne)
+
 module _ (limits : Timeouts) (sets : ℕ) (contents : List (List ℕ)) (notes : List Note) (i : ℕ) (note : Note) (own : Fragment)
     (keeps : Keeps limits sets contents notes) (at : get_elem? notes i ≡ some note) (can : CanTake note own) where
   T : List Fragment
@@ -183,6 +213,13 @@ module _ (limits : Timeouts) (sets : ℕ) (contents : List (List ℕ)) (notes : 
       (IsPermutation-sym (handed_in (noted out)) (H ++ option_to_list out) (more_handed out))))
       reached
 
+  -- what was seen is borne out still
+  seen_still : (out : Option Fragment) → All (IsBorne limits (taken_in (noted out))) (seen_in (noted out))
+  unfolding T noted
+  seen_still out = all_borne limits (taken_in notes) (taken_in (noted out)) (seen_in notes) (seen_in (noted out))
+      (kept_pieces seen_of notes i note (note_with note own out) at refl)
+      (λ part. borne_more limits (taken_in notes) (taken_in (noted out)) (own ∷ []) part (more_taken out)) keeps.seen
+
   passed : Keeps limits sets contents (set notes i (note_with note own (Some own)))
   unfolding noted G H
   passed = record {
@@ -191,6 +228,7 @@ module _ (limits : Timeouts) (sets : ℕ) (contents : List (List ℕ)) (notes : 
     placed = keeps.placed;
     regrouped = ordered ((G ++ H) ++ own ∷ []) G (Some own) all_reached
         (same ((G ++ H) ++ own ∷ []) (G ++ (H ++ own ∷ [])) (append_assoc G H (own ∷ [])));
+    seen = seen_still (Some own);
     seats = all_seats (Some own);
     each = all_within (Some own);
   }
@@ -259,6 +297,7 @@ module _ (limits : Timeouts) (sets : ℕ) (contents : List (List ℕ)) (notes : 
               (IsPermutation-refl (taken_in (noted out)))
               (IsPermutation-append_left (handed_in (noted out)) (kept ∷ R) G'
               (IsPermutation-sym G' (kept ∷ R) after)) now;
+          seen = seen_still out;
           seats = all_seats out;
           each = all_within out;
         }
@@ -355,6 +394,9 @@ keeps_opening limits sets contents notes many empty idle few = record {
       (subst (λ h. Reaches limits [] h)
       (sym (none_of handed_of notes (All-weaker IsUnused (λ n. handed_of n ≡ []) (λ n h. h.1) notes idle)))
       (itself limits [])));
+  seen = subst (All (IsBorne limits (taken_in notes)))
+      (sym (none_of seen_of notes (All-weaker IsUnused (λ n. seen_of n ≡ []) (λ n h. h.2) notes idle)))
+      (All-nil (IsBorne limits (taken_in notes)));
   seats = few;
   each = All-weaker IsUnused IsWithin nothing_within notes idle;
 }
@@ -362,9 +404,10 @@ keeps_opening limits sets contents notes many empty idle few = record {
 -- notes that took the same fragments and were handed the same keep alike
 alike : (limits : Timeouts) (sets : ℕ) (contents : List (List ℕ)) (notes notes' : List Note) → Keeps limits sets contents notes
     → IsPermutation (taken_in notes') (taken_in notes) → IsPermutation (handed_in notes') (handed_in notes)
+    → IsPermutation (seen_in notes') (seen_in notes)
     → sum_by seats_of notes' ≤ 64 → All IsWithin notes'
     → Keeps limits sets contents notes'
-alike limits sets contents notes notes' keeps taken handed few within = record {
+alike limits sets contents notes notes' keeps taken handed seen few within = record {
   four = keeps.four;
   whole = keeps.whole;
   placed = keeps.placed;
@@ -373,6 +416,8 @@ alike limits sets contents notes notes' keeps taken handed few within = record {
       (IsPermutation-sym (taken_in notes') (taken_in notes) taken)
       (IsPermutation-append_right (parts_in contents) (handed_in notes) (handed_in notes')
       (IsPermutation-sym (handed_in notes') (handed_in notes) handed)) keeps.regrouped;
+  seen = all_borne limits (taken_in notes) (taken_in notes') (seen_in notes) (seen_in notes') seen
+      (λ part. borne_same limits (taken_in notes) (taken_in notes') part taken) keeps.seen;
   seats = few;
   each = within;
 }
@@ -389,10 +434,12 @@ keeps_split limits sets contents notes i seats keeps at =
     (kept_pieces taken_of notes i (unused_note (suc seats)) (unused_note seats) at refl))
     (subst (λ l. IsPermutation l (handed_in notes)) (sym (snoc handed_of left first_note ∙ append-nil (handed_in left)))
     (kept_pieces handed_of notes i (unused_note (suc seats)) (unused_note seats) at refl))
+    (subst (λ l. IsPermutation l (seen_in notes)) (sym (snoc seen_of left first_note ∙ append-nil (seen_in left)))
+    (kept_pieces seen_of notes i (unused_note (suc seats)) (unused_note seats) at refl))
     (omega (arith, s, t, few))
     (All-append IsWithin left (first_note ∷ [])
-    (All-set IsWithin notes i (unused_note seats) (nothing_within (unused_note seats) (refl, refl)) keeps.each)
-    (All-cons IsWithin first_note [] (nothing_within first_note (refl, refl)) (All-nil IsWithin)))
+    (All-set IsWithin notes i (unused_note seats) (nothing_within (unused_note seats) (refl, refl, refl)) keeps.each)
+    (All-cons IsWithin first_note [] (nothing_within first_note (refl, refl, refl)) (All-nil IsWithin)))
 
 -- the pieces of two are put together at the first
 gathered : {B : Type 0} (f : Note → List B) (notes : List Note) (i j : ℕ) (one other : Note)
@@ -436,8 +483,9 @@ keeps_merged limits sets contents notes i j one other keeps ne at at' =
     alike limits sets contents notes (set left j empty_note) keeps
     (gathered taken_of notes i j one other refl refl ne at at')
     (gathered handed_of notes i j one other refl refl ne at at')
+    (gathered seen_of notes i j one other refl refl ne at at')
     (omega (arith, s, t, few))
-    (All-set IsWithin left j empty_note (nothing_within empty_note (refl, refl))
+    (All-set IsWithin left j empty_note (nothing_within empty_note (refl, refl, refl))
     (All-set IsWithin notes i both
     (within_merged one other (all_at IsWithin notes i one keeps.each at) (all_at IsWithin notes j other keeps.each at'))
     keeps.each))
@@ -456,6 +504,75 @@ kept_at_end limits sets contents notes i note keeps at idle =
     (subst (λ z. IsPermutation (handed_in notes) (note.handed ++ z))
     (none_of handed_of rest (All-weaker IsUnused (λ n. handed_of n ≡ []) (λ n h. h.1) rest none))
     (apart handed_of notes i note at)) in
-    turned limits (taken_in notes) note.taken (parts_in contents ++ handed_in notes)
-    (parts_in contents ++ note.handed) taken
-    (IsPermutation-append_right (parts_in contents) (handed_in notes) note.handed handed) keeps.regrouped
+    let seen : IsPermutation (seen_in notes) note.seen =
+    subst (λ z. IsPermutation (seen_in notes) z) (append-nil note.seen)
+    (subst (λ z. IsPermutation (seen_in notes) (note.seen ++ z))
+    (none_of seen_of rest (All-weaker IsUnused (λ n. seen_of n ≡ []) (λ n h. h.2) rest none))
+    (apart seen_of notes i note at)) in (
+      turned limits (taken_in notes) note.taken (parts_in contents ++ handed_in notes)
+          (parts_in contents ++ note.handed) taken
+          (IsPermutation-append_right (parts_in contents) (handed_in notes) note.handed handed) keeps.regrouped,
+      all_borne limits (taken_in notes) note.taken (seen_in notes) note.seen
+          (IsPermutation-sym (seen_in notes) note.seen seen)
+          (λ part. borne_same limits (taken_in notes) note.taken part
+          (IsPermutation-sym (taken_in notes) note.taken taken)) keeps.seen,
+    )
+
+pub keeps_seen : KeepsSeen
+keeps_seen limits sets contents notes i note part keeps at borne =
+    let after : Note = note_seeing note part in
+    let notes' : List Note = set notes i after in
+    let taken : IsPermutation (taken_in notes') (taken_in notes) = kept_pieces taken_of notes i note after at refl in
+    let handed : IsPermutation (handed_in notes') (handed_in notes) = kept_pieces handed_of notes i note after at refl in
+    let still : (other : Fragment) → IsBorne limits (taken_in notes) other → IsBorne limits (taken_in notes') other =
+    λ other. borne_same limits (taken_in notes) (taken_in notes') other taken in
+    let s = sum_anew seats_of notes i note after at in
+    let few = keeps.seats in
+    let within = all_at IsWithin notes i note keeps.each at in record {
+      four = keeps.four;
+      whole = keeps.whole;
+      placed = keeps.placed;
+      regrouped = turned limits (taken_in notes) (taken_in notes') (parts_in contents ++ handed_in notes)
+          (parts_in contents ++ handed_in notes')
+          (IsPermutation-sym (taken_in notes') (taken_in notes) taken)
+          (IsPermutation-append_right (parts_in contents) (handed_in notes) (handed_in notes')
+          (IsPermutation-sym (handed_in notes') (handed_in notes) handed)) keeps.regrouped;
+      seen = all_borne limits (taken_in notes) (taken_in notes') (seen_in notes ++ part ∷ []) (seen_in notes')
+          (grown seen_of notes i note after (part ∷ []) at refl) still
+          (All-push (IsBorne limits (taken_in notes)) (seen_in notes) part keeps.seen borne);
+      seats = omega (arith, s, few);
+      each = All-set IsWithin notes i after record { count = within.count; each = within.each } keeps.each;
+    }
+
+-- ---- what notes back
+
+pub backs_taken : BacksTaken
+backs_taken limits notes content i note own out backing at part shown =
+    borne_more limits (taken_in notes) (taken_in (set notes i (note_with note own out))) (own ∷ []) part
+    (grown taken_of notes i note (note_with note own out) (own ∷ []) at refl) (backing part shown)
+
+pub backs_seen : BacksSeen
+backs_seen limits notes content i note entry backing at part shown =
+    borne_same limits (taken_in notes) (taken_in (set notes i (note_seeing note entry))) part
+    (kept_pieces taken_of notes i note (note_seeing note entry) at refl) (backing part shown)
+
+pub backs_merged : BacksMerged
+backs_merged limits notes content i j one other backing ne at at' part shown =
+    borne_same limits (taken_in notes) (taken_in (set (set notes i (merged_note one other)) j empty_note)) part
+    (gathered taken_of notes i j one other refl refl ne at at') (backing part shown)
+
+pub kept_is_backed : KeptIsBacked
+kept_is_backed limits sets contents notes place content keeps there part shown =
+    let rest : List Fragment = flat_map shown_by (others contents place) in
+    let front : IsPermutation (parts_in contents) (part ∷ rest) =
+    subst (λ x. IsPermutation (parts_in contents) (x ++ rest)) (ap option_to_list shown)
+    (apart shown_by contents place content there) in (
+      rest ++ handed_in notes,
+      turned limits (taken_in notes) (taken_in notes) (parts_in contents ++ handed_in notes)
+          (part ∷ (rest ++ handed_in notes)) (IsPermutation-refl (taken_in notes))
+          (IsPermutation-append_left (handed_in notes) (parts_in contents) (part ∷ rest) front) keeps.regrouped,
+    )
+
+pub empty_is_backed : EmptyIsBacked
+empty_is_backed limits notes content empty part shown =
+    absurd (none_some part (sym (empty_shows content empty) ∙ shown))

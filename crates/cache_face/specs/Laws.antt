@@ -10,8 +10,8 @@ use Rattle.flow_parts.specs.Reaching.{Reaches}
 use Rattle.cache_face.specs.declared.metered.How.{How}
 use Rattle.cache_face.specs.Choice.{IsChoice, Takes, entry_at}
 use Rattle.cache_face.specs.Keeping.{Keeps, IsWhole, IsSmall, IsEmptyContent, IsBounded, IsInSet, entry_of, parts_in}
-use Rattle.cache_face.specs.Keeping.{packet_count}
-use Rattle.cache_face.specs.Notes.{Note, unused_note, first_note, empty_note, merged_note, note_with}
+use Rattle.cache_face.specs.Keeping.{packet_count, taken_in, IsBorne, AreBacking}
+use Rattle.cache_face.specs.Notes.{Note, unused_note, first_note, empty_note, merged_note, note_with, note_seeing}
 
 -- A pass of one seat can take the fragment: this is bounded, and with all that was put in before it has at most 2^32
 -- packets.
@@ -22,7 +22,7 @@ pub record CanTake (note : Note) (own : Fragment) : Type 0 where
 
 -- A note of a pass through which nothing was put in.
 abbrev pub IsUnused : Note → Type 0
-IsUnused note = (note.taken ≡ []) × (note.handed ≡ [])
+IsUnused note = (note.taken ≡ []) × (note.handed ≡ []) × (note.seen ≡ [])
 
 -- Empty contents, four for each set, and notes of at most 64 seats that have done nothing keep.
 abbrev pub KeepsOpening : Type 0
@@ -56,12 +56,46 @@ KeepsPassed = (limits : Timeouts) (sets : ℕ) (contents : List (List ℕ)) (not
     → Keeps limits sets contents notes → get_elem? notes i ≡ some note → CanTake note own
     → Keeps limits sets contents (slice_set notes i (note_with note own (Some own)))
 
--- Where all other notes are unused, the contents and what one was handed are reached from what it took.
+-- An entry that is borne out is seen: the note grows alone.
+abbrev pub KeepsSeen : Type 0
+KeepsSeen = (limits : Timeouts) (sets : ℕ) (contents : List (List ℕ)) (notes : List Note) (i : ℕ) (note : Note) (part : Fragment)
+    → Keeps limits sets contents notes → get_elem? notes i ≡ some note → IsBorne limits (taken_in notes) part
+    → Keeps limits sets contents (slice_set notes i (note_seeing note part))
+
+-- What notes back they still back once a fragment was put in, once an entry was seen, and once two were merged.
+abbrev pub BacksTaken : Type 0
+BacksTaken = (limits : Timeouts) (notes : List Note) (content : List ℕ) (i : ℕ) (note : Note) (own : Fragment)
+    (out : Option Fragment)
+    → AreBacking limits notes content → get_elem? notes i ≡ some note
+    → AreBacking limits (slice_set notes i (note_with note own out)) content
+
+abbrev pub BacksSeen : Type 0
+BacksSeen = (limits : Timeouts) (notes : List Note) (content : List ℕ) (i : ℕ) (note : Note) (part : Fragment)
+    → AreBacking limits notes content → get_elem? notes i ≡ some note
+    → AreBacking limits (slice_set notes i (note_seeing note part)) content
+
+abbrev pub BacksMerged : Type 0
+BacksMerged = (limits : Timeouts) (notes : List Note) (content : List ℕ) (i j : ℕ) (one other : Note)
+    → AreBacking limits notes content → j ≢ i → get_elem? notes i ≡ some one → get_elem? notes j ≡ some other
+    → AreBacking limits (slice_set (slice_set notes i (merged_note one other)) j empty_note) content
+
+-- The notes of a cache back each of its contents, and any notes back an empty one.
+abbrev pub KeptIsBacked : Type 0
+KeptIsBacked = (limits : Timeouts) (sets : ℕ) (contents : List (List ℕ)) (notes : List Note) (place : ℕ)
+    (content : List ℕ)
+    → Keeps limits sets contents notes → get_elem? contents place ≡ some content → AreBacking limits notes content
+
+abbrev pub EmptyIsBacked : Type 0
+EmptyIsBacked = (limits : Timeouts) (notes : List Note) (content : List ℕ) → IsEmptyContent content
+    → AreBacking limits notes content
+
+-- Where all other notes are unused, the contents and what one was handed are reached from what it took, which bears out
+-- what it saw.
 abbrev pub KeptAtEnd : Type 0
 KeptAtEnd = (limits : Timeouts) (sets : ℕ) (contents : List (List ℕ)) (notes : List Note) (i : ℕ) (note : Note)
     → Keeps limits sets contents notes → get_elem? notes i ≡ some note
     → ((j : ℕ) (other : Note) → j ≢ i → get_elem? notes j ≡ some other → IsUnused other)
-    → Reaches limits note.taken (parts_in contents ++ note.handed)
+    → Reaches limits note.taken (parts_in contents ++ note.handed) × All (IsBorne limits note.taken) note.seen
 
 -- A fragment that a pass can take is small.
 abbrev pub TakenIsSmall : Type 0

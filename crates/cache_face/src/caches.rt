@@ -7,7 +7,7 @@ ghost use Rattle.packet_accept.specs.declared.packet.Packet.{Packet};
 ghost use Rattle.flow_parts.specs.declared.fragment.Fragment.{Fragment};
 ghost use Rattle.flow_parts.specs.Reaching.{Reaches};
 ghost use Rattle.flow_parts.specs.Sharing.{SharesOut};
-ghost use Rattle.cache_face.specs.Keeping.{packet_count};
+ghost use Rattle.cache_face.specs.Keeping.{packet_count, IsBorne};
 ghost use Rattle.cache_face.specs.Meaning.{CacheMeans, PassMeans, IsFresh, IsAnswer, IsMetered, IsUnited};
 ghost use Rattle.cache_face.specs.Notes.{note_with};
 ghost use Rattle.cache_face.specs.Tries.{HasLost};
@@ -80,7 +80,8 @@ pub trait FlowCache: Sync + Drop {
         ensures lost { lost result ≡ lost first ++ lost second };
 
     /// The entries that aren't empty. With the fragments that the pass was handed they are reached from those that were
-    /// put in through it, so whatever packets these share out, they do. Without memory they are given up.
+    /// put in through it, so whatever packets these share out, they do. And what the pass saw is borne out by what was
+    /// put in. Without memory they are given up.
     fn close(self, alloc: Global, pass: Self::Pass) -> Result<Vec<Fragment>, NoMemory>
         requires own { is_of self pass }
         requires all { (shown pass).note.seats ≡ (means self).seats }
@@ -89,7 +90,8 @@ pub trait FlowCache: Sync + Drop {
             (entries.items ++ (shown pass).note.handed)) }
         ensures shared { IfOk result
             (λ entries. (packets : List Packet) → SharesOut (means self).limits packets (shown pass).note.taken
-            → SharesOut (means self).limits packets (entries.items ++ (shown pass).note.handed)) };
+            → SharesOut (means self).limits packets (entries.items ++ (shown pass).note.handed)) }
+        ensures seen { OnOk result (All (IsBorne (means self).limits (shown pass).note.taken) (shown pass).note.seen) };
 }
 
 /// Who opens and closes caches.
@@ -143,6 +145,9 @@ pub trait Caches {
         ensures shared { OnOk result ((packets : List Packet)
             → SharesOut (Self.Cache.means cache).limits packets (Self.Cache.shown pass).note.taken
             → SharesOut (Self.Cache.means cache).limits packets (metered self.new)) }
+        ensures seen { OnOk result (All
+            (IsBorne (Self.Cache.means cache).limits (Self.Cache.shown pass).note.taken)
+            (Self.Cache.shown pass).note.seen) }
         ensures given { IfOk result (λ parts. parts ≡ metered self.new) }
         ensures kept { OnErr result (metered self.new ≡ metered self.old) };
 }

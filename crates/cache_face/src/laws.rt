@@ -1,5 +1,6 @@
 //! Laws about what a cache keeps. These functions do nothing; each contract is a law.
 ghost use Rattle.cache_face.specs.Laws.{KeepsOpening, KeepsSplit, KeepsMerged, KeepsTaken, KeepsPassed, KeptAtEnd};
+ghost use Rattle.cache_face.specs.Laws.{KeepsSeen, BacksTaken, BacksSeen, BacksMerged, KeptIsBacked, EmptyIsBacked};
 ghost use Rattle.cache_face.specs.Laws.{TakenIsSmall, WholeIsSmall, WordsShow, ChoiceTakes};
 
 /// Steps by which a cache keeps what it keeps.
@@ -9,6 +10,16 @@ pub fn steps_keep()
     ensures merged { KeepsMerged }
     ensures taken { KeepsTaken }
     ensures passed { KeepsPassed }
+    ensures seen { KeepsSeen }
+{}
+
+/// What notes back of contents.
+pub fn notes_back()
+    ensures taken { BacksTaken }
+    ensures seen { BacksSeen }
+    ensures merged { BacksMerged }
+    ensures kept { KeptIsBacked }
+    ensures empty { EmptyIsBacked }
 {}
 
 /// What the last pass has.

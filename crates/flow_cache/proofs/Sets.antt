@@ -11,17 +11,21 @@ use Rattle.flow_parts.specs.declared.fragment.Fragment.{Fragment}
 use Rattle.flow_parts.specs.declared.timeouts.Timeouts.{Timeouts}
 use Rattle.flow_parts.specs.Parts.{part_words}
 use Rattle.cache_face.specs.Choice.{Takes, entry_at}
-use Rattle.cache_face.specs.Keeping.{Keeps, IsWhole, IsInSet, entry_of}
+use Rattle.cache_face.specs.Keeping.{Keeps, IsWhole, IsInSet, AreBacking, entry_of}
 use Rattle.cache_face.specs.Laws.{CanTake}
-use Rattle.cache_face.specs.Notes.{Note, note_with}
+use Rattle.cache_face.specs.Notes.{Note, note_with, note_seeing}
 use Rattle.cache_face.specs.Meaning.{Written}
 use Rattle.cache_face.proofs.Contents.{words_show}
 use Rattle.cache_face.proofs.Apart.{here, all_at}
-use Rattle.cache_face.proofs.Keeping.{keeps_taken, keeps_passed}
+use Rattle.cache_face.proofs.Keeping.{keeps_taken, keeps_passed, keeps_seen, backs_taken, backs_seen, kept_is_backed}
 use Rattle.pebr_core.specs.declared.kinds.Shape.{Shape}
 use Rattle.pebr_words.specs.Pasts.{Read, History, written_at, shown_at}
 use Rattle.pebr_words.specs.Making.{act_on}
-use Rattle.pebr_words.specs.Ruled.{CanNote, CanReplace}
+use Rattle.pebr_core.specs.State.{Seat}
+use Rattle.pebr_core.specs.Steps.{is_shielded}
+use Rattle.pebr_words.specs.Ruled.{CanNote, CanReplace, HasReadWhole}
+use Rattle.flow_cache.specs.declared.act.CacheAct.TheVariants.{Puts}
+use Rattle.flow_cache.specs.Acts.{acted_note}
 use Rattle.flow_cache.specs.Places.{root_of}
 use Rattle.flow_cache.specs.Reading.{written_in, words_read, entry_found, entry_read, entries_read}
 use Rattle.flow_cache.specs.Trying.{IsOwn, HasMore, HasTen}
@@ -110,10 +114,6 @@ pub entry_is : (past : History) (root slot : ℕ) → shown_at past.loads root �
 entry_is past root slot shown ten = ap (entry_found past.reads) shown
     ∙ ap (λ n. if n == 10 then entry_of (words_read past.reads slot) ∷ [] else []) ten
 
--- what an act makes of a note
-abbrev pub after_act : Note → Fragment × Option Fragment → Note
-after_act note act = note_with note act.0 act.1
-
 -- a note that stays
 set_self : {A : Type 0} (l : List A) (i : ℕ) (a : A) → get_elem? l i ≡ some a → set l i a ≡ l
 set_self [] i a e = refl
@@ -121,14 +121,37 @@ set_self (x ∷ xs) zero a e = ap (λ y. y ∷ xs) (sym (some-injective x a e))
 set_self (x ∷ xs) (suc i) a e = ap (λ l. x ∷ l) (set_self xs i a e)
 
 -- what a pass that leaves does to its note
-pub can_end : (limits : Timeouts) (sets number : ℕ) (note : Note) (own : Fragment) (passes_by : Bool)
+pub can_end : (limits : Timeouts) (sets number : ℕ) (shape : Shape) (known : Seat) (past : History) (note : Note)
+    (own : Fragment) (passes_by : Bool)
     → (passes_by ≡ true → CanTake note own)
-    → CanNote (Keeps limits sets) number note
-    (act_on after_act (if passes_by then Some (own, Some own) else None) note)
-can_end limits sets number note own true can contents notes keeps at =
-    keeps_passed limits sets contents notes number note own keeps at (can refl)
-can_end limits sets number note own false can contents notes keeps at =
-    subst (Keeps limits sets contents) (sym (set_self notes number note at)) keeps
+    → CanNote (Keeps limits sets) (AreBacking limits) shape known past number note
+    (act_on acted_note (if passes_by then Some (Puts own (Some own)) else None) note)
+can_end limits sets number shape known past note own true can contents notes keeps at backed = (
+  keeps_passed limits sets contents notes number note own keeps at (can refl),
+  λ content backing. backs_taken limits notes content number note own (Some own) backing at,
+)
+can_end limits sets number shape known past note own false can contents notes keeps at backed = (
+  subst (Keeps limits sets contents) (sym (set_self notes number note at)) keeps,
+  λ content backing. subst (λ ns. AreBacking limits ns content) (sym (set_self notes number note at)) backing,
+)
+
+-- a pass that has read an entry in full under a valid shield notes that it saw it
+pub can_see : (limits : Timeouts) (sets number slot : ℕ) (shape : Shape) (known : Seat) (past : History) (note : Note)
+    (entry : Fragment)
+    → shape.width ≡ 10 → is_shielded known slot ≡ true → HasTen past.reads slot
+    → entry_of (words_read past.reads slot) ≡ Some entry
+    → CanNote (Keeps limits sets) (AreBacking limits) shape known past number note (note_seeing note entry)
+can_see limits sets number slot shape known past note entry width shielded ten shows contents notes keeps at backed =
+    let words : List ℕ = words_read past.reads slot in
+    let read : HasReadWhole shape past slot words = (
+      ten ∙ sym width,
+      λ word low. (let f = found_read past.reads slot word (slice_index words word)
+          (last_read past.reads slot ten word (subst (λ n. word < n) width low)) in
+          (f.0, f.1, f.2, f.3, f.4)),
+    ) in (
+      keeps_seen limits sets contents notes number note entry keeps at (backed slot words shielded read entry shows),
+      λ content backing. backs_seen limits notes content number note entry backing at,
+    )
 
 -- the four entries of a set that was read
 pub four_read : (past : History) (set : ℕ) (slots : ℕ → ℕ)
@@ -157,7 +180,7 @@ pub can_replace : (limits : Timeouts) (sets set_at place : ℕ) (shape : Shape) 
     → place < 4 → shape.width ≡ 10 → HasTen past.reads slot
     → ((word : ℕ) → word < 10 → written_at past.written fresh word ≡ Some (slice_index (part_words kept) word))
     → IsOwn sets set_at note own → Takes limits own (entry_of (words_read past.reads slot)) out kept
-    → CanReplace (Keeps limits sets) IsWhole shape past number (root_of set_at place) slot fresh note
+    → CanReplace (Keeps limits sets) IsWhole (AreBacking limits) shape past number (root_of set_at place) slot fresh note
     (note_with note own out)
 can_replace limits sets set_at place shape past number slot fresh note own kept out low width ten filled owned takes
     contents notes from to keeps at at' long long' read written =
@@ -174,7 +197,15 @@ can_replace limits sets set_at place shape past number slot fresh note own kept 
     let kept_state =
     subst (λ c. Keeps limits sets (set contents root c) (set notes number (note_with note own out)))
     (sym to_is) state in
-    (all_at IsWhole (set contents root to) root to kept_state.whole (here contents root from to at), kept_state)
+    let there = here contents root from to at in (
+      (
+        all_at IsWhole (set contents root to) root to kept_state.whole there,
+        kept_is_backed limits sets (set contents root to) (set notes number (note_with note own out)) root to kept_state
+            there,
+      ),
+      kept_state,
+      λ content backing. backs_taken limits notes content number note own out backing at',
+    )
 
 -- what is put into a root shows the fragment whose words were written
 pub written_is : (writes : List Read) (set_at place slot : ℕ) (kept : Fragment) → place < 4

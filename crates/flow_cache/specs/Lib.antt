@@ -1,4 +1,5 @@
 -- The definitions that contracts cite, a file for each subject.
+pub mod Acts
 pub mod Places
 pub mod Reading
 pub mod Shown

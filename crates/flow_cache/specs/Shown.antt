@@ -14,6 +14,7 @@ use Rattle.pebr_roots.specs.Passes.{IsUnitedPass}
 use Rattle.pebr_roots.specs.declared.pass.RootPass.{RootPass}
 use Rattle.pebr_roots.specs.declared.pass.Roots.{Roots}
 use Rattle.flow_cache.specs.contracts.protocol.CacheRuleRootProtocol.TheImpl as rule
+use Rattle.flow_cache.specs.declared.act.CacheAct.{CacheAct}
 use Rattle.flow_cache.specs.declared.protocol.CacheFixed.{CacheFixed}
 use Rattle.flow_cache.specs.declared.protocol.CacheRule.{CacheRule}
 use Rattle.flow_cache.specs.declared.cache.PebrCache.{PebrCache}
@@ -24,10 +25,10 @@ use Rattle.flow_cache.specs.Reading.{entries_read, set_read, written_in}
 -- The roots of a cache of open flows, and a seat at them: their contents are entries, and their notes say what a pass
 -- has done.
 abbrev pub CacheRoots : Type 0
-CacheRoots = Roots CacheRule Note (Fragment × Option Fragment) CacheFixed
+CacheRoots = Roots CacheRule Note CacheAct CacheFixed
 
 abbrev pub CacheSeat : Type 0
-CacheSeat = RootPass CacheRule Note (Fragment × Option Fragment) CacheFixed rule.ghosts
+CacheSeat = RootPass CacheRule Note CacheAct CacheFixed rule.ghosts
 
 -- The roots of the cache's entries: the four of the set s have the numbers from 4 * s on.
 abbrev pub roots_of : PebrCache → CacheRoots

@@ -1,8 +1,9 @@
 //! Two passes made one, and the end of a cache.
 
 ghost use Rattle.std.specs.Prelude.{◌≡◌, ℕ, ◌+◌, ◌*◌, ◌<◌, ◌≤◌, ◌++◌, [], length, IfOk, OnOk, Option, option_to_list};
+ghost use Rattle.std.specs.Prelude.{All};
 ghost use Rattle.flow_parts.specs.Reaching.{Reaches};
-ghost use Rattle.cache_face.specs.Keeping.{entry_of, parts_in};
+ghost use Rattle.cache_face.specs.Keeping.{entry_of, parts_in, IsBorne};
 ghost use Rattle.cache_face.specs.Meaning.{IsUnited};
 ghost use Rattle.pebr_words.specs.Opening.{slot_of};
 ghost use Rattle.flow_cache.specs.Ending.{rows_at};
@@ -88,9 +89,11 @@ impl PebrCache {
     pub(crate) fn entries(self, alloc: Global, pass: PebrPass) -> Result<Vec<Fragment>, NoMemory>
         requires own { IsOf self pass }
         requires all { (shown_of pass).note.seats ≡ (means_of self).seats }
-        ensures { IfOk result
+        ensures reached { IfOk result
             (λ entries. Reaches (means_of self).limits (shown_of pass).note.taken
             (entries.items ++ (shown_of pass).note.handed)) }
+        ensures seen { OnOk result
+            (All (IsBorne (means_of self).limits (shown_of pass).note.taken) (shown_of pass).note.seen) }
     {
         let PebrPass {
             inner,

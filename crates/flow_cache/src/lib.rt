@@ -38,6 +38,7 @@
 //! `specs/Trying.antt` says how far a try is.
 #![tactic(auto)]
 
+mod act;
 mod cache;
 mod close;
 mod face;
@@ -50,6 +51,7 @@ mod seats;
 mod stop;
 mod tells;
 
+pub use act::CacheAct;
 pub use cache::{PebrCache, PebrPass};
 pub use cache_face::NoMemory;
 pub use face::PebrCaches;

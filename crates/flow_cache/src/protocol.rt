@@ -2,7 +2,8 @@
 
 ghost use Rattle.cache_face.specs.Keeping as keeping;
 
-use flow_parts::{Fragment, Timeouts};
+use crate::act::CacheAct;
+use flow_parts::Timeouts;
 use pebr_roots::RootProtocol;
 use std::marker::Model;
 
@@ -27,17 +28,18 @@ pub struct CacheFixed {
 }
 
 /// The contents of the roots are entries of a cache. They and all fragments that were handed out are reached from all
-/// that were put in, whatever the threads do in turn.
+/// that were put in, whatever the threads do in turn; and so, with some others, is the fragment that any slot shows which
+/// no pass has fresh.
 pub struct CacheRule;
 
 impl RootProtocol for CacheRule {
-    ghost use Rattle.cache_face.specs.Notes.{first_note, empty_note, merged_note, note_with};
-    ghost use Rattle.cache_face.proofs.Keeping.{keeps_merged};
+    ghost use Rattle.cache_face.specs.Notes.{first_note, empty_note, merged_note};
+    ghost use Rattle.cache_face.proofs.Keeping.{keeps_merged, backs_merged};
+    ghost use Rattle.flow_cache.specs.Acts.{acted_note};
 
     type Note = SeatNote;
 
-    /// A fragment is put in, and a fragment is handed out, or none.
-    type Act = (Fragment, Option<Fragment>);
+    type Act = CacheAct;
 
     type Fixed = CacheFixed;
 
@@ -45,14 +47,19 @@ impl RootProtocol for CacheRule {
 
     ghost whole = { keeping.IsWhole };
 
+    ghost backed = { λ fixed notes content. keeping.AreBacking fixed.timeouts notes content };
+
     ghost first = { first_note };
 
     ghost empty = { empty_note };
 
     ghost merged = { merged_note };
 
-    ghost after = { λ note act. note_with note act.0 act.1 };
+    ghost after = { acted_note };
 
     ghost unites = { λ fixed contents notes i j a b kept apart at at'. keeps_merged fixed.timeouts fixed.sets contents
         notes i j a b kept apart at at' };
+
+    ghost backs = { λ fixed notes content i j a b backing apart at at'. backs_merged fixed.timeouts notes content i j a b
+        backing apart at at' };
 }

@@ -13,10 +13,12 @@ ghost use Rattle.pebr_words.specs.Pasts.{Lost, written_at};
 ghost use Rattle.pebr_words.specs.Ruled.{IsSure};
 ghost use Rattle.pebr_roots.specs.Passes.{shape_at, known_by, number_by, note_by, past_by, operations_by, IsOf, IsSame};
 ghost use Rattle.set_choice.specs.Chosen.{out_of};
+ghost use Rattle.flow_cache.specs.declared.act.CacheAct.TheVariants.{Puts};
 ghost use Rattle.flow_cache.specs.Collecting.{HasCollected, HasSpared};
 ghost use Rattle.flow_cache.specs.Shown.{IsTryOf};
 ghost use Rattle.flow_cache.specs.Trying.{IsOwn, AreProtected, IsUnlost, HasChosen};
 
+use crate::act::CacheAct;
 use crate::cache::PebrCache;
 use crate::protocol::CacheRule;
 use crate::stop::{Point, Stop};
@@ -37,11 +39,11 @@ fn is_passed_by(last: bool, done: bool) -> bool
 /// What is done to the note of a pass that leaves: where its packet is passed by, it is metered, and its own fragment
 /// handed out.
 #[inline]
-fn leaving_note(own: &Fragment, passes_by: bool) -> Option<(Fragment, Option<Fragment>)>
-    ensures { result ≡ (if passes_by then Some (own.now, Some own.now) else None) }
+fn leaving_note(own: &Fragment, passes_by: bool) -> Option<CacheAct>
+    ensures { result ≡ (if passes_by then Some (Puts own.now (Some own.now)) else None) }
 {
     if passes_by {
-        Some((*own, Some(*own)))
+        Some(CacheAct::Puts(*own, Some(*own)))
     } else {
         None
     }
@@ -129,7 +131,7 @@ impl PebrCache {
         self.fill(pass, &choice.words);
         stop.at(Point::Replace);
         let root = 4 * set as usize + choice.place;
-        let act = Some((*own, out));
+        let act = Some(CacheAct::Puts(*own, out));
         match self.roots.replace(pass, root, choice.place, act) {
             ReplaceEnd::Replaced => {
                 tell(metered, choice.how, out);

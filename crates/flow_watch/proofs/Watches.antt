@@ -6,7 +6,6 @@ use mathlib.Core.Option.{some}
 use lib.ListN.{get_elem?}
 use Rattle.flow_key.specs.declared.key.FlowKey.{FlowKey}
 use Rattle.cache_face.specs.Meaning.{CacheMeans}
-use Rattle.cache_face.specs.Notes.{Note}
 use Rattle.pebr_table.specs.Operations.{Op}
 use Rattle.pebr_words.specs.Pasts.{was_ejected}
 use Rattle.pebr_roots.specs.Orders.{HasMade}
@@ -22,11 +21,11 @@ use Rattle.flow_watch.specs.Watching.{IsOf, IsWatched, note_of, past_of}
 
 -- it is a watcher of the same cache
 pub goes_on : (cache : PebrCache) (old new : Watcher) → IsOf cache old → IsSame (roots_of cache) old.seat new.seat
-    → note_of new ≡ note_of old
+    → (note_of new).seats ≡ (note_of old).seats
     → IfSome new.held (λ hold. IsHolding hold.place hold.fragment (known_by new.seat) (past_of new)) → IsOf cache new
-goes_on cache old new o same note holds = record {
+goes_on cache old new o same seats holds = record {
   of = same.of;
-  seats = ap (λ (n : Note). n.seats) note ∙ o.seats ∙ sym same.still.3;
+  seats = seats ∙ o.seats ∙ sym same.still.3;
   united = λ place held at. o.united place held (subst (λ r. get_elem? r place ≡ some held) same.still.4 at);
   holds = holds;
 }

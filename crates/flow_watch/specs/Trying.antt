@@ -2,6 +2,7 @@
 use Rattle.std.specs.Prelude.{◌≡◌, ◌≢◌, ◌∷◌, ℕ, ◌+◌, IsTrue}
 use Rattle.std.specs.List.{list_all}
 use Rattle.flow_key.specs.declared.key.FlowKey.{FlowKey}
+use Rattle.cache_face.specs.Notes.{Note, note_seeing}
 use Rattle.pebr_core.specs.State.{Seat, is_down}
 use Rattle.pebr_words.specs.Pasts.{History, was_ejected}
 use Rattle.flow_watch.specs.declared.hold.Tried.{Tried}
@@ -20,3 +21,9 @@ IsTried set key seats Absent known old new =
 IsTried set key seats Ejected known old new =
     (new.pins ≡ old.pins + 1) × IsTrue (list_all is_down known.shields) × (new.lost ≡ was_ejected ∷ old.lost)
     × (seats ≢ 1)
+
+-- The note lists what is held as seen.
+abbrev pub note_tried : Tried → Note → Note
+note_tried (Held hold) note = note_seeing note hold.fragment
+note_tried Absent note = note
+note_tried Ejected note = note

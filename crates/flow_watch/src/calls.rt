@@ -9,6 +9,7 @@ ghost use Rattle.pebr_words.specs.Pasts.{was_ejected};
 ghost use Rattle.pebr_roots.specs.Orders.{HasMade};
 ghost use Rattle.flow_watch.specs.Watching.{IsOf, IsWatched, HasRead, held_by, slot_held_by, note_of, past_of, lost_of};
 ghost use Rattle.flow_watch.specs.Watching.{operations_of};
+ghost use Rattle.flow_watch.specs.Holding.{note_seen};
 
 use crate::hold::{Tried, attempt};
 use crate::watcher::{Watch, Watcher};
@@ -43,7 +44,7 @@ impl Watcher {
         requires within { set < (means_of cache.now).sets }
         requires idle { held_by self.old ≡ None }
         ensures of { IsOf cache.now self.new }
-        ensures note { note_of self.new ≡ note_of self.old }
+        ensures note { note_of self.new ≡ note_seen (held_by self.new) (note_of self.old) }
         ensures some { IfSome result (λ watch. IsWatched (means_of cache.now) key.now watch self.old self.new
             × (watch ≢ Watch.Lost)) }
         ensures pins { (past_of self.old).pins < (past_of self.new).pins }
@@ -65,7 +66,7 @@ impl Watcher {
     }
 
     /// Holds the flow of a key: the lowest of the four entries of its set that has the key, as it was read in this
-    /// call.
+    /// call. The watcher's note lists it as seen, so that what was put into the cache bears it out.
     ///
     /// `Absent`: none of the four entries that were read has the key. `Lost`: in this call the watcher was ejected
     /// three times before its shields were valid; it never comes where the cache has one seat. It waits for nobody,
@@ -74,7 +75,7 @@ impl Watcher {
         requires of { IsOf cache.now self.old }
         requires idle { held_by self.old ≡ None }
         ensures of { IsOf cache.now self.new }
-        ensures note { note_of self.new ≡ note_of self.old }
+        ensures note { note_of self.new ≡ note_seen (held_by self.new) (note_of self.old) }
         ensures answer { IsWatched (means_of cache.now) key.now result self.old self.new }
         ensures few { HasMade 168 (operations_of self.old) (operations_of self.new) }
     {

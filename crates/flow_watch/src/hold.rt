@@ -1,6 +1,6 @@
 //! One try to hold a flow: the entries of its set are read, and the shields stay up where one is kept.
 
-ghost use Rattle.std.specs.Prelude.{◌≡◌, ◌<◌, IsTrue, IsNone, IfSome, Some, false};
+ghost use Rattle.std.specs.Prelude.{◌≡◌, ◌<◌, IsTrue, IsNone, IfSome, Some, None, false};
 ghost use Rattle.std.specs.List.{list_all};
 ghost use Rattle.cache_face.specs.Choice.{HasKey, HasNone, IsLowest, entry_at};
 ghost use Rattle.cache_face.specs.Keeping.{IsWhole};
@@ -12,13 +12,14 @@ ghost use Rattle.pebr_roots.specs.Orders.{HasMade};
 ghost use Rattle.pebr_roots.specs.Passes as roots;
 ghost use Rattle.flow_cache.specs.Shown.{means_of, roots_of};
 ghost use Rattle.flow_cache.specs.Trying.{AreProtected};
-ghost use Rattle.flow_watch.specs.Holding.{IsHolding, IsHeld, IsAbsent};
-ghost use Rattle.flow_watch.specs.Trying.{IsTried};
+ghost use Rattle.flow_watch.specs.Holding.{IsHolding, IsHeld, IsAbsent, note_holding};
+ghost use Rattle.flow_watch.specs.Trying.{IsTried, note_tried};
 
 use crate::watcher::Hold;
-use flow_cache::{CacheRule, PebrCache};
+use flow_cache::{CacheAct, CacheRule, PebrCache};
 use flow_key::FlowKey;
 use flow_parts::Fragment;
+use pebr_core::valid_shields_protect;
 use pebr_roots::{Checked, RootPass};
 
 /// The lowest entry of the key, and where it is.
@@ -37,15 +38,16 @@ fn lowest_of(entries: &[Option<Fragment>; 4], key: &FlowKey) -> Option<Hold>
     None
 }
 
-/// Leaves. The shields stay up where an entry is held, and else are taken down.
-fn leave(cache: &PebrCache, seat: &mut RootPass<CacheRule>, holds: bool)
+/// Leaves. Where an entry is held, the shields stay up, and the note lists it as seen; else they are taken down.
+fn leave(cache: &PebrCache, seat: &mut RootPass<CacheRule>, held: Option<Hold>)
     requires of { roots.IsOf (roots_of cache.now) seat.old }
     requires entered { is_out (known_by seat.old).status ≡ false }
+    requires held { IfSome held (λ hold. IsHolding hold.place hold.fragment (known_by seat.old) (past_by seat.old)) }
     ensures same { IsSame (roots_of cache.now) seat.old seat.new }
-    ensures note { note_by first_note seat.new ≡ note_by first_note seat.old }
+    ensures note { note_by first_note seat.new ≡ note_holding held (note_by first_note seat.old) }
     ensures out { IsTrue (is_out (known_by seat.new).status) }
-    ensures held { IsTrue holds → (known_by seat.new).shields ≡ (known_by seat.old).shields }
-    ensures down { holds ≡ false → IsTrue (list_all is_down (known_by seat.new).shields) }
+    ensures held { IfSome held (λ _. (known_by seat.new).shields ≡ (known_by seat.old).shields) }
+    ensures down { held ≡ None → IsTrue (list_all is_down (known_by seat.new).shields) }
     ensures past { past_by seat.new ≡ record (past_by seat.old) {
       last = (past_by seat.new).last;
       steps =
@@ -54,10 +56,17 @@ fn leave(cache: &PebrCache, seat: &mut RootPass<CacheRule>, holds: bool)
     ensures sure { IsSure IsWhole (shape_at (roots_of cache.now)) (known_by seat.new) (past_by seat.new) }
     ensures few { HasMade 5 (operations_by seat.old) (operations_by seat.new) }
 {
-    if !holds {
-        cache.roots().clear(seat);
+    valid_shields_protect();
+    match held {
+        Some(hold) => {
+            let act = Some(CacheAct::Sees(hold.fragment));
+            cache.roots().leave(seat, act);
+        }
+        None => {
+            cache.roots().clear(seat);
+            cache.roots().leave(seat, None);
+        }
     }
-    cache.roots().leave(seat, None);
 }
 
 /// What came of one try.
@@ -76,7 +85,7 @@ fn keep(cache: &PebrCache, seat: &mut RootPass<CacheRule>, set: u64, key: &FlowK
     requires entered { is_out (known_by seat.old).status ≡ false }
     requires protected { AreProtected set (known_by seat.old) (past_by seat.old) }
     ensures same { IsSame (roots_of cache.now) seat.old seat.new }
-    ensures note { note_by first_note seat.new ≡ note_by first_note seat.old }
+    ensures note { note_by first_note seat.new ≡ note_holding result (note_by first_note seat.old) }
     ensures out { IsTrue (is_out (known_by seat.new).status) }
     ensures pins { (past_by seat.new).pins ≡ (past_by seat.old).pins }
     ensures lost { (past_by seat.new).lost ≡ (past_by seat.old).lost }
@@ -88,7 +97,7 @@ fn keep(cache: &PebrCache, seat: &mut RootPass<CacheRule>, set: u64, key: &FlowK
 {
     let entries = cache.read_set(seat);
     let hold = lowest_of(&entries, key);
-    leave(cache, seat, hold.is_some());
+    leave(cache, seat, hold);
     hold
 }
 
@@ -103,7 +112,7 @@ pub(crate) fn attempt(
     requires set { set < (means_of cache.now).sets }
     requires out { IsTrue (is_out (known_by seat.old).status) }
     ensures same { IsSame (roots_of cache.now) seat.old seat.new }
-    ensures note { note_by first_note seat.new ≡ note_by first_note seat.old }
+    ensures note { note_by first_note seat.new ≡ note_tried result (note_by first_note seat.old) }
     ensures out { IsTrue (is_out (known_by seat.new).status) }
     ensures tried { IsTried set key.now (means_of cache.now).seats result (known_by seat.new) (past_by seat.old)
         (past_by seat.new) }
@@ -115,7 +124,7 @@ pub(crate) fn attempt(
             None => Tried::Absent,
         },
         Checked::Ejected => {
-            leave(cache, seat, false);
+            leave(cache, seat, None);
             Tried::Ejected
         }
     }

@@ -37,11 +37,13 @@ impl<P: RootProtocol> Roots<P> {
         self.words.pin(&mut pass.seat);
     }
 
-    /// Takes the pin back. The act changes the note.
+    /// Takes the pin back. The act changes the note: the caller may take it that the notes back each content that the pass
+    /// has read in full under a valid shield.
     pub fn leave(&self, pass: &mut RootPass<P>, act: Option<P::Act>)
         requires of { IsOf self.now pass.old }
         requires entered { is_out (known_by pass.old).status ≡ false }
-        requires keeps { CanNote (P.keeps (fixed_at self.now)) (number_by pass.old) (note_by P.first pass.old)
+        requires keeps { CanNote (P.keeps (fixed_at self.now)) (P.backed (fixed_at self.now)) (shape_at self.now)
+            (known_by pass.old) (past_by pass.old) (number_by pass.old) (note_by P.first pass.old)
             (act_on P.after act (note_by P.first pass.old)) }
         ensures same { IsSame self.now pass.old pass.new }
         ensures note { note_by P.first pass.new ≡ act_on P.after act (note_by P.first pass.old) }

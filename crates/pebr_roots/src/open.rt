@@ -67,6 +67,7 @@ impl<P: RootProtocol> Roots<P> {
         requires long { length contents.now ≡ shape.roots * shape.width }
         requires keeps { P.keeps fixed (rows_of shape contents.now) (replicate shape.seats P.first) }
         requires whole { All P.whole (rows_of shape contents.now) }
+        requires backed { All (P.backed fixed (replicate shape.seats P.first)) (rows_of shape contents.now) }
         ensures roots { IfOk result (λ r. (shape_at r.0 ≡ shape) × (fixed_at r.0 ≡ fixed)) }
         ensures passes { IfOk result (λ r. AreOpenedPasses r.0 P.first r.1.items) }
     {

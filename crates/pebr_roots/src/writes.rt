@@ -37,8 +37,8 @@ impl<P: RootProtocol> Roots<P> {
     /// Puts the least fresh slot into a root, where the root still has the slot under the shield, and changes
     /// the note by the act.
     ///
-    /// The caller shows that a content as it wrote it is whole, and that in place of a content as it read it,
-    /// and with the changed note, it keeps what the protocol keeps. `Other` exactly where the root had another
+    /// The caller shows that a content as it wrote it is whole and backed, and that in place of a content as it read it,
+    /// and with the changed note, it keeps what the protocol keeps; and that what was backed still is. `Other` exactly where the root had another
     /// slot at this step; then nothing was changed.
     pub fn replace(
         &self,
@@ -52,9 +52,10 @@ impl<P: RootProtocol> Roots<P> {
         requires entered { is_out (known_by pass.old).status ≡ false }
         requires valid { IsTrue (is_valid_at (known_by pass.old) place) }
         requires fresh { 0 < fresh_count (known_by pass.old) }
-        requires keeps { CanReplace (P.keeps (fixed_at self.now)) P.whole (shape_at self.now) (past_by pass.old)
-            (number_by pass.old) root (slot_at (known_by pass.old) place) (least_in (known_by pass.old).fresh)
-            (note_by P.first pass.old) (act_on P.after act (note_by P.first pass.old)) }
+        requires keeps { CanReplace (P.keeps (fixed_at self.now)) P.whole (P.backed (fixed_at self.now))
+            (shape_at self.now) (past_by pass.old) (number_by pass.old) root (slot_at (known_by pass.old) place)
+            (least_in (known_by pass.old).fresh) (note_by P.first pass.old)
+            (act_on P.after act (note_by P.first pass.old)) }
         ensures same { IsSame self.now pass.old pass.new }
         ensures note { note_by P.first pass.new ≡ replaced_note result (act_on P.after act (note_by P.first pass.old))
             (note_by P.first pass.old) }

@@ -118,7 +118,8 @@ advance_words number core = pick (eqb core.epoch (seat_at core number).noted)
     pick true = refl
     pick false = refl
 
-pub advance_kept : {N A : Type 0} (keeps : List (List ℕ) → List N → Type 0) (whole : List ℕ → Type 0)
+pub advance_kept : {N A : Type 0} (keeps : List (List ℕ) → List N → Type 0)
+    (whole : List N → List ℕ → Type 0)
     (after_act : N → A → N) {shape : Shape} (number : ℕ) {known : Seat} {past : History} (note : N) (left : ℕ → ℕ)
     → IsKeptBy keeps whole after_act shape (step.Advance number) None number known past note left
 advance_kept keeps whole after_act number note left =

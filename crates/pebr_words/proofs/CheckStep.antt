@@ -87,7 +87,8 @@ lost_try f apart last a known number past =
     pick true false = apart past (was_ejected ∷ past.lost)
     pick false c = refl
 
-pub check_kept : {N A : Type 0} (keeps : List (List ℕ) → List N → Type 0) (whole : List ℕ → Type 0)
+pub check_kept : {N A : Type 0} (keeps : List (List ℕ) → List N → Type 0)
+    (whole : List N → List ℕ → Type 0)
     (after_act : N → A → N) {shape : Shape} (number : ℕ) {known : Seat} {past : History} (note : N) (left : ℕ → ℕ)
     → IsKeptBy keeps whole after_act shape (step.Check number) None number known past note left
 check_kept keeps whole after_act number note left =

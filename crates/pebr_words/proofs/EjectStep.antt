@@ -228,7 +228,8 @@ eject_by shape number other epoch known scan is_other scans looked unpassed core
       },
     )
 
-pub eject_kept : {N A : Type 0} (keeps : List (List ℕ) → List N → Type 0) (whole : List ℕ → Type 0)
+pub eject_kept : {N A : Type 0} (keeps : List (List ℕ) → List N → Type 0)
+    (whole : List N → List ℕ → Type 0)
     (after_act : N → A → N) {shape : Shape} (number other : ℕ) {known : Seat} {past : History} (note : N) (left : ℕ → ℕ)
     → IsKeptBy keeps whole after_act shape (step.Eject number other) None number known past note left
 eject_kept keeps whole after_act number other note left =

@@ -15,7 +15,7 @@ use Rattle.pebr_words.specs.Shown.{Show}
 use Rattle.pebr_words.specs.Ruled.{IsIn, IsListed, IsEjectionOf, times_held, contents, AreWhole, Fits, Ruled}
 use Rattle.pebr_words.proofs.Numbers.{once_few, once_in, not_held, held_once, total_set, total_at, total_two}
 
-module _ {N : Type 0} (keeps : List (List ℕ) → List N → Type 0) (whole : List ℕ → Type 0) (shape : Shape) where
+module _ {N : Type 0} (keeps : List (List ℕ) → List N → Type 0) (whole : List N → List ℕ → Type 0) (shape : Shape) where
   abbrev pub Table : Type 0
   Table = table.State (Unit {0}) (List (Held N))
 
@@ -71,7 +71,7 @@ module _ {N : Type 0} (keeps : List (List ℕ) → List N → Type 0) (whole : L
     pub framed : (words : List ℕ) (homes : List _) (core : State) (notes : List N) (new : Held N)
         → new.number ≡ own.number
         → core.shape ≡ shape → IsSound core → Show shape words core → length notes ≡ shape.seats
-        → keeps (contents core) notes → AreWhole whole core
+        → keeps (contents core) notes → AreWhole (whole notes) core
         → Fits core notes new
         → ((other epoch : ℕ) → (seat_at core other).status ≡ stance.Ejected epoch
         → (e : Ejection) × IsEjectionOf core other epoch e × IsListed e (set s.views id (new ∷ others)))

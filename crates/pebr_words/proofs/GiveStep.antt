@@ -51,7 +51,8 @@ give_by shape number known scan scans complete down core found is_shape sound in
           ∙ ap (λ (s : Seat). answer_found (step.Give number) s core.epoch) (sym same)),
     )
 
-pub give_kept : {N A : Type 0} (keeps : List (List ℕ) → List N → Type 0) (whole : List ℕ → Type 0)
+pub give_kept : {N A : Type 0} (keeps : List (List ℕ) → List N → Type 0)
+    (whole : List N → List ℕ → Type 0)
     (after_act : N → A → N) {shape : Shape} (number : ℕ) {known : Seat} {past : History} (note : N) (left : ℕ → ℕ)
     → IsKeptBy keeps whole after_act shape (step.Give number) None number known past note left
 give_kept keeps whole after_act number {known} note left =

@@ -1,5 +1,5 @@
 -- The step Leave by itself.
-use Rattle.std.proofs.Common.{◌≡◌, ℕ, List, ◌*◌, ◌<◌, le_refl, false, length, sym, refl, ap, ◌∙◌, subst, inl, inr}
+use Rattle.std.proofs.Common.{◌≡◌, ℕ, List, [], get_or, ◌*◌, ◌<◌, le_refl, false, length, sym, refl, ap, ◌∙◌, subst, inl, inr}
 use Rattle.std.specs.Prelude.{not, Option, None}
 use Rattle.pebr_core.specs.declared.kinds.Shape.{Shape}
 use Rattle.pebr_core.specs.State.{State, Seat, seat_at, is_out}
@@ -14,8 +14,9 @@ use Rattle.pebr_core.specs.declared.kinds.Stance.TheVariants as stance
 use Rattle.pebr_words.proofs.Signs.{seat_here, seat_there, seat_signs}
 use Rattle.pebr_words.proofs.StepLemmas.{and_true, not_ejected, in_list, is_one, in_known}
 use Rattle.pebr_words.proofs.Makes.{kept_same}
-use Rattle.pebr_words.proofs.Recalling.{recalls_same}
-use Rattle.pebr_words.specs.Ruled.{CanNote}
+use Rattle.pebr_words.proofs.Recalling.{recalls_same, read_is_whole}
+use Rattle.pebr_words.specs.Ruled.{CanNote, BackedWhole}
+use Rattle.atomic_table.proofs.Lists.{set_again}
 use Rattle.pebr_words.specs.Making.{act_on}
 
 -- a seat that leaves, from whichever status it knows
@@ -56,15 +57,22 @@ leave_recalled number left = recalls_same (step.Leave number) number left (λ a.
     (λ i root old new e. cc)
 
 -- the note changes where the protocol lets it
-pub leave_kept : {N A : Type 0} (keeps : List (List ℕ) → List N → Type 0) (whole : List ℕ → Type 0)
-    (after_act : N → A → N) {shape : Shape} (act : Option A) (number : ℕ) {known : Seat} {past : History} (note : N)
-    (left : ℕ → ℕ)
-    → CanNote keeps number note (act_on after_act act note)
-    → IsKeptBy keeps whole after_act shape (step.Leave number) act number known past note left
-leave_kept keeps whole after_act act number {known} {past} note left can law core notes found before kept at
-    are_whole = (
-      can (contents core) notes kept at,
-      (kept_same keeps whole after_act (step.Leave number) None number {known = known} {past = past} note left
-          (λ core. refl) (λ core. refl) (λ found. refl)
-          (λ shape found slot h. h) law core notes found before kept at are_whole).1,
+pub leave_kept : {N A : Type 0} (keeps : List (List ℕ) → List N → Type 0) (plain : List ℕ → Type 0)
+    (backed : List N → List ℕ → Type 0) (after_act : N → A → N) {shape : Shape} (act : Option A) (number : ℕ)
+    {known : Seat} {past : History} (note : N) (left : ℕ → ℕ)
+    → CanNote keeps backed shape known past number note (act_on after_act act note)
+    → IsKeptBy keeps (BackedWhole plain backed) after_act shape (step.Leave number) act number known past note left
+leave_kept {N} keeps plain backed after_act {shape} act number {known} {past} note left can law core notes found before
+    kept at are_whole =
+    let told = can (contents core) notes kept at (read_is_whole (backed notes) shape core number known past
+    before.shape_is before.sound before.inside before.as_known before.recalls
+    (λ slot low nowhere. (are_whole slot low nowhere).1)) in
+    let same = kept_same keeps (BackedWhole plain backed) after_act (step.Leave number) None number {known = known}
+    {past = past} note left (λ core. refl) (λ core. refl) (λ found. refl) (λ shape found slot h. h) law core notes found
+    before kept at are_whole in (
+      told.0,
+      λ slot low nowhere.
+          (let content : List ℕ = get_or core.words slot [] in
+          let was = subst (λ (ns : List N). BackedWhole plain backed ns content) (set_again notes number note at)
+          (same.1 slot low nowhere) in (was.0, told.1 content was.1)),
     )

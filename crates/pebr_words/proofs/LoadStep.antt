@@ -80,7 +80,8 @@ other_read slot (x ∷ xs) read place e = pick (eqb x.slot slot) refl e (λ n h.
         )
         at (suc n) g = let rest = more n g in ((suc rest.0.0, rest.0.1), rest.1)
 
-pub load_kept : {N A : Type 0} (keeps : List (List ℕ) → List N → Type 0) (whole : List ℕ → Type 0)
+pub load_kept : {N A : Type 0} (keeps : List (List ℕ) → List N → Type 0)
+    (whole : List N → List ℕ → Type 0)
     (after_act : N → A → N) {shape : Shape} (number root : ℕ) {known : Seat} {past : History} (note : N) (left : ℕ → ℕ)
     → IsKeptBy keeps whole after_act shape (step.Load number root) None number known past note left
 load_kept keeps whole after_act number root note left =

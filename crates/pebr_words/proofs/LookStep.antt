@@ -89,7 +89,8 @@ look_by shape number other known scan is_other apart scans unpassed core found i
       },
     )
 
-pub look_kept : {N A : Type 0} (keeps : List (List ℕ) → List N → Type 0) (whole : List ℕ → Type 0)
+pub look_kept : {N A : Type 0} (keeps : List (List ℕ) → List N → Type 0)
+    (whole : List N → List ℕ → Type 0)
     (after_act : N → A → N) {shape : Shape} (number other : ℕ) {known : Seat} {past : History} (note : N) (left : ℕ → ℕ)
     → IsKeptBy keeps whole after_act shape (step.Look number other) None number known past note left
 look_kept keeps whole after_act number other {known} note left =

@@ -20,7 +20,7 @@ use Rattle.pebr_words.specs.Places.{IsPlace, index}
 use Rattle.pebr_words.specs.Shown.{sign_at, Tells, Show}
 use Rattle.pebr_words.specs.Making.{place_of, known_after, note_after, answer_found, held_after, on_first, IsAsKnown}
 use Rattle.pebr_words.specs.Making.{number_in, known_in, note_in, past_in}
-use Rattle.pebr_words.specs.Ruled.{IsIn, IsEjectionOf, IsFreshNowhere, contents, Ruled, Made, IsPicked, IsTold}
+use Rattle.pebr_words.specs.Ruled.{BackedWhole, IsIn, IsEjectionOf, IsFreshNowhere, contents, Ruled, Made, IsPicked, IsTold}
 use Rattle.pebr_words.specs.Ruled.{view_left}
 use Rattle.pebr_words.specs.Facts.{IsMadeBy, IsKeptBy, IsRecalledBy, IsBefore, StepsAreSafe}
 use Rattle.pebr_words.specs.Pasts.{Ejection, History, was_ejected, found_other, past_after, is_ejected, is_replaced}
@@ -31,7 +31,7 @@ use Rattle.pebr_words.proofs.Recalling.{fresh_known, others_recall, sure_of}
 use Rattle.pebr_words.proofs.Frame.{framed, is_seat, own_fits}
 
 -- a step that changes neither contents nor note, writes no word, and takes no slot out of a fresh set
-pub kept_same : {N A : Type 0} (keeps : List (List ℕ) → List N → Type 0) (whole : List ℕ → Type 0)
+pub kept_same : {N A : Type 0} (keeps : List (List ℕ) → List N → Type 0) (whole : List N → List ℕ → Type 0)
     (after_act : N → A → N) {shape : Shape} (s : Step) (act : Option A) (number : ℕ) {known : Seat} {past : History}
     (note : N) (left : ℕ → ℕ)
     → ((core : State) → contents (after core s) ≡ contents core) → ((core : State) → (after core s).words ≡ core.words)
@@ -44,9 +44,12 @@ kept_same keeps whole after_act s act number {known} note left same_contents sam
       subst (λ c. keeps c (set notes number (note_after after_act s act found note))) (sym (same_contents core))
           (subst (keeps (contents core))
           (sym (ap (set notes number) (same_note found) ∙ set_again notes number note at)) kept),
-      λ slot low nowhere. subst (λ w. whole (get_or w slot [])) (sym (same_words core))
+      λ slot low nowhere. subst (λ w. whole (set notes number (note_after after_act s act found note)) (get_or w slot []))
+          (sym (same_words core))
+          (subst (λ ns. whole ns (get_or core.words slot []))
+          (sym (ap (set notes number) (same_note found) ∙ set_again notes number note at))
           (are_whole slot (subst (λ (x : Shape). slot < slot_count x) before.made.shape low)
-          (λ i. was_nowhere slot nowhere i (cases_eq i number))),
+          (λ i. was_nowhere slot nowhere i (cases_eq i number)))),
     )
   where
     was_nowhere : (slot : ℕ) → IsFreshNowhere (after core s) slot → (i : ℕ) → ((i ≡ number) ⊎ (i ≡ number → ⊥))
@@ -123,8 +126,12 @@ grows (step.Replace i root old new) a known past e h =
 grows (step.Scan i j place) a known past e h = h
 grows (step.Give i) a known past e h = h
 
-module _ {N A : Type 0} (keeps : List (List ℕ) → List N → Type 0) (whole : List ℕ → Type 0) (shape : Shape)
-    (few : shape.shields ≤ 8) (law : StepsAreSafe) (after_act : N → A → N) where
+module _ {N A : Type 0} (keeps : List (List ℕ) → List N → Type 0) (plain : List ℕ → Type 0)
+    (backed : List N → List ℕ → Type 0) (shape : Shape) (few : shape.shields ≤ 8) (law : StepsAreSafe)
+    (after_act : N → A → N) where
+  abbrev whole : List N → List ℕ → Type 0
+  whole = BackedWhole plain backed
+
   pub makes : (s : Step) (act : Option A) (written : ℕ → ℕ) (slots id word : ℕ) (own : Held N) (others : List (Held N))
       (carried : List (ℕ × Unit {0}))
       → seat_of s ≡ own.number → IsPlace shape (place_of s) → index shape (place_of s) ≡ word
@@ -132,7 +139,7 @@ module _ {N A : Type 0} (keeps : List (List ℕ) → List N → Type 0) (whole :
       → IsKeptBy keeps whole after_act shape s act own.number own.known own.past own.note written
       → IsRecalledBy shape s own.number own.known own.past written
       → table.Allows (Ruled keeps whole shape) slots id (own ∷ others, carried) word written
-      (Made after_act whole shape s act (own ∷ others, carried))
+      (Made after_act plain shape s act (own ∷ others, carried))
   makes s act written slots id word own others carried numbered inside placed made_by kept_by recalled_by t rule wide at
       fits =
       let core : State = rule.core in
@@ -231,8 +238,8 @@ module _ {N A : Type 0} (keeps : List (List ℕ) → List N → Type 0) (whole :
             answered = made.answered;
             later = own_known;
           },
-          sure_of whole shape (after core s) own.number new.known new.past is_shape sound inside_seats own_here recalled
-              kept.1,
+          sure_of plain shape (after core s) own.number new.known new.past is_shape sound inside_seats own_here recalled
+              (λ slot low nowhere. (kept.1 slot low nowhere).0),
         ),
       )
     where
@@ -251,31 +258,34 @@ module _ {N A : Type 0} (keeps : List (List ℕ) → List N → Type 0) (whole :
               sym (ap (λ (x : Seat). x.status) (get_or_past core.seats j nobody past)) ∙ now in cc)
 
 -- The same at any view that isn't empty, for a step that a proof picked, and words that are told their shape.
-pub makes_at : {N A : Type 0} (keeps : List (List ℕ) → List N → Type 0) (whole : List ℕ → Type 0)
-    (after_act : N → A → N) (blank : N)
+pub makes_at : {N A : Type 0} (keeps : List (List ℕ) → List N → Type 0) (plain : List ℕ → Type 0)
+    (backed : List N → List ℕ → Type 0) (after_act : N → A → N) (blank : N)
     → {key shape shape' : Shape} {s s' : Step} {act act' : Option A} {written : ℕ → ℕ} {slots word : ℕ}
     → (id : ℕ) → StepsAreSafe → key ≡ shape → IsWithinLimits shape → IsPicked shape' s' act' shape s act
     → (me : table.Me (Unit {0}) (List (Held N))) → 0 < length me.0 → number_in me.0 ≡ seat_of s
     → IsPlace shape (place_of s) → index shape (place_of s) ≡ word
     → IsMadeBy shape s (seat_of s) (known_in me.0) written
-    → IsKeptBy keeps whole after_act shape s act (seat_of s) (known_in me.0) (past_in me.0) (note_in blank me.0) written
+    → IsKeptBy keeps (BackedWhole plain backed) after_act shape s act (seat_of s) (known_in me.0) (past_in me.0)
+    (note_in blank me.0) written
     → IsRecalledBy shape s (seat_of s) (known_in me.0) (past_in me.0) written
-    → table.Allows (Ruled keeps whole key) slots id me word written (Made after_act whole shape' s' act' me)
-makes_at keeps whole after_act blank id law is_key limits picked
+    → table.Allows (Ruled keeps (BackedWhole plain backed) key) slots id me word written
+    (Made after_act plain shape' s' act' me)
+makes_at keeps plain backed after_act blank id law is_key limits picked
     ([], carried) live is_number inside placed made_by kept_by recalled_by = absurd (omega (arith, live))
-makes_at {N} {A} keeps whole after_act blank {key} {shape} {shape'} {s} {s'} {act} {act'} {written} {slots} {word} id
+makes_at {N} {A} keeps plain backed after_act blank {key} {shape} {shape'} {s} {s'} {act} {act'} {written} {slots} {word} id
     law is_key limits picked (own ∷ others, carried) live is_number inside placed made_by kept_by recalled_by =
     let me : table.Me (Unit {0}) (List (Held N)) = (own ∷ others, carried) in
     let Goal : Shape → Shape → Step → Option A → Type 0 =
-    λ k sh t a. table.Allows (Ruled keeps whole k) slots id me word written (Made after_act whole sh t a me) in
+    λ k sh t a. table.Allows (Ruled keeps (BackedWhole plain backed) k) slots id me word written
+    (Made after_act plain sh t a me) in
     subst (λ k. Goal k shape' s' act') (sym is_key)
     (subst (λ sh. Goal shape sh s' act') (sym picked.0)
     (subst (λ t. Goal shape shape t act') (sym picked.1)
     (subst (λ a. Goal shape shape s a) (sym picked.2)
-    (makes keeps whole shape limits.shields law after_act s act written slots id word own others carried
+    (makes keeps plain backed shape limits.shields law after_act s act written slots id word own others carried
     (sym is_number) inside placed
     (subst (λ n. IsMadeBy shape s n own.known written) (sym is_number) made_by)
-    (subst (λ n. IsKeptBy keeps whole after_act shape s act n own.known own.past own.note written)
+    (subst (λ n. IsKeptBy keeps (BackedWhole plain backed) after_act shape s act n own.known own.past own.note written)
     (sym is_number) kept_by)
     (subst (λ n. IsRecalledBy shape s n own.known own.past written) (sym is_number) recalled_by)))))
 

@@ -43,7 +43,8 @@ note_by shape number known out core found is_shape sound inside as_known told =
           (note_made core number known (in_list shape core number is_shape sound inside) out as_known),
     )
 
-pub note_kept : {N A : Type 0} (keeps : List (List ℕ) → List N → Type 0) (whole : List ℕ → Type 0)
+pub note_kept : {N A : Type 0} (keeps : List (List ℕ) → List N → Type 0)
+    (whole : List N → List ℕ → Type 0)
     (after_act : N → A → N) {shape : Shape} (number : ℕ) {known : Seat} {past : History} (note : N) (left : ℕ → ℕ)
     → IsKeptBy keeps whole after_act shape (step.Note number) None number known past note left
 note_kept keeps whole after_act number note left =

@@ -55,10 +55,10 @@ module _ {N : Type 0} (shape : Shape) (note : N) where
   note_at (suc count) zero h = refl
   note_at (suc count) (suc place) h = note_at count place (omega (arith, h))
 
-  pub opens : (keeps : List (List ℕ) → List N → Type 0) (whole : List ℕ → Type 0) (given : List ℕ)
+  pub opens : (keeps : List (List ℕ) → List N → Type 0) (whole : List N → List ℕ → Type 0) (given : List ℕ)
       → StartsAreSound shape given → shape.shields ≤ 8
       → length given ≡ shape.roots * shape.width → keeps (rows_of shape given) (replicate shape.seats note)
-      → All whole (rows_of shape given)
+      → All (whole (replicate shape.seats note)) (rows_of shape given)
       → Ruled keeps whole shape (table.opening (opening_words shape given) [] (first_view shape note))
   opens keeps whole given start few long kept are_whole = record {
     core = opening_core shape given;
@@ -72,7 +72,8 @@ module _ {N : Type 0} (shape : Shape) (note : N) where
     ejected = λ other epoch now. absurd (let e : stance.Out ≡ stance.Ejected epoch = sym (all_out other) ∙ now in cc);
     many = length-replicate shape.seats note;
     kept = subst (λ c. keeps c (replicate shape.seats note)) (sym (opening_contents shape given (omega arith))) kept;
-    whole_is = λ slot low nowhere. opening_whole shape given whole are_whole slot low nowhere;
+    whole_is = λ slot low nowhere. opening_whole shape given (whole (replicate shape.seats note)) are_whole slot low
+        nowhere;
   }
     where
       all_out : (other : ℕ) → (seat_at (opening_core shape given) other).status ≡ stance.Out

@@ -48,7 +48,8 @@ pin_by shape number noted known is_noted out core found is_shape sound inside as
           (pin_made core number found known (in_list shape core number is_shape sound inside) out as_known),
     )
 
-pub pin_kept : {N A : Type 0} (keeps : List (List ℕ) → List N → Type 0) (whole : List ℕ → Type 0)
+pub pin_kept : {N A : Type 0} (keeps : List (List ℕ) → List N → Type 0)
+    (whole : List N → List ℕ → Type 0)
     (after_act : N → A → N) {shape : Shape} (number : ℕ) {known : Seat} {past : History} (note : N) (left : ℕ → ℕ)
     → IsKeptBy keeps whole after_act shape (step.Pin number) None number known past note left
 pin_kept keeps whole after_act number note left =

@@ -39,7 +39,8 @@ read_by shape number slot word known in_slots in_width shielded core found is_sh
   },
 )
 
-pub read_kept : {N A : Type 0} (keeps : List (List ℕ) → List N → Type 0) (whole : List ℕ → Type 0)
+pub read_kept : {N A : Type 0} (keeps : List (List ℕ) → List N → Type 0)
+    (whole : List N → List ℕ → Type 0)
     (after_act : N → A → N) {shape : Shape} (number slot word : ℕ) {known : Seat} {past : History} (note : N)
     (left : ℕ → ℕ)
     → IsKeptBy keeps whole after_act shape (step.Read number slot word) None number known past note left

@@ -86,6 +86,28 @@ fits_known shape known actual (inr (epoch, was_in, now)) h =
       valid = fits.valid;
     }
 
+-- what holds of the content of each slot that no seat has fresh holds of a content that was read in full
+pub read_is_whole : (whole : List ℕ → Type 0) (shape : Shape) (core : State) (number : ℕ) (known : Seat)
+    (past : History)
+    → core.shape ≡ shape → IsSound core → number < shape.seats
+    → IsAsKnown known (seat_at core number) → Recalls core number past → AreWhole whole core
+    → (slot : ℕ) (content : List ℕ) → is_shielded known slot ≡ true → HasReadWhole shape past slot content
+    → whole content
+read_is_whole whole shape core number known past is_shape sound inside as_known recalls are_whole slot content shielded
+    read =
+    let valid = shielded_uses known (seat_at core number) slot as_known shielded in
+    let own : Uses (seat_at core number) slot = inl valid in
+    let core_inside : number < core.shape.seats = subst (λ (s : Shape). number < s.seats) (sym is_shape) inside in
+    let low : slot < slot_count core.shape = (sound.shape.each number core_inside).valid valid.0 slot valid.1 in
+    subst whole (sym (content_is own low)) (are_whole slot low (λ i. sound.kept.safe.unused i number slot own))
+  where
+    content_is : Uses (seat_at core number) slot → slot < slot_count core.shape → content ≡ get_or core.words slot []
+    content_is own low = same_words content (get_or core.words slot [])
+        (read.0 ∙ sym (sound.shape.width slot low ∙ ap (λ (s : Shape). s.width) is_shape))
+        (λ k h. let r = read.1 k (subst (λ n. k < n) read.0 h) in
+        sym r.4 ∙ (sym (recalls.reads r.0 r.1 (subst (Uses (seat_at core number)) (sym r.2) own))
+        ∙ (ap (λ n. word_at core n r.0.word) r.2 ∙ ap (word_at core slot) r.3)))
+
 -- what the rule tells a seat
 pub sure_of : (whole : List ℕ → Type 0) (shape : Shape) (core : State) (number : ℕ) (known : Seat) (past : History)
     → core.shape ≡ shape → IsSound core → number < shape.seats
@@ -99,26 +121,12 @@ sure_of whole shape core number known past is_shape sound inside as_known recall
       ∙ (ap (λ n. word_at core n read.word) slots
       ∙ (ap (word_at core other.slot) words ∙ recalls.reads other in_reads'
       (subst (Uses (seat_at core number)) slots own)));
-  whole_is = λ slot content shielded read.
-      let valid = shielded_uses known (seat_at core number) slot as_known shielded in
-      let own : Uses (seat_at core number) slot = inl valid in
-      let core_inside : number < core.shape.seats = subst (λ (s : Shape). number < s.seats) (sym is_shape) inside in
-      let low : slot < slot_count core.shape = (sound.shape.each number core_inside).valid valid.0 slot valid.1 in
-      subst whole (sym (content_is slot content own low read))
-      (are_whole slot low (λ i. sound.kept.safe.unused i number slot own));
+  whole_is = read_is_whole whole shape core number known past is_shape sound inside as_known recalls are_whole;
   alone = λ one. recalls.lost (ap (λ (s : Shape). s.seats) is_shape ∙ one);
   fits = fits_known shape known (seat_at core number) as_known
       (subst (λ s. IsSeatOfShape s (seat_at core number)) is_shape
       (sound.shape.each number (subst (λ (s : Shape). number < s.seats) (sym is_shape) inside)));
 }
-  where
-    content_is : (slot : ℕ) (content : List ℕ) → Uses (seat_at core number) slot → slot < slot_count core.shape
-        → HasReadWhole shape past slot content → content ≡ get_or core.words slot []
-    content_is slot content own low read = same_words content (get_or core.words slot [])
-        (read.0 ∙ sym (sound.shape.width slot low ∙ ap (λ (s : Shape). s.width) is_shape))
-        (λ k h. let r = read.1 k (subst (λ n. k < n) read.0 h) in
-        sym r.4 ∙ (sym (recalls.reads r.0 r.1 (subst (Uses (seat_at core number)) (sym r.2) own))
-        ∙ (ap (λ n. word_at core n r.0.word) r.2 ∙ ap (word_at core slot) r.3)))
 
 -- who writes has the slot fresh
 write_fresh : (core : State) (i slot word value : ℕ) → is_enabled core (step.Write i slot word value) ≡ true

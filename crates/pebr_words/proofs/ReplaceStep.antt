@@ -29,7 +29,7 @@ use Rattle.pebr_words.proofs.Signs.{seat_here, seat_there, seat_signs}
 use Rattle.pebr_words.proofs.StepLemmas.{and_true, not_ejected, in_list, is_one, in_known}
 use Rattle.pebr_words.proofs.Recalling.{shields_known, fresh_known, shielded_uses}
 use Rattle.pebr_core.specs.State.{shield_at}
-use Rattle.pebr_words.specs.Ruled.{CanReplace, AreWhole, IsFreshNowhere}
+use Rattle.pebr_words.specs.Ruled.{CanReplace, AreWhole, BackedWhole, IsFreshNowhere}
 use Rattle.pebr_words.specs.Pasts.{Lost, found_other, shown_at, written_at, without_slot, is_shown, with_lost}
 use Rattle.pebr_words.specs.Pasts.{history_after}
 use Rattle.std.proofs.lemmas.Option.{same_Some}
@@ -129,13 +129,14 @@ replace_by shape number root old new known in_roots in_slots in_slots' in' shiel
     )
 
 -- The protocol keeps where the root had the old slot, and nothing changes where it hadn't.
-pub replace_kept : {N A : Type 0} (keeps : List (List ℕ) → List N → Type 0) (whole : List ℕ → Type 0)
-    (after_act : N → A → N) {shape : Shape} (act : Option A) (number root old new : ℕ) {known : Seat} {past : History}
-    (note : N) (left : ℕ → ℕ)
+pub replace_kept : {N A : Type 0} (keeps : List (List ℕ) → List N → Type 0) (plain : List ℕ → Type 0)
+    (backed : List N → List ℕ → Type 0) (after_act : N → A → N) {shape : Shape} (act : Option A)
+    (number root old new : ℕ) {known : Seat} {past : History} (note : N) (left : ℕ → ℕ)
     → root < shape.roots → old < slot_count shape → new < slot_count shape → is_shielded known old ≡ true
-    → CanReplace keeps whole shape past number root old new note (act_on after_act act note)
-    → IsKeptBy keeps whole after_act shape (step.Replace number root old new) act number known past note left
-replace_kept {N} keeps whole after_act {shape} act number root old new {known} {past} note left in_roots in_slots
+    → CanReplace keeps plain backed shape past number root old new note (act_on after_act act note)
+    → IsKeptBy keeps (BackedWhole plain backed) after_act shape (step.Replace number root old new) act number known past
+    note left
+replace_kept {N} keeps plain backed after_act {shape} act number root old new {known} {past} note left in_roots in_slots
     in_slots' shielded can law core notes found before kept at are_whole =
     dite (ℕ_discrete (root_at core root) old)
     (λ (hit : root_at core root ≡ old). let e = eq-eqb (root_at core root) old hit in
@@ -145,24 +146,30 @@ replace_kept {N} keeps whole after_act {shape} act number root old new {known} {
     (λ read in_reads is. ap (λ n. word_at core n read.word) (sym is)
     ∙ before.recalls.reads read in_reads (inl (under (sym is))))
     (λ word value w. (before.recalls.written new word value w).1) in
-    subst (λ b. keeps (contents (if b then changed' else core))
-    (set notes number (if eqb found old then act_on after_act act note else note))
-    × AreWhole whole (if b then changed' else core)) (sym e)
-    (subst (λ b. keeps (contents changed') (set notes number (if b then act_on after_act act note else note))
-    × AreWhole whole changed') (sym (eq-eqb found old (before.told ∙ hit))) (
+    subst (λ b. keeps (contents (if b then changed' else core)) (noted (eqb found old))
+    × AreWhole (whole (noted (eqb found old))) (if b then changed' else core)) (sym e)
+    (subst (λ b. keeps (contents changed') (noted b) × AreWhole (whole (noted b)) changed')
+    (sym (eq-eqb found old (before.told ∙ hit))) (
       subst (λ c. keeps c (set notes number (act_on after_act act note))) (sym (map-set row core.roots root new)) got.1,
       λ slot low nowhere. dite (ℕ_discrete slot new)
-          (λ (is : slot ≡ new). subst (λ n. whole (row n)) (sym is) got.0)
-          (λ (apart : slot ≢ new). are_whole slot low (λ i. was_nowhere slot apart nowhere i)),
+          (λ (is : slot ≡ new). subst (λ n. whole (noted true) (row n)) (sym is) got.0)
+          (λ (apart : slot ≢ new). let was = are_whole slot low (λ i. was_nowhere slot apart nowhere i) in
+          (was.0, got.2 (row slot) was.1)),
     )))
     (λ (miss : root_at core root ≢ old). let e = ne_eqb (root_at core root) old miss in
-    subst (λ b. keeps (contents (if b then changed' else core))
-    (set notes number (if eqb found old then act_on after_act act note else note))
-    × AreWhole whole (if b then changed' else core)) (sym e)
-    (subst (λ b. keeps (contents core) (set notes number (if b then act_on after_act act note else note))
-    × AreWhole whole core) (sym (ne_eqb found old (λ same. miss (sym before.told ∙ same))))
-    (subst (keeps (contents core)) (sym (set_again notes number note at)) kept, are_whole)))
+    let same : noted false ≡ notes = set_again notes number note at in
+    subst (λ b. keeps (contents (if b then changed' else core)) (noted (eqb found old))
+    × AreWhole (whole (noted (eqb found old))) (if b then changed' else core)) (sym e)
+    (subst (λ b. keeps (contents core) (noted b) × AreWhole (whole (noted b)) core)
+    (sym (ne_eqb found old (λ same. miss (sym before.told ∙ same))))
+    (subst (λ (ns : List N). keeps (contents core) ns × AreWhole (whole ns) core) (sym same) (kept, are_whole))))
   where
+    whole : List N → List ℕ → Type 0
+    whole = BackedWhole plain backed
+
+    noted : Bool → List N
+    noted b = set notes number (if b then act_on after_act act note else note)
+
     row : ℕ → List ℕ
     row slot = get_or core.words slot []
 

@@ -67,7 +67,8 @@ scan_by shape number other place known scan is_other in_place scans passed unrea
           (ap found_under is),
     )
 
-pub scan_kept : {N A : Type 0} (keeps : List (List ℕ) → List N → Type 0) (whole : List ℕ → Type 0)
+pub scan_kept : {N A : Type 0} (keeps : List (List ℕ) → List N → Type 0)
+    (whole : List N → List ℕ → Type 0)
     (after_act : N → A → N) {shape : Shape} (number other place : ℕ) {known : Seat} {past : History} (note : N)
     (left : ℕ → ℕ)
     → IsKeptBy keeps whole after_act shape (step.Scan number other place) None number known past note left

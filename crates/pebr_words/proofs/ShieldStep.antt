@@ -53,7 +53,8 @@ shield_by shape number place slot known in_place in_slots in' seen core found is
           refl,
     )
 
-pub shield_kept : {N A : Type 0} (keeps : List (List ℕ) → List N → Type 0) (whole : List ℕ → Type 0)
+pub shield_kept : {N A : Type 0} (keeps : List (List ℕ) → List N → Type 0)
+    (whole : List N → List ℕ → Type 0)
     (after_act : N → A → N) {shape : Shape} (number place slot : ℕ) {known : Seat} {past : History} (note : N)
     (left : ℕ → ℕ)
     → IsKeptBy keeps whole after_act shape (step.Shield number place slot) None number known past note left

@@ -10,7 +10,7 @@ use Rattle.pebr_words.specs.Ruled.{IsIn, times_held, view_taken, view_left, Fits
 use Rattle.pebr_words.proofs.Ejections.{listed_cut}
 use Rattle.pebr_words.proofs.Numbers.{total_set, total_last}
 
-module _ {N : Type 0} (keeps : List (List ℕ) → List N → Type 0) (whole : List ℕ → Type 0) (shape : Shape) where
+module _ {N : Type 0} (keeps : List (List ℕ) → List N → Type 0) (whole : List N → List ℕ → Type 0) (shape : Shape) where
   pub splits : (id : ℕ) (view : List (Held N)) → 0 < length view
       → table.Splits (Ruled keeps whole shape) id view (view_left view) (view_taken view)
   splits id [] live s rule at = absurd (omega (arith, live))

@@ -1,5 +1,5 @@
 -- Two views become one: no core and no word changes, and two notes are merged.
-use Rattle.std.proofs.Common.{◌≡◌, ◌≢◌, ℕ, zero, suc, ◌+◌, ◌<◌, List, [], ◌∷◌, ◌++◌, length, map, set, sym, refl, ap}
+use Rattle.std.proofs.Common.{◌≡◌, ◌≢◌, ℕ, zero, suc, ◌+◌, ◌<◌, List, [], ◌∷◌, ◌++◌, length, map, get_or, set, sym, refl, ap}
 use Rattle.std.proofs.Common.{◌∙◌, subst, ⊎_elim, arith, append_assoc}
 use Rattle.std.specs.List.{flat_map}
 use Rattle.pebr_words.specs.Pasts.{History}
@@ -23,8 +23,15 @@ Mergeable {N} keeps merged empty =
     → get_elem? notes i ≡ some a → get_elem? notes j ≡ some b
     → keeps given (set (set notes i (merged a b)) j empty)
 
-module _ {N : Type 0} (keeps : List (List ℕ) → List N → Type 0) (whole : List ℕ → Type 0) (shape : Shape)
-    (merged : N → N → N) (empty : N) (law : Mergeable keeps merged empty) where
+-- What is whole stays so when two notes are merged.
+abbrev pub StaysMerged : {N : Type 0} → (List N → List ℕ → Type 0) → (N → N → N) → N → Type 0
+StaysMerged {N} whole merged empty =
+    (notes : List N) (content : List ℕ) (i j : ℕ) (a b : N) → whole notes content → ¬ (j ≡ i)
+    → get_elem? notes i ≡ some a → get_elem? notes j ≡ some b
+    → whole (set (set notes i (merged a b)) j empty) content
+
+module _ {N : Type 0} (keeps : List (List ℕ) → List N → Type 0) (whole : List N → List ℕ → Type 0) (shape : Shape)
+    (merged : N → N → N) (empty : N) (law : Mergeable keeps merged empty) (stays : StaysMerged whole merged empty) where
   module _ (id : ℕ) (own : Held N) (others : List (Held N)) (other : ℕ) (own' : Held N) (others' : List (Held N))
       (s : Table keeps whole shape) (rule : Ruled keeps whole shape s)
       (at : get_elem? s.views id ≡ some (own ∷ others)) (apart : other ≢ id)
@@ -145,7 +152,8 @@ module _ {N : Type 0} (keeps : List (List ℕ) → List N → Type 0) (whole : L
               ));
           many = length-set mid own'.number empty
               ∙ (length-set rule.notes own.number (merged own.note own'.note) ∙ rule.many);
-          whole_is = rule.whole_is;
+          whole_is = λ slot low nowhere. stays rule.notes (get_or rule.core.words slot []) own.number own'.number own.note
+              own'.note (rule.whole_is slot low nowhere) differ fit.note fit'.note;
           kept = law (contents rule.core) rule.notes own.number own'.number own.note own'.note rule.kept differ fit.note
               fit'.note;
         }

@@ -45,7 +45,8 @@ unshield_by shape number place known in_place core found is_shape sound inside a
           refl,
     )
 
-pub unshield_kept : {N A : Type 0} (keeps : List (List ℕ) → List N → Type 0) (whole : List ℕ → Type 0)
+pub unshield_kept : {N A : Type 0} (keeps : List (List ℕ) → List N → Type 0)
+    (whole : List N → List ℕ → Type 0)
     (after_act : N → A → N) {shape : Shape} (number place : ℕ) {known : Seat} {past : History} (note : N) (left : ℕ → ℕ)
     → IsKeptBy keeps whole after_act shape (step.Unshield number place) None number known past note left
 unshield_kept keeps whole after_act number place note left =

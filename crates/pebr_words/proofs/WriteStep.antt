@@ -96,7 +96,8 @@ same_map f g (x ∷ xs) each = ap (λ y. y ∷ map f xs) (each 0 (omega arith))
     ∙ ap (λ l. g x ∷ l) (same_map f g xs (λ k h. each (suc k) (omega (arith, h))))
 
 -- a fresh slot is in no root, so no root's content changes
-pub write_kept : {N A : Type 0} (keeps : List (List ℕ) → List N → Type 0) (whole : List ℕ → Type 0)
+pub write_kept : {N A : Type 0} (keeps : List (List ℕ) → List N → Type 0)
+    (whole : List N → List ℕ → Type 0)
     (after_act : N → A → N) {shape : Shape} (number slot word value : ℕ) {known : Seat} {past : History} (note : N)
     (left : ℕ → ℕ)
     → slot < slot_count shape → has known.fresh slot ≡ true
@@ -114,10 +115,11 @@ write_kept keeps whole after_act {shape} number slot word value {known} note lef
     (alone.roots k (subst (λ n. k < n) before.sound.shape.roots h))) in (
       subst (λ c. keeps c (set notes number note)) (sym same)
           (subst (keeps (contents core)) (sym (set_again notes number note at)) kept),
-      λ s low nowhere. subst whole
+      λ s low nowhere. subst (λ ns. whole ns (get_or (written core slot word value).words s []))
+          (sym (set_again notes number note at)) (subst (whole notes)
           (sym (row_elsewhere core slot word value s
           (λ e. false≢true (sym (nowhere number) ∙ (ap (has (seat_at core number).fresh) e ∙ is_fresh)))))
-          (are_whole s low nowhere),
+          (are_whole s low nowhere)),
     )
 
 pub write_recalled : {shape : Shape} (number slot word value : ℕ) {known : Seat} {past : History} (left : ℕ → ℕ)

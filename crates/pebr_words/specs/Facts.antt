@@ -66,14 +66,14 @@ pub record IsBefore (shape : Shape) (s : Step) (number : ℕ) (known : Seat) (pa
 
 -- The protocol keeps where contents and the seat's note are as the step leaves them, and contents that must be whole
 -- are.
-abbrev pub IsKeptBy : {N A : Type 0} → (List (List ℕ) → List N → Type 0) → (List ℕ → Type 0) → (N → A → N) → Shape
-    → Step → Option A → ℕ → Seat → History → N → (ℕ → ℕ) → Type 0
+abbrev pub IsKeptBy : {N A : Type 0} → (List (List ℕ) → List N → Type 0) → (List N → List ℕ → Type 0) → (N → A → N)
+    → Shape → Step → Option A → ℕ → Seat → History → N → (ℕ → ℕ) → Type 0
 IsKeptBy {N} keeps whole after_act shape s act number known past note written =
     (law : StepsAreSafe) (core : State) (notes : List N) (found : ℕ)
     → IsBefore shape s number known past core found (written found)
-    → keeps (contents core) notes → get_elem? notes number ≡ some note → AreWhole whole core
+    → keeps (contents core) notes → get_elem? notes number ≡ some note → AreWhole (whole notes) core
     → keeps (contents (after core s)) (slice_set notes number (note_after after_act s act found note))
-    × AreWhole whole (after core s)
+    × AreWhole (whole (slice_set notes number (note_after after_act s act found note))) (after core s)
 
 -- What the seat remembers after the step is so.
 abbrev pub IsRecalledBy : Shape → Step → ℕ → Seat → History → (ℕ → ℕ) → Type 0

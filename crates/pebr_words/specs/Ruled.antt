@@ -72,6 +72,11 @@ HasReadWhole shape past slot content =
     × ((word : ℕ) → word < shape.width → (read : Read) × IsIn read past.reads × (read.slot ≡ slot) × (read.word ≡ word)
     × (read.value ≡ slice_index content word))
 
+-- Each content that the seat has read in full under a valid shield is backed.
+abbrev pub AreBacked : (List ℕ → Type 0) → Shape → Seat → History → Type 0
+AreBacked backed shape known past =
+    (slot : ℕ) (content : List ℕ) → is_shielded known slot ≡ true → HasReadWhole shape past slot content → backed content
+
 -- What the rule tells a seat of what it remembers, whatever other seats do.
 pub record IsSure (whole : List ℕ → Type 0) (shape : Shape) (known : Seat) (past : History) : Type 0 where
   -- under a valid shield, two reads of one word are equal
@@ -107,8 +112,12 @@ module _ {N : Type 0} where
     pub note : get_elem? notes held.number ≡ some held.note
     pub recalls : Recalls core held.number held.past
 
+  -- A content is whole, and the notes back it.
+  abbrev pub BackedWhole : (List ℕ → Type 0) → (List N → List ℕ → Type 0) → List N → List ℕ → Type 0
+  BackedWhole whole backed notes content = whole content × backed notes content
+
   -- The rule. It holds between any two steps, whatever the seats do in turn.
-  pub record Ruled (keeps : List (List ℕ) → List N → Type 0) (whole : List ℕ → Type 0) (shape : Shape)
+  pub record Ruled (keeps : List (List ℕ) → List N → Type 0) (whole : List N → List ℕ → Type 0) (shape : Shape)
       (s : table.State (Unit {0}) (List (Held N))) : Type 0 where
     -- there is a core, and a note for each seat
     pub core : State
@@ -129,8 +138,8 @@ module _ {N : Type 0} where
     -- the protocol keeps
     pub many : length notes ≡ shape.seats
     pub kept : keeps (contents core) notes
-    -- the content of each slot that no seat has fresh is whole
-    pub whole_is : AreWhole whole core
+    -- the content of each slot that no seat has fresh is whole, as the notes are
+    pub whole_is : AreWhole (whole notes) core
 
   abbrev pub first_held : Shape → N → ℕ → Held N
   first_held shape note i = record { number = i; known = first_seat shape i; note = note; past = no_history }
@@ -171,22 +180,31 @@ module _ {N : Type 0} where
       × IsStepOf shape step (answer_found step (known_in m.0) found) (known_in m.0) (known_in m'.0)
       × IsSure whole shape (known_in m'.0) (past_in m'.0)
 
-  -- for all contents and notes that keep, in which this seat has its note, the changed note in its place keeps too
-  abbrev pub CanNote : (List (List ℕ) → List N → Type 0) → ℕ → N → N → Type 0
-  CanNote keeps number old new =
+  -- The new notes back all that the old ones back.
+  abbrev pub StillBack : (List N → List ℕ → Type 0) → List N → List N → Type 0
+  StillBack backed old new = (content : List ℕ) → backed old content → backed new content
+
+  -- For all contents and notes that keep, in which this seat has its note, and which back what the seat has read in full
+  -- under valid shields: the changed note in its place keeps too, and what was backed still is.
+  abbrev pub CanNote : (List (List ℕ) → List N → Type 0) → (List N → List ℕ → Type 0) → Shape → Seat → History → ℕ → N
+      → N → Type 0
+  CanNote keeps backed shape known past number old new =
       (contents : List (List ℕ)) (notes : List N) → keeps contents notes → get_elem? notes number ≡ some old
-      → keeps contents (slice_set notes number new)
+      → AreBacked (backed notes) shape known past
+      → keeps contents (slice_set notes number new) × StillBack backed notes (slice_set notes number new)
 
   -- The content under a seat's hold is replaced: for all contents and notes that keep, in which this root has a content
-  -- as the seat read it and this seat has its note, each content as the seat wrote it is whole, and keeps in its place
-  -- with the changed note.
-  abbrev pub CanReplace : (List (List ℕ) → List N → Type 0) → (List ℕ → Type 0) → Shape → History → ℕ → ℕ → ℕ → ℕ → N
-      → N → Type 0
-  CanReplace keeps whole shape past number root old new note changed =
+  -- as the seat read it and this seat has its note, each content as the seat wrote it is whole and backed, and keeps in
+  -- its place with the changed note; and what was backed still is.
+  abbrev pub CanReplace : (List (List ℕ) → List N → Type 0) → (List ℕ → Type 0) → (List N → List ℕ → Type 0) → Shape
+      → History → ℕ → ℕ → ℕ → ℕ → N → N → Type 0
+  CanReplace keeps whole backed shape past number root old new note changed =
       (contents : List (List ℕ)) (notes : List N) (from to : List ℕ) → keeps contents notes
       → get_elem? contents root ≡ some from → get_elem? notes number ≡ some note
       → length from ≡ shape.width → length to ≡ shape.width → HasRead past old from → HasWritten past new to
-      → whole to × keeps (slice_set contents root to) (slice_set notes number changed)
+      → BackedWhole whole backed (slice_set notes number changed) to
+      × keeps (slice_set contents root to) (slice_set notes number changed)
+      × StillBack backed notes (slice_set notes number changed)
 
 -- a proof picked this step and this act
 abbrev pub IsPicked : {A : Type 0} → Shape → Step → Option A → Shape → Step → Option A → Type 0

@@ -200,6 +200,7 @@ impl<P: RootProtocol> Words<P> {
         requires long { length contents.now ≡ shape.roots * shape.width }
         requires keeps { P.keeps fixed (rows_of shape contents.now) (replicate shape.seats P.first) }
         requires whole { All P.whole (rows_of shape contents.now) }
+        requires backed { All (P.backed fixed (replicate shape.seats P.first)) (rows_of shape contents.now) }
         ensures words { IfOk result (λ r. (shape_of r.0 ≡ shape) × (fixed_of r.0 ≡ fixed)) }
         ensures seats { IfOk result (λ r. AreOpened r.0 P.first shape.seats r.1.items) }
         ensures each { IfOk result

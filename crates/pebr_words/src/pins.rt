@@ -7,7 +7,7 @@ ghost use Rattle.pebr_core.specs.State.{is_out};
 ghost use Rattle.pebr_core.specs.Steps.{after_note, after_pin, after_leave, last_epoch};
 ghost use Rattle.pebr_words.specs.Making.{act_on};
 ghost use Rattle.pebr_words.specs.Ruled.{CanNote};
-ghost use Rattle.pebr_words.specs.Seats.{IsAt, IsStill, IsStep, shape_of, known_of, number_of, note_of, fixed_of};
+ghost use Rattle.pebr_words.specs.Seats.{IsAt, IsStill, IsStep, shape_of, known_of, number_of, note_of, fixed_of, past_of};
 
 use crate::protocol::RootProtocol;
 use crate::words::{Seat, Words};
@@ -55,11 +55,13 @@ impl<P: RootProtocol> Words<P> {
         self.store(&mut seat.inner, word, status, step, None);
     }
 
-    /// Takes the announcement back: the seat is out, and has seen no slot. The act changes its note.
+    /// Takes the announcement back: the seat is out, and has seen no slot. The act changes its note, for which the caller
+    /// may take it that the notes back what the seat has read in full under valid shields.
     pub fn leave(&self, seat: &mut Seat<P>, act: Option<P::Act>)
         requires at { IsAt self.now seat.old }
         requires not_out { is_out (known_of seat.old).status ≡ false }
-        requires keeps { CanNote (P.keeps (fixed_of self.now)) (number_of seat.old) (note_of P.first seat.old)
+        requires keeps { CanNote (P.keeps (fixed_of self.now)) (P.backed (fixed_of self.now)) (shape_of self.now)
+            (known_of seat.old) (past_of seat.old) (number_of seat.old) (note_of P.first seat.old)
             (act_on P.after act (note_of P.first seat.old)) }
         ensures still { IsStill self.now seat.old seat.new }
         ensures note { note_of P.first seat.new ≡ act_on P.after act (note_of P.first seat.old) }

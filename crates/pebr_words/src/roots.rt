@@ -66,8 +66,8 @@ impl<P: RootProtocol> Words<P> {
         requires not_out { is_out (known_of seat.old).status ≡ false }
         requires shielded { IsTrue (is_shielded (known_of seat.old) old) }
         requires fresh { has (known_of seat.old).fresh new ≡ true }
-        requires keeps { CanReplace (P.keeps (fixed_of self.now)) P.whole (shape_of self.now) (past_of seat.old)
-            (number_of seat.old) root old new (note_of P.first seat.old)
+        requires keeps { CanReplace (P.keeps (fixed_of self.now)) P.whole (P.backed (fixed_of self.now))
+            (shape_of self.now) (past_of seat.old) (number_of seat.old) root old new (note_of P.first seat.old)
             (act_on P.after act (note_of P.first seat.old)) }
         ensures still { IsStill self.now seat.old seat.new }
         ensures note { note_of P.first seat.new ≡ (if result then act_on P.after act (note_of P.first seat.old)

@@ -16,9 +16,9 @@ pub struct Rule<P> {
 }
 
 impl<P: RootProtocol> TableRule<(), View<P::Note>, Told<P::Fixed>> for Rule<P> {
-    ghost use Rattle.pebr_words.specs.Ruled.{Ruled, first_view};
+    ghost use Rattle.pebr_words.specs.Ruled.{Ruled, BackedWhole, first_view};
 
-    ghost holds = { λ told. Ruled (P.keeps told.fixed) P.whole told.shape };
+    ghost holds = { λ told. Ruled (P.keeps told.fixed) (BackedWhole P.whole (P.backed told.fixed)) told.shape };
 
     ghost first = { λ told. first_view told.shape P.first };
 }

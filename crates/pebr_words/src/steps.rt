@@ -11,7 +11,7 @@ ghost use Rattle.pebr_words.specs.Places.{IsPlace, index, word_count};
 ghost use Rattle.pebr_core.specs.Frames.{seat_of};
 ghost use Rattle.pebr_words.specs.Making.{place_of, number_in, known_in, note_in, past_in};
 ghost use Rattle.pebr_words.specs.Operating.{operation_of, IsOwn};
-ghost use Rattle.pebr_words.specs.Ruled.{IsPicked, IsTold};
+ghost use Rattle.pebr_words.specs.Ruled.{BackedWhole, IsPicked, IsTold};
 ghost use Rattle.pebr_words.specs.Facts.{IsMadeBy, IsKeptBy, IsRecalledBy, StepsAreSafe};
 
 use crate::protocol::RootProtocol;
@@ -49,8 +49,9 @@ impl<P: RootProtocol> Words<P> {
         requires own { IsOwn self.now.shape _step (known_in (me_of seat.old).0)
             (op.load (index self.now.shape (place_of _step))) }
         requires made { IsMadeBy self.now.shape _step (seat_of _step) (known_in (me_of seat.old).0) (λ found. found) }
-        requires kept { IsKeptBy (P.keeps (key_of self.now.table).fixed) P.whole P.after self.now.shape _step _act
-            (seat_of _step) (known_in (me_of seat.old).0) (past_in (me_of seat.old).0)
+        requires kept { IsKeptBy (P.keeps (key_of self.now.table).fixed)
+            (BackedWhole P.whole (P.backed (key_of self.now.table).fixed)) P.after self.now.shape _step _act (seat_of _step)
+            (known_in (me_of seat.old).0) (past_in (me_of seat.old).0)
             (note_in P.first (me_of seat.old).0) (λ found. found) }
         requires recalled { IsRecalledBy self.now.shape _step (seat_of _step) (known_in (me_of seat.old).0)
             (past_in (me_of seat.old).0) (λ found. found) }
@@ -78,8 +79,9 @@ impl<P: RootProtocol> Words<P> {
         requires own { IsOwn self.now.shape step (known_in (me_of seat.old).0)
             (op.load (index self.now.shape (place_of step))) }
         requires made { IsMadeBy self.now.shape step (seat_of step) (known_in (me_of seat.old).0) (λ found. found) }
-        requires kept { IsKeptBy (P.keeps (key_of self.now.table).fixed) P.whole P.after self.now.shape step act
-            (seat_of step) (known_in (me_of seat.old).0) (past_in (me_of seat.old).0)
+        requires kept { IsKeptBy (P.keeps (key_of self.now.table).fixed)
+            (BackedWhole P.whole (P.backed (key_of self.now.table).fixed)) P.after self.now.shape step act (seat_of step)
+            (known_in (me_of seat.old).0) (past_in (me_of seat.old).0)
             (note_in P.first (me_of seat.old).0) (λ found. found) }
         requires recalled { IsRecalledBy self.now.shape step (seat_of step) (known_in (me_of seat.old).0)
             (past_in (me_of seat.old).0) (λ found. found) }
@@ -108,8 +110,9 @@ impl<P: RootProtocol> Words<P> {
         requires own { IsOwn self.now.shape _step (known_in (me_of seat.old).0)
             (λ _. op.store (index self.now.shape (place_of _step)) new) }
         requires made { IsMadeBy self.now.shape _step (seat_of _step) (known_in (me_of seat.old).0) (λ _. new) }
-        requires kept { IsKeptBy (P.keeps (key_of self.now.table).fixed) P.whole P.after self.now.shape _step _act
-            (seat_of _step) (known_in (me_of seat.old).0) (past_in (me_of seat.old).0)
+        requires kept { IsKeptBy (P.keeps (key_of self.now.table).fixed)
+            (BackedWhole P.whole (P.backed (key_of self.now.table).fixed)) P.after self.now.shape _step _act (seat_of _step)
+            (known_in (me_of seat.old).0) (past_in (me_of seat.old).0)
             (note_in P.first (me_of seat.old).0) (λ _. new) }
         requires recalled { IsRecalledBy self.now.shape _step (seat_of _step) (known_in (me_of seat.old).0)
             (past_in (me_of seat.old).0) (λ _. new) }
@@ -138,8 +141,9 @@ impl<P: RootProtocol> Words<P> {
         requires own { IsOwn self.now.shape step (known_in (me_of seat.old).0)
             (λ _. op.store (index self.now.shape (place_of step)) new) }
         requires made { IsMadeBy self.now.shape step (seat_of step) (known_in (me_of seat.old).0) (λ _. new) }
-        requires kept { IsKeptBy (P.keeps (key_of self.now.table).fixed) P.whole P.after self.now.shape step act
-            (seat_of step) (known_in (me_of seat.old).0) (past_in (me_of seat.old).0)
+        requires kept { IsKeptBy (P.keeps (key_of self.now.table).fixed)
+            (BackedWhole P.whole (P.backed (key_of self.now.table).fixed)) P.after self.now.shape step act (seat_of step)
+            (known_in (me_of seat.old).0) (past_in (me_of seat.old).0)
             (note_in P.first (me_of seat.old).0) (λ _. new) }
         requires recalled { IsRecalledBy self.now.shape step (seat_of step) (known_in (me_of seat.old).0)
             (past_in (me_of seat.old).0) (λ _. new) }
@@ -171,8 +175,9 @@ impl<P: RootProtocol> Words<P> {
             (op.exchange (index self.now.shape (place_of _step)) old new) }
         requires made { IsMadeBy self.now.shape _step (seat_of _step) (known_in (me_of seat.old).0)
             (λ found. either (found == old) new found) }
-        requires kept { IsKeptBy (P.keeps (key_of self.now.table).fixed) P.whole P.after self.now.shape _step _act
-            (seat_of _step) (known_in (me_of seat.old).0) (past_in (me_of seat.old).0)
+        requires kept { IsKeptBy (P.keeps (key_of self.now.table).fixed)
+            (BackedWhole P.whole (P.backed (key_of self.now.table).fixed)) P.after self.now.shape _step _act (seat_of _step)
+            (known_in (me_of seat.old).0) (past_in (me_of seat.old).0)
             (note_in P.first (me_of seat.old).0)
             (λ found. either (found == old) new found) }
         requires recalled { IsRecalledBy self.now.shape _step (seat_of _step) (known_in (me_of seat.old).0)
@@ -204,8 +209,9 @@ impl<P: RootProtocol> Words<P> {
             (op.exchange (index self.now.shape (place_of step)) old new) }
         requires made { IsMadeBy self.now.shape step (seat_of step) (known_in (me_of seat.old).0)
             (λ found. either (found == old) new found) }
-        requires kept { IsKeptBy (P.keeps (key_of self.now.table).fixed) P.whole P.after self.now.shape step act
-            (seat_of step) (known_in (me_of seat.old).0) (past_in (me_of seat.old).0)
+        requires kept { IsKeptBy (P.keeps (key_of self.now.table).fixed)
+            (BackedWhole P.whole (P.backed (key_of self.now.table).fixed)) P.after self.now.shape step act (seat_of step)
+            (known_in (me_of seat.old).0) (past_in (me_of seat.old).0)
             (note_in P.first (me_of seat.old).0)
             (λ found. either (found == old) new found) }
         requires recalled { IsRecalledBy self.now.shape step (seat_of step) (known_in (me_of seat.old).0)

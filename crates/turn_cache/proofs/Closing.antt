@@ -1,6 +1,6 @@
 -- The last state of a table, of which one pass stands for all seats.
 use Rattle.std.proofs.Common.{◌≡◌, ◌≢◌, ℕ, zero, suc, ◌+◌, ◌*◌, ◌<◌, ◌≤◌, List, [], ◌∷◌, ◌++◌, length, map, get_or}
-use Rattle.std.proofs.Common.{take, option_to_list, Result, Ok, Err, IfOk, sym, refl, ap, ◌∙◌, subst, arith}
+use Rattle.std.proofs.Common.{take, option_to_list, Result, Ok, Err, IfOk, OnOk, All, sym, refl, ap, ◌∙◌, subst, arith}
 use Rattle.std.proofs.lemmas.List.Concat.{flat_map-append}
 use Rattle.std.proofs.lemmas.Grind.{same_number_lists}
 use mathlib.Core.Logic.{dite}
@@ -10,7 +10,7 @@ use lib.ListN.{get_elem?}
 use Rattle.atomic_table.specs.Table.{State}
 use Rattle.atomic_table.proofs.Lists.{at_map}
 use Rattle.flow_parts.specs.Reaching.{Reaches}
-use Rattle.cache_face.specs.Keeping.{entry_of, parts_in}
+use Rattle.cache_face.specs.Keeping.{entry_of, parts_in, IsBorne}
 use Rattle.cache_face.specs.Laws.{IsUnused}
 use Rattle.cache_face.specs.Notes.{Note}
 use Rattle.cache_face.proofs.Keeping.{kept_at_end}
@@ -29,6 +29,10 @@ at_value (x ∷ xs) (suc i) a e = at_value xs i a e
 pub if_ok : {A E : Type 0} (r : Result A E) (F G : A → Type 0) → ((a : A) → F a → G a) → IfOk r F → IfOk r G
 if_ok (Ok a) F G f h = f a h
 if_ok (Err e) F G f h = h
+
+pub on_ok : {A E : Type 0} (r : Result A E) (F : Type 0) → F → OnOk r F
+on_ok (Ok a) F f = f
+on_ok (Err e) F f = tt
 
 -- the next four contents
 pub next_parts : (words : List ℕ) (n : ℕ)
@@ -126,15 +130,27 @@ module _ (told : Told) (s : State (Unit {0}) Hand) (h : Ruled told s) (id : ℕ)
       ∷ content_is n 1 (omega (arith, low)) (omega arith) i ∷ content_is n 2 (omega (arith, low)) (omega arith) i
       ∷ content_is n 3 (omega (arith, low)) (omega arith) i ∷ []))
 
+  -- what the last pass has, by the rule
+  at_end : Reaches told.timeouts v.note.taken (parts_in h.contents ++ v.note.handed)
+      × All (IsBorne told.timeouts v.note.taken) v.note.seen
+  at_end =
+      kept_at_end told.timeouts told.sets h.contents (map (λ (hand : Hand). hand.note) s.views) id v.note h.kept
+      (at_map (λ (hand : Hand). hand.note) s.views id v at)
+      (λ j note ne e. let found = from_map s.views j note e in
+      subst IsUnused found.2 ((h.each j found.0 found.1).gone (others_none j found.0 ne found.1)))
+    where
+      from_map : (views : List Hand) (j : ℕ) (note : Note)
+          → get_elem? (map (λ (hand : Hand). hand.note) views) j ≡ some note
+          → (u : Hand) × (get_elem? views j ≡ some u) × (u.note ≡ note)
+      from_map [] j note e = absurd (some-ne-none note (sym e))
+      from_map (x ∷ xs) zero note e = (x, refl, some-injective x.note note e)
+      from_map (x ∷ xs) (suc j) note e = from_map xs j note e
+
   pub closes : Reaches told.timeouts v.note.taken (parts_in (contents_at s.words told.sets) ++ v.note.handed)
   closes =
       let whole : h.contents ≡ contents_at s.words told.sets =
       sym (take_whole h.contents (4 * told.sets) h.many) ∙ shown told.sets (omega arith) in
-      subst (λ cs. Reaches told.timeouts v.note.taken (parts_in cs ++ v.note.handed)) whole
-      (kept_at_end told.timeouts told.sets h.contents (map (λ (hand : Hand). hand.note) s.views) id v.note h.kept
-      (at_map (λ (hand : Hand). hand.note) s.views id v at)
-      (λ j note ne e. let found = from_map s.views j note e in
-      subst IsUnused found.2 ((h.each j found.0 found.1).gone (others_none j found.0 ne found.1))))
+      subst (λ cs. Reaches told.timeouts v.note.taken (parts_in cs ++ v.note.handed)) whole at_end.0
     where
       take_whole : (xs : List (List ℕ)) (k : ℕ) → length xs ≡ k → take k xs ≡ xs
       take_whole [] zero e = refl
@@ -142,12 +158,8 @@ module _ (told : Told) (s : State (Unit {0}) Hand) (h : Ruled told s) (id : ℕ)
       take_whole (x ∷ xs) zero e = absurd (omega (arith, e))
       take_whole (x ∷ xs) (suc k) e = ap (λ l. x ∷ l) (take_whole xs k (omega (arith, e)))
 
-      from_map : (views : List Hand) (j : ℕ) (note : Note)
-          → get_elem? (map (λ (hand : Hand). hand.note) views) j ≡ some note
-          → (u : Hand) × (get_elem? views j ≡ some u) × (u.note ≡ note)
-      from_map [] j note e = absurd (some-ne-none note (sym e))
-      from_map (x ∷ xs) zero note e = (x, refl, some-injective x.note note e)
-      from_map (x ∷ xs) (suc j) note e = from_map xs j note e
+  pub bears_out : All (IsBorne told.timeouts v.note.taken) v.note.seen
+  bears_out = at_end.1
 
 pub if_ok_weaker : {A E : Type 0} (r : Result A E) (P Q : A → Type 0) → ((a : A) → P a → Q a) → IfOk r P → IfOk r Q
 if_ok_weaker (Ok a) P Q f h = f a h

@@ -83,7 +83,7 @@ opens told some_sets few_sets few_seats =
       each = λ j u e. first_fits hand long j u e;
       kept = keeps_opening told.timeouts told.sets contents (unused_note told.seats ∷ [])
           (length-replicate {A = List ℕ} (4 * told.sets) row) (all_rows IsEmptyContent (4 * told.sets) row refl)
-          (All-cons IsUnused (unused_note told.seats) [] (refl, refl) (All-nil IsUnused))
+          (All-cons IsUnused (unused_note told.seats) [] (refl, refl, refl) (All-nil IsUnused))
           (let s = sum_by-cons (λ (note : Note). note.seats) (unused_note told.seats) [] in
           omega (arith, s, few_seats));
     }
@@ -94,5 +94,5 @@ opens told some_sets few_sets few_seats =
     first_fits hand long zero u e =
         subst (Fits told.sets (replicate (64 * told.sets) 0) (replicate (4 * told.sets) (replicate 10 0)))
         (some-injective (new_hand (range_with_len 0 told.seats) (unused_note told.seats)) u e)
-        record { seats = sym long; gone = λ none. (refl, refl); live = tt; turn = tt }
+        record { seats = sym long; gone = λ none. (refl, refl, refl); live = tt; turn = tt }
     first_fits hand long (suc j) u e = absurd (some-ne-none u (sym e))

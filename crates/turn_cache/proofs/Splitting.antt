@@ -30,9 +30,9 @@ splits told id number numbers s h at =
     = λ F e. (let t = total-set F s.views id v left at in let u = total-snoc F (set s.views id left) right in
     omega (arith, t, u, e)) in
     let fits_left : Fits told.sets s.words h.contents left =
-    record { seats = fewer; gone = λ none. (refl, refl); live = tt; turn = tt } in
+    record { seats = fewer; gone = λ none. (refl, refl, refl); live = tt; turn = tt } in
     let fits_right : Fits told.sets s.words h.contents right =
-    record { seats = refl; gone = λ none. (refl, refl); live = tt; turn = tt } in
+    record { seats = refl; gone = λ none. (refl, refl, refl); live = tt; turn = tt } in
     let notes : map note_of views' ≡ set (map note_of s.views) id (unused_note (length numbers)) ++ first_note ∷ []
     = map-append note_of (set s.views id left) (right ∷ [])
     ∙ (ap (λ ns. ns ++ first_note ∷ []) (map-set note_of s.views id left)

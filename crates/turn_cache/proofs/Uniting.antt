@@ -47,13 +47,16 @@ joins told id v other w no_turn no_turn' s h at apart at' =
     let fits_both : Fits told.sets s.words h.contents both = record {
       seats = (let a = f.seats in let b = g.seats in let l = length-append v.numbers w.numbers in
           omega (arith, a, b, l));
-      gone = λ none. (let a = f.gone (omega (arith, none)) in let b = g.gone (omega (arith, none)) in
-          (nothing_left v.note.taken w.note.taken a.0 b.0, nothing_left v.note.handed w.note.handed a.1 b.1));
+      gone = λ none. (let a = f.gone (omega (arith, none)) in let b = g.gone (omega (arith, none)) in (
+        nothing_left v.note.taken w.note.taken a.0 b.0,
+        nothing_left v.note.handed w.note.handed a.1 b.1,
+        nothing_left v.note.seen w.note.seen a.2 b.2,
+      ));
       live = subst (LiveAt (length both.numbers)) (sym no_turn) tt;
       turn = idle_turn v.read;
     } in
     let fits_spent : Fits told.sets s.words h.contents spent_hand =
-    record { seats = refl; gone = λ none. (refl, refl); live = tt; turn = tt } in
+    record { seats = refl; gone = λ none. (refl, refl, refl); live = tt; turn = tt } in
     let notes : map note_of (set views' other spent_hand)
     ≡ set (set (map note_of s.views) id (merged_note v.note w.note)) other empty_note
     = map-set note_of views' other spent_hand ∙ ap (λ ns. set ns other empty_note) (map-set note_of s.views id both) in

@@ -27,7 +27,12 @@ pub record Move : Type 0 where
 -- What was put in and what was handed out grow.
 abbrev pub note_after : Note → List Fragment → Option Fragment → Note
 note_after note taken out =
-    record { seats = note.seats; taken = note.taken ++ taken; handed = note.handed ++ option_to_list out }
+    record {
+      seats = note.seats;
+      taken = note.taken ++ taken;
+      handed = note.handed ++ option_to_list out;
+      seen = note.seen;
+    }
 
 -- The turn is taken: the seat reads the set.
 abbrev pub hand_taking : ℕ → Hand → Hand

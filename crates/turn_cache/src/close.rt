@@ -1,10 +1,10 @@
 //! The end of a cache.
 
 ghost use Rattle.std.specs.Prelude.{◌≡◌, ◌+◌, ◌*◌, ◌<◌, ◌≤◌, ◌++◌, [], ◌∷◌, IfOk, OnOk, Option, option_to_list};
-ghost use Rattle.std.specs.Prelude.{slice_index};
+ghost use Rattle.std.specs.Prelude.{slice_index, All};
 ghost use Rattle.std.specs.Slots.{slots_items, slots_len, IsFull};
 ghost use Rattle.flow_parts.specs.Reaching.{Reaches};
-ghost use Rattle.cache_face.specs.Keeping.{entry_of, parts_in};
+ghost use Rattle.cache_face.specs.Keeping.{entry_of, parts_in, IsBorne};
 ghost use Rattle.turn_cache.specs.Closing.{content_at, four_at, contents_at};
 ghost use Rattle.turn_cache.specs.Places.{set_word};
 ghost use Rattle.turn_cache.specs.Shown.{means_of, shown_of, IsOf};
@@ -119,6 +119,8 @@ impl TurnCache {
         ensures reached { IfOk result
             (λ entries. Reaches (means_of self).limits (shown_of pass).note.taken
             (entries.items ++ (shown_of pass).note.handed)) }
+        ensures seen { OnOk result
+            (All (IsBorne (means_of self).limits (shown_of pass).note.taken) (shown_of pass).note.seen) }
     {
         let TurnPass {
             seat,

@@ -4,3 +4,4 @@ pub mod Files
 pub mod FirstKeys
 pub mod Turns
 pub mod Totals
+pub mod Seen

@@ -13,7 +13,8 @@ use Rattle.flow_parts.specs.Sharing.{SharesOut}
 use Rattle.capture_tally.specs.declared.tally.Tally.{Tally}
 use Rattle.capture_tally.specs.Tallies.{IsTallyOf, octets_of}
 use Rattle.cache_face.specs.Meaning.{PassMeans, IsUnited}
-use Rattle.cache_face.specs.Notes.{Note, first_note}
+use Rattle.cache_face.specs.Notes.{Note}
+use Rattle.watch_program.specs.Answers.{IsAsker}
 
 -- the fragments have the packets and the octets of the file
 abbrev pub HasCounts : List Fragment → CaptureFile → Type 0
@@ -23,7 +24,7 @@ HasCounts parts file =
 
 -- what was handed out is that of the pass which did something
 pub handed-same : (parts : List Fragment) (one other both : PassMeans) → IsUnited one other both
-    → other.note ≡ first_note
+    → IsAsker other.note
     → parts ≡ one.note.handed → IsPermutation parts both.note.handed
 handed-same parts one other both united none are =
     let same : both.note.handed ≡ one.note.handed =
@@ -33,7 +34,7 @@ handed-same parts one other both united none are =
 
 -- what the cache gave has the packets and the octets of the capture whose packets were shared out by what was put in
 pub counted : (bytes : List ℕ) (limits : Timeouts) (one other both : PassMeans) (metered parts : List Fragment)
-    → CountsAll → IsUnited one other both → other.note ≡ first_note
+    → CountsAll → IsUnited one other both → IsAsker other.note
     → IsCaptureOf (λ file. SharesOut limits (packets_of file) one.note.taken) bytes
     → ((packets : List Packet) → SharesOut limits packets both.note.taken → SharesOut limits packets metered)
     → parts ≡ metered → IsCaptureOf (HasCounts parts) bytes

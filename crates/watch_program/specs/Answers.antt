@@ -1,7 +1,12 @@
 -- What asking comes to.
-use Rattle.std.specs.Prelude.{◌≡◌, ◌≤◌, ◌<◌, ◌%◌, ℕ, List, [], ◌∷◌, length, take, map, slice_index_or, ⊤}
+use Rattle.std.specs.Prelude.{◌≡◌, ◌≤◌, ◌<◌, ◌%◌, ℕ, List, [], ◌∷◌, ◌++◌, length, take, map, slice_index_or, ⊤}
+use Rattle.std.specs.Prelude.{All, IsPermutation, flat_map}
 use Rattle.flow_key.specs.declared.key.FlowKey.{FlowKey}
 use Rattle.packet_accept.specs.declared.packet.Packet.{Packet}
+use Rattle.flow_parts.specs.declared.fragment.Fragment.{Fragment}
+use Rattle.flow_parts.specs.declared.timeouts.Timeouts.{Timeouts}
+use Rattle.flow_parts.specs.Heap.{IsHeap}
+use Rattle.cache_face.specs.Notes.{Note, note_seeing}
 use Rattle.watch_program.specs.declared.answer.Answer.{Answer}
 use Rattle.watch_program.specs.declared.answer.Answer.TheVariants.{Held, Absent, Lost}
 
@@ -16,6 +21,40 @@ abbrev pub IsOfKey : FlowKey → Answer → Type 0
 IsOfKey key (Held flow) = flow.key ≡ key
 IsOfKey key Absent = ⊤
 IsOfKey key Lost = ⊤
+
+-- A flow that was held is that of some of these packets: they are a heap of it.
+pub record IsOfSome (limits : Timeouts) (packets : List Packet) (flow : Fragment) : Type 0 where
+  pub heap : List Packet
+  pub others : List Packet
+  pub all : IsPermutation packets (heap ++ others)
+  pub is : IsHeap limits heap flow
+
+abbrev pub IsOfPackets : Timeouts → List Packet → Answer → Type 0
+IsOfPackets limits packets (Held flow) = IsOfSome limits packets flow
+IsOfPackets limits packets Absent = ⊤
+IsOfPackets limits packets Lost = ⊤
+
+-- The flows that were held, in their order.
+abbrev pub flow_in : Answer → List Fragment
+flow_in (Held flow) = flow ∷ []
+flow_in Absent = []
+flow_in Lost = []
+
+abbrev pub held_in : List Answer → List Fragment
+held_in answers = flat_map flow_in answers
+
+-- The note of who asked: it put nothing in and was handed nothing, and what was held it saw.
+abbrev pub asker_note : List Fragment → Note
+asker_note seen = record { seats = 1; taken = []; handed = []; seen = seen }
+
+abbrev pub IsAsker : Note → Type 0
+IsAsker note = note ≡ asker_note note.seen
+
+-- An answer more: a flow that was held was seen.
+abbrev pub note_answered : Answer → Note → Note
+note_answered (Held flow) note = note_seeing note flow
+note_answered Absent note = note
+note_answered Lost note = note
 
 -- How often is asked: nobody asks where there is nothing to ask for.
 abbrev pub count_of : {T : Type 0} → ℕ → List T → ℕ
@@ -35,3 +74,12 @@ abbrev pub AreInTurn : List FlowKey → List Answer → Type 0
 AreInTurn keys answers =
     (k : ℕ) (key : FlowKey) (answer : Answer) → k < length answers
     → IsOfKey (slice_index_or keys (k % length keys) key) (slice_index_or answers k answer)
+
+-- Answers to the keys in turn, by time-outs of 300 and 1800 seconds: a flow that was held is the flow of the key, and
+-- that of some of the packets.
+pub record AreAnswers (packets : List Packet) (keys : List FlowKey) (answers : List Answer) : Type 0 where
+  pub limits : Timeouts
+  pub idle : limits.idle ≡ 300000
+  pub active : limits.active ≡ 1800000
+  pub in_turn : AreInTurn keys answers
+  pub each : All (IsOfPackets limits packets) answers

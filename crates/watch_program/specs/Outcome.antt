@@ -10,7 +10,7 @@ use Rattle.watch_program.specs.declared.answer.Answer.{Answer}
 use Rattle.watch_program.specs.declared.status.WatchStatus.{WatchStatus}
 use Rattle.watch_program.specs.declared.status.WatchStatus.TheVariants.{Done, ReadFault, Usage, WriteFault, NotCapture}
 use Rattle.watch_program.specs.declared.status.WatchStatus.TheVariants.{LinkUnknown, Damaged, TooLarge, NoMemory}
-use Rattle.watch_program.specs.Answers.{IsSound, count_of}
+use Rattle.watch_program.specs.Answers.{IsSound, AreAnswers, asked_keys, count_of}
 use Rattle.watch_program.specs.Lines.{text_of}
 use Rattle.watch_program.specs.Words.{Asked}
 
@@ -19,8 +19,9 @@ abbrev pub limit : ℕ
 limit = 2 ^ 30
 
 -- The bytes are an undamaged capture. What is written is a line for each ask, or none where the capture has no accepted
--- packet, and then the number and the octets of its accepted packets. A flow that was held has a packet at least, and
--- doesn't begin behind its end.
+-- packet, and then the number and the octets of its accepted packets. Ask k is for the key of accepted packet k, modulo
+-- the number of those that are asked for. A flow that was held has this key and is that of some of the accepted packets:
+-- they are a heap of it, so it has a packet at least, and doesn't begin behind its end.
 pub record IsWatched (asks : ℕ) (capture written : List ℕ) : Type 0 where
   pub file : CaptureFile
   pub is_file : capture_file capture ≡ Some file
@@ -29,6 +30,7 @@ pub record IsWatched (asks : ℕ) (capture written : List ℕ) : Type 0 where
   pub answers : List Answer
   pub many : length answers ≡ count_of asks (packets_of file)
   pub sound : All IsSound answers
+  pub answered : AreAnswers (packets_of file) (asked_keys asks (packets_of file)) answers
   pub text : written ≡ text_of answers (length (packets_of file)) (octets_of (packets_of file))
 
 -- All was done: the input was read to its end, and the output took the answer to it.

@@ -5,7 +5,7 @@ ghost use Rattle.cache_face.specs.Notes.{first_note};
 ghost use Rattle.flow_cache.specs.Shown.{shown_of};
 ghost use Rattle.flow_cache.specs.Shown as shown;
 ghost use Rattle.flow_watch.specs.Watching.{IsOf, held_by, note_of};
-ghost use Rattle.watch_program.specs.Answers.{IsSound, IsOfKey, AreInTurn, count_of};
+ghost use Rattle.watch_program.specs.Answers.{IsSound, IsOfKey, AreInTurn, IsAsker, note_answered, held_in, count_of};
 
 use crate::answer::Answer;
 use flow_cache::{PebrCache, PebrPass};
@@ -28,7 +28,7 @@ fn ask(cache: &PebrCache, watcher: &mut Watcher, key: &FlowKey) -> Answer
     requires idle { held_by watcher.old ≡ None }
     ensures of { IsOf cache.now watcher.new }
     ensures idle { held_by watcher.new ≡ None }
-    ensures note { note_of watcher.new ≡ note_of watcher.old }
+    ensures note { note_of watcher.new ≡ note_answered result (note_of watcher.old) }
     ensures sound { IsSound result }
     ensures key { IsOfKey key.now result }
 {
@@ -56,9 +56,11 @@ fn ask_in_turn<G: Gate>(
 ) -> Result<Vec<Answer>, NoMemory>
     requires of { IsOf cache.now watcher.old }
     requires idle { held_by watcher.old ≡ None }
+    requires fresh { note_of watcher.old ≡ first_note }
     ensures of { IsOf cache.now watcher.new }
     ensures idle { held_by watcher.new ≡ None }
-    ensures note { note_of watcher.new ≡ note_of watcher.old }
+    ensures asker { IsAsker (note_of watcher.new) }
+    ensures seen { IfOk result (λ answers. (note_of watcher.new).seen ≡ held_in answers.items) }
     ensures many { IfOk result (λ answers. length answers.items ≡ count_of asks keys.now) }
     ensures sound { IfOk result (λ answers. All IsSound answers.items) }
     ensures in_turn { IfOk result (λ answers. AreInTurn keys.now answers.items) }
@@ -69,13 +71,14 @@ fn ask_in_turn<G: Gate>(
     }
     for k in 0..asks {
         gate.reach(number, k as u64);
-        answers.push(ask(cache, watcher, &keys[k % keys.len()]))?;
+        let answer = ask(cache, watcher, &keys[k % keys.len()]);
+        answers.push(answer)?;
     }
     Ok(answers)
 }
 
 /// Asks so often, for the keys in turn, by a watcher at the seat of a pass that has done nothing, and closes the
-/// watcher. The pass has done nothing then either.
+/// watcher. The pass has put nothing in then and was handed nothing; it saw the flows that were held.
 ///
 /// `number` is what the gate is told. The answers are `NoMemory` where there is no room for them.
 pub(crate) fn ask_all<G: Gate>(
@@ -90,7 +93,8 @@ pub(crate) fn ask_all<G: Gate>(
     requires own { shown.IsOf cache.now pass }
     requires fresh { (shown_of pass).note ≡ first_note }
     ensures own { shown.IsOf cache.now result.pass }
-    ensures fresh { (shown_of result.pass).note ≡ first_note }
+    ensures asker { IsAsker (shown_of result.pass).note }
+    ensures seen { IfOk result.answers (λ answers. (shown_of result.pass).note.seen ≡ held_in answers.items) }
     ensures many { IfOk result.answers (λ answers. length answers.items ≡ count_of asks keys.now) }
     ensures sound { IfOk result.answers (λ answers. All IsSound answers.items) }
     ensures in_turn { IfOk result.answers (λ answers. AreInTurn keys.now answers.items) }

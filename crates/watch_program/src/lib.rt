@@ -20,10 +20,8 @@
 //! whatever was asked.
 //!
 //! Which answer comes depends on how far the workers are. What is sure of a run is in `specs/Outcome.antt`, the file to
-//! read first: a line for each ask, what a flow that was held has at least, and the total, whatever the interleaving.
+//! read first: a line for each ask, of which packets a flow is that was held, and the total, whatever the interleaving.
 //! `Words` there has the command line, `Answers` and `Lines` the answers and their text, `Statuses` the exit statuses.
-//! That each flow which was held is that of the key which was asked for is said of `watching.rt`, and not of the text,
-//! which has no keys.
 #![tactic(auto)]
 
 mod answer;

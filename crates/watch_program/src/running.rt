@@ -95,7 +95,7 @@ fn watch_input<R: Threads + Sync, S: Source, K: Sink, G: Gate>(
 /// without an accepted packet nothing is asked. The gate is told of each piece of a worker, and before ask k that the
 /// worker whose number is that of the workers is at piece k. For each ask the output takes a line: `held P O F L` with
 /// the packets, the octets, and the times of the earliest and of the latest packet in milliseconds since
-/// 1970-01-01T00:00:00Z, as the flow stood when it was held;
+/// 1970-01-01T00:00:00Z, as the flow stood when it was held: those of some of the capture's packets of this key;
 /// `absent` where the cache had no such flow; `lost` where the watcher was ejected three times. Behind them stands
 /// `total P O` with the packets and the octets of all fragments that the cache handed out and kept: those of all
 /// accepted packets.

@@ -1,6 +1,6 @@
 //! Workers that meter a capture through a cache, beside one who asks for its open flows.
 
-ghost use Rattle.std.specs.Prelude.{◌≡◌, ◌+◌, ◌^◌, ◌<◌, ◌≤◌, length, Some, All, IfOk};
+ghost use Rattle.std.specs.Prelude.{◌≡◌, ◌+◌, ◌^◌, ◌<◌, ◌≤◌, length, Some, All, IfOk, OnOk};
 ghost use Rattle.pcap_reader.specs.File.{IsCaptureOf, capture_file, IsKnownLink};
 ghost use Rattle.pcap_reader.specs.Index.{IsIndexOf};
 ghost use Rattle.pcap_reader.specs.Views.{file_of};
@@ -8,9 +8,9 @@ ghost use Rattle.packet_accept.specs.Packets.{answers_of, packets_of};
 ghost use Rattle.capture_tally.specs.Tallies.{IsTallyOf, octets_of};
 ghost use Rattle.flow_parts.specs.Sharing.{SharesOut};
 ghost use Rattle.cache_face.specs.Meaning.{IsFresh};
-ghost use Rattle.cache_face.specs.Notes.{first_note};
 ghost use Rattle.flow_cache.specs.Shown.{IsOf, means_of, shown_of};
-ghost use Rattle.watch_program.specs.Answers.{IsSound, AreInTurn, asked_keys, count_of};
+ghost use Rattle.watch_program.specs.Answers.{IsSound, AreInTurn, AreAnswers, IsOfSome, IsAsker, held_in, asked_keys};
+ghost use Rattle.watch_program.specs.Answers.{count_of};
 
 use crate::answer::Answer;
 use crate::asking::{Asking, ask_all};
@@ -99,7 +99,8 @@ fn at_once<R: Threads + Sync, G: Gate>(
     requires passes { (0 < length passes.items) × (length passes.items ≤ 64)
         × All (λ p. IsOf cache.now p × IsFresh (shown_of p)) passes.items }
     requires own { IsOf cache.now own × IsFresh (shown_of own) }
-    ensures own { IsOf cache.now result.0.pass × ((shown_of result.0.pass).note ≡ first_note) }
+    ensures own { IsOf cache.now result.0.pass × IsAsker (shown_of result.0.pass).note }
+    ensures seen { IfOk result.0.answers (λ answers. (shown_of result.0.pass).note.seen ≡ held_in answers.items) }
     ensures many { IfOk result.0.answers (λ answers. length answers.items ≡ count_of asks keys.now) }
     ensures sound { IfOk result.0.answers (λ answers. All IsSound answers.items) }
     ensures in_turn { IfOk result.0.answers (λ answers. AreInTurn keys.now answers.items) }
@@ -115,7 +116,8 @@ fn at_once<R: Threads + Sync, G: Gate>(
         rt,
         move || -> Asking
             requires own { IsOf cache.now own × IsFresh (shown_of own) }
-            ensures own { IsOf cache.entry.now result.pass × ((shown_of result.pass).note ≡ first_note) }
+            ensures own { IsOf cache.entry.now result.pass × IsAsker (shown_of result.pass).note }
+            ensures seen { IfOk result.answers (λ answers. (shown_of result.pass).note.seen ≡ held_in answers.items) }
             ensures many { IfOk result.answers (λ answers. length answers.items ≡ count_of asks keys.entry.now) }
             ensures sound { IfOk result.answers (λ answers. All IsSound answers.items) }
             ensures in_turn { IfOk result.answers (λ answers. AreInTurn keys.entry.now answers.items) }
@@ -137,7 +139,8 @@ fn at_once<R: Threads + Sync, G: Gate>(
     )
 }
 
-/// Closes the cache with the passes of who metered and of who asked, and adds up what it handed out and kept.
+/// Closes the cache with the passes of who metered and of who asked, and adds up what it handed out and kept. What the
+/// pass of who asked saw are flows of some of the packets.
 fn total_behind(
     alloc: Global,
     bytes: &[u8],
@@ -146,16 +149,18 @@ fn total_behind(
     gathered: Gathered<PebrCache>,
     pass: PebrPass,
 ) -> Result<(u64, u64), NoMemory>
-    requires pass { IsOf cache pass × ((shown_of pass).note ≡ first_note) }
+    requires pass { IsOf cache pass × IsAsker (shown_of pass).note }
     requires own { IsOf cache gathered.pass }
     requires seats { (shown_of gathered.pass).note.seats + 1 ≡ (means_of cache).seats }
     requires packets { IsCaptureOf (λ file. SharesOut (means_of cache).limits (packets_of file)
         (shown_of gathered.pass).note.taken) bytes.now }
     requires parts { gathered.parts ≡ (shown_of gathered.pass).note.handed }
     requires tally { IsCaptureOf (λ file. IsTallyOf gathered.tally (answers_of file)) bytes.now }
-    ensures { IfOk result
+    ensures total { IfOk result
         (λ total. IsCaptureOf (λ file. (total.0 ≡ length (packets_of file)) × (total.1 ≡ octets_of (packets_of file)))
         bytes.now) }
+    ensures seen { OnOk result (IsCaptureOf
+        (λ file. All (IsOfSome (means_of cache).limits (packets_of file)) (shown_of pass).note.seen) bytes.now) }
 {
     sharing_out_counts();
     let _ = bytes;
@@ -189,8 +194,8 @@ pub(crate) fn watch_capture<R: Threads + Sync, G: Gate>(
     ensures many { IfOk result (λ w. length w.answers.items
         ≡ count_of settings.now.asks (packets_of (file_of capture.now))) }
     ensures sound { IfOk result (λ w. All IsSound w.answers.items) }
-    ensures in_turn { IfOk result
-        (λ w. AreInTurn (asked_keys settings.now.asks (packets_of (file_of capture.now))) w.answers.items) }
+    ensures answered { IfOk result (λ w. AreAnswers (packets_of (file_of capture.now))
+        (asked_keys settings.now.asks (packets_of (file_of capture.now))) w.answers.items) }
     ensures packets { IfOk result (λ w. w.packets ≡ length (packets_of (file_of capture.now))) }
     ensures octets { IfOk result (λ w. w.octets ≡ octets_of (packets_of (file_of capture.now))) }
 {

@@ -16,6 +16,8 @@ impl RootProtocol for Free {
 
     ghost whole = { λ content. Unit {0} };
 
+    ghost backed = { λ fixed notes content. Unit {0} };
+
     ghost first = { tt };
 
     ghost empty = { tt };
@@ -25,4 +27,6 @@ impl RootProtocol for Free {
     ghost after = { λ note act. tt };
 
     ghost unites = { λ fixed contents notes i j a b kept apart at at'. tt };
+
+    ghost backs = { λ fixed notes content i j a b kept apart at at'. tt };
 }

@@ -6,5 +6,5 @@ abbrev pub invariant-loop-turn : goal.invariant-loop-turn
 invariant-loop-turn l = record {
   of : IsOf l.cache l.watcher;
   idle : held_by l.watcher ≡ None;
-  note : note_of l.watcher ≡ note_of l.initial.watcher;
+  seats : (note_of l.watcher).seats ≡ (note_of l.initial.watcher).seats;
 }

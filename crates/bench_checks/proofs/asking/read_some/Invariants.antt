@@ -6,5 +6,5 @@ abbrev pub invariant-loop-turn : goal.invariant-loop-turn
 invariant-loop-turn l = record {
   of : IsOf l.cache l.watcher;
   holding : held_by l.watcher ≡ held_by l.initial.watcher;
-  note : note_of l.watcher ≡ note_of l.initial.watcher;
+  seats : (note_of l.watcher).seats ≡ (note_of l.initial.watcher).seats;
 }

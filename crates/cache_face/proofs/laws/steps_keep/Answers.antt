@@ -1,4 +1,4 @@
-use Rattle.cache_face.proofs.Keeping.{keeps_opening, keeps_split, keeps_merged, keeps_taken, keeps_passed}
+use Rattle.cache_face.proofs.Keeping.{keeps_opening, keeps_split, keeps_merged, keeps_taken, keeps_passed, keeps_seen}
 use Rattle.cache_face.proofs.laws.steps_keep.Goals as goal
 
 pub returns-clause-opening : goal.returns-clause-opening
@@ -15,3 +15,6 @@ returns-clause-taken c = keeps_taken
 
 pub returns-clause-passed : goal.returns-clause-passed
 returns-clause-passed c = keeps_passed
+
+pub returns-clause-seen : goal.returns-clause-seen
+returns-clause-seen c = keeps_seen

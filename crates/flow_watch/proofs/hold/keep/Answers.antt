@@ -1,6 +1,6 @@
-use Rattle.std.proofs.Common.{rules, ◌≡◌, ◌<◌, ℕ, List, Option, Some, None, false, refl, sym, ap, ◌∙◌, subst, length}
+use Rattle.std.proofs.Common.{rules, ◌≡◌, ◌<◌, ℕ, List, Option, Some, None, refl, sym, ap, ◌∙◌, subst, length}
 use Rattle.std.proofs.Common.{arith}
-use Rattle.std.specs.Prelude.{IfSome, IsNone, is_some}
+use Rattle.std.specs.Prelude.{IfSome, IsNone}
 use Rattle.flow_parts.specs.declared.fragment.Fragment.{Fragment}
 use Rattle.cache_face.specs.Choice.{HasKey, HasNone, IsLowest, entry_at}
 use Rattle.pebr_core.specs.State.{Seat}
@@ -19,9 +19,31 @@ with_some : {A : Type 0} (P Q : A → Type 0) (o : Option A) → IfSome o P → 
 with_some P Q None p f = p
 with_some P Q (Some a) p f = f a refl p
 
-none_is : {A : Type 0} (o : Option A) → IsNone o → is_some o ≡ false
+-- of a value that is there
+of_some : {A : Type 0} (P : Type 0) (o : Option A) (a : A) → o ≡ Some a → IfSome o (λ _. P) → P
+of_some P o a is p = subst (λ x. IfSome x (λ _. P)) is p
+
+none_is : {A : Type 0} (o : Option A) → IsNone o → o ≡ None
 none_is None none = refl
 none_is (Some a) none = absurd cc
+
+pub leave-requires-clause-held : goal.leave-requires-clause-held
+leave-requires-clause-held c =
+    let key = c.args.key.now in
+    let set : ℕ = c.args.set in
+    let entries : List (Option Fragment) = c.read_set-entries.result in
+    let start = c.args.seat.now in
+    let mid = c.read_set-entries.new.pass in
+    let is : entries ≡ entries_read (past_by mid) set = c.read_set-entries.ensures.entries set c.requires.protected in
+    let four : length entries ≡ 4 = search rules in
+    with_some
+    (λ (hold : Hold). IsLowest (HasKey key) entries hold.place × (entry_at entries hold.place ≡ Some hold.fragment))
+    (λ (hold : Hold). IsHolding hold.place hold.fragment (known_by mid) (past_by mid))
+    c.lowest_of-hold.result c.lowest_of-hold.ensures.some
+    (λ hold some h. (let low : hold.place < 4 = (let b = h.0.below in omega (arith, b, four)) in
+    holds set hold.place hold.fragment (known_by start) (known_by mid) (past_by mid) (past_by start) (past_by mid)
+    entries low c.requires.protected is h.1 (ap (λ (p : History). p.loads) c.read_set-entries.ensures.past)
+    c.read_set-entries.ensures.ten (ap (λ (k : Seat). k.shields) c.read_set-entries.ensures.known) refl))
 
 pub returns-clause-held : goal.returns-clause-held
 returns-clause-held c =
@@ -46,7 +68,7 @@ returns-clause-held c =
           (past_by end) entries low c.requires.protected is h.1
           (ap (λ (p : History). p.loads) c.read_set-entries.ensures.past)
           c.read_set-entries.ensures.ten
-          (c.leave.ensures.held (c.is_some.ensures ∙ ap is_some some)
+          (of_some _ c.lowest_of-hold.result hold some c.leave.ensures.held
           ∙ ap (λ (k : Seat). k.shields) c.read_set-entries.ensures.known)
           (ap (λ (p : History). p.reads) c.leave.ensures.past),
       record {
@@ -67,7 +89,7 @@ returns-clause-absent c none =
     let same : entries_read (past_by end) set ≡ entries_read (past_by mid) set =
     ap (λ (p : History). entries_read p set) c.leave.ensures.past in
     let four : length entries ≡ 4 = search rules in (
-      c.leave.ensures.down (c.is_some.ensures ∙ none_is c.lowest_of-hold.result none),
+      c.leave.ensures.down (none_is c.lowest_of-hold.result none),
       (
         ap length (same ∙ sym is) ∙ four,
         subst (HasNone (HasKey c.args.key.now)) (is ∙ sym same) (c.lowest_of-hold.ensures.none none),

@@ -9,7 +9,7 @@ use Rattle.pebr_core.specs.declared.kinds.Shape.{Shape}
 use Rattle.pebr_words.specs.Opening.{rows_of}
 use Rattle.pebr_roots.specs.Passes.{shape_at, fixed_at, number_by, note_by}
 use Rattle.flow_cache.specs.Ending.{rows_at}
-use Rattle.flow_cache.proofs.Endings.{ends}
+use Rattle.flow_cache.proofs.Endings.{ends, on_ok}
 use Rattle.flow_cache.proofs.cache.PebrCache.entries.Goals as goal
 
 pub returns : goal.returns
@@ -26,10 +26,13 @@ returns c =
     c.in_ok-contents.ensures.keeps) in
     let contents : List (List ℕ) = rows_at cache.sets shape.seats words (4 * cache.sets) in
     let rows : rows_of shape words ≡ contents = ap (λ (s : Shape). rows_of s words) cache.shaped in
-    IfOk-weaker c.gather.result _ _
-    (λ parts is. subst (λ (ps : List Fragment). Reaches cache.timeouts note.taken (ps ++ note.handed))
-    (sym (is cache.sets shape.seats ∙ ap (λ ws. parts_in (rows_at cache.sets shape.seats ws (4 * cache.sets)))
-    c.as_slice.ensures.value))
-    (ends cache.timeouts cache.sets contents shape.seats number note c.requires.own.of.at.3
-    (subst (λ cs. Keeps cache.timeouts cache.sets cs notes) rows kept)))
-    c.gather.ensures
+    let end = ends cache.timeouts cache.sets contents shape.seats number note c.requires.own.of.at.3
+    (subst (λ cs. Keeps cache.timeouts cache.sets cs notes) rows kept) in
+    record {
+      reached = IfOk-weaker c.gather.result _ _
+          (λ parts is. subst (λ (ps : List Fragment). Reaches cache.timeouts note.taken (ps ++ note.handed))
+          (sym (is cache.sets shape.seats ∙ ap (λ ws. parts_in (rows_at cache.sets shape.seats ws (4 * cache.sets)))
+          c.as_slice.ensures.value)) end.0)
+          c.gather.ensures;
+      seen = on_ok c.gather.result _ end.1;
+    }

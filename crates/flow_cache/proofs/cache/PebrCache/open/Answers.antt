@@ -4,10 +4,10 @@ use Rattle.std.specs.List.{range_with_len}
 use Rattle.std.proofs.lemmas.List.FromFn.{length-map-range_with_len}
 use Rattle.std.proofs.lemmas.List.Elements.{All-nil, All-cons, All-weaker}
 use Rattle.std.proofs.lemmas.List.Sums.{sum_by-cons}
-use Rattle.cache_face.specs.Keeping.{Keeps, IsWhole, IsEmptyContent}
+use Rattle.cache_face.specs.Keeping.{Keeps, IsWhole, IsEmptyContent, AreBacking}
 use Rattle.cache_face.specs.Laws.{IsUnused}
 use Rattle.cache_face.specs.Notes.{Note, first_note}
-use Rattle.cache_face.proofs.Keeping.{keeps_opening}
+use Rattle.cache_face.proofs.Keeping.{keeps_opening, empty_is_backed}
 use Rattle.pebr_words.specs.Opening.{rows_of, slot_of}
 use Rattle.flow_cache.specs.Places.{cache_shape}
 use Rattle.flow_cache.proofs.cache.PebrCache.open.Goals as goal
@@ -30,7 +30,7 @@ so_long sets seats ws = length-map-range_with_len _ 0 (4 * sets)
 
 unused_notes : (n : ℕ) → All IsUnused (replicate n first_note)
 unused_notes zero = All-nil IsUnused
-unused_notes (suc n) = All-cons IsUnused first_note (replicate n first_note) (refl, refl) (unused_notes n)
+unused_notes (suc n) = All-cons IsUnused first_note (replicate n first_note) (refl, refl, refl) (unused_notes n)
 
 so_many : (n : ℕ) → sum_by (λ (note : Note). note.seats) (replicate n first_note) ≡ n
 so_many zero = refl
@@ -55,4 +55,14 @@ open-requires-clause-whole c =
     let is : c.as_slice.result.now ≡ replicate (40 * sets) 0 = c.as_slice.ensures.value ∙ c.in_ok-words.ensures in
     subst (λ (ws : List ℕ). All IsWhole (rows_of (cache_shape sets seats) ws)) (sym is)
     (All-weaker IsEmptyContent IsWhole (λ content e. inl e) (rows_of (cache_shape sets seats) (replicate (40 * sets) 0))
+    (empty_rows sets seats (40 * sets) (range_with_len 0 (4 * sets))))
+
+pub open-requires-clause-backed : goal.open-requires-clause-backed
+open-requires-clause-backed c =
+    let sets = c.args.sets in let seats = c.args.seats in
+    let notes = replicate seats first_note in
+    let is : c.as_slice.result.now ≡ replicate (40 * sets) 0 = c.as_slice.ensures.value ∙ c.in_ok-words.ensures in
+    subst (λ (ws : List ℕ). All (AreBacking c.args.timeouts notes) (rows_of (cache_shape sets seats) ws)) (sym is)
+    (All-weaker IsEmptyContent (AreBacking c.args.timeouts notes) (empty_is_backed c.args.timeouts notes)
+    (rows_of (cache_shape sets seats) (replicate (40 * sets) 0))
     (empty_rows sets seats (40 * sets) (range_with_len 0 (4 * sets))))

@@ -8,7 +8,7 @@ use Rattle.flow_parts.specs.Parts.{part_words}
 use Rattle.cache_face.specs.declared.metered.How.{How}
 use Rattle.cache_face.specs.declared.metered.Metered.{Metered}
 use Rattle.cache_face.specs.Choice.{IsChoice, Takes, entry_at}
-use Rattle.cache_face.specs.Keeping.{Keeps, IsWhole, entry_of}
+use Rattle.cache_face.specs.Keeping.{Keeps, IsWhole, AreBacking, entry_of}
 use Rattle.cache_face.specs.Notes.{Note, first_note, note_with}
 use Rattle.cache_face.proofs.Contents.{choice_takes}
 use Rattle.pebr_core.specs.declared.kinds.Shape.{Shape}
@@ -74,10 +74,10 @@ replace-requires-clause-keeps g c =
     (sym c.read_contents.ensures.known) ∙ c.fill.ensures.written word lt
     ∙ ap (λ ws. Some (slice_index ws word)) (sym chosen.1) in
     let can : Timeouts → Seat → Note → Type 0 =
-    λ limits known note. CanReplace (Keeps limits cache.sets) IsWhole shape (past_by end) (number_by end) root
+    λ limits known note. CanReplace (Keeps limits cache.sets) IsWhole (AreBacking limits) shape (past_by end) (number_by end) root
     (slot_at known place) (least_in known.fresh) note (note_with note c.args.own.now out) in
-    subst (λ (sets : ℕ). CanReplace (Keeps (fixed_at cache.roots).timeouts sets) IsWhole shape (past_by end) (number_by end)
-    root (slot_at (known_by end) place) (least_in (known_by end).fresh) (note_by first_note end)
+    subst (λ (sets : ℕ). CanReplace (Keeps (fixed_at cache.roots).timeouts sets) IsWhole
+    (AreBacking (fixed_at cache.roots).timeouts) shape (past_by end) (number_by end) root (slot_at (known_by end) place) (least_in (known_by end).fresh) (note_by first_note end)
     (note_with (note_by first_note end) c.args.own.now out)) (sym cache.fixed.1)
     (subst (λ limits. can limits (known_by end) (note_by first_note end)) (sym cache.fixed.0)
     (subst (λ known. can cache.timeouts known (note_by first_note end)) (sym known_is)

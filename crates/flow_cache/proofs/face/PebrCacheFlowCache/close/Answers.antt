@@ -9,4 +9,4 @@ returns-clause-shared c =
     let note = (shown_of c.args.pass).note in
     IfOk-weaker c.entries.result _ _
     (λ entries reached packets shares. shared c.args.self.timeouts packets note.taken (entries.items ++ note.handed)
-    reached shares) c.entries.ensures
+    reached shares) c.entries.ensures.reached

@@ -27,7 +27,7 @@ returns-clause-reached c =
     let limits = c.args.cache.timeouts in
     on_ok_weaker c.closed_with.result
     (λ is. handed_reached limits note.taken c.in_ok-entries.entries.items note.handed c.args.handed _
-    c.requires.handed is c.in_ok-entries.ensures) c.closed_with.ensures.closed
+    c.requires.handed is c.in_ok-entries.ensures.reached) c.closed_with.ensures.closed
 
 pub returns-clause-shared : goal.returns-clause-shared
 returns-clause-shared c =
@@ -36,7 +36,7 @@ returns-clause-shared c =
     on_ok_weaker c.closed_with.result
     (λ is packets shares. shared limits packets note.taken _
     (handed_reached limits note.taken c.in_ok-entries.entries.items note.handed c.args.handed _
-    c.requires.handed is c.in_ok-entries.ensures) shares) c.closed_with.ensures.closed
+    c.requires.handed is c.in_ok-entries.ensures.reached) shares) c.closed_with.ensures.closed
 
 pub returns-clause-entries : goal.returns-clause-entries
 returns-clause-entries c =
@@ -47,5 +47,5 @@ returns-clause-entries c =
       entries,
       subst (λ (ps : List Fragment). IsPermutation ps all) (sym is)
           (IsPermutation-refl all),
-      c.in_ok-entries.ensures,
+      c.in_ok-entries.ensures.reached,
     )) c.closed_with.ensures.closed

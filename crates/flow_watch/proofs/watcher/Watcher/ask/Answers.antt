@@ -1,4 +1,5 @@
-use Rattle.std.proofs.Common.{ℕ, subst, arith}
+use Rattle.std.proofs.Common.{ℕ, ap, subst, arith}
+use Rattle.cache_face.specs.Notes.{Note}
 use Rattle.pebr_roots.specs.Passes.{past_by}
 use Rattle.flow_watch.specs.Holding.{IsAbsent}
 use Rattle.flow_watch.proofs.Watches.{goes_on}
@@ -6,7 +7,7 @@ use Rattle.flow_watch.proofs.watcher.Watcher.ask.Goals as goal
 
 pub returns-in-Held-clause-of : goal.returns-in-Held-clause-of
 returns-in-Held-clause-of c = goes_on c.args.cache.now c.args.self.now _ c.requires.of c.in-Held.ensures.same
-    c.in-Held.ensures.note c.in-Held.ensures.tried.1
+    (ap (λ (n : Note). n.seats) c.in-Held.ensures.note) c.in-Held.ensures.tried.1
 
 pub returns-in-Absent-clause-some : goal.returns-in-Absent-clause-some
 returns-in-Absent-clause-some c =

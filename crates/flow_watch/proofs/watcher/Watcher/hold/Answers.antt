@@ -1,7 +1,8 @@
 use Rattle.std.proofs.Common.{◌≡◌, ◌∷◌, ◌++◌, ◌∙◌, ℕ, List, Option, Some, None, refl, sym, ap, arith}
 use Rattle.std.specs.Prelude.{IsNone}
 use Rattle.pebr_words.specs.Pasts.{Lost, was_ejected}
-use Rattle.flow_watch.specs.Watching.{lost_of, operations_of}
+use Rattle.flow_watch.specs.Holding.{note_seen}
+use Rattle.flow_watch.specs.Watching.{lost_of, note_of, operations_of}
 use Rattle.flow_watch.proofs.Watches.{one_more, one_more_try, last_try}
 use Rattle.flow_watch.proofs.watcher.Watcher.hold.Goals as goal
 
@@ -19,7 +20,7 @@ loop-turn-preserved c =
       low = omega (arith, c.loop-turn-test.true);
       of = c.ask.ensures.of;
       idle = none.0;
-      note = c.ask.ensures.note ∙ before.note;
+      note = c.ask.ensures.note ∙ ap (λ o. note_seen o (note_of c.loop-turn.self)) none.0 ∙ before.note;
       pins = (let a = c.ask.ensures.pins in let b = before.pins in omega (arith, a, b));
       lost = none.1 ∙ ap (λ (l : List Lost). was_ejected ∷ l) before.lost
           ∙ ap (λ (l : List Lost). l ++ lost_of start) (sym (one_more n));

@@ -1,6 +1,7 @@
 use Rattle.std.proofs.Common.{◌≡◌, List, Option, Some, None, sym, ap, ◌∙◌, subst}
 use Rattle.std.specs.Prelude.{IfSome, MatchOption, option_map}
 use Rattle.flow_parts.specs.declared.fragment.Fragment.{Fragment}
+use Rattle.cache_face.specs.Notes.{Note}
 use Rattle.pebr_core.specs.State.{Seat}
 use Rattle.pebr_words.specs.Pasts.{Read}
 use Rattle.pebr_roots.specs.Passes.{known_by, past_by}
@@ -31,7 +32,8 @@ returns-clause-of c =
     let hold : Hold = c.in-Some.hold in
     let h : IsHolding hold.place hold.fragment (known_by seat) (past_by seat) =
     subst (λ o. IfSome o holding) c.in-Some.is c.requires.of.holds in
-    goes_on c.args.cache.now c.args.self.now _ c.requires.of c.read_entry.ensures.same c.read_entry.ensures.note
+    goes_on c.args.cache.now c.args.self.now _ c.requires.of c.read_entry.ensures.same
+    (ap (λ (n : Note). n.seats) c.read_entry.ensures.note)
     (subst (λ o. IfSome o (λ (hold : Hold). IsHolding hold.place hold.fragment (known_by end) (past_by end)))
     (sym c.in-Some.is)
     (still_holding hold.place hold.fragment (known_by seat) (known_by end) (past_by seat)

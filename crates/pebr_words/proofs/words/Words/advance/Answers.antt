@@ -9,6 +9,7 @@ use Rattle.std.specs.Prelude.{if◌then◌else◌, ◌==◌}
 use Rattle.pebr_core.specs.declared.kinds.Step.TheVariants as step
 use Rattle.pebr_core.specs.declared.kinds.Answer.TheVariants as answer
 use Rattle.pebr_words.specs.Pasts.{past_after}
+use Rattle.pebr_words.specs.Ruled.{BackedWhole}
 use Rattle.pebr_words.proofs.words.Words.advance.Goals as goal
 
 pub exchange-requires-clause-made : goal.exchange-requires-clause-made
@@ -17,7 +18,9 @@ exchange-requires-clause-made g c = advance_by c.args.self.now.shape c.args.seat
 
 pub exchange-requires-clause-kept : goal.exchange-requires-clause-kept
 exchange-requires-clause-kept g c = advance_kept
-    (g.P.RootProtocol.keeps (key_of c.args.self.now.table).fixed) g.P.RootProtocol.whole g.P.RootProtocol.after
+    (g.P.RootProtocol.keeps (key_of c.args.self.now.table).fixed)
+    (BackedWhole g.P.RootProtocol.whole (g.P.RootProtocol.backed (key_of c.args.self.now.table).fixed))
+    g.P.RootProtocol.after
     c.args.seat.now.number _ _
 
 pub exchange-requires-clause-recalled : goal.exchange-requires-clause-recalled

@@ -4,6 +4,7 @@ use Rattle.pebr_words.specs.Making.{known_in}
 use Rattle.pebr_words.specs.Mirrors.{Mirrors}
 use Rattle.pebr_words.proofs.UnshieldStep.{unshield_by, unshield_kept, unshield_recalled}
 use Rattle.pebr_words.proofs.Mirroring.{same_mirrors}
+use Rattle.pebr_words.specs.Ruled.{BackedWhole}
 use Rattle.pebr_words.proofs.words.Words.clear_shield.Goals as goal
 
 pub store-requires-clause-made : goal.store-requires-clause-made
@@ -12,7 +13,9 @@ store-requires-clause-made g c = unshield_by c.args.self.now.shape c.args.seat.n
 
 pub store-requires-clause-kept : goal.store-requires-clause-kept
 store-requires-clause-kept g c = unshield_kept
-    (g.P.RootProtocol.keeps (key_of c.args.self.now.table).fixed) g.P.RootProtocol.whole g.P.RootProtocol.after
+    (g.P.RootProtocol.keeps (key_of c.args.self.now.table).fixed)
+    (BackedWhole g.P.RootProtocol.whole (g.P.RootProtocol.backed (key_of c.args.self.now.table).fixed))
+    g.P.RootProtocol.after
     c.args.seat.now.number c.args.place _ _
 
 pub store-requires-clause-recalled : goal.store-requires-clause-recalled

@@ -5,6 +5,7 @@ use Rattle.pebr_table.specs.Tables.{key_of, id_of, me_of}
 use Rattle.pebr_words.specs.Making.{note_in}
 use Rattle.pebr_words.specs.Opening.{rows_of}
 use Rattle.pebr_words.specs.Closing.{contents_of_roots}
+use Rattle.pebr_words.specs.Ruled.{BackedWhole}
 use Rattle.pebr_words.proofs.Closing.{closes_at, roots_below, gathered_length, if_ok}
 use Rattle.pebr_words.proofs.words.Words.close.Goals as goal
 
@@ -12,7 +13,8 @@ pub gather-contents-requires-clause-below : goal.gather-contents-requires-clause
 gather-contents-requires-clause-below g c =
     let words = c.args.self in
     let final = c.close-closed.ensures.values.2 in
-    roots_below (g.P.RootProtocol.keeps (key_of words.table).fixed) g.P.RootProtocol.whole words.shape
+    roots_below (g.P.RootProtocol.keeps (key_of words.table).fixed)
+    (BackedWhole g.P.RootProtocol.whole (g.P.RootProtocol.backed (key_of words.table).fixed)) words.shape
     (key_of words.table).shape words.told (slots_items c.close-closed.result.words) final.0 final.1.0 final.2
 
 pub returns-clause-length : goal.returns-clause-length
@@ -28,7 +30,8 @@ returns-clause-keeps g c =
     let empty = g.P.RootProtocol.empty in
     let first = g.P.RootProtocol.first in
     let final = c.close-closed.ensures.values.2 in
-    let kept = closes_at keeps g.P.RootProtocol.whole words.shape (key_of words.table).shape empty first words.told
+    let whole = BackedWhole g.P.RootProtocol.whole (g.P.RootProtocol.backed (key_of words.table).fixed) in
+    let kept = closes_at keeps whole words.shape (key_of words.table).shape empty first words.told
     (id_of seat.inner) (me_of seat.inner).0 (slots_items c.close-closed.result.words)
     c.requires.at.2 c.requires.whole c.requires.united final.0 final.1 final.2 in
     if_ok c.gather-contents.result

@@ -12,6 +12,7 @@ use Rattle.pebr_words.proofs.Mirroring.{pass_mirrors, found_here, found_low, has
 use Rattle.pebr_words.proofs.SeatFacts.{passed_here}
 use Rattle.pebr_table.specs.Operations as op
 use Rattle.pebr_words.specs.Places.{status_word, index}
+use Rattle.pebr_words.specs.Ruled.{BackedWhole}
 use Rattle.pebr_words.proofs.words.Words.eject.Goals as goal
 
 pub overflow_mul-was_in : goal.overflow_mul-was_in
@@ -48,7 +49,9 @@ exchange-requires-clause-made g c =
 
 pub exchange-requires-clause-kept : goal.exchange-requires-clause-kept
 exchange-requires-clause-kept g c = eject_kept
-    (g.P.RootProtocol.keeps (key_of c.args.self.now.table).fixed) g.P.RootProtocol.whole g.P.RootProtocol.after
+    (g.P.RootProtocol.keeps (key_of c.args.self.now.table).fixed)
+    (BackedWhole g.P.RootProtocol.whole (g.P.RootProtocol.backed (key_of c.args.self.now.table).fixed))
+    g.P.RootProtocol.after
     c.args.seat.now.number c.args.other _ _
 
 pub exchange-requires-clause-recalled : goal.exchange-requires-clause-recalled

@@ -9,6 +9,7 @@ use Rattle.pebr_core.specs.declared.kinds.Answer.TheVariants as answer
 use Rattle.pebr_words.specs.Pasts.{past_after}
 use Rattle.pebr_words.proofs.Mirroring.{has_scan, give_mirrors, given_counts}
 use Rattle.pebr_words.proofs.GiveStep.{give_by, give_kept, give_recalled}
+use Rattle.pebr_words.specs.Ruled.{BackedWhole}
 use Rattle.pebr_words.proofs.words.Words.give.Goals as goal
 
 pub load-epoch-requires-clause-made : goal.load-epoch-requires-clause-made
@@ -19,7 +20,9 @@ load-epoch-requires-clause-made g c =
 
 pub load-epoch-requires-clause-kept : goal.load-epoch-requires-clause-kept
 load-epoch-requires-clause-kept g c = give_kept
-    (g.P.RootProtocol.keeps (key_of c.args.self.now.table).fixed) g.P.RootProtocol.whole g.P.RootProtocol.after
+    (g.P.RootProtocol.keeps (key_of c.args.self.now.table).fixed)
+    (BackedWhole g.P.RootProtocol.whole (g.P.RootProtocol.backed (key_of c.args.self.now.table).fixed))
+    g.P.RootProtocol.after
     c.args.seat.now.number _ _
 
 pub load-epoch-requires-clause-recalled : goal.load-epoch-requires-clause-recalled

@@ -14,7 +14,9 @@ store-requires-clause-made g c = leave_by c.args.self.now.shape c.args.seat.now.
 
 pub store-requires-clause-kept : goal.store-requires-clause-kept
 store-requires-clause-kept g c = leave_kept
-    (g.P.RootProtocol.keeps (key_of c.args.self.now.table).fixed) g.P.RootProtocol.whole g.P.RootProtocol.after
+    (g.P.RootProtocol.keeps (key_of c.args.self.now.table).fixed)
+    g.P.RootProtocol.whole (g.P.RootProtocol.backed (key_of c.args.self.now.table).fixed)
+    g.P.RootProtocol.after
     c.args.act c.args.seat.now.number _ _ c.requires.keeps
 
 pub store-requires-clause-recalled : goal.store-requires-clause-recalled

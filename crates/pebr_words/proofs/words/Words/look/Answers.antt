@@ -8,6 +8,7 @@ use Rattle.pebr_words.specs.Mirrors.{Mirrors, found_after}
 use Rattle.pebr_words.proofs.LookStep.{look_by, look_kept, look_recalled}
 use Rattle.pebr_words.proofs.Mirroring.{has_scan, look_told, looked_mirrors}
 use Rattle.pebr_words.proofs.SeatFacts.{looked_passed, looked_found}
+use Rattle.pebr_words.specs.Ruled.{BackedWhole}
 use Rattle.pebr_words.proofs.words.Words.look.Goals as goal
 
 pub load-found-requires-clause-made : goal.load-found-requires-clause-made
@@ -18,7 +19,9 @@ load-found-requires-clause-made g c =
 
 pub load-found-requires-clause-kept : goal.load-found-requires-clause-kept
 load-found-requires-clause-kept g c = look_kept
-    (g.P.RootProtocol.keeps (key_of c.args.self.now.table).fixed) g.P.RootProtocol.whole g.P.RootProtocol.after
+    (g.P.RootProtocol.keeps (key_of c.args.self.now.table).fixed)
+    (BackedWhole g.P.RootProtocol.whole (g.P.RootProtocol.backed (key_of c.args.self.now.table).fixed))
+    g.P.RootProtocol.after
     c.args.seat.now.number c.args.other _ _
 
 pub load-found-requires-clause-recalled : goal.load-found-requires-clause-recalled

@@ -4,6 +4,7 @@ use Rattle.pebr_words.specs.Making.{known_in}
 use Rattle.pebr_words.specs.Mirrors.{Mirrors}
 use Rattle.pebr_words.proofs.NoteStep.{note_by, noted_low, retired_long, note_kept, note_recalled}
 use Rattle.pebr_words.proofs.Mirroring.{note_mirrors}
+use Rattle.pebr_words.specs.Ruled.{BackedWhole}
 use Rattle.pebr_words.proofs.words.Words.note.Goals as goal
 
 pub load-epoch-requires-clause-made : goal.load-epoch-requires-clause-made
@@ -11,7 +12,9 @@ load-epoch-requires-clause-made g c = note_by c.args.self.now.shape c.args.seat.
 
 pub load-epoch-requires-clause-kept : goal.load-epoch-requires-clause-kept
 load-epoch-requires-clause-kept g c = note_kept
-    (g.P.RootProtocol.keeps (key_of c.args.self.now.table).fixed) g.P.RootProtocol.whole g.P.RootProtocol.after
+    (g.P.RootProtocol.keeps (key_of c.args.self.now.table).fixed)
+    (BackedWhole g.P.RootProtocol.whole (g.P.RootProtocol.backed (key_of c.args.self.now.table).fixed))
+    g.P.RootProtocol.after
     c.args.seat.now.number _ _
 
 pub load-epoch-requires-clause-recalled : goal.load-epoch-requires-clause-recalled

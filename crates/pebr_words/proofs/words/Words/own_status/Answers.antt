@@ -10,6 +10,7 @@ use Rattle.pebr_core.specs.declared.kinds.Stance.TheVariants as stance
 use Rattle.pebr_core.specs.declared.kinds.Answer.TheVariants as answer
 use Rattle.pebr_core.specs.Steps.{check_answer}
 use Rattle.pebr_words.specs.Pasts.{past_after}
+use Rattle.pebr_words.specs.Ruled.{BackedWhole}
 use Rattle.pebr_words.proofs.words.Words.own_status.Goals as goal
 
 pub load-requires-clause-made : goal.load-requires-clause-made
@@ -17,7 +18,9 @@ load-requires-clause-made g c = check_by c.args.self.now.shape c.args.seat.now.n
 
 pub load-requires-clause-kept : goal.load-requires-clause-kept
 load-requires-clause-kept g c = check_kept
-    (g.P.RootProtocol.keeps (key_of c.args.self.now.table).fixed) g.P.RootProtocol.whole g.P.RootProtocol.after
+    (g.P.RootProtocol.keeps (key_of c.args.self.now.table).fixed)
+    (BackedWhole g.P.RootProtocol.whole (g.P.RootProtocol.backed (key_of c.args.self.now.table).fixed))
+    g.P.RootProtocol.after
     c.args.seat.now.number _ _
 
 pub load-requires-clause-recalled : goal.load-requires-clause-recalled

@@ -6,6 +6,7 @@ use Rattle.pebr_words.proofs.PinStep.{pin_by, pin_kept, pin_recalled}
 use Rattle.pebr_words.proofs.Mirroring.{pin_mirrors}
 use Rattle.pebr_table.specs.Operations as op
 use Rattle.pebr_words.specs.Places.{status_word, index}
+use Rattle.pebr_words.specs.Ruled.{BackedWhole}
 use Rattle.pebr_words.proofs.words.Words.pin.Goals as goal
 
 pub store-requires-clause-made : goal.store-requires-clause-made
@@ -14,7 +15,9 @@ store-requires-clause-made g c = pin_by c.args.self.now.shape c.args.seat.now.nu
 
 pub store-requires-clause-kept : goal.store-requires-clause-kept
 store-requires-clause-kept g c = pin_kept
-    (g.P.RootProtocol.keeps (key_of c.args.self.now.table).fixed) g.P.RootProtocol.whole g.P.RootProtocol.after
+    (g.P.RootProtocol.keeps (key_of c.args.self.now.table).fixed)
+    (BackedWhole g.P.RootProtocol.whole (g.P.RootProtocol.backed (key_of c.args.self.now.table).fixed))
+    g.P.RootProtocol.after
     c.args.seat.now.number _ _
 
 pub store-requires-clause-recalled : goal.store-requires-clause-recalled

@@ -4,6 +4,7 @@ use Rattle.pebr_words.specs.Making.{known_in}
 use Rattle.pebr_words.specs.Mirrors.{Mirrors}
 use Rattle.pebr_words.proofs.ReadStep.{read_by, read_kept, read_recalled}
 use Rattle.pebr_words.proofs.Mirroring.{same_mirrors}
+use Rattle.pebr_words.specs.Ruled.{BackedWhole}
 use Rattle.pebr_words.proofs.words.Words.read_word.Goals as goal
 
 pub load-requires-clause-made : goal.load-requires-clause-made
@@ -12,7 +13,9 @@ load-requires-clause-made g c = read_by c.args.self.now.shape c.args.seat.now.nu
 
 pub load-requires-clause-kept : goal.load-requires-clause-kept
 load-requires-clause-kept g c = read_kept
-    (g.P.RootProtocol.keeps (key_of c.args.self.now.table).fixed) g.P.RootProtocol.whole g.P.RootProtocol.after
+    (g.P.RootProtocol.keeps (key_of c.args.self.now.table).fixed)
+    (BackedWhole g.P.RootProtocol.whole (g.P.RootProtocol.backed (key_of c.args.self.now.table).fixed))
+    g.P.RootProtocol.after
     c.args.seat.now.number c.args.slot c.args.word _ _
 
 pub load-requires-clause-recalled : goal.load-requires-clause-recalled

@@ -9,6 +9,7 @@ use Rattle.pebr_words.proofs.Mirroring.{has_scan, can_keep, scan_mirrors}
 use Rattle.pebr_words.proofs.ScanStep.{scan_by, scan_kept, scan_recalled}
 use Rattle.pebr_words.proofs.SeatFacts.{scanned_here}
 use Rattle.pebr_words.specs.Pasts.{past_after}
+use Rattle.pebr_words.specs.Ruled.{BackedWhole}
 use Rattle.pebr_words.proofs.words.Words.scan_shield.Goals as goal
 
 pub load-requires-clause-made : goal.load-requires-clause-made
@@ -20,7 +21,9 @@ load-requires-clause-made g c =
 
 pub load-requires-clause-kept : goal.load-requires-clause-kept
 load-requires-clause-kept g c = scan_kept
-    (g.P.RootProtocol.keeps (key_of c.args.self.now.table).fixed) g.P.RootProtocol.whole g.P.RootProtocol.after
+    (g.P.RootProtocol.keeps (key_of c.args.self.now.table).fixed)
+    (BackedWhole g.P.RootProtocol.whole (g.P.RootProtocol.backed (key_of c.args.self.now.table).fixed))
+    g.P.RootProtocol.after
     c.args.seat.now.number c.args.other c.args.place _ _
 
 pub load-requires-clause-recalled : goal.load-requires-clause-recalled

@@ -2,7 +2,7 @@ use Rattle.std.proofs.Common.{List, [], sym, ap, ◌∙◌, subst, arith, length
 use Rattle.atomic_table.specs.Table.{Me}
 use Rattle.pebr_table.specs.Tables.{key_of, me_of}
 use Rattle.pebr_words.specs.declared.views.Held.{Held}
-use Rattle.pebr_words.specs.Ruled.{view_taken, view_left}
+use Rattle.pebr_words.specs.Ruled.{BackedWhole, view_taken, view_left}
 use Rattle.pebr_words.proofs.Splits.{splits}
 use Rattle.pebr_words.proofs.OpeningViews.{next_view}
 use Rattle.pebr_words.proofs.words.Words.split_one.Goals as goal
@@ -14,7 +14,9 @@ split-inner-requires g c =
     let next = next_view words.shape g.P.RootProtocol.first c.args.number words.shape.seats c.requires.at.1 in (
       c.requires.at.0,
       omega (arith, words.counted),
-      splits (g.P.RootProtocol.keeps (key_of words.table).fixed) g.P.RootProtocol.whole (key_of words.table).shape _
+      splits (g.P.RootProtocol.keeps (key_of words.table).fixed)
+          (BackedWhole g.P.RootProtocol.whole (g.P.RootProtocol.backed (key_of words.table).fixed))
+          (key_of words.table).shape _
           (me_of c.args.seat.now).0
           (subst (λ (v : List (Held _)). 0 < length v) (sym (view ∙ next)) (omega arith)),
     )

@@ -4,7 +4,7 @@ use lib.ListN.{get_elem?}
 use Rattle.atomic_table.specs.Table.{Me}
 use Rattle.pebr_table.specs.Tables.{key_of, me_of}
 use Rattle.pebr_words.specs.declared.views.Held.{Held}
-use Rattle.pebr_words.specs.Ruled.{view_left}
+use Rattle.pebr_words.specs.Ruled.{BackedWhole, view_left}
 use Rattle.pebr_words.proofs.Unites.{unites, united_rest, united_lists, united_count, united_numbers}
 use Rattle.std.specs.List.{flat_map}
 use Rattle.pebr_words.specs.Making.{past_in}
@@ -20,8 +20,12 @@ unite-requires g c =
       second.0,
       second.1,
       omega (arith, words.counted),
-      unites (g.P.RootProtocol.keeps key.fixed) g.P.RootProtocol.whole key.shape g.P.RootProtocol.merged
-          g.P.RootProtocol.empty (g.P.RootProtocol.unites key.fixed) _ (me_of c.args.first.inner).0 _
+      unites (g.P.RootProtocol.keeps key.fixed) (BackedWhole g.P.RootProtocol.whole (g.P.RootProtocol.backed key.fixed))
+          key.shape g.P.RootProtocol.merged g.P.RootProtocol.empty (g.P.RootProtocol.unites key.fixed)
+          (λ notes content i j a b is apart at at'. (
+            is.0,
+            g.P.RootProtocol.backs key.fixed notes content i j a b is.1 apart at at',
+          )) _ (me_of c.args.first.inner).0 _
           (me_of c.args.second.inner).0 first.2 second.2,
     )
 

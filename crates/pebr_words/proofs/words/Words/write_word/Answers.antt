@@ -4,6 +4,7 @@ use Rattle.pebr_words.specs.Making.{known_in}
 use Rattle.pebr_words.specs.Mirrors.{Mirrors}
 use Rattle.pebr_words.proofs.WriteStep.{write_by, write_kept, write_recalled}
 use Rattle.pebr_words.proofs.Mirroring.{same_mirrors}
+use Rattle.pebr_words.specs.Ruled.{BackedWhole}
 use Rattle.pebr_words.proofs.words.Words.write_word.Goals as goal
 
 pub store-requires-clause-made : goal.store-requires-clause-made
@@ -12,7 +13,9 @@ store-requires-clause-made g c = write_by c.args.self.now.shape c.args.seat.now.
 
 pub store-requires-clause-kept : goal.store-requires-clause-kept
 store-requires-clause-kept g c = write_kept
-    (g.P.RootProtocol.keeps (key_of c.args.self.now.table).fixed) g.P.RootProtocol.whole g.P.RootProtocol.after
+    (g.P.RootProtocol.keeps (key_of c.args.self.now.table).fixed)
+    (BackedWhole g.P.RootProtocol.whole (g.P.RootProtocol.backed (key_of c.args.self.now.table).fixed))
+    g.P.RootProtocol.after
     c.args.seat.now.number c.args.slot c.args.word c.args.value _ _ c.requires.range.0 c.requires.fresh
 
 pub store-requires-clause-recalled : goal.store-requires-clause-recalled

@@ -1,11 +1,11 @@
-use Rattle.std.proofs.Common.{◌++◌, ◌∙◌, List, ℕ, sym, subst}
+use Rattle.std.proofs.Common.{◌++◌, ◌∙◌, List, ℕ, All, sym, subst}
 use Rattle.std.specs.Slots.{slots_items}
 use Rattle.flow_parts.specs.declared.fragment.Fragment.{Fragment}
 use Rattle.flow_parts.specs.declared.timeouts.Timeouts.{Timeouts}
 use Rattle.flow_parts.specs.Reaching.{Reaches}
-use Rattle.cache_face.specs.Keeping.{parts_in}
+use Rattle.cache_face.specs.Keeping.{parts_in, IsBorne}
 use Rattle.turn_cache.specs.Closing.{contents_at}
-use Rattle.turn_cache.proofs.Closing.{closes, if_ok}
+use Rattle.turn_cache.proofs.Closing.{closes, bears_out, if_ok, on_ok}
 use Rattle.turn_cache.proofs.cache.TurnCache.entries.Goals as goal
 
 pub returns : goal.returns
@@ -23,8 +23,12 @@ returns c =
     (parts_in (contents_at words n) ++ note.handed)) cache.told.0
     (subst (λ (ws : List ℕ). Reaches cache.table.shared.key.timeouts note.taken
     (parts_in (contents_at ws cache.table.shared.key.sets) ++ note.handed)) final.2 kept)) in
+    let seen = bears_out cache.table.shared.key final.0 final.1.0 c.args.pass.seat.id c.args.pass.seat.me.0 final.1.1
+    c.args.pass.no_turn (c.requires.all ∙ sym cache.told.1) in
     record {
       reached = if_ok c.gather-entries.result _ _
           (λ parts is. subst (λ (ps : List Fragment). Reaches cache.timeouts note.taken (ps ++ note.handed))
           (sym is) kept') c.gather-entries.ensures;
+      seen = on_ok c.gather-entries.result _
+          (subst (λ (t : Timeouts). All (IsBorne t note.taken) note.seen) cache.told.2 seen);
     }
