@@ -15,9 +15,11 @@ if [ "${1:-}" = --one ]; then
     log=$(mktemp) || exit 2
     trap 'rm -f "$log"' EXIT
     start=$(date +%s)
-    if ! (cd "crates/$2" && rt lib) >"$log" 2>&1; then
+    (cd "crates/$2" && rt lib) >"$log" 2>&1
+    status=$?
+    if [ "$status" -ne 0 ]; then
         tail -n 20 "$log"
-        echo "not proved: $2" >&2
+        echo "not proved: $2, status $status of \`rt lib\` (above 128 it was killed); \`make build\` goes on there" >&2
         exit 1
     fi
     echo "$2" >>"$4"
