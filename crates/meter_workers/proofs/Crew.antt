@@ -1,39 +1,36 @@
 -- What the reader, the workers and the drain have done.
-use Rattle.std.proofs.Common.{◌≡◌, ℕ, ◌+◌, ◌<◌, ◌≤◌, List, [], ◌∷◌, ◌++◌, Some, length, map, sym, ap, ◌∙◌, subst, arith}
-use Rattle.std.proofs.Common.{append_assoc, append-nil}
+use Rattle.std.proofs.Common.{◌≡◌, ℕ, ◌+◌, ◌<◌, ◌≤◌, List, [], ◌∷◌, ◌++◌, Some, length, map, refl, sym, ap, ◌∙◌, subst, arith}
+use Rattle.std.proofs.Common.{append_assoc, append-nil, length-append}
 use Rattle.std.specs.Prelude.{flat_map, All, IsPermutation, slice_range}
-use Rattle.std.specs.declared.option.Option.{Option}
 use Rattle.std.proofs.lemmas.Grind.{flat_map-append}
 use Rattle.std.proofs.lemmas.List.{length-map}
-use Rattle.std.proofs.lemmas.List.Elements.{All-pop}
+use Rattle.std.proofs.lemmas.List.Elements.{All-nil, All-cons, All-append, All-pop, All-weaker}
 use Rattle.std.proofs.lemmas.List.Folds.{flat_map-map}
-use Rattle.std.proofs.lemmas.List.Sorted.{IsPermutation-refl, IsPermutation-trans, IsPermutation-sym}
-use Rattle.std.proofs.lemmas.List.Sorted.{IsPermutation-append_comm, IsPermutation-append_left}
-use Rattle.std.proofs.lemmas.List.Sorted.{IsPermutation-append_right}
+use Rattle.std.proofs.lemmas.List.Sorted.{IsPermutation-trans, IsPermutation-append_comm}
+use Rattle.std.proofs.lemmas.List.Sorted.{IsPermutation-append_left, IsPermutation-append_right}
 use Rattle.pcap_reader.specs.Views.{part_of, file_of}
 use Rattle.packet_accept.proofs.Permuted.{flat_map-permutation}
 use Rattle.cache_face.specs.declared.caches.FlowCache.{Ghosts}
-use Rattle.cache_face.proofs.Apart.{snoc}
 use Rattle.cache_face.proofs.Keeping.{swapped}
 use Rattle.capture_input.specs.declared.part.Part.{Part}
 use Rattle.capture_input.specs.Parts.{Answer, answers_from, answers_by}
 use Rattle.capture_input.proofs.Ranges.{answers-count, range-all}
+use Rattle.work_pieces.specs.Doing.{HaveDone}
+use Rattle.work_pieces.proofs.Doing.{snoc, flat-flat, one-more, told-each, reordered}
 use Rattle.batch_queue.specs.declared.batch.Batch.{Batch}
 use Rattle.batch_queue.specs.declared.queue.BatchQueue.{BatchQueue}
 use Rattle.batch_queue.specs.declared.queue.QueuePass.{QueuePass}
 use Rattle.batch_queue.specs.Batches.{count_of, IsBefore}
-use Rattle.batch_queue.specs.Passes.{IsPassOf, IsReaders, IsMore, StandsForAll, put_of, took_of, seats_of, others_of}
-use Rattle.batch_queue.specs.Passes.{reader_of, IsSame, WasTold}
-use Rattle.batch_queue.specs.Uniting.{IsForAll}
-use Rattle.batch_queue.proofs.Passing.{more-keeps}
+use Rattle.batch_queue.specs.Passes.{IsPassOf, IsMore, IsSame, StandsForAll, WasTold, put_of, took_of, reader_of}
+use Rattle.batch_queue.specs.Uniting.{IsFirst, IsForAll}
+use Rattle.batch_queue.proofs.Passing.{all-taken, first-more, more-keeps, more-none}
 use Rattle.meter_workers.specs.declared.share.Share.{Share}
 use Rattle.meter_workers.specs.declared.worker.Worker.{Worker}
 use Rattle.meter_workers.specs.declared.worker.WorkState.TheVariants.{Finished}
 use Rattle.meter_workers.specs.declared.batches.Reader.{Reader}
-use Rattle.meter_workers.specs.Shares.{IsShareOf, HasMetered, HaveMetered}
+use Rattle.meter_workers.specs.Shares.{IsShareOf, HasMetered}
 use Rattle.meter_workers.specs.Batched.{answers_of_batch, answers_in, IsReadyFor, IsToTake, HasTaken, HasTakenAll}
-use Rattle.meter_workers.specs.Batched.{HasHandedOn, HasReadAll}
-use Rattle.meter_workers.proofs.Several.{flat-flat, one-more, told-each}
+use Rattle.meter_workers.specs.Batched.{HasHandedOn, StandsBefore}
 
 -- all answers to a batch
 pub batch-answers : (part : Part) (count : ℕ) (batch : Batch) → part.base ≡ batch.base
@@ -70,82 +67,103 @@ module _ {X P : Type 0} (the : Ghosts X P) (cache : X) where
 
   -- ---- the reader
 
-  -- it handed on nothing
-  pub handed-none : (reader : Reader X P) → put_of (reader_of reader.feed) ≡ [] → IsShareOf the cache [] reader.share
-      → HasHandedOn the cache [] reader
-  handed-none reader none is = record {
-    own = [];
-    all = subst (λ l. IsPermutation [] (answers_in l)) (sym none) (IsPermutation-refl []);
-    is = is;
-  }
+  -- its next batch was put or metered
+  handed-more : (queue : BatchQueue) (workers : ℕ) (answers own : List Answer) (batch : Batch) (put : List Batch)
+      (old new : Reader X P)
+      → batch.number ≡ old.next → batch.base ≡ length answers → 0 < count_of batch → new.next ≡ old.next + 1
+      → IsPassOf queue (reader_of new.feed) → IsMore put [] (reader_of old.feed) (reader_of new.feed)
+      → All (λ b. b ≡ batch) put → IsShareOf the cache own new.share
+      → IsPermutation (answers ++ answers_of_batch batch) (own ++ answers_in (put_of (reader_of new.feed)))
+      → HasHandedOn the cache queue workers answers old
+      → HasHandedOn the cache queue workers (answers ++ answers_of_batch batch) new
+  handed-more queue workers answers own batch put old new number base some next of more one is all handed =
+      let Before : Batch → Type 0 = StandsBefore new.next (length (answers ++ answers_of_batch batch)) in
+      let long : length (answers ++ answers_of_batch batch) ≡ length answers + count_of batch =
+      length-append answers (answers_of_batch batch)
+      ∙ ap (λ n. length answers + n) (answers-count batch.base (part_of batch.head batch.bytes.items)) in
+      let last : Before batch = (omega (arith, number, next), omega (arith, base, long)) in
+      record {
+        first = first-more queue workers (reader_of old.feed) (reader_of new.feed) put of more handed.first;
+        behind = subst (All Before) (sym (more-keeps (reader_of old.feed) (reader_of new.feed) put [] more).0)
+            (All-append Before (put_of (reader_of old.feed)) put
+            (All-weaker (StandsBefore old.next (length answers)) Before
+            (λ b before. (let n = before.0 in let r = before.1 in (omega (arith, n, next), omega (arith, r, long))))
+            (put_of (reader_of old.feed)) handed.behind)
+            (All-weaker (λ b. b ≡ batch) Before (λ b e. subst Before (sym e) last) put one));
+        low = (let low = handed.low in omega (arith, low, next, long, some));
+        own = own;
+        all = all;
+        is = is;
+      }
 
-  -- a batch was put
-  pub handed-put : (answers : List Answer) (batch : Batch) (old new : Reader X P)
-      → put_of (reader_of new.feed) ≡ put_of (reader_of old.feed) ++ batch ∷ [] → new.share ≡ old.share
-      → HasHandedOn the cache answers old → HasHandedOn the cache (answers ++ answers_of_batch batch) new
-  handed-put answers batch old new more same handed =
+  pub handed-put : (queue : BatchQueue) (workers : ℕ) (answers : List Answer) (batch : Batch) (old new : Reader X P)
+      → batch.number ≡ old.next → batch.base ≡ length answers → 0 < count_of batch → new.next ≡ old.next + 1
+      → IsPassOf queue (reader_of new.feed) → IsMore (batch ∷ []) [] (reader_of old.feed) (reader_of new.feed)
+      → new.share ≡ old.share → HasHandedOn the cache queue workers answers old
+      → HasHandedOn the cache queue workers (answers ++ answers_of_batch batch) new
+  handed-put queue workers answers batch old new number base some next of more same handed =
       let put = put_of (reader_of old.feed) in
-      let all = ap answers_in more ∙ snoc answers_of_batch put batch in
-      record {
-        own = handed.own;
-        all = subst (λ l. IsPermutation (answers ++ answers_of_batch batch) (handed.own ++ l)) (sym all)
-            (subst (λ l. IsPermutation (answers ++ answers_of_batch batch) l)
-            (append_assoc handed.own (answers_in put) (answers_of_batch batch))
-            (IsPermutation-append_left (answers_of_batch batch) answers (handed.own ++ answers_in put) handed.all));
-        is = subst (λ (s : Share X P). IsShareOf the cache handed.own s) (sym same) handed.is;
-      }
+      let all : answers_in (put_of (reader_of new.feed)) ≡ answers_in put ++ answers_of_batch batch =
+      ap answers_in (more-keeps (reader_of old.feed) (reader_of new.feed) (batch ∷ []) [] more).0
+      ∙ snoc answers_of_batch put batch in
+      handed-more queue workers answers handed.own batch (batch ∷ []) old new number base some next of more
+      (All-cons (λ b. b ≡ batch) batch [] refl (All-nil (λ b. b ≡ batch)))
+      (subst (λ (s : Share X P). IsShareOf the cache handed.own s) (sym same) handed.is)
+      (subst (λ l. IsPermutation (answers ++ answers_of_batch batch) (handed.own ++ l)) (sym all)
+      (subst (λ l. IsPermutation (answers ++ answers_of_batch batch) l)
+      (append_assoc handed.own (answers_in put) (answers_of_batch batch))
+      (IsPermutation-append_left (answers_of_batch batch) answers (handed.own ++ answers_in put) handed.all)))
+      handed
 
-  -- it metered a batch itself
-  pub handed-own : (answers more : List Answer) (old new : Reader X P)
-      → put_of (reader_of new.feed) ≡ put_of (reader_of old.feed) → HasMetered the cache more old.share new.share
-      → HasHandedOn the cache answers old → HasHandedOn the cache (answers ++ more) new
-  handed-own answers more old new same step handed =
+  pub handed-own : (queue : BatchQueue) (workers : ℕ) (answers : List Answer) (batch : Batch) (old new : Reader X P)
+      → batch.number ≡ old.next → batch.base ≡ length answers → 0 < count_of batch → new.next ≡ old.next + 1
+      → IsPassOf queue (reader_of new.feed) → IsSame (reader_of old.feed) (reader_of new.feed)
+      → HasMetered the cache (answers_of_batch batch) old.share new.share → HasHandedOn the cache queue workers answers old
+      → HasHandedOn the cache queue workers (answers ++ answers_of_batch batch) new
+  handed-own queue workers answers batch old new number base some next of same step handed =
+      let more = answers_of_batch batch in
       let put = answers_in (put_of (reader_of old.feed)) in
-      record {
-        own = handed.own ++ more;
-        all = subst (λ l. IsPermutation (answers ++ more) ((handed.own ++ more) ++ answers_in l)) (sym same)
-            (IsPermutation-trans _ ((handed.own ++ put) ++ more) _
-            (IsPermutation-append_left more answers (handed.own ++ put) handed.all) (swapped handed.own put more));
-        is = step.besides handed.own handed.is;
-      }
+      handed-more queue workers answers (handed.own ++ more) batch [] old new number base some next of
+      (same ∙ more-none (reader_of old.feed)) (All-nil (λ b. b ≡ batch)) (step.besides handed.own handed.is)
+      (subst (λ l. IsPermutation (answers ++ more) ((handed.own ++ more) ++ answers_in l)) (sym (λ i. (same i).put))
+      (IsPermutation-trans _ ((handed.own ++ put) ++ more) _
+      (IsPermutation-append_left more answers (handed.own ++ put) handed.all) (swapped handed.own put more)))
+      handed
 
-  -- what it has read stays where it puts and takes nothing more
-  pub read-same : (queue : BatchQueue) (before left : Option (List ℕ)) (limit : ℕ) (old read new : Reader X P) (tail : ℕ)
-      → IsPassOf queue (reader_of new.feed) → IsSame (reader_of read.feed) (reader_of new.feed) → new.share ≡ read.share
-      → HasReadAll the cache queue before left limit old read tail
-      → HasReadAll the cache queue before left limit old new tail
-  read-same queue before left limit old read new tail of same share has = record {
-    of = of;
-    batches = has.batches;
-    put = same ∙ has.put;
-    answers = has.answers;
-    whole = has.whole;
-    handed = record {
-      own = has.handed.own;
-      all = subst (λ l. IsPermutation has.answers (has.handed.own ++ answers_in l)) (sym (λ i. (same i).put))
-          has.handed.all;
-      is = subst (λ (s : Share X P). IsShareOf the cache has.handed.own s) (sym share) has.handed.is;
-    };
-  }
+  -- it put nothing
+  pub handed-same : (queue : BatchQueue) (workers : ℕ) (answers : List Answer) (old new : Reader X P)
+      → IsPassOf queue (reader_of new.feed) → IsSame (reader_of old.feed) (reader_of new.feed) → new.share ≡ old.share
+      → new.next ≡ old.next → HasHandedOn the cache queue workers answers old
+      → HasHandedOn the cache queue workers answers new
+  handed-same queue workers answers old new of same share next handed =
+      let put : put_of (reader_of new.feed) ≡ put_of (reader_of old.feed) = (λ i. (same i).put) in
+      record {
+        first = first-more queue workers (reader_of old.feed) (reader_of new.feed) [] of
+            (same ∙ more-none (reader_of old.feed)) handed.first;
+        behind = subst (λ n. All (StandsBefore n (length answers)) (put_of (reader_of new.feed))) (sym next)
+            (subst (All (StandsBefore old.next (length answers))) (sym put) handed.behind);
+        low = (let low = handed.low in omega (arith, low, next));
+        own = handed.own;
+        all = subst (λ l. IsPermutation answers (handed.own ++ answers_in l)) (sym put) handed.all;
+        is = subst (λ (s : Share X P). IsShareOf the cache handed.own s) (sym share) handed.is;
+      }
 
   -- ---- all together
 
   -- The workers have metered the batches that they took, the reader some answers of its own, and the drain what was
   -- left: together all answers that the reader handed on.
   pub gathered : (queue : BatchQueue) (ws : List (Worker X QueuePass P)) (answers : List Answer) (reader : Reader X P)
-      (seats : List QueuePass) (first united after : QueuePass) (more : List Batch)
-      (shares one both : List (Share X P)) (last last' : Share X P)
+      (seats : List QueuePass) (united after : QueuePass) (more : List Batch) (shares one both : List (Share X P))
+      (last last' : Share X P)
       → All (HasTakenAll the cache queue) ws → All (λ w. w.state ≡ Finished) ws
       → shares ≡ map (λ w. w.share) ws → seats ≡ map (λ w. w.seat) ws
       → one ≡ shares ++ reader.share ∷ [] → both ≡ one ++ last' ∷ []
-      → IsReaders (reader_of reader.feed) × (seats_of (reader_of reader.feed) ≡ 1)
-      × (took_of (reader_of reader.feed) ≡ []) × (others_of (reader_of reader.feed) ≡ length ws)
-      → first ≡ reader_of reader.feed → IsForAll seats first united → IsMore [] more united after
+      → IsForAll seats (reader_of reader.feed) united → IsMore [] more united after
       → (StandsForAll after → IsPermutation (put_of after) (took_of after))
       → IsShareOf the cache [] last → HasMetered the cache (answers_in more) last last'
-      → HasHandedOn the cache answers reader → HaveMetered (IsShareOf the cache) answers both
-  gathered queue ws answers reader seats first united after more shares one both last last' worked finished shares_are
-      seats_are one_is both_is reads same told is all_of fresh did handed =
+      → HasHandedOn the cache queue (length ws) answers reader → HaveDone (IsShareOf the cache) answers both
+  gathered queue ws answers reader seats united after more shares one both last last' worked finished shares_are
+      seats_are one_is both_is told is all_of fresh did handed =
       let W : Type 0 = Worker X QueuePass P in
       let Has : List Answer → Share X P → Type 0 = IsShareOf the cache in
       let list = λ (w : W). answers_in (took_of w.seat) in
@@ -153,43 +171,27 @@ module _ {X P : Type 0} (the : Ghosts X P) (cache : X) where
       let left : List Answer = answers_in more in
       let put = put_of (reader_of reader.feed) in
       let own = handed.own in
-      let took = took_of united in
-      let for_all = subst (λ (p : QueuePass). IsForAll seats p united) same told in
-      let keeps = more-keeps united after [] more is in
+      let took = flat_map took_of seats in
       let count = ap length seats_are ∙ length-map ws (λ (w : W). w.seat) in
-      let stands : StandsForAll after = (
-        keeps.4 (for_all.reader reads.0),
-        omega (arith, keeps.2, keeps.3, for_all.many, for_all.others, count, reads.1, reads.3),
-      ) in
-      let workers : HaveMetered Has theirs shares =
-      subst (HaveMetered Has theirs) (sym shares_are)
+      let workers : HaveDone Has theirs shares =
+      subst (HaveDone Has theirs) (sym shares_are)
       (told-each Has (λ (w : W). w.share) list ws (λ k d inside. ((worked k d inside).1 (finished k d inside)).is)) in
       let have = one-more Has (theirs ++ own) left one both last' both_is
       (one-more Has theirs own shares one reader.share one_is workers handed.is) (did.besides [] fresh) in
-      let taken : IsPermutation (flat_map took_of seats) took =
-      subst (λ (l : List Batch). IsPermutation (l ++ flat_map took_of seats) took) reads.2 for_all.took in
-      let each : answers_in (flat_map took_of seats) ≡ theirs =
-      ap (λ l. answers_in (flat_map took_of l)) seats_are ∙ ap answers_in (flat_map-map took_of (λ (w : W). w.seat) ws)
-      ∙ flat-flat answers_of_batch (λ (w : W). took_of w.seat) ws in
-      let of_workers : IsPermutation (answers_in took) theirs =
-      IsPermutation-sym _ _ (subst (λ l. IsPermutation l (answers_in took)) each
-      (flat_map-permutation answers_of_batch (flat_map took_of seats) took taken)) in
-      let all_put : IsPermutation put (took ++ more) =
-      subst (λ l. IsPermutation put l) keeps.1
-      (subst (λ l. IsPermutation l (took_of after)) (keeps.0 ∙ append-nil (put_of united) ∙ for_all.put)
-      (all_of stands)) in
+      let all_put = all-taken queue seats (reader_of reader.feed) united after more
+      (subst (λ n. IsFirst queue n (reader_of reader.feed)) (sym count) handed.first) told is all_of in
+      let each : answers_in (took ++ more) ≡ theirs ++ left =
+      flat_map-append answers_of_batch took more
+      ∙ ap (λ l. l ++ left) (ap (λ l. answers_in (flat_map took_of l)) seats_are
+      ∙ ap answers_in (flat_map-map took_of (λ (w : W). w.seat) ws)
+      ∙ flat-flat answers_of_batch (λ (w : W). took_of w.seat) ws) in
       let of_all : IsPermutation (answers_in put) (theirs ++ left) =
-      IsPermutation-trans _ (answers_in (took ++ more)) _ (flat_map-permutation answers_of_batch put (took ++ more) all_put)
-      (subst (λ l. IsPermutation l (theirs ++ left)) (sym (flat_map-append answers_of_batch took more))
-      (IsPermutation-append_left left (answers_in took) theirs of_workers)) in
+      subst (λ l. IsPermutation (answers_in put) l) each
+      (flat_map-permutation answers_of_batch put (took ++ more) all_put) in
       let turned : IsPermutation (own ++ (theirs ++ left)) ((theirs ++ own) ++ left) =
       subst (λ l. IsPermutation l ((theirs ++ own) ++ left)) (append_assoc own theirs left)
       (IsPermutation-append_left left (own ++ theirs) (theirs ++ own) (IsPermutation-append_comm own theirs)) in
-      record {
-        lists = have.lists;
-        whole = IsPermutation-trans _ (own ++ answers_in put) _ handed.all
-            (IsPermutation-trans _ (own ++ (theirs ++ left)) _
-            (IsPermutation-append_right own (answers_in put) (theirs ++ left) of_all)
-            (IsPermutation-trans _ ((theirs ++ own) ++ left) _ turned have.whole));
-        each = have.each;
-      }
+      reordered Has ((theirs ++ own) ++ left) answers both
+      (IsPermutation-trans _ (own ++ answers_in put) _ handed.all
+      (IsPermutation-trans _ (own ++ (theirs ++ left)) _
+      (IsPermutation-append_right own (answers_in put) (theirs ++ left) of_all) turned)) have

@@ -25,7 +25,7 @@ use Rattle.cache_face.specs.declared.caches.FlowCache.{Ghosts}
 use Rattle.front_cache.specs.Fronts.{FrontMeans, open_in}
 use Rattle.capture_input.specs.Parts.{Answer}
 use Rattle.meter_workers.specs.declared.share.Share.{Share}
-use Rattle.meter_workers.specs.Shares.{AreSharesOf, IsShareOf, HasMetered, AreSmall, HasLimits, open_of, put_by}
+use Rattle.meter_workers.specs.Shares.{AreSharesOf, AreSmall, HasLimits, open_of, put_by}
 
 -- ---- what was put in
 
@@ -154,19 +154,6 @@ module _ {X P : Type 0} (the : Ghosts X P) (cache : X) where
             (packets_in (answer ∷ [])) metered.small (small-one answer small));
         few = omega (arith, next.captured, metered.tallied.captured, length-append answers (answer ∷ []), room, single);
       }
-
-  -- ---- a run of records
-
-  pub metered-none : (share : Share X P) → HasMetered the cache [] share share
-  metered-none share =
-      record { besides = λ done is. subst (λ l. IsShareOf the cache l share) (sym (append-nil done)) is }
-
-  pub metered-more : (some more : List Answer) (old then new : Share X P) → HasMetered the cache some old then
-      → HasMetered the cache more then new → HasMetered the cache (some ++ more) old new
-  metered-more some more old then new first second = record {
-    besides = λ done is. subst (λ l. IsShareOf the cache l new) (append_assoc done some more)
-        (second.besides (done ++ some) (first.besides done is));
-  }
 
   -- ---- several together
 

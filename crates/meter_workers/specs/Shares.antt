@@ -1,6 +1,5 @@
 -- What a share of the work has done; `the` is what the type of the cache means.
-use Rattle.std.specs.Prelude.{◌≡◌, ℕ, ◌*◌, ◌<◌, ◌≤◌, ◌^◌, List, [], ◌++◌, flat_map, All, Option, Some, None, IsPermutation}
-use Rattle.std.specs.List.{AllZip}
+use Rattle.std.specs.Prelude.{◌≡◌, ℕ, ◌*◌, ◌<◌, ◌≤◌, ◌^◌, List, [], ◌++◌, All, Option, Some, None}
 use Rattle.packet_accept.specs.declared.packet.Packet.{Packet}
 use Rattle.packet_accept.specs.Packets.{packets_in}
 use Rattle.flow_parts.specs.declared.fragment.Fragment.{Fragment}
@@ -11,6 +10,7 @@ use Rattle.cache_face.specs.Meaning.{PassMeans}
 use Rattle.cache_face.specs.declared.caches.FlowCache.{Ghosts}
 use Rattle.front_cache.specs.Fronts.{FrontMeans, open_in}
 use Rattle.capture_input.specs.Parts.{Answer}
+use Rattle.work_pieces.specs.Doing.{HasDone}
 use Rattle.meter_workers.specs.declared.share.Share.{Share}
 
 -- The fragments that a front has open, where there is one.
@@ -54,13 +54,5 @@ pub record IsShareOf {X P : Type 0} (the : Ghosts X P) (cache : X) (answers : Li
   pub metered : AreSharesOf the cache answers share
 
 -- The share metered these answers besides, whatever it had metered before.
-pub record HasMetered {X P : Type 0} (the : Ghosts X P) (cache : X) (more : List Answer)
-    (old new : Share X P) : Type 0 where
-  pub besides : (done : List Answer) → IsShareOf the cache done old → IsShareOf the cache (done ++ more) new
-
--- Several shares have metered these answers, each its own list of them.
-pub record HaveMetered {S : Type 0} (Has : List Answer → S → Type 0) (answers : List Answer)
-    (shares : List S) : Type 0 where
-  pub lists : List (List Answer)
-  pub whole : IsPermutation answers (flat_map (λ (list : List Answer). list) lists)
-  pub each : AllZip Has lists shares
+abbrev pub HasMetered : {X P : Type 0} → Ghosts X P → X → List Answer → Share X P → Share X P → Type 0
+HasMetered the cache more old new = HasDone (IsShareOf the cache) more old new

@@ -9,7 +9,8 @@ ghost use Rattle.cache_face.specs.Keeping.{IsBounded, packet_count};
 ghost use Rattle.cache_face.specs.Meaning.{IsFresh};
 ghost use Rattle.front_cache.specs.Fronts.{open_in};
 ghost use Rattle.capture_input.specs.Parts.{Answer, answers_by};
-ghost use Rattle.meter_workers.specs.Shares.{AreSharesOf, HasMetered, HaveMetered, IsSeatOf, IsShareOf, put_by};
+ghost use Rattle.work_pieces.specs.Doing.{HaveDone};
+ghost use Rattle.meter_workers.specs.Shares.{AreSharesOf, HasMetered, IsSeatOf, IsShareOf, put_by};
 
 use cache_face::FlowCache;
 use capture_input::Part;
@@ -266,10 +267,10 @@ pub(crate) fn unite_all<C: FlowCache>(
     shares: Vec<Share<C>>,
 ) -> Result<Share<C>, NoMemory>
     requires many { (0 < length shares.items) × (length shares.items ≤ 64) }
-    requires metered { (answers : List Answer) × HaveMetered (IsShareOf C.FlowCache cache.now) answers shares.items }
+    requires metered { (answers : List Answer) × HaveDone (IsShareOf C.FlowCache cache.now) answers shares.items }
     ensures own { IfOk result (λ r. C.is_of cache.now r.pass × (r.front ≡ None)
         × ((C.shown r.pass).note.seats ≡ length shares.items)) }
-    ensures metered { (answers : List Answer) → HaveMetered (IsShareOf C.FlowCache cache.now) answers shares.items
+    ensures metered { (answers : List Answer) → HaveDone (IsShareOf C.FlowCache cache.now) answers shares.items
         → IfOk result (λ r. AreSharesOf C.FlowCache cache.now answers r) }
 {
     order_law();

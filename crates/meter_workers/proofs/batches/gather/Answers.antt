@@ -4,11 +4,12 @@ use Rattle.std.specs.Prelude.{All, IfOk}
 use Rattle.std.proofs.lemmas.List.{length-map, length-append}
 use Rattle.std.proofs.lemmas.List.Elements.{All-map}
 use Rattle.capture_input.specs.Parts.{Answer}
+use Rattle.work_pieces.specs.Doing.{HaveDone}
 use Rattle.batch_queue.specs.declared.queue.QueuePass.{QueuePass}
-use Rattle.batch_queue.specs.Uniting.{IsOther}
+use Rattle.batch_queue.specs.Uniting.{IsForAll, IsOther}
 use Rattle.meter_workers.specs.declared.worker.Worker.{Worker}
 use Rattle.meter_workers.specs.Batched.{HasHandedOn}
-use Rattle.meter_workers.specs.Shares.{IsShareOf, HaveMetered}
+use Rattle.meter_workers.specs.Shares.{IsShareOf}
 use Rattle.meter_workers.proofs.Crew.{gathered}
 use Rattle.meter_workers.proofs.batches.gather.Given as given
 use Rattle.meter_workers.proofs.batches.gather.Goals.{In_ok-push-2}
@@ -27,18 +28,21 @@ unite_all-seat-requires-clause-others g c =
 
 -- all that the reader handed on was metered
 all : (g : given.Over) (c : In_ok-push-2 g) (answers : List Answer)
-    → HasHandedOn g.C.FlowCache c.args.cache.now answers c.args.crew.reader
-    → HaveMetered (IsShareOf g.C.FlowCache c.args.cache.now) answers c.push-2.new.self.items
+    → HasHandedOn g.C.FlowCache c.args.cache.now c.args.crew.shared.queue c.args.crew.shared.workers answers
+    c.args.crew.reader
+    → HaveDone (IsShareOf g.C.FlowCache c.args.cache.now) answers c.push-2.new.self.items
 all g c answers handed =
     let told = c.in_ok-shares.ensures in
-    let r = c.requires.reader in
     let drained = c.in_ok-work_batches.ensures in
     gathered g.C.FlowCache c.args.cache.now c.args.crew.shared.queue c.args.crew.workers.items answers
-    c.args.crew.reader c.in_ok-shares.seats.items c.into_pass.result c.unite_all-seat.result c.work_batches.new.seat
-    drained.did.0 c.in_ok-shares.shares.items c.push.new.self.items c.push-2.new.self.items c.args.crew.last
+    c.args.crew.reader c.in_ok-shares.seats.items c.unite_all-seat.result c.work_batches.new.seat drained.did.0
+    c.in_ok-shares.shares.items c.push.new.self.items c.push-2.new.self.items c.args.crew.last
     c.work_batches.new.share c.requires.workers told.finished told.shares told.seats c.in_ok-push.ensures.items
-    c.in_ok-push-2.ensures.items (r.1, r.2, r.3, c.requires.many.0) c.into_pass.ensures c.unite_all-seat.ensures.all
-    drained.did.1 drained.all c.requires.last drained.did.2 handed
+    c.in_ok-push-2.ensures.items
+    (subst (λ p. IsForAll c.in_ok-shares.seats.items p c.unite_all-seat.result) c.into_pass.ensures
+    c.unite_all-seat.ensures.all) drained.did.1 drained.all c.requires.last drained.did.2
+    (subst (λ n. HasHandedOn g.C.FlowCache c.args.cache.now c.args.crew.shared.queue n answers c.args.crew.reader)
+    c.requires.many.0 handed)
 
 pub gather_all-requires-clause-metered : goal.gather_all-requires-clause-metered
 gather_all-requires-clause-metered g c κs within =

@@ -2,8 +2,9 @@ use Rattle.std.proofs.Common.{◌≡◌, ◌+◌, ◌++◌, ◌∷◌, List, [],
 use Rattle.std.specs.Prelude.{IsPermutation}
 use Rattle.std.proofs.lemmas.List.Sorted.{IsPermutation-trans, IsPermutation-sym, IsPermutation-append_left}
 use Rattle.capture_input.specs.Parts.{Answer}
-use Rattle.meter_workers.specs.Shares.{AreSharesOf, IsShareOf, HaveMetered}
-use Rattle.meter_workers.proofs.Several.{popped, none-left, moved-back}
+use Rattle.work_pieces.specs.Doing.{HaveDone}
+use Rattle.work_pieces.proofs.Doing.{popped, none-left, moved-back}
+use Rattle.meter_workers.specs.Shares.{AreSharesOf, IsShareOf}
 use Rattle.meter_workers.proofs.Shares.{permuted}
 use Rattle.meter_workers.proofs.share.unite_all.Given as given
 use Rattle.meter_workers.proofs.share.unite_all.Goals.{In_ok-share}
@@ -38,9 +39,9 @@ finish-requires-in-Some-pop-clause-share g c κs within =
 
 -- what the others that are left, those that are united, and the next one have metered
 parted : (g : given.Over) (c : In_ok-share g) (answers : List Answer)
-    → HaveMetered (IsShareOf g.C.FlowCache c.args.cache.now) answers c.args.shares.items
+    → HaveDone (IsShareOf g.C.FlowCache c.args.cache.now) answers c.args.shares.items
     → (rest done list : List Answer)
-    × HaveMetered (IsShareOf g.C.FlowCache c.args.cache.now) rest c.pop-in-loop-share.new.self.items
+    × HaveDone (IsShareOf g.C.FlowCache c.args.cache.now) rest c.pop-in-loop-share.new.self.items
     × AreSharesOf g.C.FlowCache c.args.cache.now done c.loop-share.all
     × IsShareOf g.C.FlowCache c.args.cache.now list c.in_ok-share.share
     × IsPermutation answers (rest ++ (done ++ list))

@@ -6,9 +6,9 @@ use Rattle.cache_face.proofs.Apart.{snoc}
 use Rattle.capture_input.specs.Parts.{Answer, answers_by}
 use Rattle.capture_input.proofs.Ranges.{answers-count}
 use Rattle.work_pieces.specs.Cutting.{piece_of, pieces_of}
-use Rattle.meter_workers.specs.Shares.{HasMetered}
+use Rattle.meter_workers.specs.Shares.{HasMetered, IsShareOf}
+use Rattle.work_pieces.proofs.Doing.{done-none, done-more}
 use Rattle.work_pieces.proofs.Cutting.{IsBehind, behind-none, behind-next, behind-more}
-use Rattle.meter_workers.proofs.Shares.{metered-none, metered-more}
 use Rattle.meter_workers.proofs.windows.work_through.Given as given
 use Rattle.meter_workers.proofs.windows.work_through.Goals.{In-Some}
 use Rattle.meter_workers.proofs.windows.work_through.Goals as goal
@@ -23,7 +23,7 @@ loop-draw-init g c =
       seat = fresh.1;
       share = subst (λ (l : List Answer). HasMetered g.C.FlowCache c.args.cache.now l share share)
           (sym (ap (pieces_of size (answers_by c.args.part.now)) fresh.3))
-          (metered-none g.C.FlowCache c.args.cache.now share);
+          (done-none (IsShareOf g.C.FlowCache c.args.cache.now) share);
       few = omega arith;
       behind = behind-none size share.tally.captured (drawn_of c.args.draw.now);
     }
@@ -74,7 +74,7 @@ loop-draw-preserved g c =
           c.meter_run.new.share)
           (ap (λ (l : List Answer). pieces_of size answers drawn ++ l) own
           ∙ sym (ap (pieces_of size answers) some.2 ∙ snoc (piece_of size answers) drawn n))
-          (metered-more g.C.FlowCache c.args.cache.now _ _ _ c.loop-draw.share _ c.loop-draw.invariant.share told.share);
+          (done-more (IsShareOf g.C.FlowCache c.args.cache.now) _ _ _ c.loop-draw.share _ c.loop-draw.invariant.share told.share);
       few = omega (arith, told.captured, next, some.0, c.in-Some.ensures.within.2, c.requires.whole);
       behind = subst (λ l. IsBehind size c.args.share.now.tally.captured l c.meter_run.new.share.tally.captured)
           (sym some.2)
