@@ -1,3 +1,4 @@
 pub mod Crew
 pub mod Shares
+pub mod Taken
 pub mod Whole

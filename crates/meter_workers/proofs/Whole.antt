@@ -7,7 +7,7 @@ use Rattle.capture_tally.specs.Tallies.{IsTallyOf}
 use Rattle.cache_face.specs.declared.caches.FlowCache.{Ghosts}
 use Rattle.capture_input.specs.Parts.{Answer}
 use Rattle.capture_input.specs.Giving.{IsReadWhole}
-use Rattle.meter_workers.specs.declared.windows.Gathered.{Gathered}
+use Rattle.meter_workers.specs.declared.together.Gathered.{Gathered}
 use Rattle.meter_workers.specs.Whole.{HasGathered, IsMeteredWhole}
 
 pub metered-whole : {X P : Type 0} (the : Ghosts X P) (cache : X) (answers : List Answer) (all : Gathered X P)

@@ -20,7 +20,7 @@ ghost use Rattle.meter_workers.specs.Whole.{HasGathered, IsMeteredWhole};
 
 use crate::gate::Gate;
 use crate::share::{Share, meter_run, open_shares};
-use crate::windows::{Gathered, gather_all};
+use crate::together::{Gathered, gather_all};
 use crate::worker::{WorkState, Worker, seat_workers, unseat_workers};
 use batch_queue::{Batch, BatchQueue, Feed, QueuePass};
 use cache_face::FlowCache;

@@ -15,15 +15,15 @@ ghost use Rattle.work_pieces.specs.Doing.{HasWorked, HaveDone};
 ghost use Rattle.work_pieces.specs.Passes.{count_of};
 ghost use Rattle.meter_workers.specs.Shares.{IsShareOf};
 ghost use Rattle.meter_workers.specs.Working.{IsReady, IsToDraw, HasDrawnAll};
-ghost use Rattle.meter_workers.specs.Whole.{HasGathered, IsMeteredWhole};
+ghost use Rattle.meter_workers.specs.Whole.{IsMeteredWhole};
 
 use crate::gate::Gate;
-use crate::share::{Share, meter_run, open_shares, unite_all};
+use crate::share::{Share, meter_run, open_shares};
+use crate::together::{Gathered, gather_all};
 use crate::worker::{WorkState, Worker, seat_workers, unseat_workers};
 use cache_face::FlowCache;
 use capture_input::{MeterFault, Part, Reading};
-use capture_tally::Tally;
-use flow_parts::{PartList, Timeouts};
+use flow_parts::Timeouts;
 use meter_io::Source;
 use no_memory::NoMemory;
 use std::alloc::Global;
@@ -45,16 +45,6 @@ pub struct Windows {
     pub ghost size_bounds: { (262184 ≤ size) × (size ≤ 2 ^ 27) },
     pub ghost limit_bound: { limit ≤ 2 ^ 30 },
     pub ghost piece_bounds: { (0 < piece) × (piece ≤ 65536) },
-}
-
-/// What all workers did together with a capture: one pass for all seats, the fragments that it was handed, the tally,
-/// and how many bytes are left behind the last record.
-#[derive(Drop)]
-pub struct Gathered<C: FlowCache> {
-    pub pass: C::Pass,
-    pub parts: PartList,
-    pub tally: Tally,
-    pub tail: u64,
 }
 
 /// Draws pieces of a part and meters their records, until none is left. The gate is told of each piece before.
@@ -242,28 +232,6 @@ pub fn meter_windows<S: Source, C: FlowCache, G: Gate, R: Threads + Sync>(
         Ok(all) => Ok(all),
         Err(NoMemory) => Err(MeterFault::NoMemory),
     }
-}
-
-/// What all shares did together, with so many bytes left behind the last record.
-pub(crate) fn gather_all<C: FlowCache>(
-    cache: &C,
-    shares: Vec<Share<C>>,
-    tail: u64,
-) -> Result<Gathered<C>, NoMemory>
-    requires many { (0 < length shares.items) × (length shares.items ≤ 64) }
-    requires metered { (answers : List Answer) × HaveDone (IsShareOf C.FlowCache cache.now) answers shares.items }
-    ensures own { IfOk result (λ r. C.is_of cache.now r.pass × ((C.shown r.pass).note.seats ≡ length shares.items)) }
-    ensures metered { (answers : List Answer) → HaveDone (IsShareOf C.FlowCache cache.now) answers shares.items
-        → IfOk result (HasGathered C.FlowCache cache.now answers) }
-    ensures tail { IfOk result (λ r. r.tail ≡ tail) }
-{
-    let all = unite_all(cache, shares)?;
-    Ok(Gathered {
-        pass: all.pass,
-        parts: all.parts,
-        tally: all.tally,
-        tail,
-    })
 }
 
 /// Meters a capture that is in memory, as its first and only part, through a cache, by one worker for each of its

@@ -1,16 +1,20 @@
 -- A batch is put, or metered.
-use Rattle.std.proofs.Common.{List, length, refl, ap, ◌∙◌, subst, arith, length-append}
-use Rattle.std.specs.Prelude.{All}
-use Rattle.std.proofs.lemmas.List.Elements.{All-weaker}
-use Rattle.std.proofs.lemmas.List.Sorted.{length_permutation}
+use Rattle.std.proofs.Common.{◌≡◌, List, [], ◌∷◌, ◌++◌, length, refl, sym, ap, ◌∙◌, subst, arith, append_assoc}
+use Rattle.std.proofs.Common.{length-append}
+use Rattle.std.specs.Prelude.{IsPermutation}
+use Rattle.std.proofs.lemmas.List.Elements.{All-nil, All-cons, All-weaker}
+use Rattle.std.proofs.lemmas.List.Sorted.{IsPermutation-trans, IsPermutation-append_left, length_permutation}
 use Rattle.pcap_reader.specs.Index.{Offsets}
+use Rattle.cache_face.proofs.Keeping.{swapped}
 use Rattle.capture_input.specs.Parts.{Answer}
+use Rattle.work_pieces.proofs.Doing.{snoc}
 use Rattle.batch_queue.specs.declared.batch.Batch.{Batch}
 use Rattle.batch_queue.specs.Batches.{IsBefore}
 use Rattle.batch_queue.specs.Passes.{put_of, reader_of}
+use Rattle.batch_queue.proofs.Passing.{more-keeps, more-none}
 use Rattle.meter_workers.specs.Batched.{StandsBefore, answers_of_batch, answers_in}
 use Rattle.meter_workers.specs.Shares.{HasMetered}
-use Rattle.meter_workers.proofs.Crew.{batch-answers, handed-put, handed-own}
+use Rattle.meter_workers.proofs.Crew.{batch-answers, handed-more}
 use Rattle.meter_workers.proofs.batches.hand_over.Goals as goal
 
 pub overflow_add : goal.overflow_add
@@ -33,8 +37,19 @@ offer-requires-clause-behind g c κs within =
 
 pub returns-in-Ok-clause-handed : goal.returns-in-Ok-clause-handed
 returns-in-Ok-clause-handed g c = λ answers base handed.
-    handed-put g.C.FlowCache c.args.cache.now _ _ answers c.args.batch c.args.reader.now _ c.requires.next.0 base
-    c.requires.next.1 refl c.offer.ensures.own c.in-Ok.ensures.put refl handed
+    let batch = c.args.batch in
+    let more = answers_of_batch batch in
+    let old = reader_of c.args.reader.now.feed in
+    let new = reader_of c.offer.new.feed in
+    let put = answers_in (put_of old) in
+    let all : answers_in (put_of new) ≡ put ++ more =
+    ap answers_in (more-keeps old new (batch ∷ []) [] c.in-Ok.ensures.put).0 ∙ snoc answers_of_batch (put_of old) batch in
+    handed-more g.C.FlowCache c.args.cache.now _ _ answers handed.own batch (batch ∷ []) c.args.reader.now _
+    c.requires.next.0 base c.requires.next.1 refl c.offer.ensures.own c.in-Ok.ensures.put
+    (All-cons (λ b. b ≡ batch) batch [] refl (All-nil (λ b. b ≡ batch))) handed.is
+    (subst (λ l. IsPermutation (answers ++ more) (handed.own ++ l)) (sym all)
+    (subst (λ l. IsPermutation (answers ++ more) l) (append_assoc handed.own put more)
+    (IsPermutation-append_left more answers (handed.own ++ put) handed.all))) handed
 
 pub meter_run-requires-clause-share : goal.meter_run-requires-clause-share
 meter_run-requires-clause-share g c κs within = (let had = c.requires.handed.2 in (had.own, had.is))
@@ -45,8 +60,17 @@ meter_run-requires-clause-room g c κs within =
     let all = had.2.all in
     let long = length_permutation _ _ all in
     let both = length-append had.2.own (answers_in (put_of (reader_of c.args.reader.now.feed))) in
-    omega (arith, long, both, had.1, had.2.is.metered.tallied.captured, c.part-part.result.few, c.part-part.ensures.base,
-    ap (λ (b : Batch). b.base) c.in-Err.ensures.full.0, c.count.ensures)
+    omega (
+      arith,
+      long,
+      both,
+      had.1,
+      had.2.is.tallied.captured,
+      c.part-part.result.few,
+      c.part-part.ensures.base,
+      ap (λ (b : Batch). b.base) c.in-Err.ensures.full.0,
+      c.count.ensures,
+    )
 
 pub returns-in_ok-meter_run-in-Err-clause-handed : goal.returns-in_ok-meter_run-in-Err-clause-handed
 returns-in_ok-meter_run-in-Err-clause-handed g c = λ answers base handed.
@@ -54,7 +78,14 @@ returns-in_ok-meter_run-in-Err-clause-handed g c = λ answers base handed.
     let part = c.part-part.ensures in
     let own = batch-answers c.part-part.result c.count.result c.in-Err.back part.base part.file
     (c.count.ensures ∙ ap (λ (o : Offsets). length o.offsets) part.index) ∙ ap answers_of_batch full.0 in
-    handed-own g.C.FlowCache c.args.cache.now _ _ answers c.args.batch c.args.reader.now _ c.requires.next.0 base
-    c.requires.next.1 refl c.offer.ensures.own full.1
-    (subst (λ (l : List Answer). HasMetered g.C.FlowCache c.args.cache.now l c.args.reader.now.share
-    c.meter_run.new.share) own c.in_ok-meter_run-in-Err.ensures.share) handed
+    let step = subst (λ (l : List Answer). HasMetered g.C.FlowCache c.args.cache.now l c.args.reader.now.share
+    c.meter_run.new.share) own c.in_ok-meter_run-in-Err.ensures.share in
+    let more = answers_of_batch c.args.batch in
+    let old = reader_of c.args.reader.now.feed in
+    let put = answers_in (put_of old) in
+    handed-more g.C.FlowCache c.args.cache.now _ _ answers (handed.own ++ more) c.args.batch [] c.args.reader.now _
+    c.requires.next.0 base c.requires.next.1 refl c.offer.ensures.own (full.1 ∙ more-none old)
+    (All-nil (λ b. b ≡ c.args.batch)) (step.besides handed.own handed.is)
+    (subst (λ l. IsPermutation (answers ++ more) ((handed.own ++ more) ++ answers_in l)) (sym (λ i. (full.1 i).put))
+    (IsPermutation-trans _ ((handed.own ++ put) ++ more) _
+    (IsPermutation-append_left more answers (handed.own ++ put) handed.all) (swapped handed.own put more))) handed

@@ -36,7 +36,7 @@ run_workers-workers-requires-clause-ready g c κs within =
       is = s.2;
       draws = t.0;
       fresh = t.1;
-      few = (let le = s.1 in let base = had.1 in omega (arith, le, base, s.2.metered.tallied.captured));
+      few = (let le = s.1 in let base = had.1 in omega (arith, le, base, s.2.tallied.captured));
     }
 
 pub complete_all-requires-clause-ended : goal.complete_all-requires-clause-ended

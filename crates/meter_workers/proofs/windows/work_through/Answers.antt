@@ -24,7 +24,6 @@ loop-draw-init g c =
       share = subst (λ (l : List Answer). HasMetered g.C.FlowCache c.args.cache.now l share share)
           (sym (ap (pieces_of size (answers_by c.args.part.now)) fresh.3))
           (done-none (IsShareOf g.C.FlowCache c.args.cache.now) share);
-      few = omega arith;
       behind = behind-none size share.tally.captured (drawn_of c.args.draw.now);
     }
 
@@ -75,7 +74,6 @@ loop-draw-preserved g c =
           (ap (λ (l : List Answer). pieces_of size answers drawn ++ l) own
           ∙ sym (ap (pieces_of size answers) some.2 ∙ snoc (piece_of size answers) drawn n))
           (done-more (IsShareOf g.C.FlowCache c.args.cache.now) _ _ _ c.loop-draw.share _ c.loop-draw.invariant.share told.share);
-      few = omega (arith, told.captured, next, some.0, c.in-Some.ensures.within.2, c.requires.whole);
       behind = subst (λ l. IsBehind size c.args.share.now.tally.captured l c.meter_run.new.share.tally.captured)
           (sym some.2)
           (behind-more size c.args.share.now.tally.captured n c.loop-draw.share.tally.captured
