@@ -1,21 +1,15 @@
 -- What the reader and the workers have done.
-use Rattle.std.proofs.Common.{◌≡◌, ℕ, ◌+◌, ◌<◌, ◌≤◌, List, [], ◌∷◌, ◌++◌, Some, length, sym, ap, ◌∙◌, subst, arith}
-use Rattle.std.proofs.Common.{length-append}
-use Rattle.std.specs.Prelude.{All, IsPermutation, slice_range}
-use Rattle.std.proofs.lemmas.List.Elements.{All-append, All-pop, All-weaker}
-use Rattle.pcap_reader.specs.Views.{part_of, file_of}
-use Rattle.cache_face.specs.declared.caches.FlowCache.{Ghosts}
+use Rattle.meter_workers.proofs.Common.{◌≡◌, ℕ, ◌+◌, ◌<◌, ◌≤◌, List, [], ◌∷◌, ◌++◌, Some, length, sym, ap, ◌∙◌, subst}
+use Rattle.meter_workers.proofs.Common.{arith, length-append, All, IsPermutation, slice_range, All-append, All-pop}
+use Rattle.meter_workers.proofs.Common.{All-weaker, part_of, file_of, Ghosts, Answer, answers_from, answers_by}
+use Rattle.meter_workers.proofs.Common.{answers-count, Batch, IsBefore, IsPassOf, IsMore, put_of, reader_of, first-more}
+use Rattle.meter_workers.proofs.Common.{more-keeps, IsShareOf, answers_of_batch, answers_in, IsReadyFor, HasHandedOn}
+use Rattle.meter_workers.proofs.Common.{StandsBefore}
 use Rattle.capture_input.specs.declared.part.Part.{Part}
-use Rattle.capture_input.specs.Parts.{Answer, answers_from, answers_by}
-use Rattle.capture_input.proofs.Ranges.{answers-count, range-all}
-use Rattle.batch_queue.specs.declared.batch.Batch.{Batch}
+use Rattle.capture_input.proofs.Ranges.{range-all}
 use Rattle.batch_queue.specs.declared.queue.BatchQueue.{BatchQueue}
-use Rattle.batch_queue.specs.Batches.{count_of, IsBefore}
-use Rattle.batch_queue.specs.Passes.{IsPassOf, IsMore, put_of, reader_of}
-use Rattle.batch_queue.proofs.Passing.{first-more, more-keeps}
+use Rattle.batch_queue.specs.Batches.{count_of}
 use Rattle.meter_workers.specs.declared.batches.Reader.{Reader}
-use Rattle.meter_workers.specs.Shares.{IsShareOf}
-use Rattle.meter_workers.specs.Batched.{answers_of_batch, answers_in, IsReadyFor, HasHandedOn, StandsBefore}
 
 -- all answers to a batch
 pub batch-answers : (part : Part) (count : ℕ) (batch : Batch) → part.base ≡ batch.base

@@ -1,3 +1,4 @@
+pub mod Common
 pub mod Crew
 pub mod Shares
 pub mod Taken

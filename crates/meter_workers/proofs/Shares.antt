@@ -1,32 +1,28 @@
 -- What one share has metered, or several together.
-use Rattle.std.proofs.Common.{◌≡◌, ℕ, ◌+◌, ◌<◌, ◌≤◌, ◌^◌, List, [], ◌∷◌, ◌++◌, length, Some, None, sym, ap, ◌∙◌}
-use Rattle.std.proofs.Common.{subst, arith, append_assoc, append-nil, length-append, All}
-use Rattle.std.specs.Prelude.{Option, Result, Ok, Err, IfOk, OnOk, IsPermutation}
+use Rattle.meter_workers.proofs.Common.{◌≡◌, ℕ, ◌+◌, ◌<◌, ◌≤◌, ◌^◌, List, [], ◌∷◌, ◌++◌, length, Some, sym, ap, ◌∙◌}
+use Rattle.meter_workers.proofs.Common.{subst, arith, append_assoc, append-nil, length-append, All, IfOk, IsPermutation}
+use Rattle.meter_workers.proofs.Common.{IsPermutation-refl, IsPermutation-append_comm, packets_in, Fragment, SharesOut}
+use Rattle.meter_workers.proofs.Common.{IsTallyOf, Ghosts, open_in, Answer, Share, Gathered, IsShareOf, put_by}
+use Rattle.meter_workers.proofs.Common.{HasGathered}
+use Rattle.std.proofs.lemmas.List.Sorted.{All-permutation}
+use Rattle.meter_workers.proofs.Common.{All-nil, All-cons, All-append}
+use Rattle.std.proofs.Common.{None}
+use Rattle.std.specs.Prelude.{Option, Result, Ok, Err, OnOk}
 use Rattle.std.proofs.lemmas.List.Sums.{sum_by-append, sum_by-cons}
-use Rattle.std.proofs.lemmas.List.Sorted.{IsPermutation-refl, IsPermutation-append_comm}
 use Rattle.packet_accept.specs.declared.packet.Packet.{Packet}
 use Rattle.packet_accept.specs.declared.ignored.Ignored.{Ignored}
-use Rattle.packet_accept.specs.Packets.{packets_in}
 use Rattle.packet_accept.proofs.FileAnswers.{packets_together, packets_permuted}
-use Rattle.flow_parts.specs.declared.fragment.Fragment.{Fragment}
 use Rattle.flow_parts.specs.declared.timeouts.Timeouts.{Timeouts}
 use Rattle.flow_parts.specs.Laws.{StandsOpened, StandsReached, StandsTogether, StandsPermuted, CountsAll}
 use Rattle.flow_parts.specs.Parts.{IsAlone}
 use Rattle.flow_parts.specs.Reaching.{Reaches}
-use Rattle.flow_parts.specs.Sharing.{SharesOut}
 use Rattle.flow_parts.proofs.Reaching.{put_behind, itself, same_packets}
 use Rattle.capture_tally.specs.declared.tally.Tally.{Tally}
-use Rattle.capture_tally.specs.Tallies.{IsTallyOf}
 use Rattle.cache_face.specs.Keeping.{packet_count}
 use Rattle.cache_face.specs.Meaning.{IsUnited}
 use Rattle.cache_face.specs.Notes.{Note}
-use Rattle.cache_face.specs.declared.caches.FlowCache.{Ghosts}
-use Rattle.front_cache.specs.Fronts.{FrontMeans, open_in}
-use Rattle.capture_input.specs.Parts.{Answer}
-use Rattle.meter_workers.specs.declared.share.Share.{Share}
-use Rattle.meter_workers.specs.declared.together.Gathered.{Gathered}
-use Rattle.meter_workers.specs.Shares.{IsSeatOf, IsShareOf, HasLimits, open_of, put_by}
-use Rattle.meter_workers.specs.Whole.{HasGathered}
+use Rattle.front_cache.specs.Fronts.{FrontMeans}
+use Rattle.meter_workers.specs.Shares.{IsSeatOf, AreSmall, HasLimits, open_of}
 
 -- ---- what was put in
 
@@ -112,6 +108,10 @@ pub on-ok : {T E A : Type 0} (result : Result T E) → A → OnOk result A
 on-ok (Ok x) a = a
 on-ok (Err e) a = tt
 
+small-one : (answer : Answer) → IfOk answer (λ packet. packet.octets < 2 ^ 24) → AreSmall (packets_in (answer ∷ []))
+small-one (Ok packet) small = All-cons (λ p. p.octets < 2 ^ 24) packet [] small (All-nil (λ p. p.octets < 2 ^ 24))
+small-one (Err cause) small = All-nil (λ p. p.octets < 2 ^ 24)
+
 packets-few : (answers : List Answer) → length (packets_in answers) ≤ length answers
 packets-few [] = omega arith
 packets-few (Ok packet ∷ answers) = (let h = packets-few answers in omega (arith, h))
@@ -127,21 +127,25 @@ module _ {X P : Type 0} (the : Ghosts X P) (cache : X) where
       omega (arith, count, packets-few answers, metered.tallied.captured)
 
   -- one record more was tallied, and its packet put in where it has one
-  pub share-more : (answers : List Answer) (answer : Answer) (share share' : Share X P) → share.tally.captured < 2 ^ 32
+  pub share-more : (answers : List Answer) (answer : Answer) (share share' : Share X P)
+      → IfOk answer (λ packet. packet.octets < 2 ^ 24) → share.tally.captured < 2 ^ 32
       → ((earlier : List Answer) → IsTallyOf share.tally earlier → IsTallyOf share'.tally (earlier ++ answer ∷ []))
       → (share.parts ≡ (the.shown share.pass).note.handed → share'.parts ≡ (the.shown share'.pass).note.handed)
       → IsSeatOf the cache share'.pass share'.front
       → SharesOut (the.means cache).limits (packets_in answers ++ packets_in (answer ∷ []))
       (put_by (the.shown share'.pass) share'.front)
       → IsShareOf the cache answers share → IsShareOf the cache (answers ++ answer ∷ []) share'
-  share-more answers answer share share' room tallies keeps seated shared metered =
+  share-more answers answer share share' small room tallies keeps seated shared metered =
       let next = tallies answers metered.tallied in
+      let both = sym (packets_together answers (answer ∷ [])) in
       record {
         seated = seated;
         shared = subst (λ (l : List Packet). SharesOut (the.means cache).limits l
-            (put_by (the.shown share'.pass) share'.front)) (sym (packets_together answers (answer ∷ []))) shared;
+            (put_by (the.shown share'.pass) share'.front)) both shared;
         handed = keeps metered.handed;
         tallied = next;
+        small = subst AreSmall both (All-append (λ p. p.octets < 2 ^ 24) (packets_in answers)
+            (packets_in (answer ∷ [])) metered.small (small-one answer small));
         few = omega (arith, next.captured, metered.tallied.captured, length-append answers (answer ∷ []), room);
       }
 
@@ -153,18 +157,21 @@ module _ {X P : Type 0} (the : Ghosts X P) (cache : X) where
       → ((a b : List Answer) → IsTallyOf one.tally a → IsTallyOf other.tally b → IsTallyOf both.tally (a ++ b))
       → HasGathered the cache done one → HasGathered the cache rest other → HasGathered the cache (done ++ rest) both
   united done rest one other both stands is own parts joins first second =
+      let packets = sym (packets_together done rest) in
       let tallied = joins done rest first.tallied second.tallied in
       let seats = ap (λ (n : Note). n.seats) is.0 in
       record {
         own = own;
         some = (let some = first.some in omega (arith, seats, some));
         shared = subst (λ (l : List Packet). SharesOut (the.means cache).limits l (the.shown both.pass).note.taken)
-            (sym (packets_together done rest))
+            packets
             (subst (λ (l : List Fragment). SharesOut (the.means cache).limits (packets_in done ++ packets_in rest) l)
             (sym (ap (λ (n : Note). n.taken) is.0))
             (stands (the.means cache).limits (packets_in done) (packets_in rest) _ _ first.shared second.shared));
         parts = parts ∙ (λ i. first.parts i ++ second.parts i) ∙ sym (ap (λ (n : Note). n.handed) is.0);
         tallied = tallied;
+        small = subst AreSmall packets (All-append (λ p. p.octets < 2 ^ 24) (packets_in done) (packets_in rest)
+            first.small second.small);
         few = (let few = first.few in let few' = second.few in let long = length-append done rest in
             omega (arith, few, few', seats, tallied.captured, first.tallied.captured, second.tallied.captured, long));
       }
@@ -174,13 +181,15 @@ module _ {X P : Type 0} (the : Ghosts X P) (cache : X) where
       → ((t : Tally) (a b : List Answer) → IsPermutation a b → IsTallyOf t a → IsTallyOf t b)
       → IsPermutation answers others → HasGathered the cache answers all → HasGathered the cache others all
   permuted answers others all stands order perm gathered =
+      let packets = packets_permuted answers others perm in
       let put = (the.shown all.pass).note.taken in
       record {
         own = gathered.own;
         some = gathered.some;
         shared = stands (the.means cache).limits (packets_in answers) (packets_in others) put put
-            (packets_permuted answers others perm) (IsPermutation-refl put) gathered.shared;
+            packets (IsPermutation-refl put) gathered.shared;
         parts = gathered.parts;
         tallied = order all.tally answers others perm gathered.tallied;
+        small = All-permutation (λ p. p.octets < 2 ^ 24) (packets_in answers) (packets_in others) packets gathered.small;
         few = gathered.few;
       }

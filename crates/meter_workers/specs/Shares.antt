@@ -1,5 +1,6 @@
 -- What a share of the work has done; `the` is what the type of the cache means.
-use Rattle.std.specs.Prelude.{◌≡◌, ℕ, ◌≤◌, ◌^◌, List, [], ◌++◌, Option, Some, None}
+use Rattle.std.specs.Prelude.{◌≡◌, ℕ, ◌<◌, ◌≤◌, ◌^◌, List, [], ◌++◌, All, Option, Some, None}
+use Rattle.packet_accept.specs.declared.packet.Packet.{Packet}
 use Rattle.packet_accept.specs.Packets.{packets_in}
 use Rattle.flow_parts.specs.declared.fragment.Fragment.{Fragment}
 use Rattle.flow_parts.specs.declared.timeouts.Timeouts.{Timeouts}
@@ -26,6 +27,10 @@ HasLimits limits (Some front) = front.limits ≡ limits
 abbrev pub put_by : PassMeans → Option FrontMeans → List Fragment
 put_by pass front = pass.note.taken ++ open_of front
 
+-- Each packet has fewer than 2^24 octets.
+abbrev pub AreSmall : List Packet → Type 0
+AreSmall packets = All (λ p. p.octets < 2 ^ 24) packets
+
 -- A pass of one seat of the cache, and a front with its time-outs, or none.
 pub record IsSeatOf {X P : Type 0} (the : Ghosts X P) (cache : X) (pass : P) (front : Option FrontMeans) : Type 0 where
   pub own : the.is_of cache pass
@@ -40,6 +45,7 @@ pub record IsShareOf {X P : Type 0} (the : Ghosts X P) (cache : X) (answers : Li
   pub shared : SharesOut (the.means cache).limits (packets_in answers) (put_by (the.shown share.pass) share.front)
   pub handed : share.parts ≡ (the.shown share.pass).note.handed
   pub tallied : IsTallyOf share.tally answers
+  pub small : AreSmall (packets_in answers)
   pub few : share.tally.captured ≤ 2 ^ 32
 
 -- The share metered these answers besides, whatever it had metered before.

@@ -11,6 +11,7 @@ use Rattle.capture_tally.specs.declared.tally.Tally.{Tally}
 use Rattle.capture_tally.specs.Tallies.{IsTallyOf}
 use Rattle.cache_face.specs.declared.caches.FlowCache.{Ghosts}
 use Rattle.capture_input.specs.Parts.{Answer}
+use Rattle.meter_workers.specs.Shares.{AreSmall}
 use Rattle.meter_workers.specs.declared.together.Gathered.{Gathered}
 
 -- The seats together metered these answers: what was put into the cache shares out their packets, the list is just what
@@ -22,6 +23,7 @@ pub record HasGathered {X P : Type 0} (the : Ghosts X P) (cache : X) (answers : 
   pub shared : SharesOut (the.means cache).limits (packets_in answers) (the.shown all.pass).note.taken
   pub parts : all.parts ≡ (the.shown all.pass).note.handed
   pub tallied : IsTallyOf all.tally answers
+  pub small : AreSmall (packets_in answers)
   pub few : all.tally.captured ≤ (the.shown all.pass).note.seats * 2 ^ 32
 
 -- The source gave an undamaged capture and has nothing left. What was put into the cache shares out its packets by these

@@ -1,25 +1,20 @@
 -- Who has metered what, once all have worked.
-use Rattle.std.proofs.Common.{◌≡◌, ◌+◌, List, [], ◌∷◌, ◌++◌, length, sym, ap, ◌∙◌, subst, arith, append_assoc}
-use Rattle.std.specs.Prelude.{All, IfOk, IsPermutation, flat_map}
+use Rattle.meter_workers.proofs.Common.{◌≡◌, ◌+◌, List, [], ◌∷◌, ◌++◌, length, sym, ap, ◌∙◌, subst, arith, append_assoc}
+use Rattle.meter_workers.proofs.Common.{All, IfOk, IsPermutation, IsPermutation-trans, IsPermutation-append_comm}
+use Rattle.meter_workers.proofs.Common.{IsPermutation-append_left, Answer, HaveDone, QueuePass, put_of, took_of}
+use Rattle.meter_workers.proofs.Common.{reader_of, Worker, HasHandedOn, answers_of_batch, answers_in, IsShareOf}
+use Rattle.std.specs.Prelude.{flat_map}
 use Rattle.std.proofs.lemmas.Grind.{flat_map-append}
 use Rattle.std.proofs.lemmas.List.{length-map, length-append}
 use Rattle.std.proofs.lemmas.List.Elements.{All-map}
 use Rattle.std.proofs.lemmas.List.Folds.{flat_map-map}
-use Rattle.std.proofs.lemmas.List.Sorted.{IsPermutation-trans, IsPermutation-append_comm}
-use Rattle.std.proofs.lemmas.List.Sorted.{IsPermutation-append_left, IsPermutation-append_right}
+use Rattle.std.proofs.lemmas.List.Sorted.{IsPermutation-append_right}
 use Rattle.packet_accept.proofs.Permuted.{flat_map-permutation}
-use Rattle.capture_input.specs.Parts.{Answer}
-use Rattle.work_pieces.specs.Doing.{HaveDone}
 use Rattle.work_pieces.proofs.Doing.{flat-flat, one-more, told-each, reordered}
-use Rattle.batch_queue.specs.declared.queue.QueuePass.{QueuePass}
-use Rattle.batch_queue.specs.Passes.{put_of, took_of, reader_of}
 use Rattle.batch_queue.specs.Uniting.{IsFirst, IsForAll, IsOther}
 use Rattle.batch_queue.proofs.Passing.{all-taken}
-use Rattle.meter_workers.specs.declared.worker.Worker.{Worker}
-use Rattle.meter_workers.specs.Batched.{HasHandedOn, answers_of_batch, answers_in}
-use Rattle.meter_workers.specs.Shares.{IsShareOf}
-use Rattle.meter_workers.proofs.batches.gather.Given as given
 use Rattle.meter_workers.proofs.batches.gather.Goals.{In_ok-push-2}
+use Rattle.meter_workers.proofs.batches.gather.Given as given
 use Rattle.meter_workers.proofs.batches.gather.Goals as goal
 
 pub unseat_workers-requires-clause-ended : goal.unseat_workers-requires-clause-ended

@@ -1,19 +1,11 @@
 -- A batch is put, or metered.
-use Rattle.std.proofs.Common.{◌≡◌, List, [], ◌∷◌, ◌++◌, length, refl, sym, ap, ◌∙◌, subst, arith, append_assoc}
-use Rattle.std.proofs.Common.{length-append}
-use Rattle.std.specs.Prelude.{IsPermutation}
-use Rattle.std.proofs.lemmas.List.Elements.{All-nil, All-cons, All-weaker}
-use Rattle.std.proofs.lemmas.List.Sorted.{IsPermutation-trans, IsPermutation-append_left, length_permutation}
-use Rattle.pcap_reader.specs.Index.{Offsets}
+use Rattle.meter_workers.proofs.Common.{◌≡◌, List, [], ◌∷◌, ◌++◌, length, refl, sym, ap, ◌∙◌, subst, arith}
+use Rattle.meter_workers.proofs.Common.{append_assoc, length-append, IsPermutation, All-nil, All-cons, All-weaker}
+use Rattle.meter_workers.proofs.Common.{IsPermutation-trans, IsPermutation-append_left, Offsets, Answer, snoc, Batch}
+use Rattle.meter_workers.proofs.Common.{IsBefore, put_of, reader_of, more-keeps, more-none, StandsBefore}
+use Rattle.meter_workers.proofs.Common.{answers_of_batch, answers_in, HasMetered}
+use Rattle.std.proofs.lemmas.List.Sorted.{length_permutation}
 use Rattle.cache_face.proofs.Keeping.{swapped}
-use Rattle.capture_input.specs.Parts.{Answer}
-use Rattle.work_pieces.proofs.Doing.{snoc}
-use Rattle.batch_queue.specs.declared.batch.Batch.{Batch}
-use Rattle.batch_queue.specs.Batches.{IsBefore}
-use Rattle.batch_queue.specs.Passes.{put_of, reader_of}
-use Rattle.batch_queue.proofs.Passing.{more-keeps, more-none}
-use Rattle.meter_workers.specs.Batched.{StandsBefore, answers_of_batch, answers_in}
-use Rattle.meter_workers.specs.Shares.{HasMetered}
 use Rattle.meter_workers.proofs.Crew.{batch-answers, handed-more}
 use Rattle.meter_workers.proofs.batches.hand_over.Goals as goal
 

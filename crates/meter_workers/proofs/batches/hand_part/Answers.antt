@@ -1,10 +1,6 @@
-use Rattle.std.proofs.Common.{◌≡◌, ◌++◌, List, [], length, refl, sym, ap, ◌∙◌, subst, append-nil, arith}
+use Rattle.meter_workers.proofs.Common.{◌≡◌, ◌++◌, List, [], length, refl, sym, ap, ◌∙◌, subst, append-nil, arith}
+use Rattle.meter_workers.proofs.Common.{part_of, Answer, answers_from, base_in, part_in, answers-count, HasHandedOn}
 use Rattle.std.proofs.lemmas.List.{nil_from_length}
-use Rattle.pcap_reader.specs.Views.{part_of}
-use Rattle.capture_input.specs.Parts.{Answer, answers_from}
-use Rattle.capture_input.specs.Giving.{base_in, part_in}
-use Rattle.capture_input.proofs.Ranges.{answers-count}
-use Rattle.meter_workers.specs.Batched.{HasHandedOn}
 use Rattle.meter_workers.proofs.batches.hand_part.Goals as goal
 
 pub returns-then-count-eq0-clause-handed : goal.returns-then-count-eq0-clause-handed

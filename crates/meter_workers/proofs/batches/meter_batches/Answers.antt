@@ -1,8 +1,6 @@
 -- What the reader has read is what all have metered.
-use Rattle.std.proofs.Common.{◌∙◌, sym, arith}
+use Rattle.meter_workers.proofs.Common.{◌∙◌, sym, arith, same, side}
 use Rattle.std.proofs.lemmas.Result.{IfOk-at_ok}
-use Rattle.cache_face.proofs.Apart.{same}
-use Rattle.meter_io.specs.Sides.{side}
 use Rattle.meter_workers.proofs.Whole.{metered-whole}
 use Rattle.meter_workers.proofs.batches.meter_batches.Goals as goal
 

@@ -1,15 +1,10 @@
 -- Who has which share.
-use Rattle.std.proofs.Common.{◌≡◌, ◌<◌, List, [], ◌++◌, length, take, drop, sym, subst, arith}
-use Rattle.std.specs.Prelude.{All, IsPermutation}
-use Rattle.std.proofs.lemmas.List.Sorted.{IsPermutation-refl}
-use Rattle.std.proofs.lemmas.List.Elements.{All-nil, All-append, All-drop, All-same, All-take}
-use Rattle.batch_queue.specs.declared.queue.QueuePass.{QueuePass}
-use Rattle.batch_queue.specs.Passes.{IsPassOf, IsReaders, IsFresh, others_of}
-use Rattle.meter_workers.specs.declared.share.Share.{Share}
-use Rattle.meter_workers.specs.declared.worker.Worker.{Worker}
-use Rattle.meter_workers.specs.Shares.{IsShareOf}
-use Rattle.meter_workers.specs.Batched.{StandsBefore, answers_in}
-use Rattle.work_pieces.proofs.Doing.{all-mapped}
+use Rattle.meter_workers.proofs.Common.{◌≡◌, ◌<◌, List, [], ◌++◌, length, sym, subst, arith, All, IsPermutation}
+use Rattle.meter_workers.proofs.Common.{IsPermutation-refl, All-nil, All-append, All-same, QueuePass, IsPassOf, Share}
+use Rattle.meter_workers.proofs.Common.{Worker, IsShareOf, StandsBefore, answers_in, all-mapped}
+use Rattle.std.proofs.Common.{take, drop}
+use Rattle.std.proofs.lemmas.List.Elements.{All-drop, All-take}
+use Rattle.batch_queue.specs.Passes.{IsReaders, IsFresh, others_of}
 use Rattle.meter_workers.proofs.batches.open_crew.Goals as goal
 
 behind-first : {X : Type 0} (P : X → Type 0) (xs ys : List X) → All P xs → ys ≡ take 0 xs ++ drop 1 xs → All P ys

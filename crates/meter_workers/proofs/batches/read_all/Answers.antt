@@ -1,10 +1,6 @@
 -- A part after the other is handed on.
-use Rattle.std.proofs.Common.{◌++◌, ℕ, [], sym, ◌∙◌, subst, arith}
-use Rattle.std.proofs.lemmas.Result.{err_from_is_err_and}
-use Rattle.capture_input.specs.Refusals.{IsRefused}
-use Rattle.capture_input.specs.Parts.{answers_from}
-use Rattle.capture_input.specs.Giving.{HasGiven, part_in}
-use Rattle.capture_input.proofs.Filling.{seen}
+use Rattle.meter_workers.proofs.Common.{◌++◌, ℕ, [], sym, ◌∙◌, subst, arith, err_from_is_err_and, IsRefused}
+use Rattle.meter_workers.proofs.Common.{answers_from, HasGiven, part_in, seen}
 use Rattle.meter_workers.proofs.batches.read_all.Goals as goal
 
 pub loop-read-init : goal.loop-read-init

@@ -1,9 +1,8 @@
 -- The records of the parts so far were handed on, and the part that was read last comes next.
-use Rattle.std.proofs.Common.{◌≡◌, ◌<◌, ◌+◌, ◌^◌, ◌++◌, List, length}
-use Rattle.pcap_reader.specs.Index.{IsIndexOf}
-use Rattle.capture_input.specs.Parts.{Answer, answers_from}
-use Rattle.capture_input.specs.Giving.{HasGiven, part_in, base_in, size_in, left_in}
-use Rattle.meter_workers.specs.Batched.{HasHandedOn, IsAtQueue}
+use Rattle.meter_workers.proofs.Common.{◌≡◌, ◌<◌, ◌+◌, ◌^◌, ◌++◌, List, length, IsIndexOf, Answer, answers_from}
+use Rattle.meter_workers.proofs.Common.{HasGiven, part_in, base_in, left_in, HasHandedOn}
+use Rattle.capture_input.specs.Giving.{size_in}
+use Rattle.meter_workers.specs.Batched.{IsAtQueue}
 use Rattle.meter_workers.proofs.batches.read_all.Given as goal
 
 abbrev pub invariant-loop-read : goal.invariant-loop-read

@@ -1,10 +1,6 @@
 -- What the reader has read stays once it has said that no more batches come.
-use Rattle.std.proofs.Common.{◌≡◌, ◌++◌, [], length, sym, ◌∙◌, subst}
-use Rattle.std.specs.Prelude.{All, IsPermutation}
-use Rattle.std.proofs.lemmas.Result.{IfOk-weaker}
-use Rattle.batch_queue.specs.Passes.{put_of, reader_of}
-use Rattle.batch_queue.proofs.Passing.{first-more, more-none}
-use Rattle.meter_workers.specs.Batched.{StandsBefore, answers_in}
+use Rattle.meter_workers.proofs.Common.{◌≡◌, ◌++◌, [], length, sym, ◌∙◌, subst, All, IsPermutation, IfOk-weaker, put_of}
+use Rattle.meter_workers.proofs.Common.{reader_of, first-more, more-none, StandsBefore, answers_in}
 use Rattle.meter_workers.proofs.batches.read_and_end.Goals as goal
 
 pub returns-clause-read : goal.returns-clause-read

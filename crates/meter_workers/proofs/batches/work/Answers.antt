@@ -1,8 +1,5 @@
-use Rattle.std.proofs.Common.{[], ◌++◌, ◌∙◌, sym, ap, subst, arith, append-nil}
-use Rattle.batch_queue.specs.Passes.{put_of}
-use Rattle.batch_queue.proofs.Passing.{more-keeps}
-use Rattle.meter_workers.specs.Shares.{IsShareOf}
-use Rattle.meter_workers.specs.Batched.{answers_in}
+use Rattle.meter_workers.proofs.Common.{[], ◌++◌, ◌∙◌, sym, ap, subst, arith, append-nil, put_of, more-keeps, IsShareOf}
+use Rattle.meter_workers.proofs.Common.{answers_in}
 use Rattle.meter_workers.proofs.batches.work.Goals.{in-Ok, in-Err}
 use Rattle.meter_workers.proofs.batches.work.Goals as goal
 

@@ -1,16 +1,9 @@
-use Rattle.std.proofs.Common.{◌≡◌, ◌++◌, ◌∷◌, List, [], length, sym, ap, subst, ◌∙◌, arith}
-use Rattle.std.specs.Prelude.{All}
-use Rattle.pcap_reader.specs.Index.{Offsets}
-use Rattle.capture_input.specs.Parts.{Answer}
-use Rattle.batch_queue.specs.declared.batch.Batch.{Batch}
-use Rattle.batch_queue.specs.Batches.{IsBefore}
+use Rattle.meter_workers.proofs.Common.{◌≡◌, ◌++◌, ◌∷◌, List, [], length, sym, ap, subst, ◌∙◌, arith, All, Offsets}
+use Rattle.meter_workers.proofs.Common.{Answer, Batch, IsBefore, IsMore, took_of, more-none, more-keeps, HasMetered}
+use Rattle.meter_workers.proofs.Common.{IsShareOf, answers_of_batch, answers_in, IsReadyFor, snoc, done-none, done-more}
 use Rattle.batch_queue.specs.Queueing.{more_of}
-use Rattle.batch_queue.specs.Passes.{IsMore, took_of}
-use Rattle.batch_queue.proofs.Passing.{more-none, more-both, more-keeps}
-use Rattle.meter_workers.specs.Shares.{HasMetered, IsShareOf}
-use Rattle.meter_workers.specs.Batched.{answers_of_batch, answers_in, IsReadyFor}
+use Rattle.batch_queue.proofs.Passing.{more-both}
 use Rattle.meter_workers.proofs.Crew.{batch-answers, ready-more}
-use Rattle.work_pieces.proofs.Doing.{snoc, done-none, done-more}
 use Rattle.meter_workers.proofs.batches.work_batches.Goals as goal
 
 pub loop-init : goal.loop-init

@@ -1,6 +1,4 @@
-use Rattle.std.proofs.Common.{◌≡◌, ◌++◌, length}
-use Rattle.front_cache.specs.Fronts.{open_in}
-use Rattle.meter_workers.specs.Shares.{put_by}
+use Rattle.meter_workers.proofs.Common.{◌≡◌, ◌++◌, length, open_in, put_by}
 use Rattle.meter_workers.proofs.share.empty_front.Given as goal
 
 abbrev pub invariant-loop-out : goal.invariant-loop-out

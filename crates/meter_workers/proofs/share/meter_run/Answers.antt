@@ -1,9 +1,6 @@
-use Rattle.std.proofs.Common.{◌≡◌, ◌+◌, List, refl, sym, subst, arith}
-use Rattle.std.specs.Prelude.{slice_range}
-use Rattle.capture_input.specs.Parts.{Answer, answers_by}
+use Rattle.meter_workers.proofs.Common.{◌≡◌, ◌+◌, List, refl, sym, subst, arith, slice_range, Answer, answers_by}
+use Rattle.meter_workers.proofs.Common.{done-none, done-more, HasMetered, IsShareOf}
 use Rattle.capture_input.proofs.Ranges.{range-none, range-both}
-use Rattle.work_pieces.proofs.Doing.{done-none, done-more}
-use Rattle.meter_workers.specs.Shares.{HasMetered, IsShareOf}
 use Rattle.meter_workers.proofs.share.meter_run.Goals as goal
 
 pub loop-n-init : goal.loop-n-init

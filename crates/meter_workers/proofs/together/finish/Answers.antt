@@ -1,7 +1,4 @@
-use Rattle.std.proofs.Common.{List, sym, subst, arith}
-use Rattle.packet_accept.specs.Packets.{packets_in}
-use Rattle.flow_parts.specs.declared.fragment.Fragment.{Fragment}
-use Rattle.flow_parts.specs.Sharing.{SharesOut}
+use Rattle.meter_workers.proofs.Common.{List, sym, subst, arith, packets_in, Fragment, SharesOut}
 use Rattle.meter_workers.proofs.Shares.{put-few}
 use Rattle.meter_workers.proofs.together.finish.Goals as goal
 
@@ -21,5 +18,6 @@ returns-clause-gathered g c = λ done has.
           (sym told.taken) has.shared;
       parts = told.handed has.handed;
       tallied = has.tallied;
+      small = has.small;
       few = (let few = has.few in omega (arith, few, told.single));
     }

@@ -1,14 +1,11 @@
-use Rattle.std.proofs.Common.{◌≡◌, ◌+◌, ◌++◌, ◌∷◌, List, [], length, length-append, ap, ◌∙◌, rules, arith}
-use Rattle.std.specs.Prelude.{IsPermutation}
-use Rattle.std.proofs.lemmas.List.Sorted.{IsPermutation-trans, IsPermutation-sym, IsPermutation-append_left}
-use Rattle.capture_input.specs.Parts.{Answer}
-use Rattle.work_pieces.specs.Doing.{HaveDone}
+use Rattle.meter_workers.proofs.Common.{◌≡◌, ◌+◌, ◌++◌, ◌∷◌, List, [], length, length-append, ap, ◌∙◌, rules, arith}
+use Rattle.meter_workers.proofs.Common.{IsPermutation, IsPermutation-trans, IsPermutation-append_left, Answer, HaveDone}
+use Rattle.meter_workers.proofs.Common.{IsShareOf, HasGathered}
+use Rattle.std.proofs.lemmas.List.Sorted.{IsPermutation-sym}
 use Rattle.work_pieces.proofs.Doing.{popped, none-left, moved-back}
-use Rattle.meter_workers.specs.Shares.{IsShareOf}
-use Rattle.meter_workers.specs.Whole.{HasGathered}
 use Rattle.meter_workers.proofs.Shares.{permuted}
-use Rattle.meter_workers.proofs.together.gather_all.Given as given
 use Rattle.meter_workers.proofs.together.gather_all.Goals.{In_ok-one}
+use Rattle.meter_workers.proofs.together.gather_all.Given as given
 use Rattle.meter_workers.proofs.together.gather_all.Goals as goal
 
 pub finish-requires-clause-share : goal.finish-requires-clause-share

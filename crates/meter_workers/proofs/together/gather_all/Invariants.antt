@@ -1,9 +1,5 @@
-use Rattle.std.proofs.Common.{◌≡◌, ◌+◌, ◌++◌, List, length, vec_len}
-use Rattle.std.specs.Prelude.{IsPermutation}
-use Rattle.capture_input.specs.Parts.{Answer}
-use Rattle.work_pieces.specs.Doing.{HaveDone}
-use Rattle.meter_workers.specs.Shares.{IsShareOf}
-use Rattle.meter_workers.specs.Whole.{HasGathered}
+use Rattle.meter_workers.proofs.Common.{◌≡◌, ◌+◌, ◌++◌, List, length, vec_len, IsPermutation, Answer, HaveDone}
+use Rattle.meter_workers.proofs.Common.{IsShareOf, HasGathered}
 use Rattle.meter_workers.proofs.together.gather_all.Given as goal
 
 abbrev pub invariant-loop-share : goal.invariant-loop-share

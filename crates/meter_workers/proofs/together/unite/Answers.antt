@@ -1,4 +1,4 @@
-use Rattle.std.proofs.Common.{◌≡◌, ◌++◌, rules}
+use Rattle.meter_workers.proofs.Common.{◌≡◌, ◌++◌, rules}
 use Rattle.meter_workers.proofs.Shares.{united}
 use Rattle.meter_workers.proofs.together.unite.Goals as goal
 

@@ -1,9 +1,5 @@
-use Rattle.std.proofs.Common.{◌≤◌, List, [], length, arith}
-use Rattle.std.specs.Prelude.{IfOk}
-use Rattle.std.proofs.lemmas.Result.{IfOk-weaker}
-use Rattle.capture_input.specs.Parts.{Answer, answers_by}
-use Rattle.meter_workers.specs.Whole.{HasGathered}
-use Rattle.work_pieces.proofs.Doing.{nothing-done}
+use Rattle.meter_workers.proofs.Common.{◌≤◌, List, [], length, arith, IfOk, IfOk-weaker, Answer, answers_by}
+use Rattle.meter_workers.proofs.Common.{HasGathered, nothing-done}
 use Rattle.meter_workers.proofs.windows.meter_all.Given as given
 use Rattle.meter_workers.proofs.windows.meter_all.Goals as goal
 

@@ -1,16 +1,9 @@
-use Rattle.std.proofs.Common.{◌≡◌, ℕ, ◌≤◌, ◌*◌, ◌∙◌, List, sym, subst, length, arith}
-use Rattle.std.specs.Prelude.{All}
-use Rattle.pcap_reader.specs.Views.{file_of}
-use Rattle.work_pieces.specs.declared.pieces.DrawPass.{DrawPass}
+use Rattle.meter_workers.proofs.Common.{◌≡◌, ℕ, ◌≤◌, ◌*◌, ◌∙◌, List, sym, subst, length, arith, All, file_of, DrawPass}
+use Rattle.meter_workers.proofs.Common.{Answer, answers_by, answers-count, Share, Worker, Finished, IsShareOf}
+use Rattle.meter_workers.proofs.Common.{all-mapped}
 use Rattle.work_pieces.specs.Passes.{IsPassOf, IsFresh}
 use Rattle.work_pieces.proofs.Cutting.{enough}
-use Rattle.capture_input.specs.Parts.{Answer, answers_by}
-use Rattle.capture_input.proofs.Ranges.{answers-count}
-use Rattle.meter_workers.specs.declared.share.Share.{Share}
-use Rattle.meter_workers.specs.declared.worker.Worker.{Worker}
-use Rattle.meter_workers.specs.declared.worker.WorkState.TheVariants.{Finished}
-use Rattle.meter_workers.specs.Shares.{IsShareOf}
-use Rattle.work_pieces.proofs.Doing.{DidSome, each-done, all-mapped, still-many}
+use Rattle.work_pieces.proofs.Doing.{DidSome, each-done, still-many}
 use Rattle.work_pieces.proofs.Working.{all-drawn, all-done}
 use Rattle.meter_workers.proofs.windows.meter_part.Given as given
 use Rattle.meter_workers.proofs.windows.meter_part.Goals as goal

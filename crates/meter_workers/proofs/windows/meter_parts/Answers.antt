@@ -1,14 +1,8 @@
-use Rattle.std.proofs.Common.{◌≡◌, ◌+◌, ◌++◌, ◌≤◌, ◌∙◌, ℕ, List, [], length, refl, sym, subst, arith}
-use Rattle.std.proofs.lemmas.Result.{err_from_is_err_and}
-use Rattle.capture_input.specs.Parts.{Answer, answers_from, answers_by}
-use Rattle.capture_input.specs.Giving.{HasGiven, part_in, base_in}
-use Rattle.capture_input.specs.Refusals.{IsRefused}
-use Rattle.capture_input.proofs.Filling.{seen}
-use Rattle.work_pieces.specs.Doing.{HaveDone}
-use Rattle.work_pieces.proofs.Doing.{nothing-done}
-use Rattle.meter_workers.specs.Shares.{IsShareOf}
-use Rattle.meter_workers.proofs.windows.meter_parts.Given as given
+use Rattle.meter_workers.proofs.Common.{◌≡◌, ◌+◌, ◌++◌, ◌≤◌, ◌∙◌, ℕ, List, [], length, refl, sym, subst, arith}
+use Rattle.meter_workers.proofs.Common.{err_from_is_err_and, Answer, answers_from, answers_by, HasGiven, part_in}
+use Rattle.meter_workers.proofs.Common.{base_in, IsRefused, seen, HaveDone, nothing-done, IsShareOf}
 use Rattle.meter_workers.proofs.windows.meter_parts.Goals.{In-Ok}
+use Rattle.meter_workers.proofs.windows.meter_parts.Given as given
 use Rattle.meter_workers.proofs.windows.meter_parts.Goals as goal
 
 pub loop-shares-init : goal.loop-shares-init

@@ -1,10 +1,6 @@
 -- What was read so far was metered, and the part that was read last comes behind it.
-use Rattle.std.proofs.Common.{◌≡◌, ◌+◌, ◌<◌, ◌^◌, ◌++◌, List, length}
-use Rattle.pcap_reader.specs.Index.{IsIndexOf}
-use Rattle.capture_input.specs.Parts.{Answer, answers_from}
-use Rattle.capture_input.specs.Giving.{HasGiven, part_in, base_in, left_in}
-use Rattle.work_pieces.specs.Doing.{HaveDone}
-use Rattle.meter_workers.specs.Shares.{IsShareOf}
+use Rattle.meter_workers.proofs.Common.{◌≡◌, ◌+◌, ◌<◌, ◌^◌, ◌++◌, List, length, IsIndexOf, Answer, answers_from}
+use Rattle.meter_workers.proofs.Common.{HasGiven, part_in, base_in, left_in, HaveDone, IsShareOf}
 use Rattle.meter_workers.proofs.windows.meter_parts.Given as goal
 
 abbrev pub invariant-loop-shares : goal.invariant-loop-shares

@@ -1,9 +1,7 @@
-use Rattle.std.proofs.Common.{◌≡◌, get_or, rules, refl, List, length, sym, subst}
+use Rattle.meter_workers.proofs.Common.{◌≡◌, rules, refl, List, length, sym, subst, DrawPass, answers_by, Worker}
+use Rattle.std.proofs.Common.{get_or}
 use Rattle.std.specs.List.{AllZip}
-use Rattle.work_pieces.specs.declared.pieces.DrawPass.{DrawPass}
 use Rattle.work_pieces.proofs.Doing.{all-zip, taken-back}
-use Rattle.capture_input.specs.Parts.{answers_by}
-use Rattle.meter_workers.specs.declared.worker.Worker.{Worker}
 use Rattle.meter_workers.specs.Working.{HasDrawnAll}
 use Rattle.meter_workers.proofs.windows.run_workers.Goals as goal
 

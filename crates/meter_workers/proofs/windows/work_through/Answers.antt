@@ -1,16 +1,12 @@
-use Rattle.std.proofs.Common.{◌≡◌, ◌+◌, ◌*◌, ◌≤◌, ◌++◌, List, length, min, sym, ap, ◌∙◌, subst, arith}
-use Rattle.std.specs.Prelude.{slice_range}
-use Rattle.pcap_reader.specs.Views.{file_of}
-use Rattle.work_pieces.specs.Passes.{size_of, drawn_of}
+use Rattle.meter_workers.proofs.Common.{◌≡◌, ◌+◌, ◌*◌, ◌≤◌, ◌++◌, List, length, sym, ap, ◌∙◌, subst, arith, slice_range}
+use Rattle.meter_workers.proofs.Common.{file_of, size_of, drawn_of, Answer, answers_by, answers-count, pieces_of}
+use Rattle.meter_workers.proofs.Common.{HasMetered, IsShareOf, done-none, done-more, IsBehind}
+use Rattle.std.proofs.Common.{min}
 use Rattle.cache_face.proofs.Apart.{snoc}
-use Rattle.capture_input.specs.Parts.{Answer, answers_by}
-use Rattle.capture_input.proofs.Ranges.{answers-count}
-use Rattle.work_pieces.specs.Cutting.{piece_of, pieces_of}
-use Rattle.meter_workers.specs.Shares.{HasMetered, IsShareOf}
-use Rattle.work_pieces.proofs.Doing.{done-none, done-more}
-use Rattle.work_pieces.proofs.Cutting.{IsBehind, behind-none, behind-next, behind-more}
-use Rattle.meter_workers.proofs.windows.work_through.Given as given
+use Rattle.work_pieces.specs.Cutting.{piece_of}
+use Rattle.work_pieces.proofs.Cutting.{behind-none, behind-next, behind-more}
 use Rattle.meter_workers.proofs.windows.work_through.Goals.{In-Some}
+use Rattle.meter_workers.proofs.windows.work_through.Given as given
 use Rattle.meter_workers.proofs.windows.work_through.Goals as goal
 
 pub loop-draw-init : goal.loop-draw-init
