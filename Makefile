@@ -14,8 +14,8 @@ crate = $(subst -,_,$(1))
 
 help:
 	@echo "make demo                 meter a sample capture and show its records: the program as it is before any proof,"
-	@echo "                          in a minute or so, or the proved one where it is built"
-	@echo "make build                prove and build the programs, bin/romtyalig and those beside it"
+	@echo "                          in a minute or two, or the proved one where it is built"
+	@echo "make build                prove and build the programs, bin/romtyalig and those beside it; goes on where it was stopped"
 	@echo "make test                 the gate: prove every crate from nothing, run all tests, then the checks of checks/"
 	@echo "make check                compare the program with other readers and meters (checks/)"
 	@echo "make edits                try all edits that the checker must refuse, those that the gate leaves out too (hours)"
@@ -29,8 +29,8 @@ build: $(PROGRAMS:%=bin/%)
 
 # The libraries below the programs, with a line for each.
 bin/.libraries: crates.txt $(SOURCES)
-	@echo "Proving what the programs stand on: by estimate a quarter to half an hour on four processors where nothing is proved yet," \
-	    "else the time of what changed."
+	@echo "Proving what the programs stand on: by estimate a quarter to half an hour on four processors with nothing else to do," \
+	    "where nothing is proved yet; else the time of what changed."
 	@tools/prove.sh $(call crate,$(PROGRAMS))
 	@mkdir -p bin
 	@touch $@

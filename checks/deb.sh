@@ -38,6 +38,10 @@ row() {
     fi
 }
 
+# One time for both builds, also outside a clone, or where something is committed meanwhile.
+: "${SOURCE_DATE_EPOCH:=$(git -C "$top" log -1 --format=%ct 2>/dev/null || date +%s)}"
+export SOURCE_DATE_EPOCH
+
 built() { package=$("$top/packaging/deb.sh" "$work/once") && dpkg-deb -x "$package" "$work/root" && [ -s "$package" ]; }
 again() { cmp "$("$top/packaging/deb.sh" "$work/twice")" "$package"; }
 sample() {

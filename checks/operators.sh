@@ -52,6 +52,34 @@ for _ in range(4):
     place += 16 + struct.unpack_from('<L', capture, place + 8)[0]
 open('first.pcap', 'wb').write(capture[:place])
 open('second.pcap', 'wb').write(capture[:24] + capture[place:])
+
+# The capture with a tag of type 0x9100 in every second frame.
+with open('old-tags.pcap', 'wb') as out:
+    out.write(capture[:24])
+    place, tagged = 24, False
+    while place < len(capture):
+        seconds, fraction, held, length = struct.unpack_from('<4L', capture, place)
+        frame = capture[place + 16:place + 16 + held]
+        if tagged:
+            frame, length = frame[:12] + bytes.fromhex('91000005') + frame[12:], length + 4
+        out.write(struct.pack('<4L', seconds, fraction, len(frame), length) + frame)
+        place, tagged = place + 16 + held, not tagged
+
+
+# An IPv4 packet, its addresses by their last octet.
+def packet(protocol, source, target, payload):
+    addresses = bytes((10, 0, 0, source, 10, 0, 0, target))
+    return struct.pack('>BBHHHBBH', 0x45, 0, 20 + len(payload), 0, 0, 64, protocol, 0) + addresses + payload
+
+
+# Two echo requests, a reply, and a port unreachable that quotes a datagram.
+datagram = packet(17, 1, 2, bytes.fromhex('0005000600080000'))
+kinds = [(1, 2, '0800', b''), (2, 1, '0000', b''), (1, 2, '0800', b''), (2, 1, '0303', datagram)]
+with open('icmp.pcap', 'wb') as out:
+    out.write(struct.pack('<LHHLLLL', 0xA1B2C3D4, 2, 4, 0, 0, 65535, 101))
+    for number, (source, target, kind, quoted) in enumerate(kinds):
+        frame = packet(1, source, target, bytes.fromhex(kind) + bytes(6) + quoted)
+        out.write(struct.pack('<4L', 1_700_000_000 + number, 0, len(frame), len(frame)) + frame)
 PYTHON
 command -v editcap >/dev/null && editcap -F pcapng capture.pcap capture.pcapng
 romtyalig meter <capture.pcap >wanted.ipfix 2>/dev/null
@@ -101,6 +129,12 @@ compare() {
 
 same_stream() { cmp flows.ipfix wanted.ipfix && rm flows.ipfix; }
 same_lines() { cmp out lines; }
+# By type and code: how many packets each address sent, and the flow of the two requests.
+same_types() {
+    printf ' %s\n' '1 10.0.0.2 10.0.0.1 0 0' '1 10.0.0.2 10.0.0.1 3 3' '2 10.0.0.1 10.0.0.2 8 0' >wanted
+    tr -s ' \t' ' ' <out | sort | cmp - wanted && romtyalig show <flows.ipfix 2>/dev/null >got &&
+        [ "$(wc -l <got)" -eq 1 ] && grep -q ' 8=10.0.0.1 .* 4=1 .* 2=2 ' got
+}
 same_dump() {
     grep -o 'octetDeltaCount *: *[0-9]*' out | grep -o '[0-9]*$' >got
     values 1 | cmp - got
@@ -150,6 +184,8 @@ if [ -e capture.pcapng ]; then
 else
     echo "skipped: pcapng, no editcap"
 fi
+compare tags "tshark editcap mergecap" same_stream
+compare icmp tshark same_types
 cp wanted.ipfix flows.ipfix
 compare show romtyalig same_lines
 compare text ipfixDump same_dump

@@ -3,8 +3,8 @@
 #
 #     checks/readme.sh
 #
-# The blocks marked `run: sample`, `run: report` and `run: capture`, and the command for pcapng in the text, are taken out of
-# README.md and run in a folder with bin/, examples/ and man/. The last line that the first prints must be the one that
+# The blocks marked `run: sample`, `run: report` and `run: capture`, and the commands for pcapng and for cutting in the text, are
+# taken out of README.md and run in a folder with bin/, examples/ and man/. The last line that the first prints must be the one that
 # README.md shows, and the notes must have the counts that it names. The capture is of the loopback interface, with datagrams
 # that this script sends. Besides, the programs are installed below a folder, and a manual page is read. What needs a program
 # that is missing (packages python3-ipfix, miller, gnuplot-nox, tcpdump, wireshark-common, man-db), or the right to capture,
@@ -102,6 +102,12 @@ pcapng() {
         cmp flows.ipfix examples/web-exchange.ipfix
 }
 
+cut() {
+    cp examples/web-exchange.pcap large.pcap
+    sed -n 's/.*`\(editcap -F pcap [^`]*\)`.*/\1/p' "$top/README.md" | typed out || return 1
+    bin/romtyalig meter <"$(ls piece_*.pcap)" 2>notes | cmp - examples/web-exchange.ipfix
+}
+
 # Of all interfaces tcpdump writes Linux cooked mode, in version 2 (link type 276) unless told.
 any_interface() {
     tcpdump -i any -c 20 -w any.pcap 2>notes && tcpdump -i any -y LINUX_SLL -c 20 -w cooked.pcap 2>notes || return 1
@@ -128,6 +134,7 @@ else
     row "any interface" any_interface tcpdump python3
 fi
 row pcapng pcapng editcap
+row cut cut editcap
 row "manual page" page man
 row install installed make
 exit "$differ"

@@ -298,7 +298,8 @@ answers() {
             $all = $octets + $back_octets;
         ' then sort -nr all -f label then head -n 10 then cut -o -f label,octets,back_octets "$work/answered.csv" |
         bars biflows biflow "octets out" "octets back" |
-        section "Top biflows" "The ten answered flows with most octets both ways. Out is the way that began first; bars show it."
+        section "Top biflows" "The ten answered flows with most octets both ways. Out is the way that began first; \
+where both began in one millisecond it may be the other. Bars show it."
 }
 
 head_of_page() {

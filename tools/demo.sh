@@ -5,7 +5,7 @@
 #
 # The capture is examples/web-exchange.pcap. What `meter` writes of it must be examples/web-exchange.ipfix, and what `show` writes of
 # that are the records. Where bin/romtyalig lies, which is proved, that runs. Else the program is built once as it is before any proof,
-# which takes a minute or so, and runs twice; nothing is left of that build.
+# which takes a minute or two, and runs twice; nothing is left of that build.
 set -u
 
 top=$(dirname "$(cd "$(dirname "$0")" && pwd)")
@@ -45,7 +45,7 @@ run_unproved() {
 if [ -x bin/romtyalig ]; then
     run_proved || exit
 else
-    echo "This build isn't proved yet: \`make build\` proves the program and builds it."
+    echo "No program is built yet, so one is built as it is, unproved, in a minute or two; \`make build\` proves and builds all."
     run_unproved || exit
 fi
 echo "The summary of $capture, an ARP request, a DNS query and its reply, and a TCP exchange:"

@@ -15,22 +15,26 @@ if [ "${1:-}" = --one ]; then
     log=$(mktemp) || exit 2
     trap 'rm -f "$log"' EXIT
     start=$(date +%s)
-    if ! (cd "crates/$2" && rt lib) >"$log" 2>&1; then
+    (cd "crates/$2" && rt lib) >"$log" 2>&1
+    status=$?
+    if [ "$status" -ne 0 ]; then
         tail -n 20 "$log"
-        echo "not proved: $2" >&2
+        echo "not proved: $2, status $status of \`rt lib\` (above 128 it was killed); \`make build\` goes on there" >&2
         exit 1
     fi
+    echo "$2" >>"$4"
     if [ -s "$log" ]; then
-        echo "proved $2, $(($(date +%s) - start)) s; $3 libraries in all"
+        echo "proved $2, $(($(date +%s) - start)) s: $(wc -l <"$4") of $3 libraries"
     fi
     exit 0
 fi
 
-# A rule for each crate below these: what it stands on.
+# A rule for each crate below these: what it stands on. Beside it a list of those that are proved.
 rules=$(mktemp) || exit 2
-trap 'rm -f "$rules"' EXIT
+proved=$(mktemp) || exit 2
+trap 'rm -f "$rules" "$proved"' EXIT
 trap 'exit 2' HUP INT TERM
-awk -v asked="$*" '
+awk -v asked="$*" -v proved="$proved" '
     { sub(/#.*/, "") }
     /:/ {
         split($0, half, ":")
@@ -56,7 +60,7 @@ awk -v asked="$*" '
             deps = split(uses[names[i]], dep, " ")
             for (k = 1; k <= deps; k++) if (dep[k] in is_own) line = line " " dep[k]
             print line
-            print "\t@tools/prove.sh --one " names[i] " " sum
+            print "\t@tools/prove.sh --one " names[i] " " sum " " proved
         }
     }' crates.txt >"$rules"
 

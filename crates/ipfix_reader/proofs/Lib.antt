@@ -9,3 +9,4 @@ pub mod FlowFields
 pub mod Takings
 pub mod FlowLists
 pub mod Pieces
+pub mod Few

@@ -1,6 +1,6 @@
 //! Laws on the definitions of reading, as contracts. The calls do nothing.
 
-ghost use Rattle.std.specs.Prelude.{◌<◌, ℕ, Bool, List};
+ghost use Rattle.std.specs.Prelude.{◌≡◌, ◌<◌, ◌≤◌, ℕ, Bool, List, length, Ok};
 ghost use Rattle.ipfix_model.specs.declared.fields.FieldSpec.{FieldSpec};
 ghost use Rattle.ipfix_model.specs.declared.values.DataRecord.{DataRecord};
 ghost use Rattle.ipfix_model.specs.Fields.{least_length};
@@ -10,7 +10,7 @@ ghost use Rattle.ipfix_reader.specs.Laws.{FieldsTell, FlowsFit, AnswersAsDefined
 ghost use Rattle.ipfix_reader.specs.Known.{Templates};
 ghost use Rattle.ipfix_reader.specs.Records.{template_record, data_record};
 ghost use Rattle.ipfix_reader.specs.Sets.{Contents, message_set};
-ghost use Rattle.ipfix_reader.specs.Messages.{Progress, stream_message};
+ghost use Rattle.ipfix_reader.specs.Messages.{Progress, stream_message, decode};
 
 /// Reading all messages of a stream is reading one and then all those behind it, however many there are; and so it is
 /// with the sets of a message, the template records of a set, and the data records of a template of which each takes
@@ -31,4 +31,9 @@ pub fn flows_have_fields()
     ensures fit { FlowsFit }
     ensures answers { AnswersAsDefined }
     ensures flow { FlowOfItsFields }
+{}
+
+/// A stream has no more data records than bytes.
+pub fn records_are_few()
+    ensures { (bytes : List ℕ) (records : List DataRecord) → decode bytes ≡ Ok records → length records ≤ length bytes }
 {}

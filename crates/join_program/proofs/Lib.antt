@@ -1,5 +1,6 @@
 pub mod AllShares
 pub mod Complete
+pub mod Filed
 pub mod Counts
 pub mod Keyed
 pub mod Nested
@@ -12,3 +13,4 @@ pub mod Shared
 pub mod Standing
 pub mod Together
 pub mod Whole
+pub mod Windows

@@ -1,15 +1,13 @@
 -- What is taken with one more record.
 use Rattle.std.proofs.Common.{◌≡◌, ℕ, ◌+◌, ◌<◌, ◌^◌, max, true, false, List, [], ◌∷◌, ◌++◌, Option, Some, sym}
-use Rattle.std.proofs.Common.{ap, ◌∙◌, subst, arith, sum_by, unwrap_or, take, drop, get_or, length, append_assoc, ◌≤◌}
-use Rattle.std.proofs.Common.{take-append-drop}
-use Rattle.std.proofs.lemmas.List.{take_more}
+use Rattle.std.proofs.Common.{ap, ◌∙◌, subst, arith, sum_by, unwrap_or, ◌≤◌}
 use Rattle.record_ledger.specs.declared.record.FlowRecord.{FlowRecord}
 use Rattle.join_program.specs.declared.taken.Taken.{Taken}
 use Rattle.join_program.specs.Words.{OneOf}
 use Rattle.join_program.specs.Joined.{falls_to, AreFew, IsLatest}
 use Rattle.join_program.specs.Taking.{IsTaken}
 use Rattle.join_program.proofs.Counts.{packets_in, octets_in, kept-taken, kept-left, packets-taken, octets-taken}
-use Rattle.join_program.proofs.Counts.{few-front, latest-more}
+use Rattle.join_program.proofs.Counts.{latest-more}
 
 module _ (share : Option OneOf) (flows : List FlowRecord) (f : FlowRecord) (old new : Taken) (had most : ℕ)
     (had_is : had ≡ unwrap_or old.clock 0) (most_is : most ≡ max had f.part.last) (clock : new.clock ≡ Some most)
@@ -61,16 +59,3 @@ module _ (share : Option OneOf) (flows : List FlowRecord) (f : FlowRecord) (old 
   pub many_octets : 2 ^ 64 ≤ old.octets + f.part.octets → AreFew share (flows ++ f ∷ []) → ⊥
   many_octets many few = absurd (let all = octets-taken share flows f falls in let so_far = taken.octets in
       let fits = few.octets in omega arith)
-
--- too many at a place of some records
-pub many_in : (share : Option OneOf) (before flows : List FlowRecord) (p : ℕ) (d r : FlowRecord) → p < length flows
-    → get_or flows p d ≡ r
-    → (AreFew share ((before ++ take p flows) ++ r ∷ []) → ⊥) → AreFew share (before ++ flows) → ⊥
-many_in share before flows p d r low at many few =
-    let front : (before ++ take p flows) ++ r ∷ [] ≡ before ++ take (p + 1) flows =
-    append_assoc before (take p flows) (r ∷ []) ∙ ap (λ x. before ++ (take p flows ++ x ∷ [])) (sym at) ∙ ap (λ l. before ++ l) (sym (take_more flows p d low)) in
-    let whole : (before ++ take (p + 1) flows) ++ drop (p + 1) flows ≡ before ++ flows =
-    append_assoc before (take (p + 1) flows) (drop (p + 1) flows)
-    ∙ ap (λ l. before ++ l) (take-append-drop (p + 1) flows) in
-    many (subst (AreFew share) (sym front)
-    (few-front share (before ++ take (p + 1) flows) (drop (p + 1) flows) (subst (AreFew share) (sym whole) few)))

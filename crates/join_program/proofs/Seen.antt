@@ -1,12 +1,11 @@
 -- What was seen of a file, by what its source had left when it was opened and when it was closed.
-use Rattle.std.proofs.Common.{◌≡◌, ◌≤◌, ◌<◌, ◌+◌, ◌++◌, ℕ, List, [], ◌∷◌, length, Option, Some, None, Result, Ok, Err, refl, sym}
+use Rattle.std.proofs.Common.{◌≡◌, ◌<◌, ◌+◌, ◌++◌, ℕ, List, [], ◌∷◌, length, Option, refl, sym}
 use Rattle.std.proofs.Common.{ap, ◌∙◌, subst, arith, take, get_or, append-nil}
-use Rattle.std.specs.Result.{IfOk}
-use Rattle.std.specs.Io.KnownBytes.{Consumes, IsAtEnd}
+use Rattle.std.proofs.KnownBytes.{Consumes-nil}
 use Rattle.std.proofs.lemmas.List.{take_more}
 use Rattle.std.proofs.lemmas.Grind.{flat_map-append}
-use Rattle.meter_io.specs.Reading.{Takes, TakesAtMost}
-use Rattle.meter_io.specs.Sides.{Side, IsRead, IsTooLarge}
+use Rattle.meter_io.specs.Reading.{TakesAtMost}
+use Rattle.meter_io.specs.Sides.{Side}
 use Rattle.flow_parts.proofs.Permuted.{AllZip-append}
 use Rattle.record_ledger.specs.declared.record.FlowRecord.{FlowRecord}
 use Rattle.join_program.specs.Joined.{together}
@@ -15,30 +14,9 @@ use Rattle.join_program.specs.Outcome.{HasGiven, HaveGiven}
 abbrev seen : Option (List ℕ) → Option (List ℕ) → Side
 seen before after = record { before = before; after = after; faults_before = 0; faults_after = 0 }
 
-module _ {A E : Type 0} (items : A → List ℕ) where
-  pub was_read : (before after contents : Option (List ℕ)) → before ≡ contents → (r : Result A E)
-      → IfOk r (λ bytes. Consumes before after (items bytes) × IsAtEnd after)
-      → IfOk r (λ bytes. length (items bytes) ≤ 4294967296)
-      → IfOk r (λ bytes. (file : Side) × (file.before ≡ contents) × IsRead file 4294967296 (items bytes))
-  was_read before after contents e (Ok bytes) all within =
-      (seen before after, e, record { given = all.0; ended = all.1; within = within })
-  was_read before after contents e (Err error) all within = tt
-
-pub was_broken : (before after contents : Option (List ℕ)) → before ≡ contents → TakesAtMost 4294967296 before after
-    → (file : Side) × (file.before ≡ contents) × TakesAtMost 4294967296 file.before file.after
-was_broken before after contents e some = (seen before after, e, some)
-
-pub was_large : (before after contents : Option (List ℕ)) → before ≡ contents → Takes 4294967297 before after
-    → (file : Side) × (file.before ≡ contents) × IsTooLarge file 4294967296
-was_large before after contents e some = (seen before after, e, some)
-
-none_taken : (a : Option (List ℕ)) → Consumes a a []
-none_taken None = tt
-none_taken (Some x) = refl
-
 pub was_shut : (contents : Option (List ℕ))
     → (file : Side) × (file.before ≡ contents) × TakesAtMost 4294967296 file.before file.after
-was_shut contents = (seen contents contents, refl, ([], omega arith, none_taken contents))
+was_shut contents = (seen contents contents, refl, ([], omega arith, Consumes-nil contents))
 
 -- one more file was given
 pub given_more : (contents others : List ℕ → Option (List ℕ)) → others ≡ contents → (names : List (List ℕ)) (p : ℕ)

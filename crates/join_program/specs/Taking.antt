@@ -1,8 +1,6 @@
 -- The code's own: what it keeps of the records that were read so far, and a file that was read.
-use Rattle.std.specs.Prelude.{◌≡◌, ℕ, List, [], sum_by, option_map, Option, Some, Err, ⊤, slice_index_or}
+use Rattle.std.specs.Prelude.{◌≡◌, ℕ, List, [], sum_by, option_map, Option, Some, ⊤, slice_index_or}
 use Rattle.meter_io.specs.Sides.{Side, HasTaken, HasBegun, HasFailed, IsUntouched, HasTakenOrFailed}
-use Rattle.ipfix_reader.specs.Others.{HasOther}
-use Rattle.ipfix_reader.specs.Messages.{decode}
 use Rattle.flow_parts.specs.declared.fragment.Fragment.{Fragment}
 use Rattle.record_ledger.specs.declared.record.FlowRecord.{FlowRecord}
 use Rattle.join_program.specs.declared.taken.Taken.{Taken}
@@ -13,11 +11,10 @@ use Rattle.join_program.specs.Words.{OneOf, Asked}
 use Rattle.join_program.specs.Outcome.{Files, IsWrongWith, IsFirstWrong, IsDone, IsCutOff}
 use Rattle.ipfix_writer.specs.Layout.{IsLayout}
 use Rattle.ipfix_reader.specs.Flows.{flows_of}
-use Rattle.join_program.specs.declared.flows.FileError.{FileError}
-use Rattle.join_program.specs.declared.flows.FileError.TheVariants.{Fault, NoMemory as OutOfMemory}
+use Rattle.join_program.specs.declared.file_error.FileError.{FileError}
+use Rattle.join_program.specs.declared.file_error.FileError.TheVariants.{Fault, NoMemory as OutOfMemory}
 use Rattle.join_program.specs.Statuses.{fault_line}
 use Rattle.join_program.specs.declared.status.FileFault.{FileFault}
-use Rattle.join_program.specs.declared.status.FileFault.TheVariants.{ReadFault, TooLarge, NotStream, NotFlows, TooMany}
 use Rattle.join_program.specs.declared.status.JoinStatus.{JoinStatus}
 use Rattle.join_program.specs.declared.status.JoinStatus.TheVariants.{Done, Usage, WriteFault, NoMemory, Refused}
 
@@ -42,15 +39,6 @@ pub record IsTaken (share : Option OneOf) (flows : List FlowRecord) (taken : Tak
   pub octets : taken.octets ≡ sum_by (λ (f : Fragment). f.octets) (kept share flows)
   pub clock : IsLatest flows taken.clock
   pub few : AreFew share flows
-
--- Why bytes aren't a stream of flow records.
-abbrev pub FlowsFail : List ℕ → FileError → Type 0
-FlowsFail bytes OutOfMemory = ⊤
-FlowsFail bytes (Fault ReadFault) = ⊥
-FlowsFail bytes (Fault TooLarge) = ⊥
-FlowsFail bytes (Fault (NotStream fault)) = decode bytes ≡ Err fault
-FlowsFail bytes (Fault (NotFlows place)) = HasOther place bytes
-FlowsFail bytes (Fault TooMany) = ⊥
 
 -- Why a file isn't taken behind these records.
 abbrev pub FileFails : Option OneOf → List FlowRecord → Option (List ℕ) → FileError → Type 0

@@ -10,11 +10,13 @@
 //! [`laws`] holds laws about what inputs become, as contracts: a join of joins is a join, and all shares are the whole.
 #![tactic(auto)]
 
-mod flows;
+mod file_error;
+mod file_taker;
 mod joining;
 pub mod laws;
 mod notes;
 mod opener;
+mod pieces;
 mod reading;
 mod running;
 mod settings;

@@ -1,81 +1,126 @@
 //! Reading files, one after the other.
 
-ghost use Rattle.std.specs.Prelude.{◌≡◌, ◌≤◌, ◌^◌, ◌++◌, List, ℕ, [], map, OnOk, IfOk, IfErr, IsErrOf};
+ghost use Rattle.std.specs.Prelude.{◌≡◌, ◌≤◌, ◌++◌, List, ℕ, map, IfOk, IfErr, IsErrOf, Some};
 ghost use Rattle.std.specs.String.{string_bytes};
 ghost use Rattle.meter_io.specs.Causes.{Rose};
-ghost use Rattle.meter_io.specs.Reading.{TakesAtMost};
-ghost use Rattle.meter_io.specs.Sides.{Side, IsRead, IsTooLarge};
+ghost use Rattle.meter_io.specs.Sides.{side};
 ghost use Rattle.record_ledger.specs.declared.record.FlowRecord.{FlowRecord};
 ghost use Rattle.join_program.specs.Joined.{together};
 ghost use Rattle.join_program.specs.Outcome.{HasGiven, HaveGiven, files_seen};
+ghost use Rattle.join_program.specs.Pieces.{HasBegun, HasGivenAll, TakingFails};
 ghost use Rattle.join_program.specs.Taking.{IsTaken, share_of, asked_of, FileFails, FilesFail};
 
-use crate::flows::{FileError, flows_of};
+use crate::file_error::FileError;
+use crate::file_taker::{Begun, FileTaker};
 use crate::opener::Opener;
+use crate::pieces::{open_window, read_pieces};
 use crate::settings::{JoinSettings, Share};
 use crate::status::{FileFault, JoinStatus};
 use crate::taken::Taken;
-use crate::taking::{TakeError, nothing_taken, take_all};
-use meter_io::{Failed, ReadError, read_all};
+use crate::taking::nothing_taken;
+use ipfix_reader::laws::records_are_few;
+use meter_io::{Failed, Source};
+use pcap_reader::Window;
 use std::alloc::Global;
+use std::marker::{Brand, PhantomData};
 
-/// The most bytes of a file.
-const FILE_LIMIT: u64 = 1 << 32;
-
-/// The bytes of the file of this name.
-fn read_file<O: Opener>(alloc: Global, opener: &mut O, name: &str) -> Result<Vec<u8>, ReadError>
-    ensures same { O.contents opener.new ≡ O.contents opener.old }
-    ensures later { O.faults opener.old ≤ O.faults opener.new }
-    ensures read { IfOk result (λ bytes. (file : Side) × (file.before ≡ O.contents opener.old name.now)
-        × IsRead file (2 ^ 32) bytes.items) }
-    ensures failed { IsErrOf result ReadError.Failed → Rose (O.faults opener.old) (O.faults opener.new) }
-    ensures within { IsErrOf result ReadError.Failed → (file : Side)
-        × (file.before ≡ O.contents opener.old name.now) × TakesAtMost (2 ^ 32) file.before file.after }
-    ensures large { IsErrOf result ReadError.TooLarge → (file : Side)
-        × (file.before ≡ O.contents opener.old name.now) × IsTooLarge file (2 ^ 32) }
+/// What is kept with the records of a source that is a file, by what the contracts know of what was taken before.
+fn take_from_as<K: Begun, S: Source>(
+    alloc: Global,
+    source: &mut S,
+    window: &mut Window,
+    share: Option<Share>,
+    taken: Taken,
+) -> Result<Taken, FileError>
+    requires size { window.old.size ≡ 262184 }
+    requires start { K.start ≡ Some taken }
+    requires share { share_of share ≡ K.share }
+    ensures size { window.new.size ≡ 262184 }
+    ensures taken { IfOk result (λ kept. (flows : List FlowRecord)
+        × HasGivenAll (side S.left S.faults source.old source.new) flows
+        × ((before : List FlowRecord) → HasBegun K.start K.share before
+        → IsTaken (share_of share) (before ++ flows) kept)) }
+    ensures wrong { IfErr result (λ error. (before : List FlowRecord) → HasBegun K.start K.share before
+        → TakingFails (share_of share) before (side S.left S.faults source.old source.new) error) }
+    ensures cause { IsErrOf result (FileError.Fault FileFault.ReadFault)
+        → Rose (S.faults source.old) (S.faults source.new) }
+    ensures later { S.faults source.old ≤ S.faults source.new }
 {
-    let mut file = match opener.open(name) {
-        Ok(file) => file,
-        Err(Failed) => return Err(ReadError::Failed),
+    records_are_few();
+    let mut taker = FileTaker::<K> {
+        taken,
+        alloc,
+        share,
+        flows: 0,
+        has_other: false,
+        are_many: false,
+        begun: PhantomData,
     };
-    let read = read_all(alloc, &mut file, FILE_LIMIT);
-    opener.close(file);
-    read
+    match read_pieces(alloc, source, window, &mut taker) {
+        Ok(()) => {}
+        Err(error) => return Err(error),
+    }
+    if taker.has_other {
+        return Err(FileError::Fault(FileFault::NotFlows(taker.flows)));
+    }
+    if taker.are_many {
+        return Err(FileError::Fault(FileFault::TooMany));
+    }
+    let FileTaker { taken, .. } = taker;
+    Ok(taken)
 }
 
-/// Takes the records of the file of this name.
+/// What is kept with the records of a source that is a file.
+fn take_from<S: Source>(
+    alloc: Global,
+    source: &mut S,
+    window: &mut Window,
+    share: Option<Share>,
+    taken: Taken,
+) -> Result<Taken, FileError>
+    requires { window.old.size ≡ 262184 }
+    ensures size { window.new.size ≡ 262184 }
+    ensures taken { IfOk result (λ kept. (flows : List FlowRecord)
+        × HasGivenAll (side S.left S.faults source.old source.new) flows
+        × ((before : List FlowRecord) → IsTaken (share_of share) before taken
+        → IsTaken (share_of share) (before ++ flows) kept)) }
+    ensures wrong { IfErr result (λ error. (before : List FlowRecord) → IsTaken (share_of share) before taken
+        → TakingFails (share_of share) before (side S.left S.faults source.old source.new) error) }
+    ensures cause { IsErrOf result (FileError.Fault FileFault.ReadFault)
+        → Rose (S.faults source.old) (S.faults source.new) }
+    ensures later { S.faults source.old ≤ S.faults source.new }
+{
+    take_from_as::<Brand, S>(alloc, source, window, share, taken)
+}
+
+/// What is kept with the records of the file of this name.
 fn take_file<O: Opener>(
     alloc: Global,
     opener: &mut O,
     name: &str,
+    window: &mut Window,
     share: Option<Share>,
-    taken: &mut Taken,
-) -> Result<(), FileError>
+    taken: Taken,
+) -> Result<Taken, FileError>
+    requires { window.old.size ≡ 262184 }
+    ensures size { window.new.size ≡ 262184 }
     ensures same { O.contents opener.new ≡ O.contents opener.old }
     ensures later { O.faults opener.old ≤ O.faults opener.new }
-    ensures taken { OnOk result ((flows : List FlowRecord) × HasGiven (O.contents opener.old) name.now flows
-        × ((before : List FlowRecord) → IsTaken (share_of share) before taken.old
-        → IsTaken (share_of share) (before ++ flows) taken.new)) }
-    ensures wrong { IfErr result (λ error. (before : List FlowRecord) → IsTaken (share_of share) before taken.old
+    ensures taken { IfOk result (λ kept. (flows : List FlowRecord) × HasGiven (O.contents opener.old) name.now flows
+        × ((before : List FlowRecord) → IsTaken (share_of share) before taken
+        → IsTaken (share_of share) (before ++ flows) kept)) }
+    ensures wrong { IfErr result (λ error. (before : List FlowRecord) → IsTaken (share_of share) before taken
         → FileFails (share_of share) before (O.contents opener.old name.now) error) }
     ensures broken { IsErrOf result (FileError.Fault FileFault.ReadFault)
         → Rose (O.faults opener.old) (O.faults opener.new) }
 {
-    let bytes = match read_file(alloc, opener, name) {
-        Ok(bytes) => bytes,
-        Err(ReadError::Failed) => return Err(FileError::Fault(FileFault::ReadFault)),
-        Err(ReadError::TooLarge) => return Err(FileError::Fault(FileFault::TooLarge)),
-        Err(ReadError::NoMemory) => return Err(FileError::NoMemory),
+    let mut file = match opener.open(name) {
+        Ok(file) => file,
+        Err(Failed) => return Err(FileError::Fault(FileFault::ReadFault)),
     };
-    let flows = match flows_of(alloc, bytes.as_slice()) {
-        Ok(flows) => flows,
-        Err(error) => return Err(error),
-    };
-    match take_all(taken, alloc, share, flows.as_slice()) {
-        Ok(()) => Ok(()),
-        Err(TakeError::TooMany) => Err(FileError::Fault(FileFault::TooMany)),
-        Err(TakeError::NoMemory) => Err(FileError::NoMemory),
-    }
+    let kept = take_from(alloc, &mut file, window, share, taken);
+    opener.close(file);
+    kept
 }
 
 /// Takes the records of all files, one file after the other.
@@ -91,11 +136,14 @@ pub(crate) fn take_files<O: Opener>(
     ensures wrong { IfErr result (FilesFail (asked_of settings.now (map string_bytes names.now))
         (files_seen O.contents O.faults opener.old opener.new)) }
 {
+    let Ok(mut window) = open_window(alloc) else {
+        return Err(JoinStatus::NoMemory);
+    };
     let mut taken = nothing_taken(alloc);
     for place in 0..names.len() {
         let name = names[place].as_str();
-        match take_file(alloc, opener, name, settings.share, &mut taken) {
-            Ok(()) => {}
+        match take_file(alloc, opener, name, &mut window, settings.share, taken) {
+            Ok(kept) => taken = kept,
             Err(FileError::NoMemory) => return Err(JoinStatus::NoMemory),
             Err(FileError::Fault(fault)) => {
                 let place = place as u64;

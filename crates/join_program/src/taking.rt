@@ -78,7 +78,7 @@ pub(crate) fn nothing_taken(alloc: Global) -> Taken
 }
 
 /// Takes a record: its time, and its fragment where it falls to the share.
-fn take(
+pub(crate) fn take(
     taken: &mut Taken,
     alloc: Global,
     share: Option<Share>,
@@ -98,28 +98,5 @@ fn take(
     add_part(&mut taken.parts, alloc, flow.part)?;
     taken.packets = packets;
     taken.octets = octets;
-    Ok(())
-}
-
-/// Takes records, each by itself.
-pub(crate) fn take_all(
-    taken: &mut Taken,
-    alloc: Global,
-    share: Option<Share>,
-    flows: &[FlowRecord],
-) -> Result<(), TakeError>
-    ensures taken { OnOk result ((before : List FlowRecord) → IsTaken (share_of share) before taken.old
-        → IsTaken (share_of share) (before ++ flows.now) taken.new) }
-    ensures many { IsErrOf result TakeError.TooMany → (before : List FlowRecord)
-        → IsTaken (share_of share) before taken.old → ¬ AreFew (share_of share) (before ++ flows.now) }
-{
-    let mut place = 0;
-    while place < flows.len() {
-        match take(taken, alloc, share, &flows[place]) {
-            Ok(()) => {}
-            Err(error) => return Err(error),
-        }
-        place += 1;
-    }
     Ok(())
 }

@@ -230,10 +230,7 @@ fn joins_again_below(rt: HostRuntime) -> Result<(), Fail> {
 fn ties_stand_by_first_time(rt: HostRuntime) -> Result<(), Fail> {
     let one = wide_fragment(4000, 0, 2_000_000);
     let other = wide_fragment(4000, 100_000, 2_000_000);
-    let wanted = [
-        (4000, 2, 0, 2_000_000, 2),
-        (4000, 2, 100_000, 2_000_000, 4),
-    ];
+    let wanted = [(4000, 2, 0, 2_000_000, 2), (4000, 2, 100_000, 2_000_000, 4)];
     let parts = [one, other];
     assert!(rt; are_few(&parts));
     expect_on(&rt, rt.alloc(), &parts, Some(2_000_000), &wanted, 1)?;

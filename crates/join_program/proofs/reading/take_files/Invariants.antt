@@ -10,6 +10,7 @@ use Rattle.join_program.proofs.reading.take_files.Given as goal
 abbrev pub invariant-loop-place : goal.invariant-loop-place
 invariant-loop-place g l = record {
   long : l.place-end ≡ length l.names;
+  size : l.window.size ≡ 262184;
   same : g.O.Opener.contents l.opener ≡ g.O.Opener.contents l.fn.opener;
   later : g.O.Opener.faults l.fn.opener ≤ g.O.Opener.faults l.opener;
   taken : (inputs : List (List FlowRecord))
