@@ -1,6 +1,5 @@
+pub mod Common
 pub mod Crew
-pub mod Pieces
-pub mod Several
 pub mod Shares
 pub mod Taken
 pub mod Whole

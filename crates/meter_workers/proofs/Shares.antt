@@ -1,31 +1,28 @@
 -- What one share has metered, or several together.
-use Rattle.std.proofs.Common.{◌≡◌, ℕ, ◌+◌, ◌<◌, ◌≤◌, ◌^◌, List, [], ◌∷◌, ◌++◌, length, Some, None, sym, ap, ◌∙◌}
-use Rattle.std.proofs.Common.{subst, arith, append_assoc, append-nil, length-append, All}
-use Rattle.std.specs.Prelude.{Option, Result, Ok, Err, IfOk, OnOk, IsPermutation}
-use Rattle.std.proofs.lemmas.List.Elements.{All-nil, All-cons, All-append}
+use Rattle.meter_workers.proofs.Common.{◌≡◌, ℕ, ◌+◌, ◌<◌, ◌≤◌, ◌^◌, List, [], ◌∷◌, ◌++◌, length, Some, sym, ap, ◌∙◌}
+use Rattle.meter_workers.proofs.Common.{subst, arith, append_assoc, append-nil, length-append, All, IfOk, IsPermutation}
+use Rattle.meter_workers.proofs.Common.{IsPermutation-refl, IsPermutation-append_comm, packets_in, Fragment, SharesOut}
+use Rattle.meter_workers.proofs.Common.{IsTallyOf, Ghosts, open_in, Answer, Share, Gathered, IsShareOf, put_by}
+use Rattle.meter_workers.proofs.Common.{HasGathered}
+use Rattle.std.proofs.lemmas.List.Sorted.{All-permutation}
+use Rattle.meter_workers.proofs.Common.{All-nil, All-cons, All-append}
+use Rattle.std.proofs.Common.{None}
+use Rattle.std.specs.Prelude.{Option, Result, Ok, Err, OnOk}
 use Rattle.std.proofs.lemmas.List.Sums.{sum_by-append, sum_by-cons}
-use Rattle.std.proofs.lemmas.List.Sorted.{IsPermutation-refl, IsPermutation-append_comm, All-permutation}
 use Rattle.packet_accept.specs.declared.packet.Packet.{Packet}
 use Rattle.packet_accept.specs.declared.ignored.Ignored.{Ignored}
-use Rattle.packet_accept.specs.Packets.{packets_in}
 use Rattle.packet_accept.proofs.FileAnswers.{packets_together, packets_permuted}
-use Rattle.flow_parts.specs.declared.fragment.Fragment.{Fragment}
 use Rattle.flow_parts.specs.declared.timeouts.Timeouts.{Timeouts}
 use Rattle.flow_parts.specs.Laws.{StandsOpened, StandsReached, StandsTogether, StandsPermuted, CountsAll}
 use Rattle.flow_parts.specs.Parts.{IsAlone}
 use Rattle.flow_parts.specs.Reaching.{Reaches}
-use Rattle.flow_parts.specs.Sharing.{SharesOut}
 use Rattle.flow_parts.proofs.Reaching.{put_behind, itself, same_packets}
 use Rattle.capture_tally.specs.declared.tally.Tally.{Tally}
-use Rattle.capture_tally.specs.Tallies.{IsTallyOf}
 use Rattle.cache_face.specs.Keeping.{packet_count}
-use Rattle.cache_face.specs.Meaning.{PassMeans, IsUnited}
+use Rattle.cache_face.specs.Meaning.{IsUnited}
 use Rattle.cache_face.specs.Notes.{Note}
-use Rattle.cache_face.specs.declared.caches.FlowCache.{Ghosts}
-use Rattle.front_cache.specs.Fronts.{FrontMeans, open_in}
-use Rattle.capture_input.specs.Parts.{Answer}
-use Rattle.meter_workers.specs.declared.share.Share.{Share}
-use Rattle.meter_workers.specs.Shares.{AreSharesOf, IsShareOf, HasMetered, AreSmall, HasLimits, open_of, put_by}
+use Rattle.front_cache.specs.Fronts.{FrontMeans}
+use Rattle.meter_workers.specs.Shares.{IsSeatOf, AreSmall, HasLimits, open_of}
 
 -- ---- what was put in
 
@@ -79,10 +76,6 @@ room-out taken rest all out is room =
     subst (λ (l : List Fragment). packet_count l ≤ 2 ^ 32) (sym is) room in
     omega (arith, whole, sum_by-append packets_of taken (out ∷ rest), sum_by-cons packets_of out rest)
 
--- without a front all that was put in is in the cache
-pub all-taken : (pass : PassMeans) (front : Option FrontMeans) → front ≡ None → put_by pass front ≡ pass.note.taken
-all-taken pass front none = ap (λ f. pass.note.taken ++ open_of f) none ∙ append-nil pass.note.taken
-
 -- ---- a record more
 
 -- a packet more was put in
@@ -105,10 +98,6 @@ shared-none limits answers answer cause put is shared =
     subst (λ (a : Answer). SharesOut limits (packets_in answers ++ packets_in (a ∷ [])) put) (sym is)
     (subst (λ (l : List Packet). SharesOut limits l put) (sym (append-nil (packets_in answers))) shared)
 
-small-one : (answer : Answer) → IfOk answer (λ packet. packet.octets < 2 ^ 24) → AreSmall (packets_in (answer ∷ []))
-small-one (Ok packet) small = All-cons (λ p. p.octets < 2 ^ 24) packet [] small (All-nil (λ p. p.octets < 2 ^ 24))
-small-one (Err cause) small = All-nil (λ p. p.octets < 2 ^ 24)
-
 -- what several facts say of a value together
 pub on-ok-all : {T E A B C D : Type 0} (result : Result T E) → OnOk result A → OnOk result B → OnOk result C
     → (A → B → C → D) → OnOk result D
@@ -119,6 +108,10 @@ pub on-ok : {T E A : Type 0} (result : Result T E) → A → OnOk result A
 on-ok (Ok x) a = a
 on-ok (Err e) a = tt
 
+small-one : (answer : Answer) → IfOk answer (λ packet. packet.octets < 2 ^ 24) → AreSmall (packets_in (answer ∷ []))
+small-one (Ok packet) small = All-cons (λ p. p.octets < 2 ^ 24) packet [] small (All-nil (λ p. p.octets < 2 ^ 24))
+small-one (Err cause) small = All-nil (λ p. p.octets < 2 ^ 24)
+
 packets-few : (answers : List Answer) → length (packets_in answers) ≤ length answers
 packets-few [] = omega arith
 packets-few (Ok packet ∷ answers) = (let h = packets-few answers in omega (arith, h))
@@ -126,7 +119,7 @@ packets-few (Err cause ∷ answers) = (let h = packets-few answers in omega (ari
 
 module _ {X P : Type 0} (the : Ghosts X P) (cache : X) where
   -- no more packets were put in than records were tallied
-  pub put-few : (answers : List Answer) (share : Share X P) → CountsAll → AreSharesOf the cache answers share
+  pub put-few : (answers : List Answer) (share : Share X P) → CountsAll → IsShareOf the cache answers share
       → packet_count (put_by (the.shown share.pass) share.front) ≤ share.tally.captured
   put-few answers share counts metered =
       let count = (counts (the.means cache).limits (packets_in answers) (put_by (the.shown share.pass) share.front)
@@ -138,58 +131,44 @@ module _ {X P : Type 0} (the : Ghosts X P) (cache : X) where
       → IfOk answer (λ packet. packet.octets < 2 ^ 24) → share.tally.captured < 2 ^ 32
       → ((earlier : List Answer) → IsTallyOf share.tally earlier → IsTallyOf share'.tally (earlier ++ answer ∷ []))
       → (share.parts ≡ (the.shown share.pass).note.handed → share'.parts ≡ (the.shown share'.pass).note.handed)
-      → (the.shown share'.pass).note.seats ≡ 1
+      → IsSeatOf the cache share'.pass share'.front
       → SharesOut (the.means cache).limits (packets_in answers ++ packets_in (answer ∷ []))
       (put_by (the.shown share'.pass) share'.front)
-      → AreSharesOf the cache answers share → AreSharesOf the cache (answers ++ answer ∷ []) share'
-  share-more answers answer share share' small room tallies keeps single shared metered =
+      → IsShareOf the cache answers share → IsShareOf the cache (answers ++ answer ∷ []) share'
+  share-more answers answer share share' small room tallies keeps seated shared metered =
       let next = tallies answers metered.tallied in
       let both = sym (packets_together answers (answer ∷ [])) in
       record {
+        seated = seated;
         shared = subst (λ (l : List Packet). SharesOut (the.means cache).limits l
             (put_by (the.shown share'.pass) share'.front)) both shared;
         handed = keeps metered.handed;
         tallied = next;
         small = subst AreSmall both (All-append (λ p. p.octets < 2 ^ 24) (packets_in answers)
             (packets_in (answer ∷ [])) metered.small (small-one answer small));
-        few = omega (arith, next.captured, metered.tallied.captured, length-append answers (answer ∷ []), room, single);
+        few = omega (arith, next.captured, metered.tallied.captured, length-append answers (answer ∷ []), room);
       }
-
-  -- ---- a run of records
-
-  pub metered-none : (share : Share X P) → HasMetered the cache [] share share
-  metered-none share =
-      record { besides = λ done is. subst (λ l. IsShareOf the cache l share) (sym (append-nil done)) is }
-
-  pub metered-more : (some more : List Answer) (old then new : Share X P) → HasMetered the cache some old then
-      → HasMetered the cache more then new → HasMetered the cache (some ++ more) old new
-  metered-more some more old then new first second = record {
-    besides = λ done is. subst (λ l. IsShareOf the cache l new) (append_assoc done some more)
-        (second.besides (done ++ some) (first.besides done is));
-  }
 
   -- ---- several together
 
-  pub united : (done rest : List Answer) (one other both : Share X P)
-      → StandsTogether → IsUnited (the.shown one.pass) (the.shown other.pass) (the.shown both.pass)
-      → one.front ≡ None → other.front ≡ None → both.front ≡ None → both.parts ≡ one.parts ++ other.parts
+  pub united : (done rest : List Answer) (one other both : Gathered X P) → StandsTogether
+      → IsUnited (the.shown one.pass) (the.shown other.pass) (the.shown both.pass) → the.is_of cache both.pass
+      → both.parts ≡ one.parts ++ other.parts
       → ((a b : List Answer) → IsTallyOf one.tally a → IsTallyOf other.tally b → IsTallyOf both.tally (a ++ b))
-      → AreSharesOf the cache done one → AreSharesOf the cache rest other → AreSharesOf the cache (done ++ rest) both
-  united done rest one other both stands is none none' none'' parts joins first second =
-      let put : put_by (the.shown both.pass) both.front
-      ≡ put_by (the.shown one.pass) one.front ++ put_by (the.shown other.pass) other.front =
-      all-taken (the.shown both.pass) both.front none'' ∙ ap (λ (n : Note). n.taken) is.0
-      ∙ sym (λ i. all-taken (the.shown one.pass) one.front none i ++ all-taken (the.shown other.pass) other.front none' i)
-      in
+      → HasGathered the cache done one → HasGathered the cache rest other → HasGathered the cache (done ++ rest) both
+  united done rest one other both stands is own parts joins first second =
       let packets = sym (packets_together done rest) in
       let tallied = joins done rest first.tallied second.tallied in
       let seats = ap (λ (n : Note). n.seats) is.0 in
       record {
-        shared = subst (λ (l : List Packet). SharesOut (the.means cache).limits l
-            (put_by (the.shown both.pass) both.front)) packets
+        own = own;
+        some = (let some = first.some in omega (arith, seats, some));
+        shared = subst (λ (l : List Packet). SharesOut (the.means cache).limits l (the.shown both.pass).note.taken)
+            packets
             (subst (λ (l : List Fragment). SharesOut (the.means cache).limits (packets_in done ++ packets_in rest) l)
-            (sym put) (stands (the.means cache).limits (packets_in done) (packets_in rest) _ _ first.shared second.shared));
-        handed = parts ∙ (λ i. first.handed i ++ second.handed i) ∙ sym (ap (λ (n : Note). n.handed) is.0);
+            (sym (ap (λ (n : Note). n.taken) is.0))
+            (stands (the.means cache).limits (packets_in done) (packets_in rest) _ _ first.shared second.shared));
+        parts = parts ∙ (λ i. first.parts i ++ second.parts i) ∙ sym (ap (λ (n : Note). n.handed) is.0);
         tallied = tallied;
         small = subst AreSmall packets (All-append (λ p. p.octets < 2 ^ 24) (packets_in done) (packets_in rest)
             first.small second.small);
@@ -198,17 +177,19 @@ module _ {X P : Type 0} (the : Ghosts X P) (cache : X) where
       }
 
   -- the order of the answers plays no part
-  pub permuted : (answers others : List Answer) (share : Share X P) → StandsPermuted
+  pub permuted : (answers others : List Answer) (all : Gathered X P) → StandsPermuted
       → ((t : Tally) (a b : List Answer) → IsPermutation a b → IsTallyOf t a → IsTallyOf t b)
-      → IsPermutation answers others → AreSharesOf the cache answers share → AreSharesOf the cache others share
-  permuted answers others share stands order perm metered =
+      → IsPermutation answers others → HasGathered the cache answers all → HasGathered the cache others all
+  permuted answers others all stands order perm gathered =
       let packets = packets_permuted answers others perm in
-      let put = put_by (the.shown share.pass) share.front in
+      let put = (the.shown all.pass).note.taken in
       record {
-        shared = stands (the.means cache).limits (packets_in answers) (packets_in others) put put packets
-            (IsPermutation-refl put) metered.shared;
-        handed = metered.handed;
-        tallied = order share.tally answers others perm metered.tallied;
-        small = All-permutation (λ p. p.octets < 2 ^ 24) (packets_in answers) (packets_in others) packets metered.small;
-        few = metered.few;
+        own = gathered.own;
+        some = gathered.some;
+        shared = stands (the.means cache).limits (packets_in answers) (packets_in others) put put
+            packets (IsPermutation-refl put) gathered.shared;
+        parts = gathered.parts;
+        tallied = order all.tally answers others perm gathered.tallied;
+        small = All-permutation (λ p. p.octets < 2 ^ 24) (packets_in answers) (packets_in others) packets gathered.small;
+        few = gathered.few;
       }

@@ -1,14 +1,9 @@
 -- A whole capture was metered.
-use Rattle.std.proofs.Common.{◌≡◌, ℕ, ◌∙◌, List, subst}
+use Rattle.meter_workers.proofs.Common.{◌≡◌, ℕ, ◌∙◌, List, subst, packets_in, SharesOut, IsTallyOf, Ghosts, Answer}
+use Rattle.meter_workers.proofs.Common.{Gathered, HasGathered}
 use Rattle.meter_io.specs.Sides.{Side}
-use Rattle.packet_accept.specs.Packets.{packets_in}
-use Rattle.flow_parts.specs.Sharing.{SharesOut}
-use Rattle.capture_tally.specs.Tallies.{IsTallyOf}
-use Rattle.cache_face.specs.declared.caches.FlowCache.{Ghosts}
-use Rattle.capture_input.specs.Parts.{Answer}
 use Rattle.capture_input.specs.Giving.{IsReadWhole}
-use Rattle.meter_workers.specs.declared.windows.Gathered.{Gathered}
-use Rattle.meter_workers.specs.Whole.{HasGathered, IsMeteredWhole}
+use Rattle.meter_workers.specs.Whole.{IsMeteredWhole}
 
 pub metered-whole : {X P : Type 0} (the : Ghosts X P) (cache : X) (answers : List Answer) (all : Gathered X P)
     (source : Side) (limit tail : ℕ)

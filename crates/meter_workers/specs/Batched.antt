@@ -10,8 +10,9 @@ use Rattle.batch_queue.specs.declared.batch.Batch.{Batch}
 use Rattle.batch_queue.specs.declared.queue.BatchQueue.{BatchQueue}
 use Rattle.batch_queue.specs.declared.queue.QueuePass.{QueuePass}
 use Rattle.batch_queue.specs.Batches.{IsBefore, count_of}
-use Rattle.batch_queue.specs.Passes.{IsPassOf, IsReaders, IsFresh, IsMore, IsOpen, put_of, took_of, seats_of}
+use Rattle.batch_queue.specs.Passes.{IsPassOf, IsFresh, IsOpen, put_of, took_of, seats_of}
 use Rattle.batch_queue.specs.Passes.{others_of, reader_of, WasTold}
+use Rattle.batch_queue.specs.Uniting.{IsFirst}
 use Rattle.meter_workers.specs.declared.worker.Worker.{Worker}
 use Rattle.meter_workers.specs.declared.worker.WorkState.TheVariants.{Going, Finished}
 use Rattle.meter_workers.specs.declared.batches.Reader.{Reader}
@@ -56,58 +57,28 @@ HasTakenAll the cache queue worker =
 
 -- ---- the reader
 
--- It handed these answers on: their batches were put, or it metered them itself.
-pub record HasHandedOn {X P : Type 0} (the : Ghosts X P) (cache : X) (answers : List Answer)
-    (reader : Reader X P) : Type 0 where
-  pub own : List Answer
-  pub all : IsPermutation answers (own ++ answers_in (put_of (reader_of reader.feed)))
-  pub is : IsShareOf the cache own reader.share
-
--- It can hand on a batch of this number, behind so many records: the batches that it put stand before it, and it tallied
--- no more records.
-pub record IsReaderAt {X P : Type 0} (number base : ℕ) (reader : Reader X P) : Type 0 where
-  pub behind : All (λ batch. (batch.number < number) × (batch.base + count_of batch ≤ base))
-      (put_of (reader_of reader.feed))
-  pub few : reader.share.tally.captured ≤ base
-
 -- It may put batches into the queue, and say that no more come.
 abbrev pub IsAtQueue : {X P : Type 0} → BatchQueue → Reader X P → Type 0
 IsAtQueue queue reader = IsPassOf queue (reader_of reader.feed) × IsOpen reader.feed
 
--- It has read nothing.
-pub record IsToRead {X P : Type 0} (the : Ghosts X P) (cache : X) (queue : BatchQueue)
-    (reader : Reader X P) : Type 0 where
-  pub of : IsPassOf queue (reader_of reader.feed)
-  pub puts : IsReaders (reader_of reader.feed)
-  pub goes : IsOpen reader.feed
-  pub fresh : IsFresh (reader_of reader.feed)
-  pub first : reader.next ≡ 0
-  pub share : IsShareOf the cache [] reader.share
+-- A batch stands before the one of this number, behind so many records.
+abbrev pub StandsBefore : ℕ → ℕ → Batch → Type 0
+StandsBefore number base batch = (batch.number < number) × (batch.base + count_of batch ≤ base)
 
--- It can hand on batches, and has handed on some answers.
-pub record IsReading {X P : Type 0} (the : Ghosts X P) (cache : X) (queue : BatchQueue)
-    (reader : Reader X P) : Type 0 where
-  pub of : IsPassOf queue (reader_of reader.feed)
-  pub puts : IsReaders (reader_of reader.feed)
-  pub goes : IsOpen reader.feed
-  pub answers : List Answer
-  pub handed : HasHandedOn the cache answers reader
+-- It handed these answers on, beside so many workers: their batches were put, all before its next one, or it metered
+-- them itself.
+pub record HasHandedOn {X P : Type 0} (the : Ghosts X P) (cache : X) (queue : BatchQueue) (workers : ℕ)
+    (answers : List Answer) (reader : Reader X P) : Type 0 where
+  pub first : IsFirst queue workers (reader_of reader.feed)
+  pub behind : All (StandsBefore reader.next (length answers)) (put_of (reader_of reader.feed))
+  pub low : reader.next ≤ length answers
+  pub own : List Answer
+  pub all : IsPermutation answers (own ++ answers_in (put_of (reader_of reader.feed)))
+  pub is : IsShareOf the cache own reader.share
 
--- It handed these answers on besides, putting some batches and taking none, and can go on.
-pub record HandsOn {X P : Type 0} (the : Ghosts X P) (cache : X) (queue : BatchQueue) (more : List Answer)
-    (old new : Reader X P) : Type 0 where
-  pub of : IsPassOf queue (reader_of new.feed)
-  pub goes : IsOpen new.feed
-  pub batches : List Batch
-  pub put : IsMore batches [] (reader_of old.feed) (reader_of new.feed)
-  pub handed : (answers : List Answer) → HasHandedOn the cache answers old → HasHandedOn the cache (answers ++ more) new
-
--- It has read the whole capture and handed on its records, putting some batches and taking none.
-pub record HasReadAll {X P : Type 0} (the : Ghosts X P) (cache : X) (queue : BatchQueue)
-    (before left : Option (List ℕ)) (limit : ℕ) (old new : Reader X P) (tail : ℕ) : Type 0 where
-  pub of : IsPassOf queue (reader_of new.feed)
-  pub batches : List Batch
-  pub put : IsMore batches [] (reader_of old.feed) (reader_of new.feed)
-  pub answers : List Answer
-  pub whole : IsReadWhole before left limit answers tail
-  pub handed : HasHandedOn the cache answers new
+-- It has read the whole capture and handed on its records.
+abbrev pub HasReadAll : {X P : Type 0} → Ghosts X P → X → BatchQueue → ℕ → Option (List ℕ) → Option (List ℕ) → ℕ
+    → Reader X P → ℕ → Type 0
+HasReadAll the cache queue workers before left limit reader tail =
+    (answers : List Answer) × IsReadWhole before left limit answers tail
+    × HasHandedOn the cache queue workers answers reader

@@ -1,6 +1,5 @@
 -- What a share of the work has done; `the` is what the type of the cache means.
-use Rattle.std.specs.Prelude.{◌≡◌, ℕ, ◌*◌, ◌<◌, ◌≤◌, ◌^◌, List, [], ◌++◌, flat_map, All, Option, Some, None, IsPermutation}
-use Rattle.std.specs.List.{AllZip}
+use Rattle.std.specs.Prelude.{◌≡◌, ℕ, ◌<◌, ◌≤◌, ◌^◌, List, [], ◌++◌, All, Option, Some, None}
 use Rattle.packet_accept.specs.declared.packet.Packet.{Packet}
 use Rattle.packet_accept.specs.Packets.{packets_in}
 use Rattle.flow_parts.specs.declared.fragment.Fragment.{Fragment}
@@ -11,6 +10,7 @@ use Rattle.cache_face.specs.Meaning.{PassMeans}
 use Rattle.cache_face.specs.declared.caches.FlowCache.{Ghosts}
 use Rattle.front_cache.specs.Fronts.{FrontMeans, open_in}
 use Rattle.capture_input.specs.Parts.{Answer}
+use Rattle.work_pieces.specs.Doing.{HasDone}
 use Rattle.meter_workers.specs.declared.share.Share.{Share}
 
 -- The fragments that a front has open, where there is one.
@@ -37,30 +37,17 @@ pub record IsSeatOf {X P : Type 0} (the : Ghosts X P) (cache : X) (pass : P) (fr
   pub single : (the.shown pass).note.seats ≡ 1
   pub front_is : HasLimits (the.means cache).limits front
 
--- A share of one seat or several, which have metered and tallied these answers: what was put in shares out their
+-- The share of one seat of the cache, which has metered and tallied these answers: what was put in shares out their
 -- packets, the list is just what the pass was handed, and the tally is theirs.
-pub record AreSharesOf {X P : Type 0} (the : Ghosts X P) (cache : X) (answers : List Answer)
+pub record IsShareOf {X P : Type 0} (the : Ghosts X P) (cache : X) (answers : List Answer)
     (share : Share X P) : Type 0 where
+  pub seated : IsSeatOf the cache share.pass share.front
   pub shared : SharesOut (the.means cache).limits (packets_in answers) (put_by (the.shown share.pass) share.front)
   pub handed : share.parts ≡ (the.shown share.pass).note.handed
   pub tallied : IsTallyOf share.tally answers
   pub small : AreSmall (packets_in answers)
-  pub few : share.tally.captured ≤ (the.shown share.pass).note.seats * 2 ^ 32
-
--- The share of one seat of the cache, which has metered these answers.
-pub record IsShareOf {X P : Type 0} (the : Ghosts X P) (cache : X) (answers : List Answer)
-    (share : Share X P) : Type 0 where
-  pub seated : IsSeatOf the cache share.pass share.front
-  pub metered : AreSharesOf the cache answers share
+  pub few : share.tally.captured ≤ 2 ^ 32
 
 -- The share metered these answers besides, whatever it had metered before.
-pub record HasMetered {X P : Type 0} (the : Ghosts X P) (cache : X) (more : List Answer)
-    (old new : Share X P) : Type 0 where
-  pub besides : (done : List Answer) → IsShareOf the cache done old → IsShareOf the cache (done ++ more) new
-
--- Several shares have metered these answers, each its own list of them.
-pub record HaveMetered {S : Type 0} (Has : List Answer → S → Type 0) (answers : List Answer)
-    (shares : List S) : Type 0 where
-  pub lists : List (List Answer)
-  pub whole : IsPermutation answers (flat_map (λ (list : List Answer). list) lists)
-  pub each : AllZip Has lists shares
+abbrev pub HasMetered : {X P : Type 0} → Ghosts X P → X → List Answer → Share X P → Share X P → Type 0
+HasMetered the cache more old new = HasDone (IsShareOf the cache) more old new

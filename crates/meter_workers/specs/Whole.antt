@@ -1,5 +1,5 @@
 -- What metering a whole capture means.
-use Rattle.std.specs.Prelude.{◌≡◌, ℕ, List, Some, None}
+use Rattle.std.specs.Prelude.{◌≡◌, ℕ, ◌*◌, ◌<◌, ◌≤◌, ◌^◌, List, Some, None}
 use Rattle.meter_io.specs.Sides.{Side, IsRead}
 use Rattle.pcap_reader.specs.File.{CaptureFile, capture_file, IsKnownLink}
 use Rattle.pcap_reader.specs.Records.{damage_of, tail_of}
@@ -11,15 +11,20 @@ use Rattle.capture_tally.specs.declared.tally.Tally.{Tally}
 use Rattle.capture_tally.specs.Tallies.{IsTallyOf}
 use Rattle.cache_face.specs.declared.caches.FlowCache.{Ghosts}
 use Rattle.capture_input.specs.Parts.{Answer}
-use Rattle.meter_workers.specs.declared.windows.Gathered.{Gathered}
+use Rattle.meter_workers.specs.Shares.{AreSmall}
+use Rattle.meter_workers.specs.declared.together.Gathered.{Gathered}
 
--- All together metered these answers: what was put into the cache shares out their packets, the list is just what the
--- pass was handed, and the tally is theirs. `the` is what the type of the cache means.
+-- The seats together metered these answers: what was put into the cache shares out their packets, the list is just what
+-- the pass was handed, and the tally is theirs. `the` is what the type of the cache means.
 pub record HasGathered {X P : Type 0} (the : Ghosts X P) (cache : X) (answers : List Answer)
     (all : Gathered X P) : Type 0 where
+  pub own : the.is_of cache all.pass
+  pub some : 0 < (the.shown all.pass).note.seats
   pub shared : SharesOut (the.means cache).limits (packets_in answers) (the.shown all.pass).note.taken
   pub parts : all.parts ≡ (the.shown all.pass).note.handed
   pub tallied : IsTallyOf all.tally answers
+  pub small : AreSmall (packets_in answers)
+  pub few : all.tally.captured ≤ (the.shown all.pass).note.seats * 2 ^ 32
 
 -- The source gave an undamaged capture and has nothing left. What was put into the cache shares out its packets by these
 -- time-outs, the tally is that of all its records, and so many bytes are left behind the last of them.

@@ -4,12 +4,12 @@ use Rattle.cache_face.specs.declared.caches.FlowCache.{Ghosts}
 use Rattle.capture_input.specs.Parts.{Answer}
 use Rattle.work_pieces.specs.declared.pieces.Pieces.{Pieces}
 use Rattle.work_pieces.specs.declared.pieces.DrawPass.{DrawPass}
-use Rattle.work_pieces.specs.Passes.{IsPassOf, IsFresh, HasEnded, size_of, drawn_of}
+use Rattle.work_pieces.specs.Doing.{HasWorked}
+use Rattle.work_pieces.specs.Passes.{IsPassOf, IsFresh}
 use Rattle.meter_workers.specs.declared.share.Share.{Share}
 use Rattle.meter_workers.specs.declared.worker.Worker.{Worker}
 use Rattle.meter_workers.specs.declared.worker.WorkState.TheVariants.{Finished}
-use Rattle.work_pieces.specs.Cutting.{pieces_of}
-use Rattle.meter_workers.specs.Shares.{IsShareOf, HasMetered}
+use Rattle.meter_workers.specs.Shares.{IsShareOf}
 
 -- A share and a seat before a part, behind so many records: the seat drew nothing of it.
 pub record IsReady {X P : Type 0} (the : Ghosts X P) (cache : X) (pieces : Pieces) (base : ℕ) (share : Share X P)
@@ -20,12 +20,6 @@ pub record IsReady {X P : Type 0} (the : Ghosts X P) (cache : X) (pieces : Piece
   pub fresh : IsFresh draw
   pub few : share.tally.captured ≤ base
 
--- They have worked: the seat drew until no piece was left, and the share metered the pieces that it drew besides.
-pub record HasWorked {X P : Type 0} (the : Ghosts X P) (cache : X) (pieces : Pieces) (answers : List Answer)
-    (old new : Share X P) (draw : DrawPass) : Type 0 where
-  pub drawn : HasEnded pieces draw
-  pub share : HasMetered the cache (pieces_of (size_of pieces) answers (drawn_of draw)) old new
-
 -- A worker before a part.
 abbrev pub IsToDraw : {X P : Type 0} → Ghosts X P → X → Pieces → ℕ → Worker X DrawPass P → Type 0
 IsToDraw the cache pieces base worker = IsReady the cache pieces base worker.share worker.seat
@@ -34,4 +28,4 @@ IsToDraw the cache pieces base worker = IsReady the cache pieces base worker.sha
 abbrev pub HasDrawnAll : {X P : Type 0} → Ghosts X P → X → Pieces → List Answer → Worker X DrawPass P
     → Worker X DrawPass P → Type 0
 HasDrawnAll the cache pieces answers old new =
-    new.state ≡ Finished → HasWorked the cache pieces answers old.share new.share new.seat
+    new.state ≡ Finished → HasWorked (IsShareOf the cache) pieces answers old.share new.share new.seat

@@ -11,18 +11,16 @@ ghost use Rattle.capture_input.specs.Refusals.{IsRefused, HasFaults};
 ghost use Rattle.capture_input.specs.Parts.{Answer, answers_from};
 ghost use Rattle.capture_input.specs.Giving.{HasGiven, IsLast, part_in, base_in, size_in, left_in};
 ghost use Rattle.batch_queue.specs.Batches.{count_of};
-ghost use Rattle.batch_queue.specs.Passes.{IsPassOf, IsReaders, IsFresh, IsMore, StandsForAll, IsOpen, put_of, took_of};
-ghost use Rattle.batch_queue.specs.Passes.{seats_of, others_of, reader_of, WasTold};
+ghost use Rattle.batch_queue.specs.Passes.{IsPassOf, IsMore, StandsForAll, put_of, took_of, reader_of, WasTold};
 ghost use Rattle.batch_queue.specs.declared.batch.Batch.{Batch};
 ghost use Rattle.meter_workers.specs.Shares.{IsShareOf, HasMetered};
 ghost use Rattle.meter_workers.specs.Batched.{answers_of_batch, answers_in, IsReadyFor, IsToTake, HasTakenAll};
-ghost use Rattle.meter_workers.specs.Batched.{IsToRead, IsReading, HandsOn, IsReaderAt, HasHandedOn, HasReadAll};
-ghost use Rattle.meter_workers.specs.Batched.{IsAtQueue};
+ghost use Rattle.meter_workers.specs.Batched.{HasHandedOn, HasReadAll, IsAtQueue};
 ghost use Rattle.meter_workers.specs.Whole.{HasGathered, IsMeteredWhole};
 
 use crate::gate::Gate;
 use crate::share::{Share, meter_run, open_shares};
-use crate::windows::{Gathered, gather_all};
+use crate::together::{Gathered, gather_all};
 use crate::worker::{WorkState, Worker, seat_workers, unseat_workers};
 use batch_queue::{Batch, BatchQueue, Feed, QueuePass};
 use cache_face::FlowCache;
@@ -66,6 +64,8 @@ struct Memory {
 struct Shared {
     queue: BatchQueue,
     spare: ArrayQueue<Memory>,
+    /// How many workers there are.
+    workers: usize,
     /// How many bytes the memory of a batch has.
     size: usize,
     ghost bounds: { (262184 ≤ size) × (size ≤ 2 ^ 27) },
@@ -190,17 +190,16 @@ fn run_workers<C: FlowCache, G: Gate, R: Threads + Wait + Sync>(
     crew
 }
 
-/// The reader: its number, its feed of the queue, what it has done, and the number of its next batch.
+/// The reader: its feed of the queue, what it has done, and the number of its next batch.
 #[derive(Drop)]
 struct Reader<C: FlowCache> {
-    number: usize,
     feed: Feed,
     share: Share<C>,
     next: u64,
 }
 
-/// Puts a batch into the queue. The reader meters it itself where the queue has no room, and the gate is told of it
-/// before.
+/// Puts the reader's next batch into the queue. The reader meters it itself where the queue has no room, and the gate is
+/// told of it before.
 fn hand_over<C: FlowCache, G: Gate, R: Wait>(
     rt: &R,
     shared: &Shared,
@@ -209,18 +208,21 @@ fn hand_over<C: FlowCache, G: Gate, R: Wait>(
     reader: &mut Reader<C>,
     batch: Batch,
 ) -> Result<(), NoMemory>
-    requires reading { IsReading C.FlowCache cache.now shared.now.queue reader.old }
-    requires ready { IsReaderAt batch.number batch.base reader.old }
-    ensures ready { OnOk result (IsReaderAt (batch.number + 1) (batch.base + count_of batch) reader.new) }
-    ensures next { OnOk result (reader.new.next ≡ reader.old.next) }
-    ensures handed { OnOk result (HandsOn C.FlowCache cache.now shared.now.queue (answers_of_batch batch) reader.old
-        reader.new) }
+    requires next { (batch.number ≡ reader.old.next) × (0 < count_of batch) }
+    requires open { IsAtQueue shared.now.queue reader.old }
+    requires handed { (answers : List Answer) × (batch.base ≡ length answers)
+        × HasHandedOn C.FlowCache cache.now shared.now.queue shared.now.workers answers reader.old }
+    ensures handed { (answers : List Answer) → batch.base ≡ length answers
+        → HasHandedOn C.FlowCache cache.now shared.now.queue shared.now.workers answers reader.old
+        → OnOk result (HasHandedOn C.FlowCache cache.now shared.now.queue shared.now.workers
+        (answers ++ answers_of_batch batch) reader.new) }
     ensures open { IsAtQueue shared.now.queue reader.new }
 {
+    reader.next += 1;
     match shared.queue.offer(rt, &mut reader.feed, batch) {
         Ok(()) => Ok(()),
         Err(back) => {
-            gate.reach(reader.number, back.number);
+            gate.reach(shared.workers, back.number);
             let part = back.part();
             meter_run(cache, &part, 0, part.index.count(), &mut reader.share)?;
             shared.give_back(rt, back);
@@ -240,20 +242,21 @@ fn hand_part<C: FlowCache, G: Gate, R: Wait>(
     read: (Reading, RecordIndex),
 ) -> Result<(Reading, RecordIndex), NoMemory>
     requires part { IsIndexOf read.1 (part_in read.0) }
-    requires few { (base_in read.0 + length read.1.offsets < 2 ^ 32) × (reader.old.next ≤ base_in read.0) }
+    requires few { base_in read.0 + length read.1.offsets < 2 ^ 32 }
     requires size { size_in read.0 ≡ shared.now.size }
     requires given { (before left : Option (List ℕ)) × (limit : ℕ) × (answers : List Answer)
         × HasGiven before left limit read.0 answers }
-    requires reading { IsReading C.FlowCache cache.now shared.now.queue reader.old }
-    requires ready { IsReaderAt reader.old.next (base_in read.0) reader.old }
+    requires open { IsAtQueue shared.now.queue reader.old }
+    requires handed { (answers : List Answer) × (base_in read.0 ≡ length answers)
+        × HasHandedOn C.FlowCache cache.now shared.now.queue shared.now.workers answers reader.old }
     ensures same { IfOk result (λ r. (size_in r.0 ≡ size_in read.0) × (left_in r.0 ≡ left_in read.0)
         × (IsLast r.0 ↔ IsLast read.0)) }
     ensures given { (before left : Option (List ℕ)) (limit : ℕ) (answers : List Answer)
         → HasGiven before left limit read.0 answers → IfOk result (λ r. HasGiven before left limit r.0 answers) }
-    ensures ready { OnOk result (IsReaderAt reader.new.next (base_in read.0 + length read.1.offsets) reader.new) }
-    ensures next { OnOk result (reader.new.next ≤ base_in read.0 + length read.1.offsets) }
-    ensures handed { OnOk result (HandsOn C.FlowCache cache.now shared.now.queue
-        (answers_from (base_in read.0) (part_in read.0)) reader.old reader.new) }
+    ensures handed { (answers : List Answer) → base_in read.0 ≡ length answers
+        → HasHandedOn C.FlowCache cache.now shared.now.queue shared.now.workers answers reader.old
+        → OnOk result (HasHandedOn C.FlowCache cache.now shared.now.queue shared.now.workers
+        (answers ++ answers_from (base_in read.0) (part_in read.0)) reader.new) }
     ensures open { IsAtQueue shared.now.queue reader.new }
 {
     let (reading, index) = read;
@@ -271,7 +274,6 @@ fn hand_part<C: FlowCache, G: Gate, R: Wait>(
         bytes,
         index,
     };
-    reader.next += 1;
     hand_over(rt, shared, cache, gate, reader, batch)?;
     Ok((reading, memory.index))
 }
@@ -288,9 +290,10 @@ fn read_all<S: Source, C: FlowCache, G: Gate, R: Wait>(
     limit: u64,
 ) -> Result<u64, MeterFault>
     requires limit { limit ≤ 2 ^ 30 }
-    requires reading { IsToRead C.FlowCache cache.now shared.now.queue reader.old }
-    ensures read { IfOk result (λ tail. HasReadAll C.FlowCache cache.now shared.now.queue (S.left source.old)
-        (S.left source.new) limit reader.old reader.new tail) }
+    requires open { IsAtQueue shared.now.queue reader.old }
+    requires fresh { HasHandedOn C.FlowCache cache.now shared.now.queue shared.now.workers [] reader.old }
+    ensures read { IfOk result (λ tail. HasReadAll C.FlowCache cache.now shared.now.queue shared.now.workers
+        (S.left source.old) (S.left source.new) limit reader.new tail) }
     ensures refused { IfErr result (λ fault. IsRefused (side S.left S.faults source.old source.new) limit fault) }
     ensures faults { HasFaults (side S.left S.faults source.old source.new) result }
     ensures open { IsAtQueue shared.now.queue reader.new }
@@ -328,9 +331,10 @@ fn read_and_end<S: Source, C: FlowCache, G: Gate, R: Wait>(
     limit: u64,
 ) -> Result<u64, MeterFault>
     requires limit { limit ≤ 2 ^ 30 }
-    requires reading { IsToRead C.FlowCache cache.now shared.now.queue reader.old }
-    ensures read { IfOk result (λ tail. HasReadAll C.FlowCache cache.now shared.now.queue (S.left source.old)
-        (S.left source.new) limit reader.old reader.new tail) }
+    requires open { IsAtQueue shared.now.queue reader.old }
+    requires fresh { HasHandedOn C.FlowCache cache.now shared.now.queue shared.now.workers [] reader.old }
+    ensures read { IfOk result (λ tail. HasReadAll C.FlowCache cache.now shared.now.queue shared.now.workers
+        (S.left source.old) (S.left source.new) limit reader.new tail) }
     ensures refused { IfErr result (λ fault. IsRefused (side S.left S.faults source.old source.new) limit fault) }
     ensures faults { HasFaults (side S.left S.faults source.old source.new) result }
     ensures said { WasTold (reader_of reader.new.feed) }
@@ -353,13 +357,14 @@ fn run_both<S: Source, C: FlowCache, G: Gate, R: Threads + Wait + Sync>(
     limit: u64,
 ) -> (Vec<Worker<C, QueuePass>>, Result<u64, MeterFault>)
     requires limit { limit ≤ 2 ^ 30 }
-    requires reading { IsToRead C.FlowCache cache.now shared.now.queue reader.old }
+    requires open { IsAtQueue shared.now.queue reader.old }
+    requires fresh { HasHandedOn C.FlowCache cache.now shared.now.queue shared.now.workers [] reader.old }
     requires some { 0 < length workers.items }
     requires ready { All (IsToTake C.FlowCache cache.now shared.now.queue) workers.items }
     ensures same { length result.0.items ≡ length workers.items }
     ensures worked { All (HasTakenAll C.FlowCache cache.now shared.now.queue) result.0.items }
-    ensures read { IfOk result.1 (λ tail. HasReadAll C.FlowCache cache.now shared.now.queue (S.left source.old)
-        (S.left source.new) limit reader.old reader.new tail) }
+    ensures read { IfOk result.1 (λ tail. HasReadAll C.FlowCache cache.now shared.now.queue shared.now.workers
+        (S.left source.old) (S.left source.new) limit reader.new tail) }
     ensures refused { IfErr result.1 (λ fault. IsRefused (side S.left S.faults source.old source.new) limit fault) }
     ensures faults { HasFaults (side S.left S.faults source.old source.new) result.1 }
     ensures said { WasTold (reader_of reader.new.feed) }
@@ -375,9 +380,10 @@ fn run_both<S: Source, C: FlowCache, G: Gate, R: Threads + Wait + Sync>(
         { run_workers(rt, alloc, shared, cache, gate, &mut workers) },
         &mut || -> Result<u64, MeterFault>
             requires limit { limit ≤ 2 ^ 30 }
-            requires reading { IsToRead C.FlowCache cache.now shared.now.queue reader.now }
+            requires open { IsAtQueue shared.now.queue reader.now }
+            requires fresh { HasHandedOn C.FlowCache cache.now shared.now.queue shared.now.workers [] reader.now }
             ensures read { IfOk result (λ tail. HasReadAll C.FlowCache cache.entry.now shared.entry.now.queue
-                (S.left source.entry.now) (S.left source.exit.now) limit reader.entry.now reader.exit.now tail) }
+                shared.entry.now.workers (S.left source.entry.now) (S.left source.exit.now) limit reader.exit.now tail) }
             ensures refused { IfErr result
                 (λ fault. IsRefused (side S.left S.faults source.entry.now source.exit.now) limit fault) }
             ensures faults { HasFaults (side S.left S.faults source.entry.now source.exit.now) result }
@@ -405,13 +411,11 @@ fn open_crew<C: FlowCache>(
     requires front { IfSome batches.front (λ timeouts. timeouts ≡ (C.means cache.now).limits) }
     requires passes { (3 ≤ length passes.items) × (length passes.items ≤ 64)
         × All (λ p. C.is_of cache.now p × IsFreshPass (C.shown p)) passes.items }
-    ensures reader { IfOk result (λ r. IsPassOf r.shared.queue (reader_of r.reader.feed)
-        × IsReaders (reader_of r.reader.feed) × IsOpen r.reader.feed × IsFresh (reader_of r.reader.feed)) }
-    ensures others { IfOk result (λ r. (others_of (reader_of r.reader.feed) ≡ length r.workers.items)
-        × (length r.workers.items + 2 ≡ length passes.items) × (r.reader.next ≡ 0)
-        × (r.reader.number ≡ length r.workers.items)) }
-    ensures shares { IfOk result (λ r. IsShareOf C.FlowCache cache.now [] r.reader.share
-        × IsShareOf C.FlowCache cache.now [] r.last) }
+    ensures reader { IfOk result (λ r. IsAtQueue r.shared.queue r.reader
+        × HasHandedOn C.FlowCache cache.now r.shared.queue r.shared.workers [] r.reader) }
+    ensures many { IfOk result (λ r. (r.shared.workers ≡ length r.workers.items)
+        × (length r.workers.items + 2 ≡ length passes.items)) }
+    ensures last { IfOk result (λ r. IsShareOf C.FlowCache cache.now [] r.last) }
     ensures workers { IfOk result (λ r. All (IsToTake C.FlowCache cache.now r.shared.queue) r.workers.items) }
 {
     let mut shares = open_shares(alloc, cache, passes, batches.front)?;
@@ -422,7 +426,6 @@ fn open_crew<C: FlowCache>(
     let workers = seat_workers(alloc, shares, seats)?;
     let spare = ArrayQueue::new(alloc, batches.room + count + 2)?;
     let reader = Reader {
-        number: count,
         feed,
         share,
         next: 0,
@@ -430,6 +433,7 @@ fn open_crew<C: FlowCache>(
     let shared = Shared {
         queue,
         spare,
+        workers: count,
         size: batches.size,
     };
     Ok(Crew {
@@ -450,16 +454,15 @@ fn gather<C: FlowCache, G: Gate, R: Wait>(
     tail: u64,
     gate: &G,
 ) -> Result<Gathered<C>, NoMemory>
-    requires reader { IsPassOf crew.shared.queue (reader_of crew.reader.feed) × IsReaders (reader_of crew.reader.feed)
-        × (seats_of (reader_of crew.reader.feed) ≡ 1) × (took_of (reader_of crew.reader.feed) ≡ []) }
-    requires many { (others_of (reader_of crew.reader.feed) ≡ length crew.workers.items)
-        × (length crew.workers.items ≤ 62) }
-    requires handed { (answers : List Answer) × HasHandedOn C.FlowCache cache.now answers crew.reader }
+    requires many { (crew.shared.workers ≡ length crew.workers.items) × (length crew.workers.items ≤ 62) }
+    requires handed { (answers : List Answer)
+        × HasHandedOn C.FlowCache cache.now crew.shared.queue crew.shared.workers answers crew.reader }
     requires workers { All (HasTakenAll C.FlowCache cache.now crew.shared.queue) crew.workers.items }
     requires last { IsShareOf C.FlowCache cache.now [] crew.last }
     ensures own { IfOk result (λ r. C.is_of cache.now r.pass
         × ((C.shown r.pass).note.seats ≡ length crew.workers.items + 2)) }
-    ensures metered { (answers : List Answer) → HasHandedOn C.FlowCache cache.now answers crew.reader
+    ensures metered { (answers : List Answer)
+        → HasHandedOn C.FlowCache cache.now crew.shared.queue crew.shared.workers answers crew.reader
         → IfOk result (HasGathered C.FlowCache cache.now answers) }
     ensures tail { IfOk result (λ r. r.tail ≡ tail) }
 {
@@ -469,9 +472,9 @@ fn gather<C: FlowCache, G: Gate, R: Wait>(
         workers,
         mut last,
     } = crew;
-    let drain = workers.len() + 1;
     let (mut shares, seats) = unseat_workers(alloc, workers)?;
     let mut seat = shared.queue.unite_all(reader.feed.into_pass(), seats);
+    let drain = shared.workers + 1;
     work_batches(rt, &shared, cache, gate, drain, &mut seat, &mut last)?;
     shares.push(reader.share)?;
     shares.push(last)?;

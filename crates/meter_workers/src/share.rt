@@ -9,11 +9,11 @@ ghost use Rattle.cache_face.specs.Keeping.{IsBounded, packet_count};
 ghost use Rattle.cache_face.specs.Meaning.{IsFresh};
 ghost use Rattle.front_cache.specs.Fronts.{open_in};
 ghost use Rattle.capture_input.specs.Parts.{Answer, answers_by};
-ghost use Rattle.meter_workers.specs.Shares.{AreSharesOf, HasMetered, HaveMetered, IsSeatOf, IsShareOf, put_by};
+ghost use Rattle.meter_workers.specs.Shares.{HasMetered, IsSeatOf, IsShareOf, put_by};
 
 use cache_face::FlowCache;
 use capture_input::Part;
-use capture_tally::{Tally, order_law, room_law};
+use capture_tally::{Tally, room_law};
 use flow_parts::laws::{
     reaching_shares_out, sharing_out_counts, sharing_out_goes_on, sharing_out_stands,
 };
@@ -23,8 +23,8 @@ use no_memory::NoMemory;
 use packet_accept::{Packet, accept};
 use std::alloc::Global;
 
-/// What a seat of the cache has done, or several together: its pass of the cache, its front, where it has one, the
-/// fragments that the cache handed it, and the tally of its records.
+/// What a seat of the cache has done: its pass of the cache, its front, where it has one, the fragments that the cache
+/// handed it, and the tally of its records.
 #[derive(Drop)]
 pub struct Share<C: FlowCache> {
     pub pass: C::Pass,
@@ -182,106 +182,27 @@ pub(crate) fn open_shares<C: FlowCache>(
     Ok(shares)
 }
 
-/// Empties a front into the cache.
-fn empty_front<C: FlowCache>(
+/// Empties a front into the cache, where there is one.
+pub(crate) fn empty_front<C: FlowCache>(
     cache: &C,
     pass: &mut C::Pass,
     parts: &mut PartList,
-    front: Front,
+    front: Option<Front>,
 ) -> Result<(), NoMemory>
     requires own { C.is_of cache.now pass.old }
     requires single { (C.shown pass.old).note.seats ≡ 1 }
-    requires room { packet_count ((C.shown pass.old).note.taken ++ open_in front) ≤ 2 ^ 32 }
+    requires room { packet_count (put_by (C.shown pass.old) front) ≤ 2 ^ 32 }
     ensures own { OnOk result (C.is_of cache.now pass.new) }
     ensures single { OnOk result ((C.shown pass.new).note.seats ≡ 1) }
-    ensures taken { OnOk result ((C.shown pass.new).note.taken ≡ (C.shown pass.old).note.taken ++ open_in front) }
+    ensures taken { OnOk result ((C.shown pass.new).note.taken ≡ put_by (C.shown pass.old) front) }
     ensures handed { OnOk result (parts.old ≡ (C.shown pass.old).note.handed
         → parts.new ≡ (C.shown pass.new).note.handed) }
 {
-    let mut front = front;
+    let Some(mut front) = front else {
+        return Ok(());
+    };
     while let Some(out) = front.take_out() {
         put_in(cache, pass, parts, &out)?;
     }
     Ok(())
-}
-
-/// The share without its front, which is emptied into the cache.
-pub(crate) fn finish<C: FlowCache>(cache: &C, share: Share<C>) -> Result<Share<C>, NoMemory>
-    requires share { (done : List Answer) × IsShareOf C.FlowCache cache.now done share }
-    ensures share { (done : List Answer) → IsShareOf C.FlowCache cache.now done share
-        → IfOk result (λ r. IsShareOf C.FlowCache cache.now done r) }
-    ensures front { IfOk result (λ r. r.front ≡ None) }
-{
-    sharing_out_counts();
-    let Share {
-        mut pass,
-        front,
-        mut parts,
-        tally,
-    } = share;
-    if let Some(front) = front {
-        empty_front(cache, &mut pass, &mut parts, front)?;
-    }
-    Ok(Share {
-        pass,
-        front: None,
-        parts,
-        tally,
-    })
-}
-
-/// Two shares as one, whose fronts are empty.
-pub(crate) fn unite<C: FlowCache>(
-    cache: &C,
-    share: Share<C>,
-    other: Share<C>,
-) -> Result<Share<C>, NoMemory>
-    requires own { C.is_of cache.now share.pass × C.is_of cache.now other.pass }
-    requires fronts { (share.front ≡ None) × (other.front ≡ None) }
-    requires seats { (C.shown share.pass).note.seats + (C.shown other.pass).note.seats ≤ 64 }
-    requires some { (0 < (C.shown share.pass).note.seats) × (0 < (C.shown other.pass).note.seats) }
-    requires metered { (done rest : List Answer) × AreSharesOf C.FlowCache cache.now done share
-        × AreSharesOf C.FlowCache cache.now rest other }
-    ensures own { IfOk result (λ r. C.is_of cache.now r.pass × (r.front ≡ None)
-        × ((C.shown r.pass).note.seats ≡ (C.shown share.pass).note.seats + (C.shown other.pass).note.seats)) }
-    ensures metered { (done rest : List Answer)
-        → AreSharesOf C.FlowCache cache.now done share → AreSharesOf C.FlowCache cache.now rest other
-        → IfOk result (λ r. AreSharesOf C.FlowCache cache.now (done ++ rest) r) }
-{
-    room_law();
-    sharing_out_stands();
-    let mut parts = share.parts;
-    parts.append(other.parts)?;
-    Ok(Share {
-        pass: cache.unite(share.pass, other.pass),
-        front: None,
-        parts,
-        tally: share.tally.sum_with(&other.tally),
-    })
-}
-
-/// All shares as one: each front is emptied into the cache through its own pass, and then the shares are united.
-pub(crate) fn unite_all<C: FlowCache>(
-    cache: &C,
-    shares: Vec<Share<C>>,
-) -> Result<Share<C>, NoMemory>
-    requires many { (0 < length shares.items) × (length shares.items ≤ 64) }
-    requires metered { (answers : List Answer) × HaveMetered (IsShareOf C.FlowCache cache.now) answers shares.items }
-    ensures own { IfOk result (λ r. C.is_of cache.now r.pass × (r.front ≡ None)
-        × ((C.shown r.pass).note.seats ≡ length shares.items)) }
-    ensures metered { (answers : List Answer) → HaveMetered (IsShareOf C.FlowCache cache.now) answers shares.items
-        → IfOk result (λ r. AreSharesOf C.FlowCache cache.now answers r) }
-{
-    order_law();
-    sharing_out_stands();
-    let mut shares = shares;
-    let Some(last) = shares.pop() else {
-        unreachable!()
-    };
-    let mut all = finish(cache, last)?;
-    while let Some(share) = shares.pop() {
-        let share = finish(cache, share)?;
-        all = unite(cache, all, share)?;
-    }
-    Ok(all)
 }

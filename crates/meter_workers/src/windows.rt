@@ -11,18 +11,19 @@ ghost use Rattle.cache_face.specs.Meaning.{IsFresh as IsFreshPass};
 ghost use Rattle.capture_input.specs.Refusals.{IsRefused, HasFaults};
 ghost use Rattle.capture_input.specs.Parts.{Answer, answers_by};
 ghost use Rattle.capture_input.specs.Giving.{IsReadWhole};
+ghost use Rattle.work_pieces.specs.Doing.{HasWorked, HaveDone};
 ghost use Rattle.work_pieces.specs.Passes.{count_of};
-ghost use Rattle.meter_workers.specs.Shares.{IsShareOf, HaveMetered};
-ghost use Rattle.meter_workers.specs.Working.{IsReady, IsToDraw, HasWorked, HasDrawnAll};
-ghost use Rattle.meter_workers.specs.Whole.{HasGathered, IsMeteredWhole};
+ghost use Rattle.meter_workers.specs.Shares.{IsShareOf};
+ghost use Rattle.meter_workers.specs.Working.{IsReady, IsToDraw, HasDrawnAll};
+ghost use Rattle.meter_workers.specs.Whole.{IsMeteredWhole};
 
 use crate::gate::Gate;
-use crate::share::{Share, meter_run, open_shares, unite_all};
+use crate::share::{Share, meter_run, open_shares};
+use crate::together::{Gathered, gather_all};
 use crate::worker::{WorkState, Worker, seat_workers, unseat_workers};
 use cache_face::FlowCache;
 use capture_input::{MeterFault, Part, Reading};
-use capture_tally::Tally;
-use flow_parts::{PartList, Timeouts};
+use flow_parts::Timeouts;
 use meter_io::Source;
 use no_memory::NoMemory;
 use std::alloc::Global;
@@ -46,16 +47,6 @@ pub struct Windows {
     pub ghost piece_bounds: { (0 < piece) × (piece ≤ 65536) },
 }
 
-/// What all workers did together with a capture: one pass for all seats, the fragments that it was handed, the tally,
-/// and how many bytes are left behind the last record.
-#[derive(Drop)]
-pub struct Gathered<C: FlowCache> {
-    pub pass: C::Pass,
-    pub parts: PartList,
-    pub tally: Tally,
-    pub tail: u64,
-}
-
 /// Draws pieces of a part and meters their records, until none is left. The gate is told of each piece before.
 fn work_through<C: FlowCache, G: Gate>(
     part: &Part<'_>,
@@ -68,8 +59,8 @@ fn work_through<C: FlowCache, G: Gate>(
 ) -> Result<(), NoMemory>
     requires ready { IsReady C.FlowCache cache.now pieces.now part.now.base share.old draw.old }
     requires whole { count_of pieces.now ≡ length part.now.index.now.offsets }
-    ensures worked { OnOk result (HasWorked C.FlowCache cache.now pieces.now (answers_by part.now) share.old share.new
-        draw.new) }
+    ensures worked { OnOk result (HasWorked (IsShareOf C.FlowCache cache.now) pieces.now (answers_by part.now) share.old
+        share.new draw.new) }
 {
     while let Some(piece) = pieces.draw(draw) {
         gate.reach(number, piece.number);
@@ -151,11 +142,11 @@ fn meter_part<C: FlowCache, G: Gate, R: Threads + Sync>(
     requires piece { (0 < piece) × (piece ≤ 65536) }
     requires some { (0 < length shares.items) × (length shares.items ≤ 64) }
     requires metered { (before : List Answer) × (length before ≤ part.now.base)
-        × HaveMetered (IsShareOf C.FlowCache cache.now) before shares.items }
+        × HaveDone (IsShareOf C.FlowCache cache.now) before shares.items }
     ensures many { IfOk result (λ r. length r.items ≡ length shares.items) }
-    ensures metered { (before : List Answer) → HaveMetered (IsShareOf C.FlowCache cache.now) before shares.items
+    ensures metered { (before : List Answer) → HaveDone (IsShareOf C.FlowCache cache.now) before shares.items
         → IfOk result
-        (λ r. HaveMetered (IsShareOf C.FlowCache cache.now) (before ++ answers_by part.now) r.items) }
+        (λ r. HaveDone (IsShareOf C.FlowCache cache.now) (before ++ answers_by part.now) r.items) }
 {
     let seats = shares.len();
     let (pieces, draws) = Pieces::open(alloc, part.index.count(), piece, seats)?;
@@ -181,7 +172,7 @@ fn meter_parts<S: Source, C: FlowCache, G: Gate, R: Threads + Sync>(
     ensures many { IfOk result (λ r. length r.0.items ≡ length shares.items) }
     ensures metered { IfOk result
         (λ r. (answers : List Answer) × IsReadWhole (S.left source.old) (S.left source.new) windows.limit answers r.1
-        × HaveMetered (IsShareOf C.FlowCache cache.now) answers r.0.items) }
+        × HaveDone (IsShareOf C.FlowCache cache.now) answers r.0.items) }
     ensures refused { IfErr result (λ fault. IsRefused (side S.left S.faults source.old source.new) windows.limit fault) }
     ensures faults { HasFaults (side S.left S.faults source.old source.new) result }
 {
@@ -241,28 +232,6 @@ pub fn meter_windows<S: Source, C: FlowCache, G: Gate, R: Threads + Sync>(
         Ok(all) => Ok(all),
         Err(NoMemory) => Err(MeterFault::NoMemory),
     }
-}
-
-/// What all shares did together, with so many bytes left behind the last record.
-pub(crate) fn gather_all<C: FlowCache>(
-    cache: &C,
-    shares: Vec<Share<C>>,
-    tail: u64,
-) -> Result<Gathered<C>, NoMemory>
-    requires many { (0 < length shares.items) × (length shares.items ≤ 64) }
-    requires metered { (answers : List Answer) × HaveMetered (IsShareOf C.FlowCache cache.now) answers shares.items }
-    ensures own { IfOk result (λ r. C.is_of cache.now r.pass × ((C.shown r.pass).note.seats ≡ length shares.items)) }
-    ensures metered { (answers : List Answer) → HaveMetered (IsShareOf C.FlowCache cache.now) answers shares.items
-        → IfOk result (HasGathered C.FlowCache cache.now answers) }
-    ensures tail { IfOk result (λ r. r.tail ≡ tail) }
-{
-    let all = unite_all(cache, shares)?;
-    Ok(Gathered {
-        pass: all.pass,
-        parts: all.parts,
-        tally: all.tally,
-        tail,
-    })
 }
 
 /// Meters a capture that is in memory, as its first and only part, through a cache, by one worker for each of its

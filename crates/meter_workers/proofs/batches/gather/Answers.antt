@@ -1,17 +1,20 @@
 -- Who has metered what, once all have worked.
-use Rattle.std.proofs.Common.{◌≡◌, ◌+◌, List, [], ◌∷◌, length, sym, ap, ◌∙◌, subst, arith}
-use Rattle.std.specs.Prelude.{All, IfOk}
+use Rattle.meter_workers.proofs.Common.{◌≡◌, ◌+◌, List, [], ◌∷◌, ◌++◌, length, sym, ap, ◌∙◌, subst, arith, append_assoc}
+use Rattle.meter_workers.proofs.Common.{All, IfOk, IsPermutation, IsPermutation-trans, IsPermutation-append_comm}
+use Rattle.meter_workers.proofs.Common.{IsPermutation-append_left, Answer, HaveDone, QueuePass, put_of, took_of}
+use Rattle.meter_workers.proofs.Common.{reader_of, Worker, HasHandedOn, answers_of_batch, answers_in, IsShareOf}
+use Rattle.std.specs.Prelude.{flat_map}
+use Rattle.std.proofs.lemmas.Grind.{flat_map-append}
 use Rattle.std.proofs.lemmas.List.{length-map, length-append}
 use Rattle.std.proofs.lemmas.List.Elements.{All-map}
-use Rattle.capture_input.specs.Parts.{Answer}
-use Rattle.batch_queue.specs.declared.queue.QueuePass.{QueuePass}
-use Rattle.batch_queue.specs.Uniting.{IsOther}
-use Rattle.meter_workers.specs.declared.worker.Worker.{Worker}
-use Rattle.meter_workers.specs.Batched.{HasHandedOn}
-use Rattle.meter_workers.specs.Shares.{IsShareOf, HaveMetered}
-use Rattle.meter_workers.proofs.Crew.{gathered}
-use Rattle.meter_workers.proofs.batches.gather.Given as given
+use Rattle.std.proofs.lemmas.List.Folds.{flat_map-map}
+use Rattle.std.proofs.lemmas.List.Sorted.{IsPermutation-append_right}
+use Rattle.packet_accept.proofs.Permuted.{flat_map-permutation}
+use Rattle.work_pieces.proofs.Doing.{flat-flat, one-more, told-each, reordered}
+use Rattle.batch_queue.specs.Uniting.{IsFirst, IsForAll, IsOther}
+use Rattle.batch_queue.proofs.Passing.{all-taken}
 use Rattle.meter_workers.proofs.batches.gather.Goals.{In_ok-push-2}
+use Rattle.meter_workers.proofs.batches.gather.Given as given
 use Rattle.meter_workers.proofs.batches.gather.Goals as goal
 
 pub unseat_workers-requires-clause-ended : goal.unseat_workers-requires-clause-ended
@@ -25,20 +28,51 @@ unite_all-seat-requires-clause-others g c =
     let has = (c.requires.workers k d inside).1 (c.in_ok-shares.ensures.finished k d inside) in
     (has.of, has.put, has.single, has.apart)))
 
--- all that the reader handed on was metered
+-- The workers have metered the batches that they took, the reader some answers of its own, and the drain what was left:
+-- together all answers that the reader handed on.
 all : (g : given.Over) (c : In_ok-push-2 g) (answers : List Answer)
-    → HasHandedOn g.C.FlowCache c.args.cache.now answers c.args.crew.reader
-    → HaveMetered (IsShareOf g.C.FlowCache c.args.cache.now) answers c.push-2.new.self.items
+    → HasHandedOn g.C.FlowCache c.args.cache.now c.args.crew.shared.queue c.args.crew.shared.workers answers
+    c.args.crew.reader
+    → HaveDone (IsShareOf g.C.FlowCache c.args.cache.now) answers c.push-2.new.self.items
 all g c answers handed =
+    let W : Type 0 = Worker g.row.C.Denot QueuePass g.row.C-Pass.Denot in
+    let Has = IsShareOf g.C.FlowCache c.args.cache.now in
+    let ws = c.args.crew.workers.items in
     let told = c.in_ok-shares.ensures in
-    let r = c.requires.reader in
     let drained = c.in_ok-work_batches.ensures in
-    gathered g.C.FlowCache c.args.cache.now c.args.crew.shared.queue c.args.crew.workers.items answers
-    c.args.crew.reader c.in_ok-shares.seats.items c.into_pass.result c.unite_all-seat.result c.work_batches.new.seat
-    drained.did.0 c.in_ok-shares.shares.items c.push.new.self.items c.push-2.new.self.items c.args.crew.last
-    c.work_batches.new.share c.requires.workers told.finished told.shares told.seats c.in_ok-push.ensures.items
-    c.in_ok-push-2.ensures.items (r.1, r.2, r.3, c.requires.many.0) c.into_pass.ensures c.unite_all-seat.ensures.all
-    drained.did.1 drained.all c.requires.last drained.did.2 handed
+    let first = reader_of c.args.crew.reader.feed in
+    let seats = c.in_ok-shares.seats.items in
+    let took = flat_map took_of seats in
+    let list = λ (w : W). answers_in (took_of w.seat) in
+    let theirs : List Answer = flat_map list ws in
+    let own = handed.own in
+    let left : List Answer = answers_in drained.did.0 in
+    let workers : HaveDone Has theirs c.in_ok-shares.shares.items =
+    subst (HaveDone Has theirs) (sym told.shares)
+    (told-each Has (λ (w : W). w.share) list ws
+    (λ k d inside. ((c.requires.workers k d inside).1 (told.finished k d inside)).is)) in
+    let have = one-more Has (theirs ++ own) left _ _ _ c.in_ok-push-2.ensures.items
+    (one-more Has theirs own _ _ _ c.in_ok-push.ensures.items workers handed.is)
+    (drained.did.2.besides [] c.requires.last) in
+    let count = c.requires.many.0 ∙ sym (ap length told.seats ∙ length-map ws (λ (w : W). w.seat)) in
+    let put = all-taken c.args.crew.shared.queue seats first c.unite_all-seat.result c.work_batches.new.seat drained.did.0
+    (subst (λ n. IsFirst c.args.crew.shared.queue n first) count handed.first)
+    (subst (λ p. IsForAll seats p c.unite_all-seat.result) c.into_pass.ensures c.unite_all-seat.ensures.all)
+    drained.did.1 drained.all in
+    let each : answers_in (took ++ drained.did.0) ≡ theirs ++ left =
+    flat_map-append answers_of_batch took drained.did.0
+    ∙ ap (λ l. l ++ left) (ap (λ l. answers_in (flat_map took_of l)) told.seats
+    ∙ ap answers_in (flat_map-map took_of (λ (w : W). w.seat) ws)
+    ∙ flat-flat answers_of_batch (λ (w : W). took_of w.seat) ws) in
+    let of_all : IsPermutation (answers_in (put_of first)) (theirs ++ left) =
+    subst (λ l. IsPermutation (answers_in (put_of first)) l) each
+    (flat_map-permutation answers_of_batch (put_of first) (took ++ drained.did.0) put) in
+    reordered Has ((theirs ++ own) ++ left) answers _
+    (IsPermutation-trans _ (own ++ answers_in (put_of first)) _ handed.all
+    (IsPermutation-trans _ (own ++ (theirs ++ left)) _
+    (IsPermutation-append_right own (answers_in (put_of first)) (theirs ++ left) of_all)
+    (subst (λ l. IsPermutation l ((theirs ++ own) ++ left)) (append_assoc own theirs left)
+    (IsPermutation-append_left left (own ++ theirs) (theirs ++ own) (IsPermutation-append_comm own theirs))))) have
 
 pub gather_all-requires-clause-metered : goal.gather_all-requires-clause-metered
 gather_all-requires-clause-metered g c κs within =

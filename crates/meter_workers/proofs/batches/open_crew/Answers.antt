@@ -1,31 +1,50 @@
 -- Who has which share.
-use Rattle.std.proofs.Common.{◌≡◌, ◌<◌, List, [], ◌++◌, length, take, drop, sym, subst, arith}
-use Rattle.std.specs.Prelude.{All}
-use Rattle.std.proofs.lemmas.List.Elements.{All-append, All-drop, All-same, All-take}
-use Rattle.batch_queue.specs.declared.queue.QueuePass.{QueuePass}
-use Rattle.batch_queue.specs.Passes.{IsPassOf, IsReaders, IsFresh, others_of}
-use Rattle.meter_workers.specs.declared.share.Share.{Share}
-use Rattle.meter_workers.specs.declared.worker.Worker.{Worker}
-use Rattle.meter_workers.specs.Shares.{IsShareOf}
-use Rattle.meter_workers.proofs.Several.{all-mapped}
+use Rattle.meter_workers.proofs.Common.{◌≡◌, ◌<◌, List, [], ◌++◌, length, sym, subst, arith, All, IsPermutation}
+use Rattle.meter_workers.proofs.Common.{IsPermutation-refl, All-nil, All-append, All-same, QueuePass, IsPassOf, Share}
+use Rattle.meter_workers.proofs.Common.{Worker, IsShareOf, StandsBefore, answers_in, all-mapped}
+use Rattle.std.proofs.Common.{take, drop}
+use Rattle.std.proofs.lemmas.List.Elements.{All-drop, All-take}
+use Rattle.batch_queue.specs.Passes.{IsReaders, IsFresh, others_of}
 use Rattle.meter_workers.proofs.batches.open_crew.Goals as goal
 
 behind-first : {X : Type 0} (P : X → Type 0) (xs ys : List X) → All P xs → ys ≡ take 0 xs ++ drop 1 xs → All P ys
 behind-first P xs ys all is =
     All-same P ys _ is (All-append P (take 0 xs) (drop 1 xs) (All-take P 0 xs all) (All-drop P 1 xs all))
 
-pub returns-clause-shares : goal.returns-clause-shares
-returns-clause-shares g c =
+pub returns-clause-reader : goal.returns-clause-reader
+returns-clause-reader g c =
+    let P : Share g.row.C.Denot g.row.C-Pass.Denot → Type 0 = IsShareOf g.C.FlowCache c.args.cache.now [] in
+    let least = c.requires.passes.0 in
+    let queue = c.in_ok-queue.ensures.reader in
+    let none = queue.1.1 in (
+      (queue.0, queue.4),
+      record {
+        first = record {
+          of = queue.0;
+          reader = queue.2;
+          single = queue.1.0;
+          others_are = queue.3;
+          none = queue.1.2;
+        };
+        behind = subst (All (StandsBefore 0 0)) (sym none) (All-nil (StandsBefore 0 0));
+        low = omega arith;
+        own = [];
+        all = subst (λ l. IsPermutation [] (answers_in l)) (sym none) (IsPermutation-refl []);
+        is = subst P (sym c.remove-share.ensures.value)
+            (c.in_ok-shares.ensures.shares 0 _ (omega (arith, c.in_ok-shares.ensures.many, least)));
+      },
+    )
+
+pub returns-clause-last : goal.returns-clause-last
+returns-clause-last g c =
     let P : Share g.row.C.Denot g.row.C-Pass.Denot → Type 0 = IsShareOf g.C.FlowCache c.args.cache.now [] in
     let told = c.in_ok-shares.ensures in
     let least = c.requires.passes.0 in
     let some' : 0 < length c.remove-share.new.self.items =
     (let len = c.remove-share.ensures.len in
-    omega (arith, told.many, least, len, c.remove-share.new.self.ok.0, c.in_ok-shares.shares.ok.0)) in (
-      subst P (sym c.remove-share.ensures.value) (told.shares 0 _ (omega (arith, told.many, least))),
-      subst P (sym c.remove-last.ensures.value)
-          (behind-first P _ _ told.shares c.remove-share.ensures.by_index.2 0 _ some'),
-    )
+    omega (arith, told.many, least, len, c.remove-share.new.self.ok.0, c.in_ok-shares.shares.ok.0)) in
+    subst P (sym c.remove-last.ensures.value)
+    (behind-first P _ _ told.shares c.remove-share.ensures.by_index.2 0 _ some')
 
 pub returns-clause-workers : goal.returns-clause-workers
 returns-clause-workers g c =

@@ -1,5 +1,5 @@
-use Rattle.std.proofs.Common.{[], ◌∙◌, sym, arith}
-use Rattle.meter_workers.proofs.Crew.{taken-all}
+use Rattle.meter_workers.proofs.Common.{[], ◌++◌, ◌∙◌, sym, ap, subst, arith, append-nil, put_of, more-keeps, IsShareOf}
+use Rattle.meter_workers.proofs.Common.{answers_in}
 use Rattle.meter_workers.proofs.batches.work.Goals.{in-Ok, in-Err}
 use Rattle.meter_workers.proofs.batches.work.Goals as goal
 
@@ -8,7 +8,7 @@ work_batches-end-requires-clause-share g c κs within = ([], c.requires.ready.is
 
 pub work_batches-end-requires-clause-ready : goal.work_batches-end-requires-clause-ready
 work_batches-end-requires-clause-ready g c κs within =
-    λ next all. (let none = c.requires.ready.is.metered.tallied.captured in omega (arith, none))
+    λ next all. (let none = c.requires.ready.is.tallied.captured in omega (arith, none))
 
 pub returns : goal.returns
 returns g c = record {
@@ -17,8 +17,18 @@ returns g c = record {
       λ going. absurd (let e = sym w.worker-is ∙ going in cc),
       λ finished.
           (let did = w.in-Ok.ensures.did in
-          taken-all g.C.FlowCache c.args.cache.now c.args.shared.now.queue c.args.worker.now _ did.0 c.requires.ready
-          c.work_batches-end.ensures.own did.1 w.in-Ok.ensures.told did.2),
+          let ready = c.requires.ready in
+          let old = c.args.worker.now.seat in
+          let keeps = more-keeps old c.work_batches-end.new.seat [] did.0 did.1 in
+          record {
+            is = subst (λ l. IsShareOf g.C.FlowCache c.args.cache.now (answers_in l) c.work_batches-end.new.share)
+                (sym (keeps.1 ∙ ap (λ l. l ++ did.0) ready.fresh.2)) (did.2.besides [] ready.is);
+            of = c.work_batches-end.ensures.own;
+            put = keeps.0 ∙ append-nil (put_of old) ∙ ready.fresh.1;
+            single = keeps.2 ∙ ready.fresh.0;
+            apart = keeps.3 ∙ ready.apart;
+            told = w.in-Ok.ensures.told;
+          }),
     )
     | in-Err w ↦ (
       λ going. absurd (let e = sym w.worker-is ∙ going in cc),

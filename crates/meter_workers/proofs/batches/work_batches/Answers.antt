@@ -1,24 +1,16 @@
-use Rattle.std.proofs.Common.{◌≡◌, ◌++◌, ◌∷◌, List, [], length, sym, ap, subst, ◌∙◌, arith}
-use Rattle.std.specs.Prelude.{All}
-use Rattle.pcap_reader.specs.Index.{Offsets}
-use Rattle.cache_face.proofs.Apart.{snoc}
-use Rattle.capture_input.specs.Parts.{Answer}
-use Rattle.batch_queue.specs.declared.batch.Batch.{Batch}
-use Rattle.batch_queue.specs.Batches.{IsBefore}
+use Rattle.meter_workers.proofs.Common.{◌≡◌, ◌++◌, ◌∷◌, List, [], length, sym, ap, subst, ◌∙◌, arith, All, Offsets}
+use Rattle.meter_workers.proofs.Common.{Answer, Batch, IsBefore, IsMore, took_of, more-none, more-keeps, HasMetered}
+use Rattle.meter_workers.proofs.Common.{IsShareOf, answers_of_batch, answers_in, IsReadyFor, snoc, done-none, done-more}
 use Rattle.batch_queue.specs.Queueing.{more_of}
-use Rattle.batch_queue.specs.Passes.{IsMore, took_of}
-use Rattle.batch_queue.proofs.Passing.{more-none, more-both, more-keeps}
-use Rattle.meter_workers.specs.Shares.{HasMetered}
-use Rattle.meter_workers.specs.Batched.{answers_of_batch, answers_in, IsReadyFor}
+use Rattle.batch_queue.proofs.Passing.{more-both}
 use Rattle.meter_workers.proofs.Crew.{batch-answers, ready-more}
-use Rattle.meter_workers.proofs.Shares.{metered-none, metered-more}
 use Rattle.meter_workers.proofs.batches.work_batches.Goals as goal
 
 pub loop-init : goal.loop-init
 loop-init g c = record {
   of = c.requires.own;
   ready = c.requires.ready;
-  did = ([], more-none c.args.seat.now, metered-none g.C.FlowCache c.args.cache.now c.args.share.now);
+  did = ([], more-none c.args.seat.now, done-none (IsShareOf g.C.FlowCache c.args.cache.now) c.args.share.now);
 }
 
 pub meter_run-requires-clause-share : goal.meter_run-requires-clause-share
@@ -48,7 +40,7 @@ loop-preserved-in-Some-take g c =
         more-both c.args.seat.now c.loop.seat c.take.new.pass [] known.did.0 [] (batch ∷ []) known.did.1 more,
         subst (λ (l : List Answer). HasMetered g.C.FlowCache c.args.cache.now l c.args.share.now c.meter_run.new.share)
             (ap (λ l. answers_in known.did.0 ++ l) own ∙ sym (snoc answers_of_batch known.did.0 batch))
-            (metered-more g.C.FlowCache c.args.cache.now _ _ _ c.loop.share _ known.did.2 told.share),
+            (done-more (IsShareOf g.C.FlowCache c.args.cache.now) _ _ _ c.loop.share _ known.did.2 told.share),
       );
     }
 

@@ -1,8 +1,4 @@
-use Rattle.std.proofs.Common.{List, []}
-use Rattle.batch_queue.specs.Passes.{IsPassOf, IsMore, took_of}
-use Rattle.batch_queue.specs.declared.batch.Batch.{Batch}
-use Rattle.meter_workers.specs.Shares.{HasMetered}
-use Rattle.meter_workers.specs.Batched.{answers_in, IsReadyFor}
+use Rattle.meter_workers.proofs.Common.{List, [], IsPassOf, IsMore, took_of, Batch, HasMetered, answers_in, IsReadyFor}
 use Rattle.meter_workers.proofs.batches.work_batches.Given as goal
 
 abbrev pub invariant-loop : goal.invariant-loop

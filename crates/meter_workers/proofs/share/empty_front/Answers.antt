@@ -1,13 +1,12 @@
-use Rattle.std.proofs.Common.{◌++◌, ◌∷◌, [], length, sym, ap, ◌∙◌, arith, append_assoc}
-use Rattle.front_cache.specs.Fronts.{open_in}
+use Rattle.meter_workers.proofs.Common.{◌++◌, ◌∷◌, [], length, sym, ap, ◌∙◌, arith, append_assoc, open_in}
 use Rattle.meter_workers.proofs.Shares.{room-out}
 use Rattle.meter_workers.proofs.share.empty_front.Goals as goal
 
 pub put_in-requires-clause-room : goal.put_in-requires-clause-room
 put_in-requires-clause-room g c κs within =
     let taken = (g.C.FlowCache.shown c.loop-out.pass).note.taken in
-    room-out taken (open_in c.take_out.new.self) _ c.in-Some.out
-    (ap (λ l. taken ++ l) (sym c.in-Some.ensures.taken) ∙ c.loop-out.invariant.taken) c.requires.room
+    room-out taken (open_in c.take_out.new.self) _ c.in-Some-take_out.out
+    (ap (λ l. taken ++ l) (sym c.in-Some-take_out.ensures.taken) ∙ c.loop-out.invariant.taken) c.requires.room
 
 pub loop-out-preserved : goal.loop-out-preserved
 loop-out-preserved g c =
@@ -18,10 +17,10 @@ loop-out-preserved g c =
       own = told.own;
       single = told.single;
       taken = ap (λ l. l ++ open_in c.take_out.new.self) told.taken
-          ∙ append_assoc taken (c.in-Some.out ∷ []) (open_in c.take_out.new.self)
-          ∙ ap (λ l. taken ++ l) (sym c.in-Some.ensures.taken) ∙ i.taken;
+          ∙ append_assoc taken (c.in-Some-take_out.out ∷ []) (open_in c.take_out.new.self)
+          ∙ ap (λ l. taken ++ l) (sym c.in-Some-take_out.ensures.taken) ∙ i.taken;
       handed = λ is. told.handed (i.handed is);
     }
 
 pub loop-out-smaller : goal.loop-out-smaller
-loop-out-smaller g c = (let e = ap length c.in-Some.ensures.taken in omega (arith, e))
+loop-out-smaller g c = (let e = ap length c.in-Some-take_out.ensures.taken in omega (arith, e))

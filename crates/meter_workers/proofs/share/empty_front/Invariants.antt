@@ -1,5 +1,4 @@
-use Rattle.std.proofs.Common.{◌≡◌, ◌++◌, length}
-use Rattle.front_cache.specs.Fronts.{open_in}
+use Rattle.meter_workers.proofs.Common.{◌≡◌, ◌++◌, length, open_in, put_by}
 use Rattle.meter_workers.proofs.share.empty_front.Given as goal
 
 abbrev pub invariant-loop-out : goal.invariant-loop-out
@@ -7,7 +6,7 @@ invariant-loop-out g l = record {
   own : g.C.FlowCache.is_of l.cache l.pass;
   single : (g.C.FlowCache.shown l.pass).note.seats ≡ 1;
   taken : (g.C.FlowCache.shown l.pass).note.taken ++ open_in l.front
-      ≡ (g.C.FlowCache.shown l.initial.pass).note.taken ++ open_in l.fn.front;
+      ≡ put_by (g.C.FlowCache.shown l.initial.pass) l.fn.front;
   handed : l.initial.parts ≡ (g.C.FlowCache.shown l.initial.pass).note.handed
       → l.parts ≡ (g.C.FlowCache.shown l.pass).note.handed;
 }

@@ -1,4 +1,4 @@
-use Rattle.std.proofs.Common.{[], ◌∷◌, sym, append-nil}
+use Rattle.meter_workers.proofs.Common.{[], ◌∷◌, sym, append-nil}
 use Rattle.meter_workers.proofs.Shares.{reached-alone, reached-through, room-through, on-ok}
 use Rattle.meter_workers.proofs.share.meter_packet.Goals as goal
 

@@ -1,16 +1,14 @@
-use Rattle.std.proofs.Common.{◌∷◌, List, [], refl, sym, subst, ap, ◌∙◌, arith}
-use Rattle.pcap_reader.specs.Views.{file_of, record_read}
-use Rattle.capture_input.specs.Parts.{Answer}
+use Rattle.meter_workers.proofs.Common.{◌∷◌, List, [], refl, sym, subst, ap, ◌∙◌, arith, file_of, Answer, Share}
+use Rattle.meter_workers.proofs.Common.{HasMetered}
+use Rattle.pcap_reader.specs.Views.{record_read}
 use Rattle.capture_input.proofs.Ranges.{answer-alone}
-use Rattle.meter_workers.specs.declared.share.Share.{Share}
-use Rattle.meter_workers.specs.Shares.{HasMetered}
 use Rattle.meter_workers.proofs.Shares.{put-few, shared-packet, shared-none, share-more, on-ok-all}
 use Rattle.meter_workers.proofs.share.meter_record.Goals as goal
 
 pub meter_packet-requires-clause-room : goal.meter_packet-requires-clause-room
 meter_packet-requires-clause-room g c κs within =
     let few = put-few g.C.FlowCache c.args.cache.now _ c.args.share.now c.sharing_out_counts.ensures.counts
-    c.requires.share.1.metered in
+    c.requires.share.1 in
     omega (arith, few, c.requires.room)
 
 pub returns-in-Ok-clause-share : goal.returns-in-Ok-clause-share
@@ -28,14 +26,10 @@ returns-in-Ok-clause-share g c =
     c.meter_packet.ensures.handed
     (λ seated reached keeps.
     subst (λ (l : List Answer). HasMetered g.C.FlowCache c.args.cache.now l c.args.share.now new) (sym one) (record {
-      besides = λ done share. record {
-        seated = seated;
-        metered = share-more g.C.FlowCache c.args.cache.now done _ c.args.share.now new c.accept-answer.ensures.octets
-            c.requires.room c.add.ensures keeps seated.single
-            (shared-packet _ done _ c.in-Ok.packet reached.0 _ _ c.sharing_out_goes_on.ensures.opened
-            c.reaching_shares_out.ensures.shared c.in-Ok.is reached.1 reached.2 share.metered.shared)
-            share.metered;
-      };
+      besides = λ done share.
+          share-more g.C.FlowCache c.args.cache.now done _ c.args.share.now new c.accept-answer.ensures.octets c.requires.room c.add.ensures keeps seated
+          (shared-packet _ done _ c.in-Ok.packet reached.0 _ _ c.sharing_out_goes_on.ensures.opened
+          c.reaching_shares_out.ensures.shared c.in-Ok.is reached.1 reached.2 share.shared) share;
     }))
 
 pub returns-in-Err-clause-share : goal.returns-in-Err-clause-share
@@ -47,10 +41,7 @@ returns-in-Err-clause-share g c =
     let new : Share g.row.C.Denot g.row.C-Pass.Denot =
     record { pass = old.pass; front = old.front; parts = old.parts; tally = c.add.new.self } in
     subst (λ (l : List Answer). HasMetered g.C.FlowCache c.args.cache.now l old new) (sym one) (record {
-      besides = λ done share. record {
-        seated = share.seated;
-        metered = share-more g.C.FlowCache c.args.cache.now done _ old new c.accept-answer.ensures.octets
-            c.requires.room c.add.ensures (λ handed. handed) share.seated.single
-            (shared-none _ done _ c.in-Err.field-0 _ c.in-Err.is share.metered.shared) share.metered;
-      };
+      besides = λ done share.
+          share-more g.C.FlowCache c.args.cache.now done _ old new c.accept-answer.ensures.octets c.requires.room c.add.ensures (λ handed. handed)
+          share.seated (shared-none _ done _ c.in-Err.field-0 _ c.in-Err.is share.shared) share;
     })

@@ -1,16 +1,13 @@
-use Rattle.std.proofs.Common.{◌≡◌, ◌+◌, List, refl, sym, subst, arith}
-use Rattle.std.specs.Prelude.{slice_range}
-use Rattle.capture_input.specs.Parts.{Answer, answers_by}
+use Rattle.meter_workers.proofs.Common.{◌≡◌, ◌+◌, List, refl, sym, subst, arith, slice_range, Answer, answers_by}
+use Rattle.meter_workers.proofs.Common.{done-none, done-more, HasMetered, IsShareOf}
 use Rattle.capture_input.proofs.Ranges.{range-none, range-both}
-use Rattle.meter_workers.specs.Shares.{HasMetered}
-use Rattle.meter_workers.proofs.Shares.{metered-none, metered-more}
 use Rattle.meter_workers.proofs.share.meter_run.Goals as goal
 
 pub loop-n-init : goal.loop-n-init
 loop-n-init g c = record {
   share = subst (λ (l : List Answer). HasMetered g.C.FlowCache c.args.cache.now l c.args.share.now c.args.share.now)
       (sym (range-none (answers_by c.args.part.now) c.args.from))
-      (metered-none g.C.FlowCache c.args.cache.now c.args.share.now);
+      (done-none (IsShareOf g.C.FlowCache c.args.cache.now) c.args.share.now);
   captured = refl;
   low = omega arith;
 }
@@ -32,7 +29,7 @@ loop-n-preserved g c =
     record {
       share = subst (λ (l : List Answer). HasMetered g.C.FlowCache c.args.cache.now l c.args.share.now
           c.meter_record.new.share) (sym (range-both answers c.args.from n (n + 1) i.low (omega arith)))
-          (metered-more g.C.FlowCache c.args.cache.now _ _ _ c.loop-n.share _ i.share told.share);
+          (done-more (IsShareOf g.C.FlowCache c.args.cache.now) _ _ _ c.loop-n.share _ i.share told.share);
       captured = omega (arith, told.captured, i.captured);
       low = (let low = i.low in omega (arith, low));
     }

@@ -1,7 +1,4 @@
-use Rattle.std.proofs.Common.{◌≡◌, ◌≤◌, ◌+◌}
-use Rattle.std.specs.Prelude.{slice_range}
-use Rattle.capture_input.specs.Parts.{answers_by}
-use Rattle.meter_workers.specs.Shares.{HasMetered}
+use Rattle.meter_workers.proofs.Common.{◌≡◌, ◌≤◌, ◌+◌, slice_range, answers_by, HasMetered}
 use Rattle.meter_workers.proofs.share.meter_run.Given as goal
 
 abbrev pub invariant-loop-n : goal.invariant-loop-n

@@ -1,8 +1,4 @@
-use Rattle.std.proofs.Common.{Some, [], rules, sym, subst}
-use Rattle.std.specs.Prelude.{All}
-use Rattle.std.proofs.lemmas.List.Elements.{All-cons, All-pop}
-use Rattle.cache_face.specs.Meaning.{IsFresh}
-use Rattle.meter_workers.specs.Shares.{IsShareOf}
+use Rattle.meter_workers.proofs.Common.{Some, [], rules, sym, subst, All, All-cons, All-pop, IsFresh, IsShareOf}
 use Rattle.meter_workers.proofs.share.open_shares.Goals as goal
 
 pub loop-pass-preserved : goal.loop-pass-preserved

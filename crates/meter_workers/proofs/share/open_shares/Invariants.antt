@@ -1,7 +1,4 @@
-use Rattle.std.proofs.Common.{◌≡◌, ◌+◌, [], length, vec_len}
-use Rattle.std.specs.Prelude.{All}
-use Rattle.cache_face.specs.Meaning.{IsFresh}
-use Rattle.meter_workers.specs.Shares.{IsShareOf}
+use Rattle.meter_workers.proofs.Common.{◌≡◌, ◌+◌, [], length, vec_len, All, IsFresh, IsShareOf}
 use Rattle.meter_workers.proofs.share.open_shares.Given as goal
 
 abbrev pub invariant-loop-pass : goal.invariant-loop-pass

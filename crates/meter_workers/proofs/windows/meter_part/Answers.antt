@@ -1,16 +1,10 @@
-use Rattle.std.proofs.Common.{◌≡◌, ℕ, ◌≤◌, ◌*◌, ◌∙◌, List, sym, subst, length, arith}
-use Rattle.std.specs.Prelude.{All}
-use Rattle.pcap_reader.specs.Views.{file_of}
-use Rattle.work_pieces.specs.declared.pieces.DrawPass.{DrawPass}
+use Rattle.meter_workers.proofs.Common.{◌≡◌, ℕ, ◌≤◌, ◌*◌, ◌∙◌, List, sym, subst, length, arith, All, file_of, DrawPass}
+use Rattle.meter_workers.proofs.Common.{Answer, answers_by, answers-count, Share, Worker, Finished, IsShareOf}
+use Rattle.meter_workers.proofs.Common.{all-mapped}
 use Rattle.work_pieces.specs.Passes.{IsPassOf, IsFresh}
 use Rattle.work_pieces.proofs.Cutting.{enough}
-use Rattle.capture_input.specs.Parts.{Answer, answers_by}
-use Rattle.capture_input.proofs.Ranges.{answers-count}
-use Rattle.meter_workers.specs.declared.share.Share.{Share}
-use Rattle.meter_workers.specs.declared.worker.Worker.{Worker}
-use Rattle.meter_workers.specs.Shares.{IsShareOf}
-use Rattle.meter_workers.proofs.Several.{each-metered, all-mapped}
-use Rattle.meter_workers.proofs.Pieces.{all-drawn, part-metered, still-many}
+use Rattle.work_pieces.proofs.Doing.{DidSome, each-done, still-many}
+use Rattle.work_pieces.proofs.Working.{all-drawn, all-done}
 use Rattle.meter_workers.proofs.windows.meter_part.Given as given
 use Rattle.meter_workers.proofs.windows.meter_part.Goals as goal
 
@@ -21,11 +15,10 @@ pub run_workers-workers-requires-clause-ready : goal.run_workers-workers-require
 run_workers-workers-requires-clause-ready g c κs within =
     let Has = IsShareOf g.C.FlowCache c.args.cache.now in
     let had = c.requires.metered in
-    let Some : Share g.row.C.Denot g.row.C-Pass.Denot → Type 0 =
-    λ s. (list : List Answer) × (length list ≤ length had.0) × Has list s in
     let Draw : DrawPass → Type 0 = λ d. IsPassOf c.in_ok-pieces.pieces d × IsFresh d in
-    let shares = all-mapped Some (λ (w : W g). w.share) _
-    (subst (All Some) (sym c.in_ok-workers.ensures.shares) (each-metered Has had.0 c.args.shares.items had.2)) in
+    let shares = all-mapped (DidSome Has had.0) (λ (w : W g). w.share) _
+    (subst (All (DidSome Has had.0)) (sym c.in_ok-workers.ensures.shares)
+    (each-done Has had.0 c.args.shares.items had.2)) in
     let draws = all-mapped Draw (λ (w : W g). w.seat) _
     (subst (All Draw) (sym c.in_ok-workers.ensures.seats) c.in_ok-pieces.ensures.passes.1) in
     λ k d inside.
@@ -36,30 +29,27 @@ run_workers-workers-requires-clause-ready g c κs within =
       is = s.2;
       draws = t.0;
       fresh = t.1;
-      few = (let le = s.1 in let base = had.1 in omega (arith, le, base, s.2.metered.tallied.captured));
+      few = (let le = s.1 in let base = had.1 in omega (arith, le, base, s.2.tallied.captured));
     }
 
 pub complete_all-requires-clause-ended : goal.complete_all-requires-clause-ended
 complete_all-requires-clause-ended g c =
-    all-drawn g.C.FlowCache c.args.cache.now c.in_ok-pieces.pieces (answers_by c.args.part.now)
-    c.in_ok-workers.workers.items c.run_workers-workers.result.items c.in_ok-shares.draws.items
-    c.in_ok-shares.ensures.seats c.in_ok-shares.ensures.finished c.run_workers-workers.ensures.worked
+    all-drawn (IsShareOf g.C.FlowCache c.args.cache.now) (λ (w : W g). w.share) (λ w. w.seat) (λ w. w.state ≡ Finished)
+    c.in_ok-pieces.pieces (answers_by c.args.part.now) _ _ _ c.in_ok-shares.ensures.seats
+    c.in_ok-shares.ensures.finished c.run_workers-workers.ensures.worked
 
 pub complete_all-requires-clause-all : goal.complete_all-requires-clause-all
 complete_all-requires-clause-all g c =
-    let many : length c.in_ok-shares.draws.items ≡ length c.args.shares.items =
-    still-many g.C.FlowCache c.args.cache.now c.in_ok-pieces.pieces (answers_by c.args.part.now) (λ (w : W g). w.seat)
-    c.in_ok-workers.workers.items c.run_workers-workers.result.items c.args.shares.items c.in_ok-shares.draws.items
-    c.in_ok-workers.ensures.shares c.in_ok-shares.ensures.seats c.run_workers-workers.ensures.worked in
+    let many = still-many _ (λ (w : W g). w.share) (λ w. w.seat) _ _ _ _ c.in_ok-workers.ensures.shares
+    c.in_ok-shares.ensures.seats c.run_workers-workers.ensures.worked in
     let seats = c.in_ok-pieces.ensures.pieces.2 in
     let some = c.requires.some.0 in
     (omega (arith, many, some), omega (arith, many, seats, c.args.shares.ok.0))
 
 pub returns-clause-many : goal.returns-clause-many
 returns-clause-many g c =
-    still-many g.C.FlowCache c.args.cache.now c.in_ok-pieces.pieces (answers_by c.args.part.now) (λ (w : W g). w.share)
-    c.in_ok-workers.workers.items c.run_workers-workers.result.items c.args.shares.items c.in_ok-shares.shares.items
-    c.in_ok-workers.ensures.shares c.in_ok-shares.ensures.shares c.run_workers-workers.ensures.worked
+    still-many _ (λ (w : W g). w.share) (λ w. w.share) _ _ _ _ c.in_ok-workers.ensures.shares
+    c.in_ok-shares.ensures.shares c.run_workers-workers.ensures.worked
 
 pub returns-clause-metered : goal.returns-clause-metered
 returns-clause-metered g c = λ before have.
@@ -69,8 +59,7 @@ returns-clause-metered g c = λ before have.
     let told = c.in_ok-pieces.ensures.pieces in
     let long = subst (λ (n : ℕ × ℕ × ℕ). n.0 ≤ n.1 * n.2) (λ i. (sym all i, sym told.3 i, sym told.1 i))
     (enough c.count.result c.args.piece c.requires.piece.0) in
-    part-metered g.C.FlowCache c.args.cache.now c.in_ok-pieces.pieces (answers_by part) before
-    c.in_ok-workers.workers.items c.run_workers-workers.result.items c.args.shares.items c.in_ok-shares.shares.items
-    c.in_ok-shares.draws.items c.in_ok-workers.ensures.shares c.in_ok-shares.ensures.shares
-    c.in_ok-shares.ensures.seats c.in_ok-shares.ensures.finished c.run_workers-workers.ensures.worked
-    c.complete_all.ensures long have
+    all-done (IsShareOf g.C.FlowCache c.args.cache.now) (λ (w : W g). w.share) (λ w. w.seat) (λ w. w.state ≡ Finished)
+    c.in_ok-pieces.pieces (answers_by part) before _ _ _ _ _ c.in_ok-workers.ensures.shares
+    c.in_ok-shares.ensures.shares c.in_ok-shares.ensures.seats c.in_ok-shares.ensures.finished
+    c.run_workers-workers.ensures.worked c.complete_all.ensures long have

@@ -1,13 +1,8 @@
-use Rattle.std.proofs.Common.{◌≡◌, ◌+◌, ◌++◌, ◌≤◌, ◌∙◌, ℕ, List, [], length, refl, sym, subst, arith}
-use Rattle.std.proofs.lemmas.Result.{err_from_is_err_and}
-use Rattle.capture_input.specs.Parts.{Answer, answers_from, answers_by}
-use Rattle.capture_input.specs.Giving.{HasGiven, part_in, base_in}
-use Rattle.capture_input.specs.Refusals.{IsRefused}
-use Rattle.capture_input.proofs.Filling.{seen}
-use Rattle.meter_workers.specs.Shares.{IsShareOf, HaveMetered}
-use Rattle.meter_workers.proofs.Several.{nothing-metered}
-use Rattle.meter_workers.proofs.windows.meter_parts.Given as given
+use Rattle.meter_workers.proofs.Common.{◌≡◌, ◌+◌, ◌++◌, ◌≤◌, ◌∙◌, ℕ, List, [], length, refl, sym, subst, arith}
+use Rattle.meter_workers.proofs.Common.{err_from_is_err_and, Answer, answers_from, answers_by, HasGiven, part_in}
+use Rattle.meter_workers.proofs.Common.{base_in, IsRefused, seen, HaveDone, nothing-done, IsShareOf}
 use Rattle.meter_workers.proofs.windows.meter_parts.Goals.{In-Ok}
+use Rattle.meter_workers.proofs.windows.meter_parts.Given as given
 use Rattle.meter_workers.proofs.windows.meter_parts.Goals as goal
 
 pub loop-shares-init : goal.loop-shares-init
@@ -23,7 +18,7 @@ loop-shares-init g c =
         told.first.0,
         subst (λ (n : ℕ). HasGiven (g.S.Source.left c.args.source.now) (g.S.Source.left c.begin.new.source)
             c.args.windows.limit first (answers_from n (part_in first))) (sym told.first.0) told.given,
-        nothing-metered (IsShareOf g.C.FlowCache c.args.cache.now) c.args.shares.items c.requires.shares,
+        nothing-done (IsShareOf g.C.FlowCache c.args.cache.now) c.args.shares.items c.requires.shares,
       );
       quiet = told.faults;
     }
@@ -45,14 +40,14 @@ tail-requires g c = record { given = (_, _, _, _, c.loop-shares.invariant.read.2
 
 -- the part was metered too
 metered : (g : given.Over) (c : In-Ok g)
-    → HaveMetered (IsShareOf g.C.FlowCache c.args.cache.now) (c.loop-shares.invariant.read.0
+    → HaveDone (IsShareOf g.C.FlowCache c.args.cache.now) (c.loop-shares.invariant.read.0
     ++ answers_from (base_in c.loop-shares.reading) (part_in c.loop-shares.reading)) c.in-Ok.shares.items
 metered g c =
     let r = c.loop-shares.invariant.read in
     let same : answers_by c.part-part.result
     ≡ answers_from (base_in c.loop-shares.reading) (part_in c.loop-shares.reading) =
     (λ i. answers_from (c.part-part.ensures.base i) (c.part-part.ensures.file i)) in
-    subst (λ (l : List Answer). HaveMetered (IsShareOf g.C.FlowCache c.args.cache.now) (r.0 ++ l) c.in-Ok.shares.items)
+    subst (λ (l : List Answer). HaveDone (IsShareOf g.C.FlowCache c.args.cache.now) (r.0 ++ l) c.in-Ok.shares.items)
     same (c.in-Ok.ensures.metered r.0 r.3)
 
 pub returns-then-is_last-clause-metered : goal.returns-then-is_last-clause-metered

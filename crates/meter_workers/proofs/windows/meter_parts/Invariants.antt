@@ -1,9 +1,6 @@
 -- What was read so far was metered, and the part that was read last comes behind it.
-use Rattle.std.proofs.Common.{◌≡◌, ◌+◌, ◌<◌, ◌^◌, ◌++◌, List, length}
-use Rattle.pcap_reader.specs.Index.{IsIndexOf}
-use Rattle.capture_input.specs.Parts.{Answer, answers_from}
-use Rattle.capture_input.specs.Giving.{HasGiven, part_in, base_in, left_in}
-use Rattle.meter_workers.specs.Shares.{IsShareOf, HaveMetered}
+use Rattle.meter_workers.proofs.Common.{◌≡◌, ◌+◌, ◌<◌, ◌^◌, ◌++◌, List, length, IsIndexOf, Answer, answers_from}
+use Rattle.meter_workers.proofs.Common.{HasGiven, part_in, base_in, left_in, HaveDone, IsShareOf}
 use Rattle.meter_workers.proofs.windows.meter_parts.Given as goal
 
 abbrev pub invariant-loop-shares : goal.invariant-loop-shares
@@ -14,7 +11,7 @@ invariant-loop-shares g l = record {
   read : (answers : List Answer) × (base_in l.reading ≡ length answers)
       × HasGiven (g.S.Source.left l.fn.source) (g.S.Source.left l.source) l.windows.limit l.reading
       (answers ++ answers_from (base_in l.reading) (part_in l.reading))
-      × HaveMetered (IsShareOf g.C.FlowCache l.cache) answers l.shares.items;
+      × HaveDone (IsShareOf g.C.FlowCache l.cache) answers l.shares.items;
   quiet : g.S.Source.faults l.source ≡ g.S.Source.faults l.fn.source;
 }
 

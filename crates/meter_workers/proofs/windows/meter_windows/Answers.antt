@@ -1,6 +1,4 @@
-use Rattle.std.proofs.Common.{sym, arith}
-use Rattle.cache_face.proofs.Apart.{same}
-use Rattle.meter_io.specs.Sides.{side}
+use Rattle.meter_workers.proofs.Common.{sym, arith, same, side}
 use Rattle.meter_workers.proofs.Whole.{metered-whole}
 use Rattle.meter_workers.proofs.windows.meter_windows.Goals as goal
 

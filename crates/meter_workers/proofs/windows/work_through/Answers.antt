@@ -1,16 +1,12 @@
-use Rattle.std.proofs.Common.{◌≡◌, ◌+◌, ◌*◌, ◌≤◌, ◌++◌, List, length, min, sym, ap, ◌∙◌, subst, arith}
-use Rattle.std.specs.Prelude.{slice_range}
-use Rattle.pcap_reader.specs.Views.{file_of}
-use Rattle.work_pieces.specs.Passes.{size_of, drawn_of}
+use Rattle.meter_workers.proofs.Common.{◌≡◌, ◌+◌, ◌*◌, ◌≤◌, ◌++◌, List, length, sym, ap, ◌∙◌, subst, arith, slice_range}
+use Rattle.meter_workers.proofs.Common.{file_of, size_of, drawn_of, Answer, answers_by, answers-count, pieces_of}
+use Rattle.meter_workers.proofs.Common.{HasMetered, IsShareOf, done-none, done-more, IsBehind}
+use Rattle.std.proofs.Common.{min}
 use Rattle.cache_face.proofs.Apart.{snoc}
-use Rattle.capture_input.specs.Parts.{Answer, answers_by}
-use Rattle.capture_input.proofs.Ranges.{answers-count}
-use Rattle.work_pieces.specs.Cutting.{piece_of, pieces_of}
-use Rattle.meter_workers.specs.Shares.{HasMetered}
-use Rattle.work_pieces.proofs.Cutting.{IsBehind, behind-none, behind-next, behind-more}
-use Rattle.meter_workers.proofs.Shares.{metered-none, metered-more}
-use Rattle.meter_workers.proofs.windows.work_through.Given as given
+use Rattle.work_pieces.specs.Cutting.{piece_of}
+use Rattle.work_pieces.proofs.Cutting.{behind-none, behind-next, behind-more}
 use Rattle.meter_workers.proofs.windows.work_through.Goals.{In-Some}
+use Rattle.meter_workers.proofs.windows.work_through.Given as given
 use Rattle.meter_workers.proofs.windows.work_through.Goals as goal
 
 pub loop-draw-init : goal.loop-draw-init
@@ -23,8 +19,7 @@ loop-draw-init g c =
       seat = fresh.1;
       share = subst (λ (l : List Answer). HasMetered g.C.FlowCache c.args.cache.now l share share)
           (sym (ap (pieces_of size (answers_by c.args.part.now)) fresh.3))
-          (metered-none g.C.FlowCache c.args.cache.now share);
-      few = omega arith;
+          (done-none (IsShareOf g.C.FlowCache c.args.cache.now) share);
       behind = behind-none size share.tally.captured (drawn_of c.args.draw.now);
     }
 
@@ -74,8 +69,7 @@ loop-draw-preserved g c =
           c.meter_run.new.share)
           (ap (λ (l : List Answer). pieces_of size answers drawn ++ l) own
           ∙ sym (ap (pieces_of size answers) some.2 ∙ snoc (piece_of size answers) drawn n))
-          (metered-more g.C.FlowCache c.args.cache.now _ _ _ c.loop-draw.share _ c.loop-draw.invariant.share told.share);
-      few = omega (arith, told.captured, next, some.0, c.in-Some.ensures.within.2, c.requires.whole);
+          (done-more (IsShareOf g.C.FlowCache c.args.cache.now) _ _ _ c.loop-draw.share _ c.loop-draw.invariant.share told.share);
       behind = subst (λ l. IsBehind size c.args.share.now.tally.captured l c.meter_run.new.share.tally.captured)
           (sym some.2)
           (behind-more size c.args.share.now.tally.captured n c.loop-draw.share.tally.captured

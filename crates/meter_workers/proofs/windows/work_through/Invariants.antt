@@ -1,9 +1,7 @@
-use Rattle.std.proofs.Common.{◌≡◌, ◌≤◌, ◌+◌, ◌-◌, length}
-use Rattle.work_pieces.specs.Passes.{IsPassOf, size_of, drawn_of, seats_of}
-use Rattle.capture_input.specs.Parts.{answers_by}
-use Rattle.work_pieces.specs.Cutting.{pieces_of}
-use Rattle.meter_workers.specs.Shares.{HasMetered}
-use Rattle.work_pieces.proofs.Cutting.{IsBehind}
+use Rattle.meter_workers.proofs.Common.{◌≡◌, ◌+◌, length, size_of, drawn_of, answers_by, pieces_of, HasMetered}
+use Rattle.meter_workers.proofs.Common.{IsBehind}
+use Rattle.std.proofs.Common.{◌-◌}
+use Rattle.work_pieces.specs.Passes.{IsPassOf, seats_of}
 use Rattle.meter_workers.proofs.windows.work_through.Given as goal
 
 abbrev pub invariant-loop-draw : goal.invariant-loop-draw
@@ -12,7 +10,6 @@ invariant-loop-draw g l = record {
   seat : seats_of l.draw ≡ 1;
   share : HasMetered g.C.FlowCache l.cache (pieces_of (size_of l.pieces) (answers_by l.part) (drawn_of l.draw))
       l.initial.share l.share;
-  few : l.share.tally.captured ≤ l.initial.share.tally.captured + length l.part.index.now.offsets;
   behind : IsBehind (size_of l.pieces) l.initial.share.tally.captured (drawn_of l.draw) l.share.tally.captured;
 }
 

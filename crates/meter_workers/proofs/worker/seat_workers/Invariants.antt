@@ -1,4 +1,4 @@
-use Rattle.std.proofs.Common.{◌≡◌, ◌++◌, length, map, vec_len}
+use Rattle.meter_workers.proofs.Common.{◌≡◌, ◌++◌, length, map, vec_len}
 use Rattle.meter_workers.proofs.worker.seat_workers.Given as goal
 
 abbrev pub invariant-loop-share : goal.invariant-loop-share

@@ -1,6 +1,4 @@
-use Rattle.std.proofs.Common.{◌≡◌, ◌++◌, map, vec_len}
-use Rattle.std.specs.Prelude.{◌≢◌, All}
-use Rattle.meter_workers.specs.declared.worker.WorkState.TheVariants.{Going, Finished}
+use Rattle.meter_workers.proofs.Common.{◌≡◌, ◌++◌, map, vec_len, ◌≢◌, All, Going, Finished}
 use Rattle.meter_workers.proofs.worker.unseat_workers.Given as goal
 
 abbrev pub invariant-loop-worker : goal.invariant-loop-worker

@@ -1,0 +1,90 @@
+use Rattle.meter_workers.proofs.Common.{◌≡◌, ◌+◌, ◌++◌, ◌∷◌, List, [], length, length-append, ap, ◌∙◌, rules, arith}
+use Rattle.meter_workers.proofs.Common.{IsPermutation, IsPermutation-trans, IsPermutation-append_left, Answer, HaveDone}
+use Rattle.meter_workers.proofs.Common.{IsShareOf, HasGathered}
+use Rattle.std.proofs.lemmas.List.Sorted.{IsPermutation-sym}
+use Rattle.work_pieces.proofs.Doing.{popped, none-left, moved-back}
+use Rattle.meter_workers.proofs.Shares.{permuted}
+use Rattle.meter_workers.proofs.together.gather_all.Goals.{In_ok-one}
+use Rattle.meter_workers.proofs.together.gather_all.Given as given
+use Rattle.meter_workers.proofs.together.gather_all.Goals as goal
+
+pub finish-requires-clause-share : goal.finish-requires-clause-share
+finish-requires-clause-share g c κs within =
+    let p = popped _ _ _ _ _ c.in-Some.ensures.items c.requires.metered.1 in (p.1, p.3)
+
+pub loop-share-init : goal.loop-share-init
+loop-share-init g c =
+    let is = c.in-Some.ensures.items in
+    let long : length c.args.shares.items ≡ length c.pop.new.self.items + 1 =
+    ap length is ∙ length-append c.pop.new.self.items (c.in-Some.last ∷ []) in
+    record {
+      many = omega (arith, long, c.in_ok-all.ensures.seats);
+      tail = c.in_ok-all.ensures.tail;
+      metered = λ answers have.
+          (let q = popped _ _ _ _ _ is have in (q.0, q.1, q.2, c.in_ok-all.ensures.gathered q.1 q.3, q.4));
+    }
+
+pub finish-requires-in-Some-pop-clause-share : goal.finish-requires-in-Some-pop-clause-share
+finish-requires-in-Some-pop-clause-share g c κs within =
+    let had = c.requires.metered in
+    let p = popped _ _ _ _ _ c.in-Some-pop.ensures.items (c.loop-share.invariant.metered had.0 had.1).2 in (p.1, p.3)
+
+-- what the others that are left, those that are united, and the next one have metered
+parted : (g : given.Over) (c : In_ok-one g) (answers : List Answer)
+    → HaveDone (IsShareOf g.C.FlowCache c.args.cache.now) answers c.args.shares.items
+    → (rest done list : List Answer)
+    × HaveDone (IsShareOf g.C.FlowCache c.args.cache.now) rest c.pop-in-loop-share.new.self.items
+    × HasGathered g.C.FlowCache c.args.cache.now done c.loop-share.all
+    × HasGathered g.C.FlowCache c.args.cache.now list c.in_ok-one.one
+    × IsPermutation answers (rest ++ (done ++ list))
+parted g c answers have =
+    let m = c.loop-share.invariant.metered answers have in
+    let q = popped _ _ _ _ _ c.in-Some-pop.ensures.items m.2 in (
+      q.0,
+      m.1,
+      q.1,
+      q.2,
+      m.3,
+      c.in_ok-one.ensures.gathered q.1 q.3,
+      moved-back answers m.0 m.1 q.0 q.1 m.4 q.4,
+    )
+
+-- and how many are left
+left : (g : given.Over) (c : In_ok-one g) → length c.loop-share.shares.items ≡ length c.pop-in-loop-share.new.self.items + 1
+left g c = ap length c.in-Some-pop.ensures.items
+    ∙ length-append c.pop-in-loop-share.new.self.items (c.in-Some-pop.share ∷ [])
+
+pub unite-requires-clause-seats : goal.unite-requires-clause-seats
+unite-requires-clause-seats g c κs within =
+    let long = left g (goal.at.unite-requires-clause-seats g c).In_ok-one in
+    omega (arith, long, c.in_ok-one.ensures.seats, c.loop-share.invariant.many, c.requires.many.1)
+
+pub unite-requires-clause-gathered : goal.unite-requires-clause-gathered
+unite-requires-clause-gathered g c κs within =
+    let p = parted g (goal.at.unite-requires-clause-gathered g c).In_ok-one _ c.requires.metered.1 in (p.1, p.2, p.4, p.5)
+
+pub loop-share-preserved : goal.loop-share-preserved
+loop-share-preserved g c =
+    let at = (goal.at.loop-share-preserved g c).In_ok-one in
+    let both = c.in_ok-all-2.ensures in
+    record {
+      many = omega (arith, both.seats, c.in_ok-one.ensures.seats, left g at, c.loop-share.invariant.many);
+      tail = both.tail ∙ c.loop-share.invariant.tail;
+      metered = λ answers have.
+          (let p = parted g at answers have in (p.0, p.1 ++ p.2, p.3, both.gathered p.1 p.2 p.4 p.5, p.6));
+    }
+
+pub returns-clause-metered : goal.returns-clause-metered
+returns-clause-metered g c = λ answers have.
+    let m = c.loop-share.invariant.metered answers have in
+    let none : c.loop-share.shares.items ≡ [] = search rules in
+    permuted g.C.FlowCache c.args.cache.now m.1 answers c.loop-share.all c.sharing_out_stands.ensures.permuted
+    c.order_law.ensures
+    (IsPermutation-sym _ _ (IsPermutation-trans _ (m.0 ++ m.1) _ m.4 (IsPermutation-append_left m.1 m.0 []
+    (none-left _ m.0 _ none m.2)))) m.3
+
+pub returns-clause-own : goal.returns-clause-own
+returns-clause-own g c =
+    let none : c.loop-share.shares.items ≡ [] = search rules in
+    let no = ap length none in
+    ((c.loop-share.invariant.metered _ c.requires.metered.1).3.own, omega (arith, no, c.loop-share.invariant.many))

@@ -1,0 +1,103 @@
+//! What all seats did together.
+
+ghost use Rattle.std.specs.Prelude.{◌≡◌, ◌+◌, ◌++◌, ◌<◌, ◌≤◌, List, length, IfOk};
+ghost use Rattle.capture_input.specs.Parts.{Answer};
+ghost use Rattle.work_pieces.specs.Doing.{HaveDone};
+ghost use Rattle.meter_workers.specs.Shares.{IsShareOf};
+ghost use Rattle.meter_workers.specs.Whole.{HasGathered};
+
+use crate::share::{Share, empty_front};
+use cache_face::FlowCache;
+use capture_tally::{Tally, order_law, room_law};
+use flow_parts::PartList;
+use flow_parts::laws::{sharing_out_counts, sharing_out_stands};
+use no_memory::NoMemory;
+
+/// What all workers did together with a capture: one pass for all seats, the fragments that it was handed, the tally,
+/// and how many bytes are left behind the last record.
+#[derive(Drop)]
+pub struct Gathered<C: FlowCache> {
+    pub pass: C::Pass,
+    pub parts: PartList,
+    pub tally: Tally,
+    pub tail: u64,
+}
+
+/// What a share did, whose front is emptied into the cache.
+fn finish<C: FlowCache>(cache: &C, share: Share<C>, tail: u64) -> Result<Gathered<C>, NoMemory>
+    requires share { (done : List Answer) × IsShareOf C.FlowCache cache.now done share }
+    ensures gathered { (done : List Answer) → IsShareOf C.FlowCache cache.now done share
+        → IfOk result (HasGathered C.FlowCache cache.now done) }
+    ensures seats { IfOk result (λ r. (C.shown r.pass).note.seats ≡ 1) }
+    ensures tail { IfOk result (λ r. r.tail ≡ tail) }
+{
+    sharing_out_counts();
+    let Share {
+        mut pass,
+        front,
+        mut parts,
+        tally,
+    } = share;
+    empty_front(cache, &mut pass, &mut parts, front)?;
+    Ok(Gathered {
+        pass,
+        parts,
+        tally,
+        tail,
+    })
+}
+
+/// What both did.
+fn unite<C: FlowCache>(
+    cache: &C,
+    one: Gathered<C>,
+    other: Gathered<C>,
+) -> Result<Gathered<C>, NoMemory>
+    requires seats { (C.shown one.pass).note.seats + (C.shown other.pass).note.seats ≤ 64 }
+    requires gathered { (done rest : List Answer) × HasGathered C.FlowCache cache.now done one
+        × HasGathered C.FlowCache cache.now rest other }
+    ensures gathered { (done rest : List Answer) → HasGathered C.FlowCache cache.now done one
+        → HasGathered C.FlowCache cache.now rest other → IfOk result (HasGathered C.FlowCache cache.now (done ++ rest)) }
+    ensures seats { IfOk result (λ r. (C.shown r.pass).note.seats
+        ≡ (C.shown one.pass).note.seats + (C.shown other.pass).note.seats) }
+    ensures tail { IfOk result (λ r. r.tail ≡ one.tail) }
+{
+    room_law();
+    sharing_out_stands();
+    let mut parts = one.parts;
+    parts.append(other.parts)?;
+    Ok(Gathered {
+        pass: cache.unite(one.pass, other.pass),
+        parts,
+        tally: one.tally.sum_with(&other.tally),
+        tail: one.tail,
+    })
+}
+
+/// What all shares did, with so many bytes left behind the last record: each front is emptied into the cache through its
+/// own pass.
+pub(crate) fn gather_all<C: FlowCache>(
+    cache: &C,
+    shares: Vec<Share<C>>,
+    tail: u64,
+) -> Result<Gathered<C>, NoMemory>
+    requires many { (0 < length shares.items) × (length shares.items ≤ 64) }
+    requires metered { (answers : List Answer) × HaveDone (IsShareOf C.FlowCache cache.now) answers shares.items }
+    ensures metered { (answers : List Answer) → HaveDone (IsShareOf C.FlowCache cache.now) answers shares.items
+        → IfOk result (HasGathered C.FlowCache cache.now answers) }
+    ensures own { IfOk result (λ r. C.is_of cache.now r.pass × ((C.shown r.pass).note.seats ≡ length shares.items)) }
+    ensures tail { IfOk result (λ r. r.tail ≡ tail) }
+{
+    order_law();
+    sharing_out_stands();
+    let mut shares = shares;
+    let Some(last) = shares.pop() else {
+        unreachable!()
+    };
+    let mut all = finish(cache, last, tail)?;
+    while let Some(share) = shares.pop() {
+        let one = finish(cache, share, tail)?;
+        all = unite(cache, all, one)?;
+    }
+    Ok(all)
+}
