@@ -18,6 +18,7 @@ use Rattle.flow_parts.specs.Parts.{IsAlone}
 use Rattle.flow_parts.specs.Reaching.{Reaches}
 use Rattle.flow_parts.proofs.Reaching.{put_behind, itself, same_packets}
 use Rattle.capture_tally.specs.declared.tally.Tally.{Tally}
+use Rattle.capture_tally.proofs.Counting.{packets-few}
 use Rattle.cache_face.specs.Keeping.{packet_count}
 use Rattle.cache_face.specs.Meaning.{IsUnited}
 use Rattle.cache_face.specs.Notes.{Note}
@@ -111,11 +112,6 @@ on-ok (Err e) a = tt
 small-one : (answer : Answer) → IfOk answer (λ packet. packet.octets < 2 ^ 24) → AreSmall (packets_in (answer ∷ []))
 small-one (Ok packet) small = All-cons (λ p. p.octets < 2 ^ 24) packet [] small (All-nil (λ p. p.octets < 2 ^ 24))
 small-one (Err cause) small = All-nil (λ p. p.octets < 2 ^ 24)
-
-packets-few : (answers : List Answer) → length (packets_in answers) ≤ length answers
-packets-few [] = omega arith
-packets-few (Ok packet ∷ answers) = (let h = packets-few answers in omega (arith, h))
-packets-few (Err cause ∷ answers) = (let h = packets-few answers in omega (arith, h))
 
 module _ {X P : Type 0} (the : Ghosts X P) (cache : X) where
   -- no more packets were put in than records were tallied

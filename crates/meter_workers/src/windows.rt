@@ -20,7 +20,6 @@ ghost use Rattle.meter_workers.specs.Whole.{IsMeteredWhole};
 use crate::gate::Gate;
 use crate::share::{Share, meter_run, open_shares};
 use crate::together::{Gathered, gather_all};
-use crate::worker::{WorkState, Worker, seat_workers, unseat_workers};
 use cache_face::FlowCache;
 use capture_input::{MeterFault, Part, Reading};
 use flow_parts::Timeouts;
@@ -29,7 +28,7 @@ use no_memory::NoMemory;
 use std::alloc::Global;
 use std::thread;
 use std::thread::Threads;
-use work_pieces::{DrawPass, Pieces};
+use work_pieces::{DrawPass, Pieces, WorkState, Worker, seat_workers, unseat_workers};
 
 /// How a capture is metered in windows.
 #[derive(Clone, Copy, Debug)]
@@ -75,7 +74,7 @@ fn work<C: FlowCache, G: Gate>(
     pieces: &Pieces,
     cache: &C,
     gate: &G,
-    worker: &mut Worker<C, DrawPass>,
+    worker: &mut Worker<Share<C>, DrawPass>,
 )
     requires ready { IsToDraw C.FlowCache cache.now pieces.now part.now.base worker.old }
     requires whole { count_of pieces.now ≡ length part.now.index.now.offsets }
@@ -104,8 +103,8 @@ fn run_workers<C: FlowCache, G: Gate, R: Threads + Sync>(
     pieces: &Pieces,
     cache: &C,
     gate: &G,
-    mut workers: Vec<Worker<C, DrawPass>>,
-) -> Vec<Worker<C, DrawPass>>
+    mut workers: Vec<Worker<Share<C>, DrawPass>>,
+) -> Vec<Worker<Share<C>, DrawPass>>
     requires some { 0 < length workers.items }
     requires ready { All (IsToDraw C.FlowCache cache.now pieces.now part.now.base) workers.items }
     requires whole { count_of pieces.now ≡ length part.now.index.now.offsets }
@@ -118,7 +117,7 @@ fn run_workers<C: FlowCache, G: Gate, R: Threads + Sync>(
         rt,
         workers.as_mut_slice(),
         count,
-        &|_, w: &mut Worker<C, DrawPass>|
+        &|_, w: &mut Worker<Share<C>, DrawPass>|
             requires ready { IsToDraw C.FlowCache cache.now pieces.now part.now.base w.old }
             requires whole { count_of pieces.now ≡ length part.now.index.now.offsets }
             ensures ended { w.new.state ≢ WorkState.Going }

@@ -2,7 +2,7 @@
 use Rattle.meter_workers.proofs.Common.{◌≡◌, ◌+◌, List, [], ◌∷◌, ◌++◌, length, sym, ap, ◌∙◌, subst, arith, append_assoc}
 use Rattle.meter_workers.proofs.Common.{All, IfOk, IsPermutation, IsPermutation-trans, IsPermutation-append_comm}
 use Rattle.meter_workers.proofs.Common.{IsPermutation-append_left, Answer, HaveDone, QueuePass, put_of, took_of}
-use Rattle.meter_workers.proofs.Common.{reader_of, Worker, HasHandedOn, answers_of_batch, answers_in, IsShareOf}
+use Rattle.meter_workers.proofs.Common.{reader_of, Share, Worker, HasHandedOn, answers_of_batch, answers_in, IsShareOf}
 use Rattle.std.specs.Prelude.{flat_map}
 use Rattle.std.proofs.lemmas.Grind.{flat_map-append}
 use Rattle.std.proofs.lemmas.List.{length-map, length-append}
@@ -17,16 +17,15 @@ use Rattle.meter_workers.proofs.batches.gather.Goals.{In_ok-push-2}
 use Rattle.meter_workers.proofs.batches.gather.Given as given
 use Rattle.meter_workers.proofs.batches.gather.Goals as goal
 
-pub unseat_workers-requires-clause-ended : goal.unseat_workers-requires-clause-ended
-unseat_workers-requires-clause-ended g c κs within = λ k d inside. (c.requires.workers k d inside).0
+pub unseat_workers-requires : goal.unseat_workers-requires
+unseat_workers-requires g c = record { ended = λ k d inside. (c.requires.workers k d inside).0 }
 
 pub unite_all-seat-requires-clause-others : goal.unite_all-seat-requires-clause-others
 unite_all-seat-requires-clause-others g c =
-    let W : Type 0 = Worker g.row.C.Denot QueuePass g.row.C-Pass.Denot in
+    let W : Type 0 = Worker (Share g.row.C.Denot g.row.C-Pass.Denot) QueuePass in
     subst (All (IsOther c.args.crew.shared.queue)) (sym c.in_ok-shares.ensures.seats)
     (All-map (IsOther c.args.crew.shared.queue) (λ (w : W). w.seat) c.args.crew.workers.items (λ k d inside.
-    let has = (c.requires.workers k d inside).1 (c.in_ok-shares.ensures.finished k d inside) in
-    (has.of, has.put, has.single, has.apart)))
+    ((c.requires.workers k d inside).1 (c.in_ok-shares.ensures.finished k d inside)).seat))
 
 -- The workers have metered the batches that they took, the reader some answers of its own, and the drain what was left:
 -- together all answers that the reader handed on.
@@ -35,7 +34,7 @@ all : (g : given.Over) (c : In_ok-push-2 g) (answers : List Answer)
     c.args.crew.reader
     → HaveDone (IsShareOf g.C.FlowCache c.args.cache.now) answers c.push-2.new.self.items
 all g c answers handed =
-    let W : Type 0 = Worker g.row.C.Denot QueuePass g.row.C-Pass.Denot in
+    let W : Type 0 = Worker (Share g.row.C.Denot g.row.C-Pass.Denot) QueuePass in
     let Has = IsShareOf g.C.FlowCache c.args.cache.now in
     let ws = c.args.crew.workers.items in
     let told = c.in_ok-shares.ensures in
@@ -86,7 +85,7 @@ returns-clause-metered g c = λ answers handed.
 
 pub returns-clause-own : goal.returns-clause-own
 returns-clause-own g c =
-    let W : Type 0 = Worker g.row.C.Denot QueuePass g.row.C-Pass.Denot in
+    let W : Type 0 = Worker (Share g.row.C.Denot g.row.C-Pass.Denot) QueuePass in
     let ws = c.args.crew.workers.items in
     let counted : length c.push-2.new.self.items ≡ length ws + 1 + 1 =
     ap length c.in_ok-push-2.ensures.items ∙ length-append c.push.new.self.items (c.work_batches.new.share ∷ [])

@@ -48,7 +48,7 @@ returns-clause-last g c =
 
 pub returns-clause-workers : goal.returns-clause-workers
 returns-clause-workers g c =
-    let W : Type 0 = Worker g.row.C.Denot QueuePass g.row.C-Pass.Denot in
+    let W : Type 0 = Worker (Share g.row.C.Denot g.row.C-Pass.Denot) QueuePass in
     let P : Share g.row.C.Denot g.row.C-Pass.Denot → Type 0 = IsShareOf g.C.FlowCache c.args.cache.now [] in
     let Q : QueuePass → Type 0 =
     λ p. IsPassOf c.in_ok-queue.queue p × IsFresh p × (¬ IsReaders p) × (others_of p ≡ 0) in
@@ -59,4 +59,4 @@ returns-clause-workers g c =
     let has = all-mapped Q (λ (w : W). w.seat) _ (subst (All Q) (sym told.seats) c.in_ok-queue.ensures.passes) in
     λ k d inside.
     let seat = has k d inside in
-    record { is = is k d inside; of = seat.0; fresh = seat.1; apart = seat.3 }
+    record { is = is k d inside; seat = (seat.0, seat.1.1, seat.1.0, seat.3); none = seat.1.2 }

@@ -9,7 +9,7 @@ use Rattle.meter_workers.proofs.windows.meter_part.Given as given
 use Rattle.meter_workers.proofs.windows.meter_part.Goals as goal
 
 abbrev W : given.Over → Type 0
-W g = Worker g.row.C.Denot DrawPass g.row.C-Pass.Denot
+W g = Worker (Share g.row.C.Denot g.row.C-Pass.Denot) DrawPass
 
 pub run_workers-workers-requires-clause-ready : goal.run_workers-workers-requires-clause-ready
 run_workers-workers-requires-clause-ready g c κs within =
