@@ -1,12 +1,10 @@
 -- What the reader and the workers have done.
-use Rattle.meter_workers.proofs.Common.{◌≡◌, ℕ, ◌+◌, ◌<◌, ◌≤◌, List, [], ◌∷◌, ◌++◌, Some, length, sym, ap, ◌∙◌, subst}
-use Rattle.meter_workers.proofs.Common.{arith, length-append, All, IsPermutation, slice_range, All-append, All-pop}
-use Rattle.meter_workers.proofs.Common.{All-weaker, part_of, file_of, Ghosts, Answer, answers_from, answers_by}
-use Rattle.meter_workers.proofs.Common.{answers-count, Batch, IsBefore, IsPassOf, IsMore, put_of, reader_of, first-more}
-use Rattle.meter_workers.proofs.Common.{more-keeps, IsShareOf, answers_of_batch, answers_in, IsReadyFor, HasHandedOn}
+use Rattle.meter_workers.proofs.Common.{◌≡◌, ℕ, ◌+◌, ◌<◌, List, [], ◌++◌, length, sym, ap, ◌∙◌, subst}
+use Rattle.meter_workers.proofs.Common.{arith, length-append, All, IsPermutation, All-append}
+use Rattle.meter_workers.proofs.Common.{All-weaker, part_of, Ghosts, Answer}
+use Rattle.meter_workers.proofs.Common.{answers-count, Batch, IsPassOf, IsMore, put_of, reader_of, first-more}
+use Rattle.meter_workers.proofs.Common.{more-keeps, IsShareOf, answers_of_batch, answers_in, HasHandedOn}
 use Rattle.meter_workers.proofs.Common.{StandsBefore}
-use Rattle.capture_input.specs.declared.part.Part.{Part}
-use Rattle.capture_input.proofs.Ranges.{range-all}
 use Rattle.batch_queue.specs.declared.queue.BatchQueue.{BatchQueue}
 use Rattle.batch_queue.specs.Batches.{count_of}
 use Rattle.meter_workers.specs.declared.batches.Reader.{Reader}

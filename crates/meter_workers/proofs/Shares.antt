@@ -1,6 +1,6 @@
 -- What one share has metered, or several together.
-use Rattle.meter_workers.proofs.Common.{◌≡◌, ℕ, ◌+◌, ◌<◌, ◌≤◌, ◌^◌, List, [], ◌∷◌, ◌++◌, length, Some, sym, ap, ◌∙◌}
-use Rattle.meter_workers.proofs.Common.{subst, arith, append_assoc, append-nil, length-append, All, IfOk, IsPermutation}
+use Rattle.meter_workers.proofs.Common.{◌≡◌, ℕ, ◌+◌, ◌<◌, ◌≤◌, ◌^◌, List, [], ◌∷◌, ◌++◌, Some, sym, ap, ◌∙◌}
+use Rattle.meter_workers.proofs.Common.{subst, arith, append-nil, length-append, IfOk, IsPermutation}
 use Rattle.meter_workers.proofs.Common.{IsPermutation-refl, IsPermutation-append_comm, packets_in, Fragment, SharesOut}
 use Rattle.meter_workers.proofs.Common.{IsTallyOf, Ghosts, open_in, Answer, Share, Gathered, IsShareOf, put_by}
 use Rattle.meter_workers.proofs.Common.{HasGathered}

@@ -1,4 +1,4 @@
-use Rattle.meter_workers.proofs.Common.{[], ◌++◌, ◌∙◌, sym, ap, subst, arith, append-nil, put_of, more-keeps, other-more, IsShareOf}
+use Rattle.meter_workers.proofs.Common.{[], ◌++◌, ◌∙◌, sym, ap, subst, arith, more-keeps, other-more, IsShareOf}
 use Rattle.meter_workers.proofs.Common.{answers_in}
 use Rattle.meter_workers.proofs.batches.work.Goals.{in-Ok, in-Err}
 use Rattle.meter_workers.proofs.batches.work.Goals as goal

@@ -1,5 +1,5 @@
-use Rattle.meter_workers.proofs.Common.{◌≡◌, ◌++◌, ◌∷◌, List, [], length, sym, ap, subst, ◌∙◌, arith, All, Offsets}
-use Rattle.meter_workers.proofs.Common.{Answer, batch-answers, Batch, IsBefore, IsMore, took_of, more-none, more-keeps, HasMetered}
+use Rattle.meter_workers.proofs.Common.{◌++◌, ◌∷◌, List, [], length, sym, ap, subst, ◌∙◌, arith, All, Offsets}
+use Rattle.meter_workers.proofs.Common.{Answer, batch-answers, IsBefore, IsMore, took_of, more-none, more-keeps, HasMetered}
 use Rattle.meter_workers.proofs.Common.{IsShareOf, answers_of_batch, answers_in, IsReadyFor, snoc, done-none, done-more}
 use Rattle.batch_queue.specs.Queueing.{more_of}
 use Rattle.batch_queue.proofs.Passing.{more-both}

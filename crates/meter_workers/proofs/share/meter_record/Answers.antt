@@ -1,4 +1,4 @@
-use Rattle.meter_workers.proofs.Common.{◌∷◌, List, [], refl, sym, subst, ap, ◌∙◌, arith, file_of, Answer, Share}
+use Rattle.meter_workers.proofs.Common.{◌∷◌, List, [], sym, subst, ap, ◌∙◌, arith, file_of, Answer, Share}
 use Rattle.meter_workers.proofs.Common.{HasMetered}
 use Rattle.pcap_reader.specs.Views.{record_read}
 use Rattle.capture_input.proofs.Ranges.{answer-alone}

@@ -1,5 +1,5 @@
-use Rattle.meter_workers.proofs.Common.{◌≡◌, ℕ, ◌≤◌, ◌*◌, ◌∙◌, List, sym, subst, length, arith, All, file_of, DrawPass}
-use Rattle.meter_workers.proofs.Common.{Answer, answers_by, answers-count, Share, Worker, Finished, IsShareOf}
+use Rattle.meter_workers.proofs.Common.{◌≡◌, ℕ, ◌≤◌, ◌*◌, ◌∙◌, sym, subst, length, arith, All, file_of, DrawPass}
+use Rattle.meter_workers.proofs.Common.{answers_by, answers-count, Share, Worker, Finished, IsShareOf}
 use Rattle.meter_workers.proofs.Common.{all-mapped}
 use Rattle.work_pieces.specs.Passes.{IsPassOf, IsFresh}
 use Rattle.work_pieces.proofs.Cutting.{enough}
