@@ -1,10 +1,8 @@
 -- What the reader and the workers have done.
-use Rattle.meter_workers.proofs.Common.{◌≡◌, ℕ, ◌+◌, ◌<◌, List, [], ◌++◌, length, sym, ap, ◌∙◌, subst}
-use Rattle.meter_workers.proofs.Common.{arith, length-append, All, IsPermutation, All-append}
-use Rattle.meter_workers.proofs.Common.{All-weaker, part_of, Ghosts, Answer}
-use Rattle.meter_workers.proofs.Common.{answers-count, Batch, IsPassOf, IsMore, put_of, reader_of, first-more}
-use Rattle.meter_workers.proofs.Common.{more-keeps, IsShareOf, answers_of_batch, answers_in, HasHandedOn}
-use Rattle.meter_workers.proofs.Common.{StandsBefore}
+use Rattle.meter_workers.proofs.Common.{◌≡◌, ℕ, ◌+◌, ◌<◌, List, [], ◌++◌, length, sym, ap, ◌∙◌, subst, arith}
+use Rattle.meter_workers.proofs.Common.{length-append, All, IsPermutation, All-append, All-weaker, part_of, Ghosts}
+use Rattle.meter_workers.proofs.Common.{Answer, answers-count, Batch, IsPassOf, IsMore, put_of, reader_of, first-more}
+use Rattle.meter_workers.proofs.Common.{more-keeps, IsShareOf, answers_of_batch, answers_in, HasHandedOn, StandsBefore}
 use Rattle.batch_queue.specs.declared.queue.BatchQueue.{BatchQueue}
 use Rattle.batch_queue.specs.Batches.{count_of}
 use Rattle.meter_workers.specs.declared.batches.Reader.{Reader}

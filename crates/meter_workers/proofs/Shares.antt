@@ -1,11 +1,10 @@
 -- What one share has metered, or several together.
-use Rattle.meter_workers.proofs.Common.{◌≡◌, ℕ, ◌+◌, ◌<◌, ◌≤◌, ◌^◌, List, [], ◌∷◌, ◌++◌, Some, sym, ap, ◌∙◌}
-use Rattle.meter_workers.proofs.Common.{subst, arith, append-nil, length-append, IfOk, IsPermutation}
-use Rattle.meter_workers.proofs.Common.{IsPermutation-refl, IsPermutation-append_comm, packets_in, Fragment, SharesOut}
-use Rattle.meter_workers.proofs.Common.{IsTallyOf, Ghosts, open_in, Answer, Share, Gathered, IsShareOf, put_by}
-use Rattle.meter_workers.proofs.Common.{HasGathered}
+use Rattle.meter_workers.proofs.Common.{◌≡◌, ℕ, ◌+◌, ◌<◌, ◌≤◌, ◌^◌, List, [], ◌∷◌, ◌++◌, Some, sym, ap, ◌∙◌, subst}
+use Rattle.meter_workers.proofs.Common.{arith, append-nil, length-append, IfOk, IsPermutation, IsPermutation-refl}
+use Rattle.meter_workers.proofs.Common.{IsPermutation-append_comm, packets_in, Fragment, SharesOut, IsTallyOf, Ghosts}
+use Rattle.meter_workers.proofs.Common.{open_in, Answer, Share, Gathered, IsShareOf, put_by, HasGathered, All-nil}
+use Rattle.meter_workers.proofs.Common.{All-cons, All-append}
 use Rattle.std.proofs.lemmas.List.Sorted.{All-permutation}
-use Rattle.meter_workers.proofs.Common.{All-nil, All-cons, All-append}
 use Rattle.std.proofs.Common.{None}
 use Rattle.std.specs.Prelude.{Option, Result, Ok, Err, OnOk}
 use Rattle.std.proofs.lemmas.List.Sums.{sum_by-append, sum_by-cons}

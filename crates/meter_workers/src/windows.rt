@@ -11,10 +11,10 @@ ghost use Rattle.cache_face.specs.Meaning.{IsFresh as IsFreshPass};
 ghost use Rattle.capture_input.specs.Refusals.{IsRefused, HasFaults};
 ghost use Rattle.capture_input.specs.Parts.{Answer, answers_by};
 ghost use Rattle.capture_input.specs.Giving.{IsReadWhole};
-ghost use Rattle.work_pieces.specs.Doing.{HasWorked, HaveDone};
+ghost use Rattle.work_pieces.specs.Doing.{HasWorked, HasDrawnAll, HaveDone};
 ghost use Rattle.work_pieces.specs.Passes.{count_of};
 ghost use Rattle.meter_workers.specs.Shares.{IsShareOf};
-ghost use Rattle.meter_workers.specs.Working.{IsReady, IsToDraw, HasDrawnAll};
+ghost use Rattle.meter_workers.specs.Working.{IsReady, IsToDraw};
 ghost use Rattle.meter_workers.specs.Whole.{IsMeteredWhole};
 
 use crate::gate::Gate;
@@ -79,7 +79,7 @@ fn work<C: FlowCache, G: Gate>(
     requires ready { IsToDraw C.FlowCache cache.now pieces.now part.now.base worker.old }
     requires whole { count_of pieces.now ≡ length part.now.index.now.offsets }
     ensures ended { worker.new.state ≢ WorkState.Going }
-    ensures worked { HasDrawnAll C.FlowCache cache.now pieces.now (answers_by part.now) worker.old worker.new }
+    ensures worked { HasDrawnAll (IsShareOf C.FlowCache cache.now) pieces.now (answers_by part.now) worker.old worker.new }
 {
     let end = work_through(
         part,
@@ -109,7 +109,7 @@ fn run_workers<C: FlowCache, G: Gate, R: Threads + Sync>(
     requires ready { All (IsToDraw C.FlowCache cache.now pieces.now part.now.base) workers.items }
     requires whole { count_of pieces.now ≡ length part.now.index.now.offsets }
     ensures ended { All (λ w. w.state ≢ WorkState.Going) result.items }
-    ensures worked { AllZip (HasDrawnAll C.FlowCache cache.now pieces.now (answers_by part.now)) workers.items
+    ensures worked { AllZip (HasDrawnAll (IsShareOf C.FlowCache cache.now) pieces.now (answers_by part.now)) workers.items
         result.items }
 {
     let count = workers.len();
@@ -121,7 +121,7 @@ fn run_workers<C: FlowCache, G: Gate, R: Threads + Sync>(
             requires ready { IsToDraw C.FlowCache cache.now pieces.now part.now.base w.old }
             requires whole { count_of pieces.now ≡ length part.now.index.now.offsets }
             ensures ended { w.new.state ≢ WorkState.Going }
-            ensures worked { HasDrawnAll C.FlowCache cache.entry.now pieces.entry.now (answers_by part.entry.now) w.old
+            ensures worked { HasDrawnAll (IsShareOf C.FlowCache cache.entry.now) pieces.entry.now (answers_by part.entry.now) w.old
                 w.new }
         { work(part, pieces, cache, gate, w) },
     );
