@@ -2,3 +2,4 @@ pub mod Lists
 pub mod Queueing
 pub mod Saying
 pub mod Passing
+pub mod Records

@@ -1,5 +1,5 @@
 -- Passes that put and take more.
-use Rattle.std.proofs.Common.{◌≡◌, ℕ, ◌+◌, List, [], ◌++◌, length, sym, ◌∙◌, subst, arith, append_assoc, append-nil}
+use Rattle.std.proofs.Common.{◌≡◌, ℕ, List, [], ◌++◌, length, sym, ◌∙◌, subst, arith, append_assoc, append-nil}
 use Rattle.std.specs.Prelude.{flat_map, IsPermutation}
 use Rattle.std.proofs.lemmas.List.Sorted.{IsPermutation-sym, IsPermutation-trans, IsPermutation-append_left}
 use Rattle.batch_queue.specs.declared.batch.Batch.{Batch}
@@ -7,7 +7,7 @@ use Rattle.batch_queue.specs.declared.queue.BatchQueue.{BatchQueue}
 use Rattle.batch_queue.specs.declared.queue.QueuePass.{QueuePass}
 use Rattle.batch_queue.specs.Passes.{IsPassOf, IsMore, IsReaders, StandsForAll, put_of, took_of, seats_of, others_of}
 use Rattle.batch_queue.specs.Queueing.{more_of}
-use Rattle.batch_queue.specs.Uniting.{IsFirst, IsForAll}
+use Rattle.batch_queue.specs.Uniting.{IsFirst, IsForAll, IsOther}
 
 -- nothing more
 pub more-none : (p : QueuePass) → IsMore [] [] p p
@@ -43,6 +43,13 @@ more-keeps p q put took more = (
   (λ i. (more i).others),
   (λ reader. (λ i. (more i).reader) ∙ reader),
 )
+
+-- a worker's pass that took more is a worker's still
+pub other-more : (queue : BatchQueue) (p q : QueuePass) (took : List Batch) → IsPassOf queue q → IsMore [] took p q
+    → IsOther queue p → IsOther queue q
+other-more queue p q took of more other =
+    let keeps = more-keeps p q [] took more in
+    (of, keeps.0 ∙ append-nil (put_of p) ∙ other.1, keeps.2 ∙ other.2, keeps.3 ∙ other.3)
 
 -- the reader's pass stays so where it puts more
 pub first-more : (queue : BatchQueue) (others : ℕ) (p q : QueuePass) (put : List Batch) → IsPassOf queue q

@@ -1,13 +1,14 @@
 -- The names that several proofs of this crate cite, passed on from one place. Declares nothing.
 pub use Rattle.std.proofs.Common.{subst, ◌<◌, ◌++◌, ◌∷◌, Some, List, ◌+◌, length-append, length, ap, ℕ, [], ◌≤◌, ◌≡◌}
 pub use Rattle.std.proofs.Common.{sym, arith, ◌∙◌, append_assoc, append-nil, ◌^◌, refl, rules, vec_len, ◌*◌, map}
-pub use Rattle.std.proofs.lemmas.List.Elements.{All-weaker, All-append, All-pop, All-same, All-push, All-cons, All-nil}
+pub use Rattle.std.proofs.lemmas.List.Elements.{All-weaker, All-append, All-pop, All-same, All-cons, All-nil}
 pub use Rattle.std.proofs.lemmas.List.Sorted.{IsPermutation-append_comm, IsPermutation-refl, IsPermutation-append_left}
 pub use Rattle.std.proofs.lemmas.List.Sorted.{IsPermutation-trans}
 pub use Rattle.std.proofs.lemmas.Result.{err_from_is_err_and, IfOk-weaker}
-pub use Rattle.std.specs.Prelude.{IsPermutation, All, slice_range, IfOk, ◌≢◌}
-pub use Rattle.batch_queue.proofs.Passing.{first-more, more-keeps, more-none}
-pub use Rattle.batch_queue.specs.Batches.{IsBefore}
+pub use Rattle.std.specs.Prelude.{IsPermutation, All, slice_range, IfOk}
+pub use Rattle.batch_queue.proofs.Passing.{first-more, more-keeps, more-none, other-more}
+pub use Rattle.batch_queue.proofs.Records.{batch-answers}
+pub use Rattle.batch_queue.specs.Batches.{IsBefore, IsReadyFor, answers_in, answers_of_batch}
 pub use Rattle.batch_queue.specs.Passes.{IsMore, put_of, IsPassOf, reader_of, took_of}
 pub use Rattle.batch_queue.specs.declared.batch.Batch.{Batch}
 pub use Rattle.batch_queue.specs.declared.queue.QueuePass.{QueuePass}
@@ -24,13 +25,13 @@ pub use Rattle.flow_parts.specs.Sharing.{SharesOut}
 pub use Rattle.flow_parts.specs.declared.fragment.Fragment.{Fragment}
 pub use Rattle.front_cache.specs.Fronts.{open_in}
 pub use Rattle.meter_io.specs.Sides.{side}
-pub use Rattle.meter_workers.specs.Batched.{HasHandedOn, answers_in, IsReadyFor, StandsBefore, answers_of_batch}
+pub use Rattle.meter_workers.specs.Batched.{HasHandedOn, StandsBefore}
 pub use Rattle.meter_workers.specs.Shares.{IsShareOf, put_by, HasMetered}
 pub use Rattle.meter_workers.specs.Whole.{HasGathered}
 pub use Rattle.meter_workers.specs.declared.share.Share.{Share}
 pub use Rattle.meter_workers.specs.declared.together.Gathered.{Gathered}
-pub use Rattle.meter_workers.specs.declared.worker.WorkState.TheVariants.{Finished, Going}
-pub use Rattle.meter_workers.specs.declared.worker.Worker.{Worker}
+pub use Rattle.work_pieces.specs.declared.worker.WorkState.TheVariants.{Finished}
+pub use Rattle.work_pieces.specs.declared.worker.Worker.{Worker}
 pub use Rattle.packet_accept.specs.Packets.{packets_in}
 pub use Rattle.pcap_reader.specs.Index.{Offsets, IsIndexOf}
 pub use Rattle.pcap_reader.specs.Views.{part_of, file_of}

@@ -1,31 +1,11 @@
 -- What the reader and the workers have done.
-use Rattle.meter_workers.proofs.Common.{◌≡◌, ℕ, ◌+◌, ◌<◌, ◌≤◌, List, [], ◌∷◌, ◌++◌, Some, length, sym, ap, ◌∙◌, subst}
-use Rattle.meter_workers.proofs.Common.{arith, length-append, All, IsPermutation, slice_range, All-append, All-pop}
-use Rattle.meter_workers.proofs.Common.{All-weaker, part_of, file_of, Ghosts, Answer, answers_from, answers_by}
-use Rattle.meter_workers.proofs.Common.{answers-count, Batch, IsBefore, IsPassOf, IsMore, put_of, reader_of, first-more}
-use Rattle.meter_workers.proofs.Common.{more-keeps, IsShareOf, answers_of_batch, answers_in, IsReadyFor, HasHandedOn}
-use Rattle.meter_workers.proofs.Common.{StandsBefore}
-use Rattle.capture_input.specs.declared.part.Part.{Part}
-use Rattle.capture_input.proofs.Ranges.{range-all}
+use Rattle.meter_workers.proofs.Common.{◌≡◌, ℕ, ◌+◌, ◌<◌, List, [], ◌++◌, length, sym, ap, ◌∙◌, subst, arith}
+use Rattle.meter_workers.proofs.Common.{length-append, All, IsPermutation, All-append, All-weaker, part_of, Ghosts}
+use Rattle.meter_workers.proofs.Common.{Answer, answers-count, Batch, IsPassOf, IsMore, put_of, reader_of, first-more}
+use Rattle.meter_workers.proofs.Common.{more-keeps, IsShareOf, answers_of_batch, answers_in, HasHandedOn, StandsBefore}
 use Rattle.batch_queue.specs.declared.queue.BatchQueue.{BatchQueue}
 use Rattle.batch_queue.specs.Batches.{count_of}
 use Rattle.meter_workers.specs.declared.batches.Reader.{Reader}
-
--- all answers to a batch
-pub batch-answers : (part : Part) (count : ℕ) (batch : Batch) → part.base ≡ batch.base
-    → file_of part.capture ≡ part_of batch.head batch.bytes.items → count ≡ length batch.index.offsets
-    → slice_range (answers_by part) 0 count ≡ answers_of_batch batch
-batch-answers part count batch base file all =
-    let same : answers_by part ≡ answers_of_batch batch = (λ i. answers_from (base i) (file i)) in
-    let long = answers-count batch.base (part_of batch.head batch.bytes.items) in
-    range-all (answers_by part) count (omega (arith, ap length same, long, all, batch.indexed.count)) ∙ same
-
--- a worker that took a batch more and metered it is ready for those behind it
-pub ready-more : (taken taken' : List Batch) (batch : Batch) (captured : ℕ)
-    → taken' ≡ taken ++ batch ∷ [] → captured ≤ batch.base + count_of batch → IsReadyFor taken' captured
-ready-more taken taken' batch captured more few = λ next all.
-    let last = (All-pop (λ b. IsBefore b next) taken' taken (Some batch) more all).1 in
-    omega (arith, few, last.1)
 
 module _ {X P : Type 0} (the : Ghosts X P) (cache : X) where
   -- its next batch was put or metered

@@ -1,5 +1,4 @@
 pub mod Common
 pub mod Crew
 pub mod Shares
-pub mod Taken
 pub mod Whole

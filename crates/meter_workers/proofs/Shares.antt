@@ -1,11 +1,10 @@
 -- What one share has metered, or several together.
-use Rattle.meter_workers.proofs.Common.{◌≡◌, ℕ, ◌+◌, ◌<◌, ◌≤◌, ◌^◌, List, [], ◌∷◌, ◌++◌, length, Some, sym, ap, ◌∙◌}
-use Rattle.meter_workers.proofs.Common.{subst, arith, append_assoc, append-nil, length-append, All, IfOk, IsPermutation}
-use Rattle.meter_workers.proofs.Common.{IsPermutation-refl, IsPermutation-append_comm, packets_in, Fragment, SharesOut}
-use Rattle.meter_workers.proofs.Common.{IsTallyOf, Ghosts, open_in, Answer, Share, Gathered, IsShareOf, put_by}
-use Rattle.meter_workers.proofs.Common.{HasGathered}
+use Rattle.meter_workers.proofs.Common.{◌≡◌, ℕ, ◌+◌, ◌<◌, ◌≤◌, ◌^◌, List, [], ◌∷◌, ◌++◌, Some, sym, ap, ◌∙◌, subst}
+use Rattle.meter_workers.proofs.Common.{arith, append-nil, length-append, IfOk, IsPermutation, IsPermutation-refl}
+use Rattle.meter_workers.proofs.Common.{IsPermutation-append_comm, packets_in, Fragment, SharesOut, IsTallyOf, Ghosts}
+use Rattle.meter_workers.proofs.Common.{open_in, Answer, Share, Gathered, IsShareOf, put_by, HasGathered, All-nil}
+use Rattle.meter_workers.proofs.Common.{All-cons, All-append}
 use Rattle.std.proofs.lemmas.List.Sorted.{All-permutation}
-use Rattle.meter_workers.proofs.Common.{All-nil, All-cons, All-append}
 use Rattle.std.proofs.Common.{None}
 use Rattle.std.specs.Prelude.{Option, Result, Ok, Err, OnOk}
 use Rattle.std.proofs.lemmas.List.Sums.{sum_by-append, sum_by-cons}
@@ -18,6 +17,7 @@ use Rattle.flow_parts.specs.Parts.{IsAlone}
 use Rattle.flow_parts.specs.Reaching.{Reaches}
 use Rattle.flow_parts.proofs.Reaching.{put_behind, itself, same_packets}
 use Rattle.capture_tally.specs.declared.tally.Tally.{Tally}
+use Rattle.capture_tally.proofs.Counting.{packets-few}
 use Rattle.cache_face.specs.Keeping.{packet_count}
 use Rattle.cache_face.specs.Meaning.{IsUnited}
 use Rattle.cache_face.specs.Notes.{Note}
@@ -111,11 +111,6 @@ on-ok (Err e) a = tt
 small-one : (answer : Answer) → IfOk answer (λ packet. packet.octets < 2 ^ 24) → AreSmall (packets_in (answer ∷ []))
 small-one (Ok packet) small = All-cons (λ p. p.octets < 2 ^ 24) packet [] small (All-nil (λ p. p.octets < 2 ^ 24))
 small-one (Err cause) small = All-nil (λ p. p.octets < 2 ^ 24)
-
-packets-few : (answers : List Answer) → length (packets_in answers) ≤ length answers
-packets-few [] = omega arith
-packets-few (Ok packet ∷ answers) = (let h = packets-few answers in omega (arith, h))
-packets-few (Err cause ∷ answers) = (let h = packets-few answers in omega (arith, h))
 
 module _ {X P : Type 0} (the : Ghosts X P) (cache : X) where
   -- no more packets were put in than records were tallied

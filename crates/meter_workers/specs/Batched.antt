@@ -1,57 +1,40 @@
 -- What metering batches means; `the` is what the type of the cache means.
-use Rattle.std.specs.Prelude.{◌≡◌, ◌≢◌, ℕ, ◌+◌, ◌<◌, ◌≤◌, List, [], ◌++◌, length, All, flat_map}
+use Rattle.std.specs.Prelude.{◌≡◌, ◌≢◌, ℕ, ◌+◌, ◌<◌, ◌≤◌, List, [], ◌++◌, length, All}
 use Rattle.std.specs.Prelude.{IsPermutation}
 use Rattle.std.specs.declared.option.Option.{Option}
-use Rattle.pcap_reader.specs.Views.{part_of}
 use Rattle.cache_face.specs.declared.caches.FlowCache.{Ghosts}
-use Rattle.capture_input.specs.Parts.{Answer, answers_from}
+use Rattle.capture_input.specs.Parts.{Answer}
 use Rattle.capture_input.specs.Giving.{IsReadWhole}
 use Rattle.batch_queue.specs.declared.batch.Batch.{Batch}
 use Rattle.batch_queue.specs.declared.queue.BatchQueue.{BatchQueue}
 use Rattle.batch_queue.specs.declared.queue.QueuePass.{QueuePass}
-use Rattle.batch_queue.specs.Batches.{IsBefore, count_of}
-use Rattle.batch_queue.specs.Passes.{IsPassOf, IsFresh, IsOpen, put_of, took_of, seats_of}
-use Rattle.batch_queue.specs.Passes.{others_of, reader_of, WasTold}
-use Rattle.batch_queue.specs.Uniting.{IsFirst}
-use Rattle.meter_workers.specs.declared.worker.Worker.{Worker}
-use Rattle.meter_workers.specs.declared.worker.WorkState.TheVariants.{Going, Finished}
+use Rattle.batch_queue.specs.Batches.{answers_in, count_of}
+use Rattle.batch_queue.specs.Passes.{IsPassOf, IsOpen, put_of, took_of, reader_of, WasTold}
+use Rattle.batch_queue.specs.Uniting.{IsFirst, IsOther}
+use Rattle.work_pieces.specs.declared.worker.Worker.{Worker}
+use Rattle.work_pieces.specs.declared.worker.WorkState.TheVariants.{Going, Finished}
+use Rattle.meter_workers.specs.declared.share.Share.{Share}
 use Rattle.meter_workers.specs.declared.batches.Reader.{Reader}
 use Rattle.meter_workers.specs.Shares.{IsShareOf}
 
--- The answers to the records of a batch, and to those of several, one batch behind the other.
-abbrev pub answers_of_batch : Batch → List Answer
-answers_of_batch batch = answers_from batch.base (part_of batch.head batch.bytes.items)
-
-abbrev pub answers_in : List Batch → List Answer
-answers_in batches = flat_map answers_of_batch batches
-
 -- ---- a worker
-
--- A worker that took these batches is ready for each that stands behind them: it tallied no more records than stand
--- before that one.
-abbrev pub IsReadyFor : List Batch → ℕ → Type 0
-IsReadyFor taken captured = (next : Batch) → All (λ batch. IsBefore batch next) taken → captured ≤ next.base
 
 -- It has taken nothing from the queue.
 pub record IsToTake {X P : Type 0} (the : Ghosts X P) (cache : X) (queue : BatchQueue)
-    (worker : Worker X QueuePass P) : Type 0 where
+    (worker : Worker (Share X P) QueuePass) : Type 0 where
   pub is : IsShareOf the cache [] worker.share
-  pub of : IsPassOf queue worker.seat
-  pub fresh : IsFresh worker.seat
-  pub apart : others_of worker.seat ≡ 0
+  pub seat : IsOther queue worker.seat
+  pub none : took_of worker.seat ≡ []
 
 -- It has metered just the batches that it took, until it was told that no more come.
 pub record HasTaken {X P : Type 0} (the : Ghosts X P) (cache : X) (queue : BatchQueue)
-    (worker : Worker X QueuePass P) : Type 0 where
+    (worker : Worker (Share X P) QueuePass) : Type 0 where
   pub is : IsShareOf the cache (answers_in (took_of worker.seat)) worker.share
-  pub of : IsPassOf queue worker.seat
-  pub put : put_of worker.seat ≡ []
-  pub single : seats_of worker.seat ≡ 1
-  pub apart : others_of worker.seat ≡ 0
+  pub seat : IsOther queue worker.seat
   pub told : WasTold worker.seat
 
 -- It has ended: if it has finished, it has metered just the batches that it took.
-abbrev pub HasTakenAll : {X P : Type 0} → Ghosts X P → X → BatchQueue → Worker X QueuePass P → Type 0
+abbrev pub HasTakenAll : {X P : Type 0} → Ghosts X P → X → BatchQueue → Worker (Share X P) QueuePass → Type 0
 HasTakenAll the cache queue worker =
     (worker.state ≢ Going) × (worker.state ≡ Finished → HasTaken the cache queue worker)
 

@@ -1,14 +1,12 @@
 -- What workers do with the pieces of a part; `the` is what the type of the cache means.
-use Rattle.std.specs.Prelude.{◌≡◌, ℕ, ◌≤◌, List}
+use Rattle.std.specs.Prelude.{ℕ, ◌≤◌, List}
 use Rattle.cache_face.specs.declared.caches.FlowCache.{Ghosts}
 use Rattle.capture_input.specs.Parts.{Answer}
 use Rattle.work_pieces.specs.declared.pieces.Pieces.{Pieces}
 use Rattle.work_pieces.specs.declared.pieces.DrawPass.{DrawPass}
-use Rattle.work_pieces.specs.Doing.{HasWorked}
 use Rattle.work_pieces.specs.Passes.{IsPassOf, IsFresh}
 use Rattle.meter_workers.specs.declared.share.Share.{Share}
-use Rattle.meter_workers.specs.declared.worker.Worker.{Worker}
-use Rattle.meter_workers.specs.declared.worker.WorkState.TheVariants.{Finished}
+use Rattle.work_pieces.specs.declared.worker.Worker.{Worker}
 use Rattle.meter_workers.specs.Shares.{IsShareOf}
 
 -- A share and a seat before a part, behind so many records: the seat drew nothing of it.
@@ -21,11 +19,5 @@ pub record IsReady {X P : Type 0} (the : Ghosts X P) (cache : X) (pieces : Piece
   pub few : share.tally.captured ≤ base
 
 -- A worker before a part.
-abbrev pub IsToDraw : {X P : Type 0} → Ghosts X P → X → Pieces → ℕ → Worker X DrawPass P → Type 0
+abbrev pub IsToDraw : {X P : Type 0} → Ghosts X P → X → Pieces → ℕ → Worker (Share X P) DrawPass → Type 0
 IsToDraw the cache pieces base worker = IsReady the cache pieces base worker.share worker.seat
-
--- A worker before a part and behind it: if it has finished, it has worked.
-abbrev pub HasDrawnAll : {X P : Type 0} → Ghosts X P → X → Pieces → List Answer → Worker X DrawPass P
-    → Worker X DrawPass P → Type 0
-HasDrawnAll the cache pieces answers old new =
-    new.state ≡ Finished → HasWorked (IsShareOf the cache) pieces answers old.share new.share new.seat

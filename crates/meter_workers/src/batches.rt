@@ -10,18 +10,16 @@ ghost use Rattle.cache_face.specs.Meaning.{IsFresh as IsFreshPass};
 ghost use Rattle.capture_input.specs.Refusals.{IsRefused, HasFaults};
 ghost use Rattle.capture_input.specs.Parts.{Answer, answers_from};
 ghost use Rattle.capture_input.specs.Giving.{HasGiven, IsLast, part_in, base_in, size_in, left_in};
-ghost use Rattle.batch_queue.specs.Batches.{count_of};
+ghost use Rattle.batch_queue.specs.Batches.{count_of, answers_of_batch, answers_in, IsReadyFor};
 ghost use Rattle.batch_queue.specs.Passes.{IsPassOf, IsMore, StandsForAll, put_of, took_of, reader_of, WasTold};
 ghost use Rattle.batch_queue.specs.declared.batch.Batch.{Batch};
 ghost use Rattle.meter_workers.specs.Shares.{IsShareOf, HasMetered};
-ghost use Rattle.meter_workers.specs.Batched.{answers_of_batch, answers_in, IsReadyFor, IsToTake, HasTakenAll};
-ghost use Rattle.meter_workers.specs.Batched.{HasHandedOn, HasReadAll, IsAtQueue};
+ghost use Rattle.meter_workers.specs.Batched.{IsToTake, HasTakenAll, HasHandedOn, HasReadAll, IsAtQueue};
 ghost use Rattle.meter_workers.specs.Whole.{HasGathered, IsMeteredWhole};
 
 use crate::gate::Gate;
 use crate::share::{Share, meter_run, open_shares};
 use crate::together::{Gathered, gather_all};
-use crate::worker::{WorkState, Worker, seat_workers, unseat_workers};
 use batch_queue::{Batch, BatchQueue, Feed, QueuePass};
 use cache_face::FlowCache;
 use capture_input::{MeterFault, Reading};
@@ -34,6 +32,7 @@ use std::alloc::Global;
 use std::sync::Wait;
 use std::thread::{Threads, join_mut};
 use std::{mem, thread};
+use work_pieces::{WorkState, Worker, seat_workers, unseat_workers};
 
 /// How a capture is metered in batches.
 #[derive(Clone, Copy, Debug)]
@@ -142,7 +141,7 @@ fn work<C: FlowCache, G: Gate, R: Wait>(
     shared: &Shared,
     cache: &C,
     gate: &G,
-    worker: &mut Worker<C, QueuePass>,
+    worker: &mut Worker<Share<C>, QueuePass>,
 )
     requires ready { IsToTake C.FlowCache cache.now shared.now.queue worker.old }
     ensures worked { HasTakenAll C.FlowCache cache.now shared.now.queue worker.new }
@@ -169,8 +168,8 @@ fn run_workers<C: FlowCache, G: Gate, R: Threads + Wait + Sync>(
     shared: &Shared,
     cache: &C,
     gate: &G,
-    workers: &mut Vec<Worker<C, QueuePass>>,
-) -> Vec<Worker<C, QueuePass>>
+    workers: &mut Vec<Worker<Share<C>, QueuePass>>,
+) -> Vec<Worker<Share<C>, QueuePass>>
     requires some { 0 < length workers.old.items }
     requires ready { All (IsToTake C.FlowCache cache.now shared.now.queue) workers.old.items }
     ensures same { length result.items ≡ length workers.old.items }
@@ -182,7 +181,7 @@ fn run_workers<C: FlowCache, G: Gate, R: Threads + Wait + Sync>(
         rt,
         crew.as_mut_slice(),
         count,
-        &|_, w: &mut Worker<C, QueuePass>|
+        &|_, w: &mut Worker<Share<C>, QueuePass>|
             requires ready { IsToTake C.FlowCache cache.now shared.now.queue w.old }
             ensures worked { HasTakenAll C.FlowCache cache.entry.now shared.entry.now.queue w.new }
         { work(rt, shared, cache, gate, w) },
@@ -353,9 +352,9 @@ fn run_both<S: Source, C: FlowCache, G: Gate, R: Threads + Wait + Sync>(
     cache: &C,
     gate: &G,
     reader: &mut Reader<C>,
-    mut workers: Vec<Worker<C, QueuePass>>,
+    mut workers: Vec<Worker<Share<C>, QueuePass>>,
     limit: u64,
-) -> (Vec<Worker<C, QueuePass>>, Result<u64, MeterFault>)
+) -> (Vec<Worker<Share<C>, QueuePass>>, Result<u64, MeterFault>)
     requires limit { limit ≤ 2 ^ 30 }
     requires open { IsAtQueue shared.now.queue reader.old }
     requires fresh { HasHandedOn C.FlowCache cache.now shared.now.queue shared.now.workers [] reader.old }
@@ -371,7 +370,7 @@ fn run_both<S: Source, C: FlowCache, G: Gate, R: Threads + Wait + Sync>(
 {
     join_mut(
         rt,
-        &mut move || -> Vec<Worker<C, QueuePass>>
+        &mut move || -> Vec<Worker<Share<C>, QueuePass>>
             requires sync { IsSync R.row }
             requires some { 0 < length workers.items }
             requires ready { All (IsToTake C.FlowCache cache.now shared.now.queue) workers.items }
@@ -397,7 +396,7 @@ fn run_both<S: Source, C: FlowCache, G: Gate, R: Threads + Wait + Sync>(
 struct Crew<C: FlowCache> {
     shared: Shared,
     reader: Reader<C>,
-    workers: Vec<Worker<C, QueuePass>>,
+    workers: Vec<Worker<Share<C>, QueuePass>>,
     last: Share<C>,
 }
 

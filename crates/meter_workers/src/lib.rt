@@ -22,7 +22,6 @@ mod gate;
 mod share;
 mod together;
 mod windows;
-mod worker;
 
 pub use batches::{Batches, meter_batches};
 pub use capture_input::{MeterFault, Part};

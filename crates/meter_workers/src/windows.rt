@@ -11,16 +11,15 @@ ghost use Rattle.cache_face.specs.Meaning.{IsFresh as IsFreshPass};
 ghost use Rattle.capture_input.specs.Refusals.{IsRefused, HasFaults};
 ghost use Rattle.capture_input.specs.Parts.{Answer, answers_by};
 ghost use Rattle.capture_input.specs.Giving.{IsReadWhole};
-ghost use Rattle.work_pieces.specs.Doing.{HasWorked, HaveDone};
+ghost use Rattle.work_pieces.specs.Doing.{HasWorked, HasDrawnAll, HaveDone};
 ghost use Rattle.work_pieces.specs.Passes.{count_of};
 ghost use Rattle.meter_workers.specs.Shares.{IsShareOf};
-ghost use Rattle.meter_workers.specs.Working.{IsReady, IsToDraw, HasDrawnAll};
+ghost use Rattle.meter_workers.specs.Working.{IsReady, IsToDraw};
 ghost use Rattle.meter_workers.specs.Whole.{IsMeteredWhole};
 
 use crate::gate::Gate;
 use crate::share::{Share, meter_run, open_shares};
 use crate::together::{Gathered, gather_all};
-use crate::worker::{WorkState, Worker, seat_workers, unseat_workers};
 use cache_face::FlowCache;
 use capture_input::{MeterFault, Part, Reading};
 use flow_parts::Timeouts;
@@ -29,7 +28,7 @@ use no_memory::NoMemory;
 use std::alloc::Global;
 use std::thread;
 use std::thread::Threads;
-use work_pieces::{DrawPass, Pieces};
+use work_pieces::{DrawPass, Pieces, WorkState, Worker, seat_workers, unseat_workers};
 
 /// How a capture is metered in windows.
 #[derive(Clone, Copy, Debug)]
@@ -75,12 +74,12 @@ fn work<C: FlowCache, G: Gate>(
     pieces: &Pieces,
     cache: &C,
     gate: &G,
-    worker: &mut Worker<C, DrawPass>,
+    worker: &mut Worker<Share<C>, DrawPass>,
 )
     requires ready { IsToDraw C.FlowCache cache.now pieces.now part.now.base worker.old }
     requires whole { count_of pieces.now ≡ length part.now.index.now.offsets }
     ensures ended { worker.new.state ≢ WorkState.Going }
-    ensures worked { HasDrawnAll C.FlowCache cache.now pieces.now (answers_by part.now) worker.old worker.new }
+    ensures worked { HasDrawnAll (IsShareOf C.FlowCache cache.now) pieces.now (answers_by part.now) worker.old worker.new }
 {
     let end = work_through(
         part,
@@ -104,13 +103,13 @@ fn run_workers<C: FlowCache, G: Gate, R: Threads + Sync>(
     pieces: &Pieces,
     cache: &C,
     gate: &G,
-    mut workers: Vec<Worker<C, DrawPass>>,
-) -> Vec<Worker<C, DrawPass>>
+    mut workers: Vec<Worker<Share<C>, DrawPass>>,
+) -> Vec<Worker<Share<C>, DrawPass>>
     requires some { 0 < length workers.items }
     requires ready { All (IsToDraw C.FlowCache cache.now pieces.now part.now.base) workers.items }
     requires whole { count_of pieces.now ≡ length part.now.index.now.offsets }
     ensures ended { All (λ w. w.state ≢ WorkState.Going) result.items }
-    ensures worked { AllZip (HasDrawnAll C.FlowCache cache.now pieces.now (answers_by part.now)) workers.items
+    ensures worked { AllZip (HasDrawnAll (IsShareOf C.FlowCache cache.now) pieces.now (answers_by part.now)) workers.items
         result.items }
 {
     let count = workers.len();
@@ -118,11 +117,11 @@ fn run_workers<C: FlowCache, G: Gate, R: Threads + Sync>(
         rt,
         workers.as_mut_slice(),
         count,
-        &|_, w: &mut Worker<C, DrawPass>|
+        &|_, w: &mut Worker<Share<C>, DrawPass>|
             requires ready { IsToDraw C.FlowCache cache.now pieces.now part.now.base w.old }
             requires whole { count_of pieces.now ≡ length part.now.index.now.offsets }
             ensures ended { w.new.state ≢ WorkState.Going }
-            ensures worked { HasDrawnAll C.FlowCache cache.entry.now pieces.entry.now (answers_by part.entry.now) w.old
+            ensures worked { HasDrawnAll (IsShareOf C.FlowCache cache.entry.now) pieces.entry.now (answers_by part.entry.now) w.old
                 w.new }
         { work(part, pieces, cache, gate, w) },
     );

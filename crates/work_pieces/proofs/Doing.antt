@@ -1,11 +1,11 @@
 -- What several workers have done, each its own list of things.
-use Rattle.std.proofs.Common.{◌≡◌, ℕ, zero, suc, ◌+◌, ◌<◌, ◌≤◌, List, [], ◌∷◌, ◌++◌, length, map, get_or, take, drop, refl}
+use Rattle.std.proofs.Common.{◌≡◌, ℕ, suc, ◌+◌, ◌<◌, ◌≤◌, List, [], ◌∷◌, ◌++◌, length, map, get_or, take, drop, refl}
 use Rattle.std.proofs.Common.{sym, ap, ◌∙◌, subst, arith, append_assoc, append-nil, length-append, All}
 use Rattle.std.specs.Prelude.{flat_map, IsPermutation}
 use Rattle.std.specs.List.{AllZip}
 use Rattle.std.proofs.lemmas.Grind.{common_steps, flat_map-append}
 use Rattle.std.proofs.lemmas.List.{get_or-map, length-map, nil_from_length}
-use Rattle.std.proofs.lemmas.List.Elements.{All-nil, All-cons, All-tail, All-weaker}
+use Rattle.std.proofs.lemmas.List.Elements.{All-nil, All-cons, All-tail, All-weaker, All-append, All-drop, All-same, All-take}
 use Rattle.std.proofs.lemmas.List.Sorted.{IsPermutation-refl, IsPermutation-trans, IsPermutation-append_comm}
 use Rattle.std.proofs.lemmas.List.Sorted.{IsPermutation-append_left, IsPermutation-append_right, length_permutation}
 use Rattle.std.proofs.lemmas.Slice.Zip.{AllZip-long, all_zipped_more}
@@ -44,6 +44,15 @@ pub still-many : {A B C : Type 0} (R : A → A → Type 0) (f : A → B) (g : A 
     → map f xs ≡ fs → gs ≡ map g ys → AllZip R xs ys → length gs ≡ length fs
 still-many R f g xs ys fs gs had has zip =
     ap length has ∙ length-map ys g ∙ AllZip-long R xs ys zip ∙ sym (length-map xs f) ∙ ap length had
+
+-- one more at the end
+pub longer : {A : Type 0} (xs ys : List A) (y : A) → xs ≡ ys ++ y ∷ [] → length xs ≡ length ys + 1
+longer xs ys y is = ap length is ∙ length-append ys (y ∷ [])
+
+-- what holds of all holds of those behind the first
+pub behind-first : {A : Type 0} (P : A → Type 0) (xs ys : List A) → All P xs → ys ≡ take 0 xs ++ drop 1 xs → All P ys
+behind-first P xs ys all is =
+    All-same P ys _ is (All-append P (take 0 xs) (drop 1 xs) (All-take P 0 xs all) (All-drop P 1 xs all))
 
 zip-popped : {A B : Type 0} (R : A → B → Type 0) (us : List A) (ys : List B) (y : B) → AllZip R us (ys ++ y ∷ [])
     → (bs : List A) × (b : A) × (us ≡ bs ++ b ∷ []) × AllZip R bs ys × R b y

@@ -1,8 +1,10 @@
 -- What workers have done: `Has list worker` says that the worker has done just these things.
-use Rattle.std.specs.Prelude.{List, ◌++◌, flat_map, IsPermutation}
+use Rattle.std.specs.Prelude.{◌≡◌, List, ◌++◌, flat_map, IsPermutation}
 use Rattle.std.specs.List.{AllZip}
 use Rattle.work_pieces.specs.declared.pieces.Pieces.{Pieces}
 use Rattle.work_pieces.specs.declared.pieces.DrawPass.{DrawPass}
+use Rattle.work_pieces.specs.declared.worker.Worker.{Worker}
+use Rattle.work_pieces.specs.declared.worker.WorkState.TheVariants.{Finished}
 use Rattle.work_pieces.specs.Cutting.{pieces_of}
 use Rattle.work_pieces.specs.Passes.{HasEnded, size_of, drawn_of}
 
@@ -21,3 +23,9 @@ pub record HasWorked {A W : Type 0} (Has : List A → W → Type 0) (pieces : Pi
     (draw : DrawPass) : Type 0 where
   pub drawn : HasEnded pieces draw
   pub did : HasDone Has (pieces_of (size_of pieces) things (drawn_of draw)) old new
+
+-- A worker before and behind: if it has finished, it has worked.
+abbrev pub HasDrawnAll : {A S : Type 0} → (List A → S → Type 0) → Pieces → List A → Worker S DrawPass
+    → Worker S DrawPass → Type 0
+HasDrawnAll Has pieces things old new =
+    new.state ≡ Finished → HasWorked Has pieces things old.share new.share new.seat

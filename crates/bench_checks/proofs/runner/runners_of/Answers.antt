@@ -1,9 +1,9 @@
-use Rattle.std.proofs.Common.{rules, ◌≡◌, ◌≤◌, ap, sym, subst, arith}
+use Rattle.std.proofs.Common.{Some, rules, ◌≡◌, ◌≤◌, ap, sym, subst, arith}
 use Rattle.std.specs.Prelude.{All}
+use Rattle.std.proofs.lemmas.List.Elements.{All-pop, All-push, All-same}
 use Rattle.cache_face.specs.Keeping.{packet_count}
 use Rattle.cache_face.specs.Meaning.{PassMeans, IsFresh}
 use Rattle.cache_face.specs.Notes.{Note}
-use Rattle.meter_workers.proofs.Taken.{all_popped, all_pushed}
 use Rattle.bench_checks.specs.declared.runner.Runner.{Runner}
 use Rattle.bench_checks.specs.Going.{IsGoing}
 use Rattle.bench_checks.proofs.runner.runners_of.Goals as goal
@@ -21,10 +21,10 @@ loop-pass-preserved g c =
     λ p. g.C.FlowCache.is_of c.args.cache.now p × IsFresh (g.C.FlowCache.shown p) in
     let Own : Runner g.row.C.Denot g.row.C-Pass.Denot → Type 0 =
     λ r. g.C.FlowCache.is_of c.args.cache.now r.pass × IsGoing r.count (g.C.FlowCache.shown r.pass) in
-    let p = all_popped Fresh _ _ c.in-Some.pass c.loop-pass.invariant.left c.in-Some.ensures.items in
+    let p = All-pop Fresh _ _ (Some c.in-Some.pass) c.in-Some.ensures.items c.loop-pass.invariant.left in
     record {
       left = p.0;
-      going = all_pushed Own _ _ _ c.loop-pass.invariant.going
-          (p.1.0, fresh-going (g.C.FlowCache.shown c.in-Some.pass) p.1.1) c.in_ok-push.ensures.items;
+      going = All-same Own _ _ c.in_ok-push.ensures.items (All-push Own _ _ c.loop-pass.invariant.going
+          (p.1.0, fresh-going (g.C.FlowCache.shown c.in-Some.pass) p.1.1));
       many = search rules;
     }

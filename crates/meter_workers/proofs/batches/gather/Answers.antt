@@ -1,32 +1,28 @@
 -- Who has metered what, once all have worked.
-use Rattle.meter_workers.proofs.Common.{◌≡◌, ◌+◌, List, [], ◌∷◌, ◌++◌, length, sym, ap, ◌∙◌, subst, arith, append_assoc}
-use Rattle.meter_workers.proofs.Common.{All, IfOk, IsPermutation, IsPermutation-trans, IsPermutation-append_comm}
-use Rattle.meter_workers.proofs.Common.{IsPermutation-append_left, Answer, HaveDone, QueuePass, put_of, took_of}
-use Rattle.meter_workers.proofs.Common.{reader_of, Worker, HasHandedOn, answers_of_batch, answers_in, IsShareOf}
+use Rattle.meter_workers.proofs.Common.{◌≡◌, ◌+◌, List, [], ◌++◌, length, sym, ap, ◌∙◌, subst, arith, All, IfOk, Answer}
+use Rattle.meter_workers.proofs.Common.{HaveDone, QueuePass, put_of, took_of, reader_of, Share, Worker, HasHandedOn}
+use Rattle.meter_workers.proofs.Common.{answers_of_batch, answers_in, IsShareOf}
 use Rattle.std.specs.Prelude.{flat_map}
-use Rattle.std.proofs.lemmas.Grind.{flat_map-append}
-use Rattle.std.proofs.lemmas.List.{length-map, length-append}
+use Rattle.std.proofs.lemmas.List.{length-map}
 use Rattle.std.proofs.lemmas.List.Elements.{All-map}
 use Rattle.std.proofs.lemmas.List.Folds.{flat_map-map}
-use Rattle.std.proofs.lemmas.List.Sorted.{IsPermutation-append_right}
-use Rattle.packet_accept.proofs.Permuted.{flat_map-permutation}
-use Rattle.work_pieces.proofs.Doing.{flat-flat, one-more, told-each, reordered}
+use Rattle.work_pieces.proofs.Doing.{flat-flat, longer, one-more, told-each, reordered}
 use Rattle.batch_queue.specs.Uniting.{IsFirst, IsForAll, IsOther}
 use Rattle.batch_queue.proofs.Passing.{all-taken}
+use Rattle.batch_queue.proofs.Records.{all-answers}
 use Rattle.meter_workers.proofs.batches.gather.Goals.{In_ok-push-2}
 use Rattle.meter_workers.proofs.batches.gather.Given as given
 use Rattle.meter_workers.proofs.batches.gather.Goals as goal
 
-pub unseat_workers-requires-clause-ended : goal.unseat_workers-requires-clause-ended
-unseat_workers-requires-clause-ended g c κs within = λ k d inside. (c.requires.workers k d inside).0
+pub unseat_workers-requires : goal.unseat_workers-requires
+unseat_workers-requires g c = record { ended = λ k d inside. (c.requires.workers k d inside).0 }
 
 pub unite_all-seat-requires-clause-others : goal.unite_all-seat-requires-clause-others
 unite_all-seat-requires-clause-others g c =
-    let W : Type 0 = Worker g.row.C.Denot QueuePass g.row.C-Pass.Denot in
+    let W : Type 0 = Worker (Share g.row.C.Denot g.row.C-Pass.Denot) QueuePass in
     subst (All (IsOther c.args.crew.shared.queue)) (sym c.in_ok-shares.ensures.seats)
     (All-map (IsOther c.args.crew.shared.queue) (λ (w : W). w.seat) c.args.crew.workers.items (λ k d inside.
-    let has = (c.requires.workers k d inside).1 (c.in_ok-shares.ensures.finished k d inside) in
-    (has.of, has.put, has.single, has.apart)))
+    ((c.requires.workers k d inside).1 (c.in_ok-shares.ensures.finished k d inside)).seat))
 
 -- The workers have metered the batches that they took, the reader some answers of its own, and the drain what was left:
 -- together all answers that the reader handed on.
@@ -35,14 +31,13 @@ all : (g : given.Over) (c : In_ok-push-2 g) (answers : List Answer)
     c.args.crew.reader
     → HaveDone (IsShareOf g.C.FlowCache c.args.cache.now) answers c.push-2.new.self.items
 all g c answers handed =
-    let W : Type 0 = Worker g.row.C.Denot QueuePass g.row.C-Pass.Denot in
+    let W : Type 0 = Worker (Share g.row.C.Denot g.row.C-Pass.Denot) QueuePass in
     let Has = IsShareOf g.C.FlowCache c.args.cache.now in
     let ws = c.args.crew.workers.items in
     let told = c.in_ok-shares.ensures in
     let drained = c.in_ok-work_batches.ensures in
     let first = reader_of c.args.crew.reader.feed in
     let seats = c.in_ok-shares.seats.items in
-    let took = flat_map took_of seats in
     let list = λ (w : W). answers_in (took_of w.seat) in
     let theirs : List Answer = flat_map list ws in
     let own = handed.own in
@@ -59,20 +54,12 @@ all g c answers handed =
     (subst (λ n. IsFirst c.args.crew.shared.queue n first) count handed.first)
     (subst (λ p. IsForAll seats p c.unite_all-seat.result) c.into_pass.ensures c.unite_all-seat.ensures.all)
     drained.did.1 drained.all in
-    let each : answers_in (took ++ drained.did.0) ≡ theirs ++ left =
-    flat_map-append answers_of_batch took drained.did.0
-    ∙ ap (λ l. l ++ left) (ap (λ l. answers_in (flat_map took_of l)) told.seats
+    let are : answers_in (flat_map took_of seats) ≡ theirs =
+    ap (λ l. answers_in (flat_map took_of l)) told.seats
     ∙ ap answers_in (flat_map-map took_of (λ (w : W). w.seat) ws)
-    ∙ flat-flat answers_of_batch (λ (w : W). took_of w.seat) ws) in
-    let of_all : IsPermutation (answers_in (put_of first)) (theirs ++ left) =
-    subst (λ l. IsPermutation (answers_in (put_of first)) l) each
-    (flat_map-permutation answers_of_batch (put_of first) (took ++ drained.did.0) put) in
+    ∙ flat-flat answers_of_batch (λ (w : W). took_of w.seat) ws in
     reordered Has ((theirs ++ own) ++ left) answers _
-    (IsPermutation-trans _ (own ++ answers_in (put_of first)) _ handed.all
-    (IsPermutation-trans _ (own ++ (theirs ++ left)) _
-    (IsPermutation-append_right own (answers_in (put_of first)) (theirs ++ left) of_all)
-    (subst (λ l. IsPermutation l ((theirs ++ own) ++ left)) (append_assoc own theirs left)
-    (IsPermutation-append_left left (own ++ theirs) (theirs ++ own) (IsPermutation-append_comm own theirs))))) have
+    (all-answers answers own theirs (put_of first) drained.did.0 seats handed.all put are) have
 
 pub gather_all-requires-clause-metered : goal.gather_all-requires-clause-metered
 gather_all-requires-clause-metered g c κs within =
@@ -86,14 +73,12 @@ returns-clause-metered g c = λ answers handed.
 
 pub returns-clause-own : goal.returns-clause-own
 returns-clause-own g c =
-    let W : Type 0 = Worker g.row.C.Denot QueuePass g.row.C-Pass.Denot in
+    let W : Type 0 = Worker (Share g.row.C.Denot g.row.C-Pass.Denot) QueuePass in
     let ws = c.args.crew.workers.items in
-    let counted : length c.push-2.new.self.items ≡ length ws + 1 + 1 =
-    ap length c.in_ok-push-2.ensures.items ∙ length-append c.push.new.self.items (c.work_batches.new.share ∷ [])
-    ∙ ap (λ k. k + 1) (ap length c.in_ok-push.ensures.items
-    ∙ length-append c.in_ok-shares.shares.items (c.args.crew.reader.share ∷ [])
-    ∙ ap (λ k. k + 1) (ap length c.in_ok-shares.ensures.shares ∙ length-map ws (λ (w : W). w.share))) in
-    let all : length c.push-2.new.self.items ≡ length ws + 2 = omega (arith, counted) in
+    let one = longer _ _ _ c.in_ok-push.ensures.items in
+    let two = longer _ _ _ c.in_ok-push-2.ensures.items in
+    let had = ap length c.in_ok-shares.ensures.shares ∙ length-map ws (λ (w : W). w.share) in
+    let all : length c.push-2.new.self.items ≡ length ws + 2 = omega (arith, one, two, had) in
     subst (λ k. IfOk c.gather_all.result
     (λ r. g.C.FlowCache.is_of c.args.cache.now r.pass × ((g.C.FlowCache.shown r.pass).note.seats ≡ k))) all
     c.gather_all.ensures.own

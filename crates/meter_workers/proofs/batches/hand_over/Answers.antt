@@ -1,25 +1,25 @@
 -- A batch is put, or metered.
 use Rattle.meter_workers.proofs.Common.{◌≡◌, List, [], ◌∷◌, ◌++◌, length, refl, sym, ap, ◌∙◌, subst, arith}
 use Rattle.meter_workers.proofs.Common.{append_assoc, length-append, IsPermutation, All-nil, All-cons, All-weaker}
-use Rattle.meter_workers.proofs.Common.{IsPermutation-trans, IsPermutation-append_left, Offsets, Answer, snoc, Batch}
+use Rattle.meter_workers.proofs.Common.{IsPermutation-trans, IsPermutation-append_left, Offsets, Answer, snoc, batch-answers, Batch}
 use Rattle.meter_workers.proofs.Common.{IsBefore, put_of, reader_of, more-keeps, more-none, StandsBefore}
 use Rattle.meter_workers.proofs.Common.{answers_of_batch, answers_in, HasMetered}
 use Rattle.std.proofs.lemmas.List.Sorted.{length_permutation}
 use Rattle.cache_face.proofs.Keeping.{swapped}
-use Rattle.meter_workers.proofs.Crew.{batch-answers, handed-more}
+use Rattle.meter_workers.proofs.Crew.{handed-more}
 use Rattle.meter_workers.proofs.batches.hand_over.Goals as goal
 
-pub overflow_add : goal.overflow_add
-overflow_add g c =
+pub overflow_add-reader : goal.overflow_add-reader
+overflow_add-reader g c =
     let had = c.requires.handed in
     let low = had.2.low in
     omega (arith, low, had.1, c.args.batch.few)
 
 pub offer-requires-clause-reader : goal.offer-requires-clause-reader
-offer-requires-clause-reader g c κs within = c.requires.handed.2.first.reader
+offer-requires-clause-reader g c = c.requires.handed.2.first.reader
 
 pub offer-requires-clause-behind : goal.offer-requires-clause-behind
-offer-requires-clause-behind g c κs within =
+offer-requires-clause-behind g c =
     let had = c.requires.handed in
     let Before : Batch → Type 0 = λ b. IsBefore b c.args.batch in
     All-weaker (StandsBefore c.args.reader.now.next (length had.0)) Before

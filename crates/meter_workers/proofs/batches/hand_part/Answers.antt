@@ -1,4 +1,4 @@
-use Rattle.meter_workers.proofs.Common.{◌≡◌, ◌++◌, List, [], length, refl, sym, ap, ◌∙◌, subst, append-nil, arith}
+use Rattle.meter_workers.proofs.Common.{◌≡◌, ◌++◌, List, sym, ap, ◌∙◌, subst, append-nil}
 use Rattle.meter_workers.proofs.Common.{part_of, Answer, answers_from, base_in, part_in, answers-count, HasHandedOn}
 use Rattle.std.proofs.lemmas.List.{nil_from_length}
 use Rattle.meter_workers.proofs.batches.hand_part.Goals as goal

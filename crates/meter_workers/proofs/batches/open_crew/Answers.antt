@@ -1,15 +1,10 @@
 -- Who has which share.
-use Rattle.meter_workers.proofs.Common.{◌≡◌, ◌<◌, List, [], ◌++◌, length, sym, subst, arith, All, IsPermutation}
-use Rattle.meter_workers.proofs.Common.{IsPermutation-refl, All-nil, All-append, All-same, QueuePass, IsPassOf, Share}
+use Rattle.meter_workers.proofs.Common.{◌≡◌, [], sym, subst, arith, All, IsPermutation}
+use Rattle.meter_workers.proofs.Common.{IsPermutation-refl, All-nil, QueuePass, IsPassOf, Share}
 use Rattle.meter_workers.proofs.Common.{Worker, IsShareOf, StandsBefore, answers_in, all-mapped}
-use Rattle.std.proofs.Common.{take, drop}
-use Rattle.std.proofs.lemmas.List.Elements.{All-drop, All-take}
+use Rattle.work_pieces.proofs.Doing.{behind-first}
 use Rattle.batch_queue.specs.Passes.{IsReaders, IsFresh, others_of}
 use Rattle.meter_workers.proofs.batches.open_crew.Goals as goal
-
-behind-first : {X : Type 0} (P : X → Type 0) (xs ys : List X) → All P xs → ys ≡ take 0 xs ++ drop 1 xs → All P ys
-behind-first P xs ys all is =
-    All-same P ys _ is (All-append P (take 0 xs) (drop 1 xs) (All-take P 0 xs all) (All-drop P 1 xs all))
 
 pub returns-clause-reader : goal.returns-clause-reader
 returns-clause-reader g c =
@@ -39,16 +34,13 @@ pub returns-clause-last : goal.returns-clause-last
 returns-clause-last g c =
     let P : Share g.row.C.Denot g.row.C-Pass.Denot → Type 0 = IsShareOf g.C.FlowCache c.args.cache.now [] in
     let told = c.in_ok-shares.ensures in
-    let least = c.requires.passes.0 in
-    let some' : 0 < length c.remove-share.new.self.items =
-    (let len = c.remove-share.ensures.len in
-    omega (arith, told.many, least, len, c.remove-share.new.self.ok.0, c.in_ok-shares.shares.ok.0)) in
-    subst P (sym c.remove-last.ensures.value)
-    (behind-first P _ _ told.shares c.remove-share.ensures.by_index.2 0 _ some')
+    let len = c.remove-share.ensures.len in
+    subst P (sym c.remove-last.ensures.value) (behind-first P _ _ told.shares c.remove-share.ensures.by_index.2 0 _
+    (omega (arith, told.many, c.requires.passes.0, len, c.remove-share.new.self.ok.0, c.in_ok-shares.shares.ok.0)))
 
 pub returns-clause-workers : goal.returns-clause-workers
 returns-clause-workers g c =
-    let W : Type 0 = Worker g.row.C.Denot QueuePass g.row.C-Pass.Denot in
+    let W : Type 0 = Worker (Share g.row.C.Denot g.row.C-Pass.Denot) QueuePass in
     let P : Share g.row.C.Denot g.row.C-Pass.Denot → Type 0 = IsShareOf g.C.FlowCache c.args.cache.now [] in
     let Q : QueuePass → Type 0 =
     λ p. IsPassOf c.in_ok-queue.queue p × IsFresh p × (¬ IsReaders p) × (others_of p ≡ 0) in
@@ -59,4 +51,4 @@ returns-clause-workers g c =
     let has = all-mapped Q (λ (w : W). w.seat) _ (subst (All Q) (sym told.seats) c.in_ok-queue.ensures.passes) in
     λ k d inside.
     let seat = has k d inside in
-    record { is = is k d inside; of = seat.0; fresh = seat.1; apart = seat.3 }
+    record { is = is k d inside; seat = (seat.0, seat.1.1, seat.1.0, seat.3); none = seat.1.2 }

@@ -1,5 +1,5 @@
 -- A part after the other is handed on.
-use Rattle.meter_workers.proofs.Common.{◌++◌, ℕ, [], sym, ◌∙◌, subst, arith, err_from_is_err_and, IsRefused}
+use Rattle.meter_workers.proofs.Common.{ℕ, [], sym, ◌∙◌, subst, arith, err_from_is_err_and, IsRefused}
 use Rattle.meter_workers.proofs.Common.{answers_from, HasGiven, part_in, seen}
 use Rattle.meter_workers.proofs.batches.read_all.Goals as goal
 

@@ -1,4 +1,4 @@
-use Rattle.meter_workers.proofs.Common.{[], ◌++◌, ◌∙◌, sym, ap, subst, arith, append-nil, put_of, more-keeps, IsShareOf}
+use Rattle.meter_workers.proofs.Common.{[], ◌++◌, ◌∙◌, sym, ap, subst, arith, more-keeps, other-more, IsShareOf}
 use Rattle.meter_workers.proofs.Common.{answers_in}
 use Rattle.meter_workers.proofs.batches.work.Goals.{in-Ok, in-Err}
 use Rattle.meter_workers.proofs.batches.work.Goals as goal
@@ -22,11 +22,9 @@ returns g c = record {
           let keeps = more-keeps old c.work_batches-end.new.seat [] did.0 did.1 in
           record {
             is = subst (λ l. IsShareOf g.C.FlowCache c.args.cache.now (answers_in l) c.work_batches-end.new.share)
-                (sym (keeps.1 ∙ ap (λ l. l ++ did.0) ready.fresh.2)) (did.2.besides [] ready.is);
-            of = c.work_batches-end.ensures.own;
-            put = keeps.0 ∙ append-nil (put_of old) ∙ ready.fresh.1;
-            single = keeps.2 ∙ ready.fresh.0;
-            apart = keeps.3 ∙ ready.apart;
+                (sym (keeps.1 ∙ ap (λ l. l ++ did.0) ready.none)) (did.2.besides [] ready.is);
+            seat = other-more c.args.shared.now.queue old c.work_batches-end.new.seat did.0
+                c.work_batches-end.ensures.own did.1 ready.seat;
             told = w.in-Ok.ensures.told;
           }),
     )

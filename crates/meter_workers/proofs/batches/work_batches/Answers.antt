@@ -1,9 +1,9 @@
-use Rattle.meter_workers.proofs.Common.{◌≡◌, ◌++◌, ◌∷◌, List, [], length, sym, ap, subst, ◌∙◌, arith, All, Offsets}
-use Rattle.meter_workers.proofs.Common.{Answer, Batch, IsBefore, IsMore, took_of, more-none, more-keeps, HasMetered}
+use Rattle.meter_workers.proofs.Common.{◌++◌, ◌∷◌, List, [], length, sym, ap, subst, ◌∙◌, arith, All, Offsets}
+use Rattle.meter_workers.proofs.Common.{Answer, batch-answers, IsBefore, IsMore, took_of, more-none, more-keeps, HasMetered}
 use Rattle.meter_workers.proofs.Common.{IsShareOf, answers_of_batch, answers_in, IsReadyFor, snoc, done-none, done-more}
 use Rattle.batch_queue.specs.Queueing.{more_of}
 use Rattle.batch_queue.proofs.Passing.{more-both}
-use Rattle.meter_workers.proofs.Crew.{batch-answers, ready-more}
+use Rattle.batch_queue.proofs.Records.{ready-more}
 use Rattle.meter_workers.proofs.batches.work_batches.Goals as goal
 
 pub loop-init : goal.loop-init

@@ -1,5 +1,4 @@
-use Rattle.meter_workers.proofs.Common.{◌∷◌, List, [], refl, sym, subst, ap, ◌∙◌, arith, file_of, Answer, Share}
-use Rattle.meter_workers.proofs.Common.{HasMetered}
+use Rattle.meter_workers.proofs.Common.{◌∷◌, List, [], sym, subst, ap, ◌∙◌, arith, file_of, Answer, Share, HasMetered}
 use Rattle.pcap_reader.specs.Views.{record_read}
 use Rattle.capture_input.proofs.Ranges.{answer-alone}
 use Rattle.meter_workers.proofs.Shares.{put-few, shared-packet, shared-none, share-more, on-ok-all}

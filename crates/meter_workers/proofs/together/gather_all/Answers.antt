@@ -1,8 +1,8 @@
-use Rattle.meter_workers.proofs.Common.{◌≡◌, ◌+◌, ◌++◌, ◌∷◌, List, [], length, length-append, ap, ◌∙◌, rules, arith}
+use Rattle.meter_workers.proofs.Common.{◌≡◌, ◌+◌, ◌++◌, List, [], length, ap, ◌∙◌, rules, arith}
 use Rattle.meter_workers.proofs.Common.{IsPermutation, IsPermutation-trans, IsPermutation-append_left, Answer, HaveDone}
 use Rattle.meter_workers.proofs.Common.{IsShareOf, HasGathered}
 use Rattle.std.proofs.lemmas.List.Sorted.{IsPermutation-sym}
-use Rattle.work_pieces.proofs.Doing.{popped, none-left, moved-back}
+use Rattle.work_pieces.proofs.Doing.{longer, popped, none-left, moved-back}
 use Rattle.meter_workers.proofs.Shares.{permuted}
 use Rattle.meter_workers.proofs.together.gather_all.Goals.{In_ok-one}
 use Rattle.meter_workers.proofs.together.gather_all.Given as given
@@ -15,10 +15,8 @@ finish-requires-clause-share g c κs within =
 pub loop-share-init : goal.loop-share-init
 loop-share-init g c =
     let is = c.in-Some.ensures.items in
-    let long : length c.args.shares.items ≡ length c.pop.new.self.items + 1 =
-    ap length is ∙ length-append c.pop.new.self.items (c.in-Some.last ∷ []) in
     record {
-      many = omega (arith, long, c.in_ok-all.ensures.seats);
+      many = omega (arith, longer _ _ _ is, c.in_ok-all.ensures.seats);
       tail = c.in_ok-all.ensures.tail;
       metered = λ answers have.
           (let q = popped _ _ _ _ _ is have in (q.0, q.1, q.2, c.in_ok-all.ensures.gathered q.1 q.3, q.4));
@@ -49,14 +47,9 @@ parted g c answers have =
       moved-back answers m.0 m.1 q.0 q.1 m.4 q.4,
     )
 
--- and how many are left
-left : (g : given.Over) (c : In_ok-one g) → length c.loop-share.shares.items ≡ length c.pop-in-loop-share.new.self.items + 1
-left g c = ap length c.in-Some-pop.ensures.items
-    ∙ length-append c.pop-in-loop-share.new.self.items (c.in-Some-pop.share ∷ [])
-
 pub unite-requires-clause-seats : goal.unite-requires-clause-seats
 unite-requires-clause-seats g c κs within =
-    let long = left g (goal.at.unite-requires-clause-seats g c).In_ok-one in
+    let long = longer _ _ _ c.in-Some-pop.ensures.items in
     omega (arith, long, c.in_ok-one.ensures.seats, c.loop-share.invariant.many, c.requires.many.1)
 
 pub unite-requires-clause-gathered : goal.unite-requires-clause-gathered
@@ -68,7 +61,7 @@ loop-share-preserved g c =
     let at = (goal.at.loop-share-preserved g c).In_ok-one in
     let both = c.in_ok-all-2.ensures in
     record {
-      many = omega (arith, both.seats, c.in_ok-one.ensures.seats, left g at, c.loop-share.invariant.many);
+      many = omega (arith, both.seats, c.in_ok-one.ensures.seats, longer _ _ _ c.in-Some-pop.ensures.items, c.loop-share.invariant.many);
       tail = both.tail ∙ c.loop-share.invariant.tail;
       metered = λ answers have.
           (let p = parted g at answers have in (p.0, p.1 ++ p.2, p.3, both.gathered p.1 p.2 p.4 p.5, p.6));

@@ -1,4 +1,4 @@
-use Rattle.meter_workers.proofs.Common.{◌≤◌, List, [], length, arith, IfOk, IfOk-weaker, Answer, answers_by}
+use Rattle.meter_workers.proofs.Common.{◌≤◌, [], length, arith, IfOk, IfOk-weaker, Answer, answers_by}
 use Rattle.meter_workers.proofs.Common.{HasGathered, nothing-done}
 use Rattle.meter_workers.proofs.windows.meter_all.Given as given
 use Rattle.meter_workers.proofs.windows.meter_all.Goals as goal

@@ -1,6 +1,5 @@
-use Rattle.meter_workers.proofs.Common.{◌≡◌, ℕ, ◌≤◌, ◌*◌, ◌∙◌, List, sym, subst, length, arith, All, file_of, DrawPass}
-use Rattle.meter_workers.proofs.Common.{Answer, answers_by, answers-count, Share, Worker, Finished, IsShareOf}
-use Rattle.meter_workers.proofs.Common.{all-mapped}
+use Rattle.meter_workers.proofs.Common.{◌≡◌, ℕ, ◌≤◌, ◌*◌, ◌∙◌, sym, subst, length, arith, All, file_of, DrawPass}
+use Rattle.meter_workers.proofs.Common.{answers_by, answers-count, Share, Worker, Finished, IsShareOf, all-mapped}
 use Rattle.work_pieces.specs.Passes.{IsPassOf, IsFresh}
 use Rattle.work_pieces.proofs.Cutting.{enough}
 use Rattle.work_pieces.proofs.Doing.{DidSome, each-done, still-many}
@@ -9,7 +8,7 @@ use Rattle.meter_workers.proofs.windows.meter_part.Given as given
 use Rattle.meter_workers.proofs.windows.meter_part.Goals as goal
 
 abbrev W : given.Over → Type 0
-W g = Worker g.row.C.Denot DrawPass g.row.C-Pass.Denot
+W g = Worker (Share g.row.C.Denot g.row.C-Pass.Denot) DrawPass
 
 pub run_workers-workers-requires-clause-ready : goal.run_workers-workers-requires-clause-ready
 run_workers-workers-requires-clause-ready g c κs within =
@@ -43,8 +42,7 @@ complete_all-requires-clause-all g c =
     let many = still-many _ (λ (w : W g). w.share) (λ w. w.seat) _ _ _ _ c.in_ok-workers.ensures.shares
     c.in_ok-shares.ensures.seats c.run_workers-workers.ensures.worked in
     let seats = c.in_ok-pieces.ensures.pieces.2 in
-    let some = c.requires.some.0 in
-    (omega (arith, many, some), omega (arith, many, seats, c.args.shares.ok.0))
+    (omega (arith, many, c.requires.some.0), omega (arith, many, seats, c.args.shares.ok.0))
 
 pub returns-clause-many : goal.returns-clause-many
 returns-clause-many g c =

@@ -1,15 +1,15 @@
-use Rattle.meter_workers.proofs.Common.{◌≡◌, rules, refl, List, length, sym, subst, DrawPass, answers_by, Worker}
+use Rattle.meter_workers.proofs.Common.{◌≡◌, rules, refl, List, length, sym, subst, DrawPass, answers_by, Share, Worker, IsShareOf}
 use Rattle.std.proofs.Common.{get_or}
 use Rattle.std.specs.List.{AllZip}
 use Rattle.work_pieces.proofs.Doing.{all-zip, taken-back}
-use Rattle.meter_workers.specs.Working.{HasDrawnAll}
+use Rattle.work_pieces.specs.Doing.{HasDrawnAll}
 use Rattle.meter_workers.proofs.windows.run_workers.Goals as goal
 
 pub returns-clause-worked : goal.returns-clause-worked
 returns-clause-worked g c =
-    let W : Type 0 = Worker g.row.C.Denot DrawPass g.row.C-Pass.Denot in
+    let W : Type 0 = Worker (Share g.row.C.Denot g.row.C-Pass.Denot) DrawPass in
     let R : W → W → Type 0 =
-    HasDrawnAll g.C.FlowCache c.args.cache.now c.args.pieces.now (answers_by c.args.part.now) in
+    HasDrawnAll (IsShareOf g.C.FlowCache c.args.cache.now) c.args.pieces.now (answers_by c.args.part.now) in
     let new : List W = c.for_each_mut.new.s in
     let same : c.as_mut_slice.result.now ≡ c.args.workers.items = search rules in
     let long : length new ≡ length c.as_mut_slice.result.now = search rules in

@@ -1,5 +1,5 @@
 use Rattle.std.proofs.Common.{◌<◌, ◌%◌, ◌∙◌, sym, length, mod-lt, rules}
-use Rattle.meter_workers.proofs.Taken.{all_pushed}
+use Rattle.std.proofs.lemmas.List.Elements.{All-push, All-same}
 use Rattle.flow_watch.specs.Watching.{note_of}
 use Rattle.watch_program.specs.Answers.{IsSound}
 use Rattle.watch_program.proofs.Seen.{asker-still, seen-still, some-there}
@@ -20,8 +20,8 @@ loop-k-preserved g c =
       seen = seen-still c.ask-answer.result (note_of c.loop-k.watcher) (note_of c.ask-answer.new.watcher)
           c.loop-k.answers.items c.push.new.self.items c.ask-answer.ensures.note before.seen c.in_ok-push.ensures.items;
       many = search rules;
-      sound = all_pushed IsSound c.loop-k.answers.items c.push.new.self.items c.ask-answer.result before.sound
-          c.ask-answer.ensures.sound c.in_ok-push.ensures.items;
+      sound = All-same IsSound _ _ c.in_ok-push.ensures.items
+          (All-push IsSound c.loop-k.answers.items c.ask-answer.result before.sound c.ask-answer.ensures.sound);
       in_turn = next-in-turn c.args.keys.now c.loop-k.answers.items c.push.new.self.items c.ask-answer.result
           c.index-keys-k.result c.loop-k.k before.many
           c.index-keys-k.is below c.ask-answer.ensures.key c.in_ok-push.ensures.items before.in_turn;

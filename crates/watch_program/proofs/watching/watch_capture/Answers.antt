@@ -1,4 +1,5 @@
-use Rattle.std.proofs.Common.{◌≡◌, ◌∙◌, ℕ, List, All, Some, Result, Ok, length, ap, subst, arith}
+use Rattle.std.proofs.Common.{◌≡◌, ◌∙◌, ℕ, List, [], ◌∷◌, All, Some, Result, Ok, length, length-append, ap, subst, arith}
+use Rattle.std.proofs.lemmas.List.Elements.{All-pop}
 use Rattle.std.specs.Prelude.{IfOk, IsSomeAnd}
 use Rattle.pcap_reader.specs.File.{CaptureFile, IsCaptureOf, capture_file}
 use Rattle.flow_parts.specs.declared.timeouts.Timeouts.{Timeouts}
@@ -6,7 +7,6 @@ use Rattle.packet_accept.specs.Packets.{packets_of}
 use Rattle.pcap_reader.specs.Views.{file_of}
 use Rattle.cache_face.specs.Meaning.{IsFresh}
 use Rattle.flow_cache.specs.Shown.{IsOf, shown_of, means_of}
-use Rattle.meter_workers.proofs.Taken.{all_popped, popped_length}
 use Rattle.watch_program.specs.Answers.{AreInTurn, IsOfSome, held_in, count_of}
 use Rattle.watch_program.proofs.Seen.{each-of}
 use Rattle.watch_program.proofs.FirstKeys.{count-same}
@@ -24,20 +24,19 @@ pub at_once-asking-requires-clause-passes : goal.at_once-asking-requires-clause-
 at_once-asking-requires-clause-passes g c κs within =
     let all = c.in_ok-cache.passes.items in
     let left = c.pop.new.self.items in
-    let fewer = popped_length all left c.in-Some.own c.in-Some.ensures.items in
+    let fewer = ap length c.in-Some.ensures.items ∙ length-append left (c.in-Some.own ∷ []) in
     let seats = c.in_ok-cache.ensures.passes.0 in
     let workers = c.args.settings.now.workers_bounds in (
       omega (arith, fewer, seats, workers.0),
       omega (arith, fewer, seats, workers.1),
-      (all_popped (λ p. IsOf c.in_ok-cache.cache p × IsFresh (shown_of p)) all left c.in-Some.own
-          c.in_ok-cache.ensures.passes.1 c.in-Some.ensures.items).0,
+      (All-pop (λ p. IsOf c.in_ok-cache.cache p × IsFresh (shown_of p)) all left (Some c.in-Some.own)
+          c.in-Some.ensures.items c.in_ok-cache.ensures.passes.1).0,
     )
 
 pub at_once-asking-requires-clause-own : goal.at_once-asking-requires-clause-own
 at_once-asking-requires-clause-own g c κs within =
-    (all_popped (λ p. IsOf c.in_ok-cache.cache p × IsFresh (shown_of p)) c.in_ok-cache.passes.items c.pop.new.self.items
-    c.in-Some.own
-    c.in_ok-cache.ensures.passes.1 c.in-Some.ensures.items).1
+    (All-pop (λ p. IsOf c.in_ok-cache.cache p × IsFresh (shown_of p)) c.in_ok-cache.passes.items c.pop.new.self.items
+    (Some c.in-Some.own) c.in-Some.ensures.items c.in_ok-cache.ensures.passes.1).1
 
 pub returns-clause-many : goal.returns-clause-many
 returns-clause-many g c =

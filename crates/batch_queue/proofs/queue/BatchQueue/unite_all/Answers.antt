@@ -7,7 +7,7 @@ use Rattle.std.proofs.lemmas.List.Sorted.{IsPermutation-trans, IsPermutation-app
 use Rattle.std.proofs.lemmas.List.Sorted.{IsPermutation-append_right}
 use Rattle.batch_queue.specs.declared.batch.Batch.{Batch}
 use Rattle.batch_queue.specs.declared.queue.QueuePass.{QueuePass}
-use Rattle.batch_queue.specs.Passes.{put_of, took_of, seats_of, others_of}
+use Rattle.batch_queue.specs.Passes.{put_of, took_of}
 use Rattle.batch_queue.specs.Uniting.{IsOther}
 use Rattle.batch_queue.proofs.queue.BatchQueue.unite_all.Goals as goal
 

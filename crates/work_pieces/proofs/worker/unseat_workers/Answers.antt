@@ -1,7 +1,10 @@
-use Rattle.meter_workers.proofs.Common.{◌≡◌, List, [], ◌∷◌, ◌++◌, Some, map, sym, ap, ◌∙◌, append_assoc, ◌≢◌, All-pop}
-use Rattle.meter_workers.proofs.Common.{All-push, All-same, Worker, Going, Finished}
+use Rattle.std.proofs.Common.{◌≡◌, List, [], ◌∷◌, ◌++◌, Some, map, sym, ap, ◌∙◌, append_assoc}
+use Rattle.std.specs.Prelude.{◌≢◌}
+use Rattle.std.proofs.lemmas.List.Elements.{All-pop, All-push, All-same}
 use Rattle.std.proofs.lemmas.List.{map-append}
-use Rattle.meter_workers.proofs.worker.unseat_workers.Goals as goal
+use Rattle.work_pieces.specs.declared.worker.WorkState.TheVariants.{Finished, Going}
+use Rattle.work_pieces.specs.declared.worker.Worker.{Worker}
+use Rattle.work_pieces.proofs.worker.unseat_workers.Goals as goal
 
 -- one is taken off the end, and what is taken of it put to the front of the others
 moved : {W Y : Type 0} (f : W → Y) (ws ws' : List W) (w : W) (ys ys' all : List Y) → ws ≡ ws' ++ w ∷ []
@@ -12,7 +15,7 @@ moved f ws ws' w ys ys' all taken put is =
 
 pub loop-worker-preserved : goal.loop-worker-preserved
 loop-worker-preserved g c =
-    let W : Type 0 = Worker g.row.C.Denot g.row.T.Denot g.row.C-Pass.Denot in
+    let W : Type 0 = Worker g.row.S.Denot g.row.T.Denot in
     let i = c.loop-worker.invariant in
     let w = c.in-Some.worker in
     let items = c.in-Some.ensures.items in

@@ -2,8 +2,6 @@
 
 ghost use Rattle.std.specs.Prelude.{◌≡◌, ◌≢◌, length, map, All, IfOk, OnOk};
 
-use crate::share::Share;
-use cache_face::FlowCache;
 use no_memory::NoMemory;
 use std::alloc::Global;
 
@@ -20,19 +18,19 @@ pub enum WorkState {
 
 /// A worker: its number, what it has done, its seat at what hands out the work, and how it stands.
 #[derive(Drop)]
-pub struct Worker<C: FlowCache, T> {
+pub struct Worker<S, T> {
     pub number: usize,
-    pub share: Share<C>,
+    pub share: S,
     pub seat: T,
     pub state: WorkState,
 }
 
 /// A worker for each share and seat, in their order, numbered from 0.
-pub(crate) fn seat_workers<C: FlowCache, T: Drop>(
+pub fn seat_workers<S: Drop, T: Drop>(
     alloc: Global,
-    shares: Vec<Share<C>>,
+    shares: Vec<S>,
     seats: Vec<T>,
-) -> Result<Vec<Worker<C, T>>, NoMemory>
+) -> Result<Vec<Worker<S, T>>, NoMemory>
     requires same { length shares.items ≡ length seats.items }
     ensures shares { IfOk result (λ workers. map (λ w. w.share) workers.items ≡ shares.items) }
     ensures seats { IfOk result (λ workers. map (λ w. w.seat) workers.items ≡ seats.items) }
@@ -57,10 +55,10 @@ pub(crate) fn seat_workers<C: FlowCache, T: Drop>(
 
 /// What the workers have done, and their seats, where all have finished. `NoMemory`: memory was out, for one of them or
 /// here.
-pub(crate) fn unseat_workers<C: FlowCache, T: Drop>(
+pub fn unseat_workers<S: Drop, T: Drop>(
     alloc: Global,
-    workers: Vec<Worker<C, T>>,
-) -> Result<(Vec<Share<C>>, Vec<T>), NoMemory>
+    workers: Vec<Worker<S, T>>,
+) -> Result<(Vec<S>, Vec<T>), NoMemory>
     requires ended { All (λ w. w.state ≢ WorkState.Going) workers.items }
     ensures shares { IfOk result (λ r. r.0.items ≡ map (λ w. w.share) workers.items) }
     ensures seats { IfOk result (λ r. r.1.items ≡ map (λ w. w.seat) workers.items) }

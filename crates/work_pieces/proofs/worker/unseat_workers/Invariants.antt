@@ -1,5 +1,7 @@
-use Rattle.meter_workers.proofs.Common.{◌≡◌, ◌++◌, map, vec_len, ◌≢◌, All, Going, Finished}
-use Rattle.meter_workers.proofs.worker.unseat_workers.Given as goal
+use Rattle.std.proofs.Common.{◌≡◌, ◌++◌, map, vec_len}
+use Rattle.std.specs.Prelude.{◌≢◌, All}
+use Rattle.work_pieces.specs.declared.worker.WorkState.TheVariants.{Finished, Going}
+use Rattle.work_pieces.proofs.worker.unseat_workers.Given as goal
 
 abbrev pub invariant-loop-worker : goal.invariant-loop-worker
 invariant-loop-worker g l = record {

@@ -1,5 +1,5 @@
-use Rattle.meter_workers.proofs.Common.{◌≡◌, ◌++◌, length, map, vec_len}
-use Rattle.meter_workers.proofs.worker.seat_workers.Given as goal
+use Rattle.std.proofs.Common.{◌≡◌, ◌++◌, length, map, vec_len}
+use Rattle.work_pieces.proofs.worker.seat_workers.Given as goal
 
 abbrev pub invariant-loop-share : goal.invariant-loop-share
 invariant-loop-share g l = record {
