@@ -3,11 +3,11 @@
 ghost use Rattle.std.specs.Prelude.{◌≡◌, ◌≢◌, None};
 ghost use Rattle.flow_cache.specs.Shown.{shown_of};
 ghost use Rattle.flow_cache.specs.Shown as shown;
-ghost use Rattle.flow_watch.specs.Watching.{IsOf, held_by, note_of};
+ghost use Rattle.cache_watch.specs.Watching.{IsOf, held_by, note_of};
 
+use cache_watch::{Watch, Watcher};
 use flow_cache::{PebrCache, PebrPass};
 use flow_key::FlowKey;
-use flow_watch::{Watch, Watcher};
 
 /// How often an ask tries at most to hold its flow, which may come into the set meanwhile.
 const TRIES: u32 = 1000;

@@ -5,8 +5,8 @@ use Rattle.flow_parts.specs.declared.timeouts.Timeouts.{Timeouts}
 use Rattle.cache_face.specs.declared.metered.How.{How}
 use Rattle.cache_face.specs.Choice.{IsChoice, entry_at}
 use Rattle.cache_face.specs.Keeping.{entry_of}
-use Rattle.set_choice.specs.Chosen.{IsChosen, out_of}
-use Rattle.set_choice.proofs.ByWords.{entry_here}
+use Rattle.cache_choice.specs.Chosen.{IsChosen, out_of}
+use Rattle.cache_choice.proofs.ByWords.{entry_here}
 
 -- what is put out of the content at a place is the entry there, where it is replaced
 pub choice_is : (limits : Timeouts) (contents : List (List ℕ)) (own : Fragment) (how : How) (place : ℕ) (words : List ℕ)

@@ -8,11 +8,11 @@ ghost use Rattle.cache_face.specs.Keeping.{IsWhole};
 ghost use Rattle.cache_face.specs.Laws.{CanTake};
 ghost use Rattle.pebr_core.specs.State.{is_out, is_down};
 ghost use Rattle.pebr_core.specs.Frames.{fresh_count};
-ghost use Rattle.seat_slots.specs.Sets.{least_in};
+ghost use Rattle.pebr_slots.specs.Sets.{least_in};
 ghost use Rattle.pebr_words.specs.Pasts.{Lost, written_at};
 ghost use Rattle.pebr_words.specs.Ruled.{IsSure};
 ghost use Rattle.pebr_roots.specs.Passes.{shape_at, known_by, number_by, note_by, past_by, operations_by, IsOf, IsSame};
-ghost use Rattle.set_choice.specs.Chosen.{out_of};
+ghost use Rattle.cache_choice.specs.Chosen.{out_of};
 ghost use Rattle.flow_cache.specs.declared.act.CacheAct.TheVariants.{Puts};
 ghost use Rattle.flow_cache.specs.Collecting.{HasCollected, HasSpared};
 ghost use Rattle.flow_cache.specs.Shown.{IsTryOf};
@@ -22,10 +22,10 @@ use crate::act::CacheAct;
 use crate::cache::PebrCache;
 use crate::protocol::CacheRule;
 use crate::stop::{Point, Stop};
+use cache_choice::{choose_by_words, put_out};
 use cache_face::{How, Metered};
 use flow_parts::Fragment;
 use pebr_roots::{Checked, ReplaceEnd, RootPass};
-use set_choice::{choose_by_words, put_out};
 
 /// Whether the last try was lost.
 #[inline]

@@ -10,9 +10,9 @@ use Rattle.flow_parts.specs.declared.timeouts.Timeouts.{Timeouts}
 use Rattle.cache_face.specs.Choice.{entry_at}
 use Rattle.cache_face.specs.Keeping.{IsBounded, IsEmptyContent, IsWhole, entry_of}
 use Rattle.cache_face.proofs.Contents.{empty_shows}
-use Rattle.set_choice.proofs.ByWords.{entry_here}
-use Rattle.set_choice.proofs.Entries.{first_open, none_open}
-use Rattle.set_choice.proofs.Others.{empty_there, none_there, none_where}
+use Rattle.cache_choice.proofs.ByWords.{entry_here}
+use Rattle.cache_choice.proofs.Entries.{first_open, none_open}
+use Rattle.cache_choice.proofs.Others.{empty_there, none_there, none_where}
 use Rattle.front_cache.specs.Fronts.{FrontMeans, open_in, parts_in}
 use Rattle.front_cache.specs.Kept.{IsKept, IsNextOpen}
 

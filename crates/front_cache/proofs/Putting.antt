@@ -13,8 +13,8 @@ use Rattle.cache_face.specs.declared.metered.How.{How}
 use Rattle.cache_face.specs.Choice.{IsChoice, Takes, entry_at}
 use Rattle.cache_face.specs.Keeping.{IsBounded, IsSmall, IsWhole, entry_of, packet_count}
 use Rattle.cache_face.proofs.Contents.{choice_takes, words_show}
-use Rattle.set_choice.proofs.ByWords.{entry_here}
-use Rattle.set_choice.proofs.Entries.{choice_below, kept_fits, reached_at}
+use Rattle.cache_choice.proofs.ByWords.{entry_here}
+use Rattle.cache_choice.proofs.Entries.{choice_below, kept_fits, reached_at}
 use Rattle.front_cache.specs.Fronts.{FrontMeans, IsTakenIn, entries_of, open_in, parts_in, place_of}
 use Rattle.front_cache.specs.Kept.{IsKept, IsPutIn, two_shown}
 

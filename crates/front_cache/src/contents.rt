@@ -12,9 +12,9 @@ ghost use Rattle.cache_face.specs.declared.metered.How.{How};
 ghost use Rattle.cache_face.specs.declared.metered.How.TheVariants.{Joined};
 ghost use Rattle.front_cache.specs.Kept.{two_shown, IsPutIn};
 
+use cache_choice::{has_words, join_content, put_out};
 use cache_face::How;
 use flow_parts::{Fragment, Timeouts};
-use set_choice::{has_words, join_content, put_out};
 
 /// Takes a fragment into the content where it can be one with the fragment that this shows, and tells whether it did. Of
 /// the ten words the five behind the key change.

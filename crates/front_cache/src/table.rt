@@ -14,11 +14,11 @@ ghost use Rattle.front_cache.specs.Fronts.{IsTakenIn, entries_of, open_in, parts
 ghost use Rattle.front_cache.specs.Kept.{IsKept, IsNextOpen};
 
 use crate::contents::put_into;
+use cache_choice::put_out;
 use cache_face::How;
 use flow_parts::{Fragment, Timeouts};
 use no_memory::NoMemory;
 use packet_accept::Packet;
-use set_choice::put_out;
 use std::alloc::Global;
 use std::marker::Model;
 

@@ -11,6 +11,7 @@ use crate::settings::JoinSettings;
 use crate::status::JoinStatus;
 use crate::taken::Taken;
 use flow_parts::Timeouts;
+use ipfix_law::layout_law;
 use ipfix_writer::{Emitter, emit_all};
 use meter_io::{Failed, Sink};
 use no_memory::NoMemory;
@@ -18,7 +19,6 @@ use record_ledger::laws::gathered_lists_are_one;
 use record_ledger::{FlowRecord, RecordList, gather};
 use std::alloc::Global;
 use std::thread::Threads;
-use stream_law::layout_law;
 
 /// How many threads gather.
 const THREADS: usize = 4;

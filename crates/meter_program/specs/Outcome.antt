@@ -32,7 +32,7 @@ use Rattle.meter_program.specs.Replays.{bad_line, replay_text}
 use Rattle.capture_maker.specs.Made.{capture_of}
 use Rattle.pebr_core.specs.declared.kinds.Shape.{Shape}
 use Rattle.pebr_core.specs.declared.kinds.Step.{Step}
-use Rattle.schedule_text.specs.Grammar.{schedule_of}
+use Rattle.pebr_schedule.specs.Grammar.{schedule_of}
 
 -- ---- what a command reads
 

@@ -4,8 +4,8 @@ use Rattle.pebr_core.specs.State.{start_state}
 use Rattle.pebr_core.specs.Runs.{state_after, answers_of, first_refused}
 use Rattle.pebr_core.specs.declared.kinds.Shape.{Shape}
 use Rattle.pebr_core.specs.declared.kinds.Step.{Step}
-use Rattle.schedule_text.specs.Grammar.{schedule_of}
-use Rattle.schedule_text.specs.Printed.{printed_text}
+use Rattle.pebr_schedule.specs.Grammar.{schedule_of}
+use Rattle.pebr_schedule.specs.Printed.{printed_text}
 
 -- The line of the first step that isn't enabled; the first step stands on line 2.
 abbrev pub refused_line : Shape → List Step → Option ℕ

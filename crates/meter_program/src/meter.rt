@@ -15,13 +15,13 @@ use crate::notes::summary;
 use crate::settings::Settings;
 use crate::status::Status;
 use cache_face::Caches;
+use ipfix_law::layout_law;
 use ipfix_writer::{Emitter, Phase, emit_all};
 use meter_io::{Failed, Sink, Source};
 use meter_workers::Gate;
 use no_memory::NoMemory;
 use std::alloc::Global;
 use std::thread::Threads;
-use stream_law::layout_law;
 
 /// The export time in seconds: the clock, in milliseconds, in whole seconds, and 0 without a packet.
 fn export_time_of(clock: Option<u64>) -> u32

@@ -13,7 +13,7 @@ use crate::ending::write_and_count;
 use crate::status::Status;
 use meter_io::{Failed, ReadError, Sink, Source, read_all};
 use pebr_core::{Core, ReplayError, replay};
-use schedule_text::{ScheduleError, print, read_schedule};
+use pebr_schedule::{ScheduleError, print, read_schedule};
 use std::alloc::Global;
 
 /// The most bytes of a schedule.

@@ -24,7 +24,7 @@ use Rattle.pebr_core.specs.declared.kinds.Answer.TheVariants as answer
 use Rattle.pebr_words.specs.Making.{IsStepOf, IsAsKnown}
 use Rattle.pebr_words.specs.Pasts.{Read, History, past_after}
 use Rattle.pebr_words.specs.Ruled.{IsIn, IsSure}
-use Rattle.seat_slots.specs.Sets.{least_in}
+use Rattle.pebr_slots.specs.Sets.{least_in}
 use Rattle.pebr_shields.specs.declared.checked.Checked.{Checked}
 use Rattle.pebr_shields.specs.declared.checked.Checked.TheVariants as found
 use Rattle.pebr_shields.specs.Found.{checked_seat}

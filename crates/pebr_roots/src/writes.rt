@@ -5,7 +5,7 @@ ghost use Rattle.pebr_core.specs.declared.kinds.Step.TheVariants as step;
 ghost use Rattle.pebr_core.specs.declared.kinds.Answer.TheVariants as answer;
 ghost use Rattle.pebr_core.specs.State.{is_out};
 ghost use Rattle.pebr_core.specs.Frames.{fresh_count};
-ghost use Rattle.seat_slots.specs.Sets.{least_in};
+ghost use Rattle.pebr_slots.specs.Sets.{least_in};
 ghost use Rattle.pebr_words.specs.Making.{act_on};
 ghost use Rattle.pebr_words.specs.Ruled.{CanReplace};
 ghost use Rattle.pebr_roots.specs.Under.{slot_at, is_valid_at};

@@ -34,8 +34,8 @@ use Rattle.pebr_core.specs.State.{slot_count}
 use Rattle.pebr_core.specs.Steps.{after_note, after_pin, after_leave, after_look, after_pass, with_scan, with_passed}
 use Rattle.pebr_core.specs.Steps.{with_look, is_above_tags, tag_with, new_scan, can_pass, epoch_of, is_scanning}
 use Rattle.pebr_core.specs.Steps.{last_epoch}
-use Rattle.seat_slots.specs.Sets.{Sets, is_above}
-use Rattle.seat_slots.specs.Sets as sets
+use Rattle.pebr_slots.specs.Sets.{Sets, is_above}
+use Rattle.pebr_slots.specs.Sets as sets
 use Rattle.pebr_words.specs.Mirrors.{Mirrors, IsFirst, CanTake, CanKeep, kept_after, passes, look_answer, answer_as}
 use Rattle.pebr_words.specs.Mirrors.{looked_from, found_after, IsLow}
 use Rattle.atomic_table.specs.Table as table

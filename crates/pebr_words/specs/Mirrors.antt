@@ -8,7 +8,7 @@ use Rattle.pebr_core.specs.declared.kinds.Answer.TheVariants as answer
 use Rattle.pebr_core.specs.declared.kinds.Shape.{Shape}
 use Rattle.pebr_core.specs.declared.kinds.Retired.TheVariants as retire
 use Rattle.pebr_core.specs.State.{Seat, Scan, has, is_retired, scan_of, found_at, first_seat, slots_per_seat}
-use Rattle.seat_slots.specs.Sets.{Sets, is_above}
+use Rattle.pebr_slots.specs.Sets.{Sets, is_above}
 use Rattle.pebr_core.specs.Steps.{last_epoch, after_pass, with_scan, with_look, epoch_of}
 use Rattle.pebr_words.specs.declared.looked.Looked.{Looked}
 use Rattle.pebr_words.specs.declared.looked.Looked.TheVariants as looked

@@ -17,8 +17,8 @@ use crate::views::{TableSeat, Told};
 use crate::words::{Seat, Words};
 use no_memory::NoMemory;
 use pebr_core::{Shape, other_words_are_sound, start_is_sound};
+use pebr_slots::SeatSlots;
 use pebr_table::Table;
-use seat_slots::SeatSlots;
 use std::alloc::Global;
 
 /// How many words come before the roots'.

@@ -18,7 +18,7 @@ use crate::open::roots_from;
 use crate::protocol::RootProtocol;
 use crate::words::{Seat, Words};
 use pebr_core::{Shape, Step, root_slots_are_alone};
-use seat_slots::SeatSlots;
+use pebr_slots::SeatSlots;
 
 /// The word of a root.
 fn root_place(shape: Shape, root: usize) -> usize

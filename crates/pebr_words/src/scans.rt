@@ -14,7 +14,7 @@ use crate::protocol::RootProtocol;
 use crate::shields::shield_place;
 use crate::words::{Seat, Words};
 use pebr_core::Step;
-use seat_slots::SeatSlots;
+use pebr_slots::SeatSlots;
 
 /// The slot that a shield word tells.
 fn slot_told(word: u64) -> Option<usize>

@@ -4,7 +4,7 @@ ghost use Rattle.std.specs.Prelude.{◌≡◌, ◌<◌};
 ghost use Rattle.pebr_core.specs.State.{has, is_retired, retired_at};
 ghost use Rattle.pebr_core.specs.Frames.{fresh_count, retired_count};
 ghost use Rattle.pebr_core.specs.Kept.{IsWithinLimits};
-ghost use Rattle.seat_slots.specs.Sets.{least_in};
+ghost use Rattle.pebr_slots.specs.Sets.{least_in};
 ghost use Rattle.pebr_words.specs.Seats.{shape_of, known_of, number_of};
 
 use crate::protocol::RootProtocol;

@@ -11,8 +11,8 @@ use crate::protocol::RootProtocol;
 use crate::rule::Rule;
 use crate::views::{TableSeat, Told, View};
 use pebr_core::Shape;
+use pebr_slots::SeatSlots;
 use pebr_table::Table;
-use seat_slots::SeatSlots;
 
 /// The words of a core.
 #[derive(Drop)]

@@ -2,9 +2,9 @@
 //! of flow records, as `romtyalig meter` writes it, and writes the stream of their biflows.
 #![tactic(auto)]
 
-use biflow_pair::{PairStatus, run_pair};
 use command_words::{OptionsError, words_of};
 use meter_io::{StdSink, StdSource};
+use pair_program::{PairStatus, run_pair};
 use std::alloc::Global;
 use std::process::ExitCode;
 

@@ -8,8 +8,8 @@ use flow_parts::laws::reaching_shares_out;
 use flow_parts::{Fragment, Timeouts};
 use front_cache::{Front, NoMemory};
 use packet_accept::Packet;
-use samples::udp_key;
 use std::alloc::Global;
+use trial_samples::udp_key;
 
 /// Five flows by their source ports. The first three have one place, the others the first and the last place of all.
 const ONE: u16 = 1733;

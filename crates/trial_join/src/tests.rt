@@ -3,10 +3,10 @@
 use crate::files::{Held, HeldFiles};
 use join_program::run_join;
 use meter_io::MemSink;
-use samples::octets_of;
 use std::alloc::Global;
 use std::test::Fail;
 use std::thread::Threads;
+use trial_samples::octets_of;
 
 mod refused;
 mod splits;

@@ -13,10 +13,10 @@ use flow_parts::{Fragment, PartList, Timeouts};
 use meter_io::Source;
 use meter_workers::{Gate, MeterFault, Windows, meter_windows};
 use record_ledger::{RecordList, gather};
-use sample_flows::are_few;
 use std::alloc::Global;
 use std::test::Fail;
 use std::thread::Threads;
+use trial_flows::are_few;
 use turn_cache::TurnCaches;
 
 /// The most bytes of a capture.

@@ -4,11 +4,11 @@ use flow_cache::PebrCaches;
 use meter_io::{MemSink, MemSource};
 use meter_program::{Status, run};
 use meter_workers::{Gate, OpenGate};
-use samples::octets_of;
 use std::alloc::Global;
 use std::process::Abort;
 use std::test::Fail;
 use std::thread::Threads;
+use trial_samples::octets_of;
 
 mod captures;
 mod extremes;

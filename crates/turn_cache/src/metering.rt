@@ -11,7 +11,7 @@ ghost use Rattle.cache_face.specs.Meaning.{IsAnswer};
 ghost use Rattle.cache_face.specs.Notes.{note_with};
 ghost use Rattle.cache_face.specs.Tries.{HasLost};
 ghost use Rattle.cache_face.specs.declared.metered.How.TheVariants.{PassedBy};
-ghost use Rattle.set_choice.specs.Chosen.{out_of};
+ghost use Rattle.cache_choice.specs.Chosen.{out_of};
 ghost use Rattle.turn_cache.specs.Hands.{number_of, idle, reading, writing, entries_of};
 ghost use Rattle.turn_cache.specs.Moves as moves;
 ghost use Rattle.turn_cache.specs.Shown.{means_of, shown_of, lost_of, IsOf, IsTryOf};
@@ -19,9 +19,9 @@ ghost use Rattle.turn_cache.specs.Shown.{means_of, shown_of, lost_of, IsOf, IsTr
 use crate::cache::{TurnCache, TurnPass};
 use crate::rule::Known;
 use atomic_table::Seat;
+use cache_choice::{choose_by_words, put_out};
 use cache_face::{How, Metered};
 use flow_parts::Fragment;
-use set_choice::{choose_by_words, put_out};
 
 /// Writes the answer of a packet that was put in: what became of it, and the fragment that is put out, where there is
 /// one.

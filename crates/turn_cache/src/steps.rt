@@ -7,7 +7,7 @@ ghost use Rattle.flow_parts.specs.declared.fragment.Fragment.{Fragment};
 ghost use Rattle.flow_parts.specs.Parts.{part_words};
 ghost use Rattle.cache_face.specs.Choice as choice;
 ghost use Rattle.cache_face.specs.Keeping.{entry_of};
-ghost use Rattle.set_choice.specs.Chosen.{out_of};
+ghost use Rattle.cache_choice.specs.Chosen.{out_of};
 ghost use Rattle.turn_cache.specs.Hands.{number_of, idle, reading, writing};
 ghost use Rattle.turn_cache.specs.Moves as moves;
 

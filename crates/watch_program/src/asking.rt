@@ -4,13 +4,13 @@ ghost use Rattle.std.specs.Prelude.{◌≡◌, None, All, IfOk, length};
 ghost use Rattle.cache_face.specs.Notes.{first_note};
 ghost use Rattle.flow_cache.specs.Shown.{shown_of};
 ghost use Rattle.flow_cache.specs.Shown as shown;
-ghost use Rattle.flow_watch.specs.Watching.{IsOf, held_by, note_of};
+ghost use Rattle.cache_watch.specs.Watching.{IsOf, held_by, note_of};
 ghost use Rattle.watch_program.specs.Answers.{IsSound, IsOfKey, AreInTurn, IsAsker, note_answered, held_in, count_of};
 
 use crate::answer::Answer;
+use cache_watch::{Watch, Watcher};
 use flow_cache::{PebrCache, PebrPass};
 use flow_key::FlowKey;
-use flow_watch::{Watch, Watcher};
 use meter_workers::Gate;
 use no_memory::NoMemory;
 use std::alloc::Global;

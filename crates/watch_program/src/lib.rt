@@ -4,7 +4,7 @@
 //!
 //! A meter that runs has its open flows in a cache that all workers write to. An operator who asks "how much has this
 //! flow sent so far?" wants an answer now, as it stands, and not when the flow ends; and the workers must not wait for
-//! the question. A [`Watcher`](flow_watch::Watcher) holds the entry of one flow as it stood when it was asked for,
+//! the question. A [`Watcher`](cache_watch::Watcher) holds the entry of one flow as it stood when it was asked for,
 //! reads it at leisure, and releases it, while workers count on in other slots or put the flow out. It sits at a seat
 //! of the cache of its own and has no pin while it holds, so what it costs the workers is the four slots under its
 //! shields at most.

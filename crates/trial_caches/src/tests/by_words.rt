@@ -3,10 +3,10 @@
 ghost use Rattle.std.specs.Prelude.{◌≤◌};
 ghost use Rattle.cache_face.specs.Keeping.{IsSmall, IsWhole};
 
+use cache_choice::{WordChoice, choose_by_words, put_out};
 use cache_face::How;
 use flow_parts::{Fragment, Timeouts};
-use samples::udp_key;
-use set_choice::{WordChoice, choose_by_words, put_out};
+use trial_samples::udp_key;
 
 /// A fragment of two packets with this source port, from one second to another.
 fn part(source_port: u16, first: u32, last: u32) -> Fragment

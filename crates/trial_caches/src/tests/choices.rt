@@ -6,7 +6,7 @@ ghost use Rattle.cache_face.specs.Keeping.{IsSmall};
 
 use cache_face::{Choice, How, choose};
 use flow_parts::{Fragment, Timeouts};
-use samples::udp_key;
+use trial_samples::udp_key;
 
 /// A fragment of two packets with this source port, from one second to another.
 fn part(source_port: u16, first: u32, last: u32) -> Fragment

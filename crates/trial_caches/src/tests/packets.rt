@@ -9,7 +9,7 @@ use cache_face::{Caches, FlowCache, How, Metered};
 use flow_cache::{PebrCache, PebrCaches, PebrPass};
 use flow_parts::{Fragment, Timeouts};
 use packet_accept::Packet;
-use samples::udp_key;
+use trial_samples::udp_key;
 
 /// A packet of a flow, at a second.
 pub fn packet(number: u64, flow: u16, second: u32) -> Packet

@@ -6,10 +6,10 @@ ghost use Rattle.cache_face.specs.Keeping.{packet_count};
 use cache_face::{Caches, FlowCache, How, Metered};
 use flow_parts::{Fragment, PartList, Timeouts};
 use packet_accept::Packet;
-use samples::udp_key;
 use std::alloc::Global;
 use std::process::Abort;
 use std::test::Fail;
+use trial_samples::udp_key;
 use turn_cache::TurnCaches;
 
 /// A packet of a flow, at a second.

@@ -6,11 +6,11 @@ ghost use Rattle.cache_face.specs.Meaning.{IsFresh};
 ghost use Rattle.flow_cache.specs.Shown.{shown_of, IsOf};
 
 use cache_face::FlowCache;
+use cache_watch::{Watch, Watcher};
 use flow_cache::{PebrCache, PebrPass};
 use flow_parts::{Fragment, Timeouts};
-use flow_watch::{Watch, Watcher};
 use packet_accept::Packet;
-use samples::udp_key;
+use trial_samples::udp_key;
 
 /// A packet of 28 octets of a flow, at a second.
 fn packet(number: u64, flow: u16, second: u32) -> Packet

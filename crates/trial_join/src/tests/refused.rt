@@ -2,9 +2,9 @@
 
 use super::{TEMPLATES, join, stream_of_one};
 use crate::files::Held;
-use samples::octets_of;
 use std::alloc::Global;
 use std::test::Fail;
+use trial_samples::octets_of;
 
 /// Two packets of a flow.
 const GOOD: &str =

@@ -2,11 +2,11 @@
 
 use super::{TEMPLATES, join, stream_of_one};
 use crate::files::Held;
-use samples::octets_of;
 use std::alloc::Global;
 use std::process::Abort;
 use std::test::Fail;
 use std::thread::Threads;
+use trial_samples::octets_of;
 
 /// A capture, by what is written of it.
 struct Capture {

@@ -4,10 +4,10 @@ ghost use Rattle.std.specs.Prelude.{◌<◌};
 
 use meter_io::{Failed, MemSource};
 use pcap_reader::{Capture, CaptureError, FillEnd, Head, IndexError, RecordIndex, Window};
-use samples::octets_of;
 use std::alloc::Global;
 use std::process::Abort;
 use std::test::Fail;
+use trial_samples::octets_of;
 
 /// A file header: least byte first, microseconds, version 2.4, Ethernet.
 const LITTLE: &str = "d4c3b2a1 02000400 00000000 00000000 00000400 01000000";

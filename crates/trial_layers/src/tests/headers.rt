@@ -6,13 +6,13 @@ ghost use Rattle.packet_headers.specs.Link.{IsIpVersion};
 use HeaderFault::{BadHeader, NotIp, Short};
 use Want::{Ip, Link, Packet, Transport};
 use packet_headers::{HeaderFault, IpView, LinkView, TcpView, UdpView};
-use samples::frames::{
-    ARP, COOKED, ETHERNET, IPV4, IPV6, TCP_PORTS, UDP, V4_ADDRESSES, V4_UDP, V6, V6_ADDRESSES,
-    ZEROS,
-};
 use std::alloc::{AllocError, Global};
 use std::process::Abort;
 use std::test::Fail;
+use trial_samples::frames::{
+    ARP, COOKED, ETHERNET, IPV4, IPV6, TCP_PORTS, UDP, V4_ADDRESSES, V4_UDP, V6, V6_ADDRESSES,
+    ZEROS,
+};
 
 /// What is wanted of a frame.
 #[derive(Clone, Copy, Debug, PartialEq, Eq)]

@@ -1,8 +1,8 @@
 //! Keys of flows: words, sets and order.
 
 use flow_key::FlowKey;
-use samples::{tcp_over_ipv6, udp_key};
 use std::cmp::Ordering;
+use trial_samples::{tcp_over_ipv6, udp_key};
 
 #[test]
 fn words_and_sets(rt: HostRuntime) {

@@ -6,12 +6,12 @@ use Want::{Gives, No};
 use flow_key::FlowKey;
 use packet_accept::{Ignored, Packet, accept, accept_linked};
 use pcap_reader::Capture;
-use samples::frames::{
-    ARP, COOKED, ETHERNET, IPV4, UDP, V4_ADDRESSES, V4_UDP, V6, V6_ADDRESSES, ZEROS,
-};
 use std::alloc::{AllocError, Global};
 use std::process::Abort;
 use std::test::Fail;
+use trial_samples::frames::{
+    ARP, COOKED, ETHERNET, IPV4, UDP, V4_ADDRESSES, V4_UDP, V6, V6_ADDRESSES, ZEROS,
+};
 
 /// The order of bytes in a capture, and the unit of its fractions.
 #[derive(Clone, Copy)]

@@ -7,11 +7,11 @@ use Want::{Fault, Records};
 use ipfix_model::DataRecord;
 use ipfix_reader::{FlowsError, StreamError, StreamFault, flow_of, read_flows, read_stream};
 use record_ledger::FlowRecord;
-use sample_flows::{tcp_flow, udp_flow};
-use samples::octets_of;
 use std::alloc::{AllocError, Global};
 use std::process::Abort;
 use std::test::Fail;
+use trial_flows::{tcp_flow, udp_flow};
+use trial_samples::octets_of;
 
 /// What is wanted of a stream: its records as text, or its first fault.
 #[derive(Clone, Copy, Debug, PartialEq, Eq)]

@@ -4,12 +4,12 @@ use flow_parts::Timeouts;
 use ipfix_writer::{Emitter, emit_all, layout};
 use meter_io::{Failed, MemSink};
 use record_ledger::{FlowRecord, RecordList, gather};
-use sample_flows::{are_few, in_pieces, tcp_flow, udp_flow};
-use samples::octets_of;
 use std::alloc::Global;
 use std::process::Abort;
 use std::test::Fail;
 use std::thread::Threads;
+use trial_flows::{are_few, in_pieces, tcp_flow, udp_flow};
+use trial_samples::octets_of;
 
 /// The message with the templates, but for its first eight bytes.
 const TEMPLATES: &str = "0000000000000001000200640100000b00080004000c0004000700020\

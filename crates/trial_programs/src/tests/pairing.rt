@@ -1,12 +1,12 @@
 //! Runs on streams in hexadecimal that were written out by hand from RFC 7011 and RFC 5103.
 
-use biflow_pair::{PairStatus, run_pair};
 use ipfix_reader::StreamFault;
 use meter_io::{MemSink, MemSource};
-use samples::octets_of;
+use pair_program::{PairStatus, run_pair};
 use std::alloc::Global;
 use std::process::Abort;
 use std::test::Fail;
+use trial_samples::octets_of;
 
 /// The message with the templates of flows.
 const TEMPLATES: &str =

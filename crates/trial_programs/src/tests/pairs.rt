@@ -2,11 +2,11 @@
 
 ghost use Rattle.std.specs.Prelude.{◌+◌, ◌≤◌, ◌<◌, ◌^◌};
 
-use biflow_pair::{Biflow, PairError, bi_layout, pair, pair_stream};
 use flow_key::FlowKey;
 use flow_parts::Fragment;
 use ipfix_reader::StreamFault;
 use ipfix_writer::layout;
+use pair_program::{Biflow, PairError, bi_layout, pair, pair_stream};
 use record_ledger::FlowRecord;
 use std::test::Fail;
 

@@ -2,11 +2,11 @@
 
 use meter_io::{MemSink, MemSource};
 use meter_workers::{Gate, OpenGate};
-use samples::octets_of;
 use std::alloc::Global;
 use std::sync::atomic::{AtomicU64, Ordering};
 use std::test::Fail;
 use std::thread::Threads;
+use trial_samples::octets_of;
 use watch_program::{WatchStatus, run_watch};
 
 /// A capture's header: little-endian, microseconds, Ethernet.

@@ -5,7 +5,7 @@ ghost use Rattle.std.specs.Prelude.{◌+◌, ◌<◌, ◌^◌};
 use flow_key::FlowKey;
 use flow_parts::{Fragment, Timeouts};
 use packet_accept::Packet;
-use samples::udp_key;
+use trial_samples::udp_key;
 
 /// A packet of 28 octets from this port at this time.
 fn packet(source_port: u16, time: u64) -> Packet {

@@ -8,12 +8,12 @@ use flow_key::FlowKey;
 use flow_parts::{Fragment, Timeouts};
 use packet_accept::Packet;
 use record_ledger::gather;
-use sample_flows::{are_few, in_pieces};
-use samples::udp_key;
 use std::alloc::Global;
 use std::process::Abort;
 use std::test::Fail;
 use std::thread::Threads;
+use trial_flows::{are_few, in_pieces};
+use trial_samples::udp_key;
 
 /// The fragment of one packet of 28 octets from this port at this time.
 fn one_packet(source_port: u16, time: u64) -> Fragment {

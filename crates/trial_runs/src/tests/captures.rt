@@ -3,11 +3,11 @@
 use super::{AT_1000, AT_1001, FRAME, HEADER, TEMPLATES, TWO_PACKETS_RECORD, check_run, run_by};
 use meter_program::Status;
 use meter_workers::OpenGate;
-use samples::octets_of;
 use std::alloc::Global;
 use std::process::Abort;
 use std::test::Fail;
 use std::thread::Threads;
+use trial_samples::octets_of;
 
 /// The hexadecimal digits of a record with a frame of 42 bytes: UDP over IPv4 from this port of 192.0.2.1 to
 /// 192.0.2.2:53.

@@ -5,12 +5,12 @@ use super::workers::{RECORDS, SUMMARY, exchange_capture, exchange_stream};
 use super::{HEADER, TEMPLATES, run_by};
 use meter_program::Status;
 use meter_workers::OpenGate;
-use samples::octets_of;
 use std::alloc::Global;
 use std::process::Abort;
 use std::sync::Wait;
 use std::test::Fail;
 use std::thread::Threads;
+use trial_samples::octets_of;
 
 /// Settings that change nothing of what is written of a web exchange: as many workers as there may be, one more than
 /// eight, as many sets, records in a piece and octets in a message as there may be; of the pipeline besides batches and

@@ -5,11 +5,11 @@ use meter_io::{MemSink, MemSource};
 use meter_program::{Status, run};
 use meter_workers::{Gate, OpenGate};
 use pipe_program::run_pipe;
-use samples::octets_of;
 use std::alloc::Global;
 use std::sync::Wait;
 use std::test::Fail;
 use std::thread::Threads;
+use trial_samples::octets_of;
 
 mod faults;
 mod gates;

@@ -2,9 +2,9 @@
 
 use super::check_run;
 use meter_program::Status;
-use samples::octets_of;
 use std::alloc::Global;
 use std::test::Fail;
+use trial_samples::octets_of;
 
 /// Lines, each with its end, of a text that has `; ` between them.
 fn lines_of(alloc: Global, text: &str) -> Result<String, Fail> {

@@ -5,8 +5,8 @@ use ipfix_reader::StreamFault::{
     self, BadLength, BadPadding, BadSequence, BadTemplate, BadVersion, Cut, NoTemplate, Withdrawal,
 };
 use meter_program::Status;
-use samples::octets_of;
 use std::test::Fail;
+use trial_samples::octets_of;
 
 /// A message's sequence number 0 and domain 1, behind its export time.
 const ZEROS: &str = "00000000 00000000 00000001";

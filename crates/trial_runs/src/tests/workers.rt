@@ -2,10 +2,10 @@
 
 use super::{HEADER, TEMPLATES, check_run, run_by, two_packets, two_packets_stream};
 use meter_program::Status;
-use samples::octets_of;
 use std::alloc::Global;
 use std::test::Fail;
 use trial_metering::Meeting;
+use trial_samples::octets_of;
 
 /// A web exchange and the query before it, from 1,700,000,000 s on: each packet by its record header and its captured
 /// bytes.

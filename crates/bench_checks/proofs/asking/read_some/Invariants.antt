@@ -1,5 +1,5 @@
 use Rattle.std.proofs.Common.{◌≡◌}
-use Rattle.flow_watch.specs.Watching.{IsOf, held_by, note_of}
+use Rattle.cache_watch.specs.Watching.{IsOf, held_by, note_of}
 use Rattle.bench_checks.proofs.asking.read_some.Given as goal
 
 abbrev pub invariant-loop-turn : goal.invariant-loop-turn

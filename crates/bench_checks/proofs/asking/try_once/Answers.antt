@@ -1,8 +1,8 @@
 use Rattle.std.proofs.Common.{◌≡◌, ℕ, Option, Some, None, refl, ap, ◌∙◌}
 use Rattle.flow_parts.specs.declared.fragment.Fragment.{Fragment}
 use Rattle.cache_face.specs.Notes.{Note}
-use Rattle.flow_watch.specs.Holding.{note_seen}
-use Rattle.flow_watch.specs.Watching.{held_by, note_of}
+use Rattle.cache_watch.specs.Holding.{note_seen}
+use Rattle.cache_watch.specs.Watching.{held_by, note_of}
 use Rattle.bench_checks.proofs.asking.try_once.Goals as goal
 
 -- what is seen counts no seat

@@ -1,7 +1,7 @@
 use Rattle.std.proofs.Common.{sym, ◌∙◌, refl}
 use Rattle.std.proofs.lemmas.Bool.{both_ways, eqb-false, ne_eqb, not-true, not_from_false}
-use Rattle.set_choice.proofs.ByWords.{key_words}
-use Rattle.set_choice.proofs.Words.{has_key, has_no_key}
+use Rattle.cache_choice.proofs.ByWords.{key_words}
+use Rattle.cache_choice.proofs.Words.{has_key, has_no_key}
 use Rattle.front_cache.proofs.contents.is_of_key.Goals as goal
 
 pub returns-then-has_words : goal.returns-then-has_words

@@ -1,6 +1,6 @@
 use Rattle.std.proofs.Common.{sym, ◌∙◌, refl}
 use Rattle.std.proofs.lemmas.Bool.{iff_false}
-use Rattle.set_choice.proofs.Words.{join_words, words_of_kept}
+use Rattle.cache_choice.proofs.Words.{join_words, words_of_kept}
 use Rattle.front_cache.proofs.contents.take_into.Goals as goal
 
 pub returns-then-not-has_words-clause-left : goal.returns-then-not-has_words-clause-left

@@ -5,7 +5,7 @@ use Rattle.flow_parts.specs.declared.fragment.Fragment.{Fragment}
 use Rattle.flow_parts.specs.Parts.{IsJoined}
 use Rattle.cache_face.specs.Choice.{CanJoin}
 use Rattle.cache_face.specs.Keeping.{IsWhole, entry_of}
-use Rattle.set_choice.proofs.Lowest.{lowest_here, lowest_behind, none_of_more, none_of_none}
+use Rattle.cache_choice.proofs.Lowest.{lowest_here, lowest_behind, none_of_more, none_of_none}
 use Rattle.front_cache.proofs.contents.take_into_one.Goals.{Else-take_into}
 use Rattle.front_cache.proofs.contents.take_into_one.Goals as goal
 

@@ -6,8 +6,8 @@ use meter_io::{MemSink, MemSource};
 use meter_program::Status;
 use meter_workers::OpenGate;
 use pipe_program::run_pipe;
-use samples::octets_of;
 use std::test::Fail;
+use trial_samples::octets_of;
 
 /// Command lines that are none.
 static USAGE: [&str; 4] = ["", "meter", "pipe --piece 1", "pipe --workers 63"];

@@ -1,6 +1,6 @@
 use Rattle.std.proofs.Common.{◌<◌, ◌%◌, ◌∙◌, sym, length, mod-lt, rules}
 use Rattle.std.proofs.lemmas.List.Elements.{All-push, All-same}
-use Rattle.flow_watch.specs.Watching.{note_of}
+use Rattle.cache_watch.specs.Watching.{note_of}
 use Rattle.watch_program.specs.Answers.{IsSound}
 use Rattle.watch_program.proofs.Seen.{asker-still, seen-still, some-there}
 use Rattle.watch_program.proofs.Turns.{next-in-turn}

@@ -1,5 +1,5 @@
 use Rattle.std.proofs.Common.{◌≡◌, None, All, length}
-use Rattle.flow_watch.specs.Watching.{IsOf, held_by, note_of}
+use Rattle.cache_watch.specs.Watching.{IsOf, held_by, note_of}
 use Rattle.watch_program.specs.Answers.{IsSound, AreInTurn, IsAsker, held_in}
 use Rattle.watch_program.proofs.asking.ask_in_turn.Given as goal
 

@@ -4,7 +4,7 @@ use mathlib.Core.Logic.{dite}
 use native.Mathlib.Decide.{ℕ_discrete}
 use Rattle.pebr_core.specs.State.{Seat}
 use Rattle.pebr_core.specs.declared.kinds.Shape.{Shape}
-use Rattle.seat_slots.specs.Sets.{least_in}
+use Rattle.pebr_slots.specs.Sets.{least_in}
 use Rattle.pebr_words.specs.Pasts.{Read, History, written_at}
 use Rattle.pebr_roots.specs.Passes.{shape_at, known_by, number_by, past_by, operations_by}
 use Rattle.flow_cache.proofs.Sparing.{spared_none, spared_in, spared_on, written_spares}

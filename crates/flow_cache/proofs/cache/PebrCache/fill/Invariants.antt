@@ -1,7 +1,7 @@
 use Rattle.std.proofs.Common.{◌≡◌, ◌<◌, ◌≤◌, ℕ, Some}
 use Rattle.std.specs.Prelude.{slice_index}
 use Rattle.cache_face.specs.Notes.{first_note}
-use Rattle.seat_slots.specs.Sets.{least_in}
+use Rattle.pebr_slots.specs.Sets.{least_in}
 use Rattle.pebr_words.specs.Pasts.{written_at}
 use Rattle.pebr_roots.specs.Passes.{shape_at, known_by, number_by, note_by, past_by, operations_by, IsSame}
 use Rattle.flow_cache.specs.Collecting.{HasSpared}

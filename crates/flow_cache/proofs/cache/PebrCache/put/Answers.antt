@@ -15,7 +15,7 @@ use Rattle.pebr_core.specs.declared.kinds.Shape.{Shape}
 use Rattle.pebr_core.specs.declared.kinds.Step.TheVariants as step
 use Rattle.pebr_core.specs.declared.kinds.Answer.TheVariants as answer
 use Rattle.pebr_core.specs.State.{Seat}
-use Rattle.seat_slots.specs.Sets.{least_in}
+use Rattle.pebr_slots.specs.Sets.{least_in}
 use Rattle.pebr_words.specs.Pasts.{Load, Read, History, found_other, past_after, shown_at, written_at}
 use Rattle.pebr_words.specs.Ruled.{CanReplace}
 use Rattle.pebr_roots.specs.Ends.{answer_to, replaced_note, replaced_seat}

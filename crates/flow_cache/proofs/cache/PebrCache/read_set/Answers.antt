@@ -4,7 +4,7 @@ use Rattle.cache_face.specs.Choice.{IsSmallEntry}
 use Rattle.cache_face.specs.Keeping.{IsWhole, entry_of}
 use Rattle.cache_face.proofs.Contents.{whole_is_small}
 use Rattle.cache_face.proofs.Four.{all_four}
-use Rattle.set_choice.proofs.ByWords.{four_here}
+use Rattle.cache_choice.proofs.ByWords.{four_here}
 use Rattle.pebr_roots.specs.Passes.{operations_by}
 use Rattle.flow_cache.proofs.Sparing.{made_of}
 use Rattle.flow_cache.proofs.cache.PebrCache.read_set.Goals as goal

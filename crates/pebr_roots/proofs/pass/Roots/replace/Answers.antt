@@ -4,7 +4,7 @@ use Rattle.pebr_core.specs.State.{has, slot_count}
 use Rattle.pebr_core.specs.Steps.{is_shielded, after_replace}
 use Rattle.pebr_core.specs.declared.kinds.Step.TheVariants as step
 use Rattle.pebr_core.specs.declared.kinds.Answer.TheVariants as answer
-use Rattle.seat_slots.specs.Sets.{least_in}
+use Rattle.pebr_slots.specs.Sets.{least_in}
 use Rattle.pebr_words.specs.Making.{act_on}
 use Rattle.pebr_words.specs.Ruled.{CanReplace}
 use Rattle.pebr_words.specs.Seats.{IsStep}

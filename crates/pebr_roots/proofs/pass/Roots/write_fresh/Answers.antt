@@ -1,6 +1,6 @@
 use Rattle.std.proofs.Common.{◌<◌, sym, ap, ◌∙◌, subst}
 use Rattle.pebr_core.specs.State.{has, slot_count}
-use Rattle.seat_slots.specs.Sets.{least_in}
+use Rattle.pebr_slots.specs.Sets.{least_in}
 use Rattle.pebr_roots.specs.Passes.{known_by, shape_at}
 use Rattle.pebr_roots.proofs.Passing.{least_has, least_inside}
 use Rattle.pebr_roots.proofs.pass.Roots.write_fresh.Goals as goal

@@ -1,5 +1,5 @@
 use Rattle.cache_face.specs.Keeping.{entry_of}
-use Rattle.set_choice.specs.Chosen.{out_of}
+use Rattle.cache_choice.specs.Chosen.{out_of}
 use Rattle.turn_cache.specs.Moves.{writes_to}
 use Rattle.turn_cache.proofs.cache.TurnCache.commit.Given as goal
 

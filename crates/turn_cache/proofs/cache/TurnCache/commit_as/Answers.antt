@@ -3,7 +3,7 @@ use Rattle.std.proofs.Common.{◌≡◌, rules, slice_index, ◌+◌, ◌*◌, s
 use Rattle.atomic_table.specs.Table.{Allows}
 use Rattle.cache_face.specs.Choice.{Takes}
 use Rattle.cache_face.specs.Keeping.{entry_of}
-use Rattle.set_choice.specs.Chosen.{out_of}
+use Rattle.cache_choice.specs.Chosen.{out_of}
 use Rattle.turn_cache.specs.Ruled.{Ruled}
 use Rattle.turn_cache.specs.Moves.{Move, Commits}
 use Rattle.turn_cache.proofs.CommitStep.{commits}

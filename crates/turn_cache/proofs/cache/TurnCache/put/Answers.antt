@@ -8,7 +8,7 @@ use Rattle.cache_face.specs.Choice.{IsChoice, Takes}
 use Rattle.cache_face.specs.Keeping.{entry_of, IsWhole}
 use Rattle.cache_face.proofs.Contents.{choice_takes}
 use Rattle.cache_face.proofs.Four.{all_four}
-use Rattle.set_choice.specs.Chosen.{out_of}
+use Rattle.cache_choice.specs.Chosen.{out_of}
 use Rattle.turn_cache.specs.Hands.{Hand, entries_of}
 use Rattle.turn_cache.specs.Moves.{Sat, more_read, filled_hand}
 use Rattle.turn_cache.proofs.Writing.{read_four, piece, forty, four_entries, four_set, entry_there}

@@ -1,9 +1,0 @@
-use Rattle.std.proofs.Common.{◌+◌, ap}
-use Rattle.biflow_pair.proofs.BiRecords.{length-bi_template_records, length-bi_template_message}
-use Rattle.biflow_pair.proofs.laws.bi_lengths_are_fixed.Goals as goal
-
-pub returns : goal.returns
-returns c = record {
-  template_set = ap (λ n. 4 + n) length-bi_template_records;
-  template_message = length-bi_template_message;
-}

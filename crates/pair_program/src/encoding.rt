@@ -1,0 +1,111 @@
+//! The bytes of biflows.
+
+ghost use Rattle.std.specs.Prelude.{◌≡◌, ◌≤◌, ◌<◌, ◌^◌, ◌++◌, [], IfOk, length};
+ghost use Rattle.std.specs.Vec.{vec_capacity};
+ghost use Rattle.pair_program.specs.BiLayout.{bi_template_message, IsBiLayout};
+
+use crate::biflow::Biflow;
+use ipfix_model::{
+    TEMPLATE_SET, V4_BI_FIELDS, V4_BI_TEMPLATE, V4_FIELDS, V4_TEMPLATE, V6_BI_FIELDS,
+    V6_BI_TEMPLATE, V6_FIELDS, V6_TEMPLATE,
+};
+use ipfix_writer::{
+    Encode, append_counts, append_message_header, append_messages, append_template,
+};
+use no_memory::NoMemory;
+use octets::append_u16;
+use std::alloc::Global;
+
+/// The length of the set of templates in the first message, and of that message, in octets.
+const TEMPLATE_SET_LENGTH: u16 = 292;
+
+const TEMPLATE_MESSAGE_LENGTH: u16 = 308;
+
+/// The length of what a record has of the reverse flow, in octets.
+const REVERSE_LENGTH: usize = 35;
+
+impl Encode for Biflow {
+    ghost use Rattle.pair_program.specs.BiLayout.{encode_biflow};
+    ghost use Rattle.pair_program.specs.BiSizes.{biflows_sized};
+
+    ghost encode = { encode_biflow };
+
+    ghost sized = { biflows_sized };
+
+    /// The number of its template: by the IP version, and by whether there is a reverse flow.
+    #[tactic(auto, unfolding(ipfix_model::specs::Templates::bi_template_of))]
+    fn template(&self) -> u16 {
+        match self.reverse {
+            None => self.forward.template(),
+            Some(_) => {
+                if self.forward.part.key.version == 4 {
+                    V4_BI_TEMPLATE
+                } else {
+                    V6_BI_TEMPLATE
+                }
+            }
+        }
+    }
+
+    /// The octets of its data record: 48 or 72, and 35 more with a reverse flow.
+    fn size(&self) -> usize {
+        match self.reverse {
+            None => self.forward.size(),
+            Some(_) => self.forward.size() + REVERSE_LENGTH,
+        }
+    }
+
+    /// Appends its data record: that of the forward flow, then the values of the reverse one.
+    fn append(&self, buffer: &mut Vec<u8>) {
+        self.forward.append(buffer);
+        match &self.reverse {
+            None => {}
+            Some(reverse) => append_counts(buffer, reverse),
+        }
+    }
+}
+
+/// Appends the message with the four templates to an empty buffer.
+fn append_templates(buffer: &mut Vec<u8>, export_time: u32)
+    requires empty { buffer.old.items ≡ [] }
+    requires room { 308 ≤ vec_capacity buffer.old }
+    ensures { buffer.new.items ≡ bi_template_message export_time }
+{
+    append_message_header(buffer, TEMPLATE_MESSAGE_LENGTH, export_time, 0);
+    append_u16(buffer, TEMPLATE_SET);
+    append_u16(buffer, TEMPLATE_SET_LENGTH);
+    append_template(buffer, V4_TEMPLATE, &V4_FIELDS);
+    append_template(buffer, V6_TEMPLATE, &V6_FIELDS);
+    append_template(buffer, V4_BI_TEMPLATE, &V4_BI_FIELDS);
+    append_template(buffer, V6_BI_TEMPLATE, &V6_BI_FIELDS);
+}
+
+/// The message with the templates of flows and of biflows, with this export time in seconds: the first one of a stream of
+/// biflows.
+///
+/// `NoMemory` where the room for it can't be had.
+pub(crate) fn first_message(alloc: Global, export_time: u32) -> Result<Vec<u8>, NoMemory>
+    ensures { IfOk result (λ first. first.items ≡ bi_template_message export_time) }
+{
+    let mut first = Vec::with_capacity(alloc, TEMPLATE_MESSAGE_LENGTH as usize)?;
+    append_templates(&mut first, export_time);
+    Ok(first)
+}
+
+/// The stream of these biflows: the message with the templates of flows and of biflows, then data messages of at most
+/// `size` octets, from 308 to 65,535, with this export time in seconds.
+///
+/// `NoMemory` where the room for it can't be had.
+pub fn bi_layout(
+    alloc: Global,
+    pairs: &[Biflow],
+    size: usize,
+    export_time: u32,
+) -> Result<Vec<u8>, NoMemory>
+    requires { (308 ≤ size) × (size < 2 ^ 16) }
+    ensures { IfOk result (λ bytes. IsBiLayout size export_time pairs.now bytes.items) }
+{
+    let mut stream = first_message(alloc, export_time)?;
+    append_messages(alloc, &mut stream, pairs, size, export_time)?;
+    Ok(stream)
+}

@@ -1,0 +1,23 @@
+//! Laws of streams of biflows, as contracts. The calls do nothing.
+
+ghost use Rattle.pair_program.specs.BiLaws.{ArePairedOnce, ReadsBack, IsOneBiLayout};
+ghost use Rattle.pair_program.specs.BiLaws.{HasTemplateSetLength, HasTemplateMessageLength};
+
+/// The pairs of flow records are one list: whoever orders the records by first time, last time and key, with ties in their
+/// order, and takes pairs out from the front, gets this one.
+pub fn pairs_are_one()
+    ensures { ArePairedOnce }
+{}
+
+/// The layout of biflows is one list of bytes, and it decodes to these biflows where each reverse flow has the reverse
+/// key.
+pub fn bi_layout_reads_back()
+    ensures one { IsOneBiLayout }
+    ensures back { ReadsBack }
+{}
+
+/// The lengths that the field lists give: a message of templates of 308 octets, 292 of them in its set.
+pub fn bi_lengths_are_fixed()
+    ensures template_set { HasTemplateSetLength }
+    ensures template_message { HasTemplateMessageLength }
+{}

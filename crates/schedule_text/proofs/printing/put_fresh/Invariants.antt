@@ -1,8 +1,0 @@
-use Rattle.std.proofs.Common.{◌≡◌, ◌++◌}
-use Rattle.pebr_core.specs.State.{seat_at}
-use Rattle.schedule_text.specs.Printed.{fresh_list}
-use Rattle.schedule_text.proofs.printing.put_fresh.Given as goal
-
--- the slots so far
-abbrev pub invariant-loop-slot : goal.invariant-loop-slot
-invariant-loop-slot l = l.out.items ≡ l.initial.out.items ++ fresh_list l.slot (seat_at l.core l.seat)

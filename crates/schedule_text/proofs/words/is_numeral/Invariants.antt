@@ -1,7 +1,0 @@
-use Rattle.std.proofs.Common.{◌≡◌, ℕ, ◌<◌, true, get_or}
-use Rattle.schedule_text.specs.Numbers.{is_digit}
-use Rattle.schedule_text.proofs.words.is_numeral.Given as goal
-
--- the bytes so far are digits
-abbrev pub invariant-loop-byte : goal.invariant-loop-byte
-invariant-loop-byte l = (k : ℕ) → k < l.byte-index → is_digit (get_or l.word k 0) ≡ true

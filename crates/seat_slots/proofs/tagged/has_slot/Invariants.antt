@@ -1,6 +1,0 @@
-use Rattle.std.proofs.Common.{◌≡◌, false, take}
-use Rattle.seat_slots.specs.Shown.{is_in, slots_of}
-use Rattle.seat_slots.proofs.tagged.has_slot.Given as goal
-
-abbrev pub invariant-loop-entry : goal.invariant-loop-entry
-invariant-loop-entry l = is_in l.slot (slots_of (take l.entry-index l.tagged)) ≡ false

@@ -1,7 +1,0 @@
-use Rattle.std.proofs.Common.{rules}
-use Rattle.std.proofs.lemmas.Fn.{filter_same}
-use Rattle.seat_slots.specs.Shown.{is_kept}
-use Rattle.seat_slots.proofs.tagged.leave_kept.Goals as goal
-
-pub returns-clause-slots : goal.returns-clause-slots
-returns-clause-slots c = filter_same _ is_kept _ (λ x b f' k. search rules) _ _ c.retain.ensures.filtered

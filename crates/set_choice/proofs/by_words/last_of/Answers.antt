@@ -1,6 +1,0 @@
-use Rattle.std.proofs.Common.{rules}
-use Rattle.set_choice.proofs.Others.{last_there}
-use Rattle.set_choice.proofs.by_words.last_of.Goals as goal
-
-pub returns : goal.returns
-returns c = last_there c.args.contents.now c.args.place (search rules) (search rules)

@@ -1,6 +1,0 @@
--- The law, as it is proved of the definitions.
-use Rattle.stream_law.proofs.Layouts.{layout-flows}
-use Rattle.stream_law.proofs.layout_law.Goals as goal
-
-pub returns : goal.returns
-returns c = layout-flows
