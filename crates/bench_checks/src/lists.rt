@@ -20,7 +20,7 @@ use flow_cache::{PebrCaches, PebrPass};
 use flow_key::FlowKey;
 use flow_parts::Timeouts;
 use meter_io::{Source, StdSource, read_all};
-use meter_workers::{Gathered, OpenGate, Part, meter_all};
+use meter_workers::{CaptureMetered, OpenGate, Part, meter_all};
 use pcap_reader::{CAPTURE_LIMIT, Capture, RecordIndex};
 use std::alloc::Global;
 use std::process::ExitCode;
@@ -110,7 +110,7 @@ fn meter_bytes<R: Threads + Sync>(
     index: &RecordIndex,
     cache: &LookedCache,
     passes: Vec<LookedPass>,
-) -> Option<Gathered<LookedCache>>
+) -> Option<CaptureMetered<LookedCache>>
     requires capture { IsCaptureOf (λ file. IsIndexOf index.now file) bytes.now }
     requires few { length index.now.offsets < 2 ^ 32 }
     requires passes { (0 < length passes.items) × (length passes.items ≤ 64)
@@ -136,7 +136,7 @@ fn at_once<R: Threads + Sync>(
     passes: Vec<LookedPass>,
     own: PebrPass,
     keys: &[FlowKey],
-) -> (Asked, Option<Gathered<LookedCache>>)
+) -> (Asked, Option<CaptureMetered<LookedCache>>)
     requires capture { IsCaptureOf (λ file. IsIndexOf index.now file) bytes.now }
     requires few { length index.now.offsets < 2 ^ 32 }
     requires passes { (0 < length passes.items) × (length passes.items ≤ 64)
@@ -152,7 +152,7 @@ fn at_once<R: Threads + Sync>(
             requires own { inner.IsOf cache.now.inner own × IsFresh (inner.shown_of own) }
             ensures { inner.IsOf cache.entry.now.inner result.pass × ((inner.shown_of result.pass).note.seats ≡ 1) }
         { ask_all(&cache.inner, own, keys) },
-        move || -> Option<Gathered<LookedCache>>
+        move || -> Option<CaptureMetered<LookedCache>>
             requires capture { IsCaptureOf (λ file. IsIndexOf index.now file) bytes.now }
             requires few { length index.now.offsets < 2 ^ 32 }
             requires passes { (0 < length passes.items) × (length passes.items ≤ 64)
@@ -167,16 +167,16 @@ fn at_once<R: Threads + Sync>(
 fn close_cache(
     alloc: Global,
     cache: LookedCache,
-    gathered: Gathered<LookedCache>,
+    metered: CaptureMetered<LookedCache>,
     asked: Asked,
     seats: usize,
 ) -> Option<Came>
     requires asked { inner.IsOf cache.inner asked.pass × ((inner.shown_of asked.pass).note.seats ≡ 1) }
-    requires own { IsOf cache gathered.pass }
-    requires seats { (shown_of gathered.pass).note.seats + 1 ≡ (means_of cache).seats }
+    requires own { IsOf cache metered.pass }
+    requires seats { (shown_of metered.pass).note.seats + 1 ≡ (means_of cache).seats }
     requires some { seats ≤ 64 }
 {
-    let Gathered { pass, parts, .. } = gathered;
+    let CaptureMetered { pass, parts, .. } = metered;
     let Asked {
         pass: own,
         held,

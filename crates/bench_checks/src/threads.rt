@@ -28,13 +28,13 @@ fn is_whole<R: Threads + Sync>(rt: &R, alloc: Global, bytes: &[u8]) -> Option<bo
         index: &index,
         base: 0,
     };
-    let gathered = meter_all(rt, alloc, &part, &cache, passes, 64, &OpenGate).ok()?;
+    let metered = meter_all(rt, alloc, &part, &cache, passes, 64, &OpenGate).ok()?;
     let parts = caches
-        .close(alloc, cache, gathered.pass, gathered.parts)
+        .close(alloc, cache, metered.pass, metered.parts)
         .ok()?;
     let tallied = Counts {
-        packets: gathered.tally.accepted,
-        octets: gathered.tally.octets,
+        packets: metered.tally.accepted,
+        octets: metered.tally.octets,
     };
     Some(counts_of(parts)? == tallied && tallied.packets > 0)
 }

@@ -73,13 +73,13 @@ fn meter_source<R: Threads + Sync, S: Source>(
         },
         &OpenGate,
     );
-    let Ok(gathered) = done else {
+    let Ok(metered) = done else {
         return None;
     };
     caches
-        .close(alloc, cache, gathered.pass, gathered.parts)
+        .close(alloc, cache, metered.pass, metered.parts)
         .ok()?;
-    Some(gathered.tally)
+    Some(metered.tally)
 }
 
 /// Meters the capture of standard input as the words say.

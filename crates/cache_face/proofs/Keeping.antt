@@ -442,11 +442,11 @@ keeps_split limits sets contents notes i seats keeps at =
     (All-cons IsWithin first_note [] (nothing_within first_note (refl, refl, refl)) (All-nil IsWithin)))
 
 -- the pieces of two are put together at the first
-gathered : {B : Type 0} (f : Note → List B) (notes : List Note) (i j : ℕ) (one other : Note)
+summed : {B : Type 0} (f : Note → List B) (notes : List Note) (i j : ℕ) (one other : Note)
     → f (merged_note one other) ≡ f one ++ f other → f empty_note ≡ []
     → j ≢ i → get_elem? notes i ≡ some one → get_elem? notes j ≡ some other
     → IsPermutation (flat_map f (set (set notes i (merged_note one other)) j empty_note)) (flat_map f notes)
-gathered f notes i j one other sum zero_is ne at at' =
+summed f notes i j one other sum zero_is ne at at' =
     let both : Note = merged_note one other in
     let left : List Note = set notes j empty_note in
     let rest : List _ = flat_map f (others notes j) in
@@ -481,9 +481,9 @@ keeps_merged limits sets contents notes i j one other keeps ne at at' =
     let t = sum_anew seats_of left j other empty_note at_j in
     let few = keeps.seats in
     alike limits sets contents notes (set left j empty_note) keeps
-    (gathered taken_of notes i j one other refl refl ne at at')
-    (gathered handed_of notes i j one other refl refl ne at at')
-    (gathered seen_of notes i j one other refl refl ne at at')
+    (summed taken_of notes i j one other refl refl ne at at')
+    (summed handed_of notes i j one other refl refl ne at at')
+    (summed seen_of notes i j one other refl refl ne at at')
     (omega (arith, s, t, few))
     (All-set IsWithin left j empty_note (nothing_within empty_note (refl, refl, refl))
     (All-set IsWithin notes i both
@@ -559,7 +559,7 @@ backs_seen limits notes content i note entry backing at part shown =
 pub backs_merged : BacksMerged
 backs_merged limits notes content i j one other backing ne at at' part shown =
     borne_same limits (taken_in notes) (taken_in (set (set notes i (merged_note one other)) j empty_note)) part
-    (gathered taken_of notes i j one other refl refl ne at at') (backing part shown)
+    (summed taken_of notes i j one other refl refl ne at at') (backing part shown)
 
 pub kept_is_backed : KeptIsBacked
 kept_is_backed limits sets contents notes place content keeps there part shown =

@@ -47,7 +47,7 @@ fn content(words: &[u64], root: usize) -> [u64; 10]
 }
 
 /// The entries of the first roots that aren't empty.
-fn gather(alloc: Global, words: &[u64], roots: usize) -> Result<Vec<Fragment>, NoMemory>
+fn fragments_in(alloc: Global, words: &[u64], roots: usize) -> Result<Vec<Fragment>, NoMemory>
     requires { 10 * roots ≤ length words.now }
     ensures { IfOk result (λ parts. (sets seats : ℕ) → parts.items ≡ parts_in (rows_at sets seats words.now roots)) }
 {
@@ -106,6 +106,6 @@ impl PebrCache {
             timeouts: _,
         } = self;
         let contents = roots.close(alloc, inner)?;
-        gather(alloc, contents.as_slice(), 4 * sets as usize)
+        fragments_in(alloc, contents.as_slice(), 4 * sets as usize)
     }
 }

@@ -27,9 +27,9 @@ pub use Rattle.front_cache.specs.Fronts.{open_in}
 pub use Rattle.meter_io.specs.Sides.{side}
 pub use Rattle.meter_workers.specs.Batched.{HasHandedOn, StandsBefore}
 pub use Rattle.meter_workers.specs.Shares.{IsShareOf, put_by, HasMetered}
-pub use Rattle.meter_workers.specs.Whole.{HasGathered}
+pub use Rattle.meter_workers.specs.Whole.{HasMetered}
 pub use Rattle.meter_workers.specs.declared.share.Share.{Share}
-pub use Rattle.meter_workers.specs.declared.together.Gathered.{Gathered}
+pub use Rattle.meter_workers.specs.declared.together.CaptureMetered.{CaptureMetered}
 pub use Rattle.work_pieces.specs.declared.worker.WorkState.TheVariants.{Finished}
 pub use Rattle.work_pieces.specs.declared.worker.Worker.{Worker}
 pub use Rattle.packet_accept.specs.Packets.{packets_in}

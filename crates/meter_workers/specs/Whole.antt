@@ -12,12 +12,12 @@ use Rattle.capture_tally.specs.Tallies.{IsTallyOf}
 use Rattle.cache_face.specs.declared.caches.FlowCache.{Ghosts}
 use Rattle.capture_input.specs.Parts.{Answer}
 use Rattle.meter_workers.specs.Shares.{AreSmall}
-use Rattle.meter_workers.specs.declared.together.Gathered.{Gathered}
+use Rattle.meter_workers.specs.declared.together.CaptureMetered.{CaptureMetered}
 
 -- The seats together metered these answers: what was put into the cache shares out their packets, the list is just what
 -- the pass was handed, and the tally is theirs. `the` is what the type of the cache means.
-pub record HasGathered {X P : Type 0} (the : Ghosts X P) (cache : X) (answers : List Answer)
-    (all : Gathered X P) : Type 0 where
+pub record HasMetered {X P : Type 0} (the : Ghosts X P) (cache : X) (answers : List Answer)
+    (all : CaptureMetered X P) : Type 0 where
   pub own : the.is_of cache all.pass
   pub some : 0 < (the.shown all.pass).note.seats
   pub shared : SharesOut (the.means cache).limits (packets_in answers) (the.shown all.pass).note.taken

@@ -15,11 +15,11 @@ ghost use Rattle.batch_queue.specs.Passes.{IsPassOf, IsMore, StandsForAll, put_o
 ghost use Rattle.batch_queue.specs.declared.batch.Batch.{Batch};
 ghost use Rattle.meter_workers.specs.Shares.{IsShareOf, HasMetered};
 ghost use Rattle.meter_workers.specs.Batched.{IsToTake, HasTakenAll, HasHandedOn, HasReadAll, IsAtQueue};
-ghost use Rattle.meter_workers.specs.Whole.{HasGathered, IsMeteredWhole};
+ghost use Rattle.meter_workers.specs.Whole.{HasMetered, IsMeteredWhole};
 
 use crate::gate::Gate;
 use crate::share::{Share, meter_run, open_shares};
-use crate::together::{Gathered, gather_all};
+use crate::together::{CaptureMetered, unite_shares};
 use batch_queue::{Batch, BatchQueue, Feed, QueuePass};
 use cache_face::FlowCache;
 use capture_input::{MeterFault, Reading};
@@ -445,14 +445,14 @@ fn open_crew<C: FlowCache>(
 
 /// What all did together, once the reader has read and the workers have worked. What is left in the queue is metered
 /// here. So many bytes are left behind the last record.
-fn gather<C: FlowCache, G: Gate, R: Wait>(
+fn close_crew<C: FlowCache, G: Gate, R: Wait>(
     rt: &R,
     alloc: Global,
     cache: &C,
     crew: Crew<C>,
     tail: u64,
     gate: &G,
-) -> Result<Gathered<C>, NoMemory>
+) -> Result<CaptureMetered<C>, NoMemory>
     requires many { (crew.shared.workers ≡ length crew.workers.items) × (length crew.workers.items ≤ 62) }
     requires handed { (answers : List Answer)
         × HasHandedOn C.FlowCache cache.now crew.shared.queue crew.shared.workers answers crew.reader }
@@ -462,7 +462,7 @@ fn gather<C: FlowCache, G: Gate, R: Wait>(
         × ((C.shown r.pass).note.seats ≡ length crew.workers.items + 2)) }
     ensures metered { (answers : List Answer)
         → HasHandedOn C.FlowCache cache.now crew.shared.queue crew.shared.workers answers crew.reader
-        → IfOk result (HasGathered C.FlowCache cache.now answers) }
+        → IfOk result (HasMetered C.FlowCache cache.now answers) }
     ensures tail { IfOk result (λ r. r.tail ≡ tail) }
 {
     let Crew {
@@ -477,7 +477,7 @@ fn gather<C: FlowCache, G: Gate, R: Wait>(
     work_batches(rt, &shared, cache, gate, drain, &mut seat, &mut last)?;
     shares.push(reader.share)?;
     shares.push(last)?;
-    gather_all(cache, shares, tail)
+    unite_shares(cache, shares, tail)
 }
 
 /// Meters a capture through a cache while it is read: the caller's thread reads it, in windows of so many bytes, into a
@@ -501,7 +501,7 @@ pub fn meter_batches<S: Source, C: FlowCache, G: Gate, R: Threads + Wait + Sync>
     passes: Vec<C::Pass>,
     batches: Batches,
     gate: &G,
-) -> Result<Gathered<C>, MeterFault>
+) -> Result<CaptureMetered<C>, MeterFault>
     requires front { IfSome batches.front (λ timeouts. timeouts ≡ (C.means cache.now).limits) }
     requires passes { (3 ≤ length passes.items) × (length passes.items ≤ 64)
         × All (λ p. C.is_of cache.now p × IsFreshPass (C.shown p)) passes.items }
@@ -541,7 +541,7 @@ pub fn meter_batches<S: Source, C: FlowCache, G: Gate, R: Threads + Wait + Sync>
         workers,
         last,
     };
-    match gather(rt, alloc, cache, crew, tail, gate) {
+    match close_crew(rt, alloc, cache, crew, tail, gate) {
         Ok(all) => Ok(all),
         Err(NoMemory) => Err(MeterFault::NoMemory),
     }

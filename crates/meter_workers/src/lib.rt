@@ -27,5 +27,5 @@ pub use batches::{Batches, meter_batches};
 pub use capture_input::{MeterFault, Part};
 pub use gate::{Gate, OpenGate};
 pub use no_memory::NoMemory;
-pub use together::Gathered;
+pub use together::CaptureMetered;
 pub use windows::{Windows, meter_all, meter_windows};

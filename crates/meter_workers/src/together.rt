@@ -4,7 +4,7 @@ ghost use Rattle.std.specs.Prelude.{◌≡◌, ◌+◌, ◌++◌, ◌<◌, ◌�
 ghost use Rattle.capture_input.specs.Parts.{Answer};
 ghost use Rattle.work_pieces.specs.Doing.{HaveDone};
 ghost use Rattle.meter_workers.specs.Shares.{IsShareOf};
-ghost use Rattle.meter_workers.specs.Whole.{HasGathered};
+ghost use Rattle.meter_workers.specs.Whole.{HasMetered};
 
 use crate::share::{Share, empty_front};
 use cache_face::FlowCache;
@@ -16,7 +16,7 @@ use no_memory::NoMemory;
 /// What all workers did together with a capture: one pass for all seats, the fragments that it was handed, the tally,
 /// and how many bytes are left behind the last record.
 #[derive(Drop)]
-pub struct Gathered<C: FlowCache> {
+pub struct CaptureMetered<C: FlowCache> {
     pub pass: C::Pass,
     pub parts: PartList,
     pub tally: Tally,
@@ -24,10 +24,10 @@ pub struct Gathered<C: FlowCache> {
 }
 
 /// What a share did, whose front is emptied into the cache.
-fn finish<C: FlowCache>(cache: &C, share: Share<C>, tail: u64) -> Result<Gathered<C>, NoMemory>
+fn finish<C: FlowCache>(cache: &C, share: Share<C>, tail: u64) -> Result<CaptureMetered<C>, NoMemory>
     requires share { (done : List Answer) × IsShareOf C.FlowCache cache.now done share }
-    ensures gathered { (done : List Answer) → IsShareOf C.FlowCache cache.now done share
-        → IfOk result (HasGathered C.FlowCache cache.now done) }
+    ensures metered { (done : List Answer) → IsShareOf C.FlowCache cache.now done share
+        → IfOk result (HasMetered C.FlowCache cache.now done) }
     ensures seats { IfOk result (λ r. (C.shown r.pass).note.seats ≡ 1) }
     ensures tail { IfOk result (λ r. r.tail ≡ tail) }
 {
@@ -39,7 +39,7 @@ fn finish<C: FlowCache>(cache: &C, share: Share<C>, tail: u64) -> Result<Gathere
         tally,
     } = share;
     empty_front(cache, &mut pass, &mut parts, front)?;
-    Ok(Gathered {
+    Ok(CaptureMetered {
         pass,
         parts,
         tally,
@@ -50,14 +50,14 @@ fn finish<C: FlowCache>(cache: &C, share: Share<C>, tail: u64) -> Result<Gathere
 /// What both did.
 fn unite<C: FlowCache>(
     cache: &C,
-    one: Gathered<C>,
-    other: Gathered<C>,
-) -> Result<Gathered<C>, NoMemory>
+    one: CaptureMetered<C>,
+    other: CaptureMetered<C>,
+) -> Result<CaptureMetered<C>, NoMemory>
     requires seats { (C.shown one.pass).note.seats + (C.shown other.pass).note.seats ≤ 64 }
-    requires gathered { (done rest : List Answer) × HasGathered C.FlowCache cache.now done one
-        × HasGathered C.FlowCache cache.now rest other }
-    ensures gathered { (done rest : List Answer) → HasGathered C.FlowCache cache.now done one
-        → HasGathered C.FlowCache cache.now rest other → IfOk result (HasGathered C.FlowCache cache.now (done ++ rest)) }
+    requires metered { (done rest : List Answer) × HasMetered C.FlowCache cache.now done one
+        × HasMetered C.FlowCache cache.now rest other }
+    ensures metered { (done rest : List Answer) → HasMetered C.FlowCache cache.now done one
+        → HasMetered C.FlowCache cache.now rest other → IfOk result (HasMetered C.FlowCache cache.now (done ++ rest)) }
     ensures seats { IfOk result (λ r. (C.shown r.pass).note.seats
         ≡ (C.shown one.pass).note.seats + (C.shown other.pass).note.seats) }
     ensures tail { IfOk result (λ r. r.tail ≡ one.tail) }
@@ -66,7 +66,7 @@ fn unite<C: FlowCache>(
     sharing_out_stands();
     let mut parts = one.parts;
     parts.append(other.parts)?;
-    Ok(Gathered {
+    Ok(CaptureMetered {
         pass: cache.unite(one.pass, other.pass),
         parts,
         tally: one.tally.sum_with(&other.tally),
@@ -76,15 +76,15 @@ fn unite<C: FlowCache>(
 
 /// What all shares did, with so many bytes left behind the last record: each front is emptied into the cache through its
 /// own pass.
-pub(crate) fn gather_all<C: FlowCache>(
+pub(crate) fn unite_shares<C: FlowCache>(
     cache: &C,
     shares: Vec<Share<C>>,
     tail: u64,
-) -> Result<Gathered<C>, NoMemory>
+) -> Result<CaptureMetered<C>, NoMemory>
     requires many { (0 < length shares.items) × (length shares.items ≤ 64) }
     requires metered { (answers : List Answer) × HaveDone (IsShareOf C.FlowCache cache.now) answers shares.items }
     ensures metered { (answers : List Answer) → HaveDone (IsShareOf C.FlowCache cache.now) answers shares.items
-        → IfOk result (HasGathered C.FlowCache cache.now answers) }
+        → IfOk result (HasMetered C.FlowCache cache.now answers) }
     ensures own { IfOk result (λ r. C.is_of cache.now r.pass × ((C.shown r.pass).note.seats ≡ length shares.items)) }
     ensures tail { IfOk result (λ r. r.tail ≡ tail) }
 {

@@ -19,7 +19,7 @@ ghost use Rattle.meter_workers.specs.Whole.{IsMeteredWhole};
 
 use crate::gate::Gate;
 use crate::share::{Share, meter_run, open_shares};
-use crate::together::{Gathered, gather_all};
+use crate::together::{CaptureMetered, unite_shares};
 use cache_face::FlowCache;
 use capture_input::{MeterFault, Part, Reading};
 use flow_parts::Timeouts;
@@ -210,7 +210,7 @@ pub fn meter_windows<S: Source, C: FlowCache, G: Gate, R: Threads + Sync>(
     passes: Vec<C::Pass>,
     windows: Windows,
     gate: &G,
-) -> Result<Gathered<C>, MeterFault>
+) -> Result<CaptureMetered<C>, MeterFault>
     requires front { IfSome windows.front (λ timeouts. timeouts ≡ (C.means cache.now).limits) }
     requires passes { (0 < length passes.items) × (length passes.items ≤ 64)
         × All (λ p. C.is_of cache.now p × IsFreshPass (C.shown p)) passes.items }
@@ -227,7 +227,7 @@ pub fn meter_windows<S: Source, C: FlowCache, G: Gate, R: Threads + Sync>(
         return Err(MeterFault::NoMemory);
     };
     let (shares, tail) = meter_parts(rt, alloc, source, cache, shares, windows, gate)?;
-    match gather_all(cache, shares, tail) {
+    match unite_shares(cache, shares, tail) {
         Ok(all) => Ok(all),
         Err(NoMemory) => Err(MeterFault::NoMemory),
     }
@@ -249,7 +249,7 @@ pub fn meter_all<C: FlowCache, G: Gate, R: Threads + Sync>(
     passes: Vec<C::Pass>,
     piece: u64,
     gate: &G,
-) -> Result<Gathered<C>, NoMemory>
+) -> Result<CaptureMetered<C>, NoMemory>
     requires piece { (0 < piece) × (piece ≤ 65536) }
     requires passes { (0 < length passes.items) × (length passes.items ≤ 64)
         × All (λ p. C.is_of cache.now p × IsFreshPass (C.shown p)) passes.items }
@@ -261,5 +261,5 @@ pub fn meter_all<C: FlowCache, G: Gate, R: Threads + Sync>(
 {
     let shares = open_shares(alloc, cache, passes, None)?;
     let shares = meter_part(rt, alloc, part, cache, shares, piece, gate)?;
-    gather_all(cache, shares, part.index.tail())
+    unite_shares(cache, shares, part.index.tail())
 }

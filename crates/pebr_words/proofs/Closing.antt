@@ -57,14 +57,14 @@ row_wide shape words root = length-map-range_with_len
     (λ word. get_or words (slots_from shape + get_or words (roots_from shape + root) 0 * shape.width + word) 0) 0
     shape.width
 
-pub gathered_length : (shape : Shape) (words : List ℕ) → length (contents_of_roots shape words)
+pub root_contents_length : (shape : Shape) (words : List ℕ) → length (contents_of_roots shape words)
     ≡ shape.roots * shape.width
-gathered_length shape words = flat_length (row_at shape words) shape.width (row_wide shape words) 0 shape.roots
+root_contents_length shape words = flat_length (row_at shape words) shape.width (row_wide shape words) 0 shape.roots
 
--- what is gathered has its rows
-slot_gathered : (shape : Shape) (words : List ℕ) (root : ℕ) → root < shape.roots
+-- the contents of the roots have their rows
+slot_in_contents : (shape : Shape) (words : List ℕ) (root : ℕ) → root < shape.roots
     → row_at shape words root ≡ slot_of shape (contents_of_roots shape words) root
-slot_gathered shape words root h = fill_by_all
+slot_in_contents shape words root h = fill_by_all
     (λ word. get_or (contents_of_roots shape words) (root * shape.width + word) 0)
     (row_at shape words root) shape.width 0 (row_wide shape words root)
     (λ word lt. sym (flat_at (row_at shape words) shape.width (row_wide shape words) 0 shape.roots root word h lt
@@ -93,13 +93,13 @@ module _ (shape : Shape) (words : List ℕ) (core : State) (is_shape : core.shap
       ≡ slots_from shape + (slot * shape.width + word) = omega arith in e)
       ∙ show.each (slot_word slot word) (below, lt))))
 
-  pub contents_gathered : contents core ≡ rows_of shape (contents_of_roots shape words)
-  contents_gathered = fill_by_all (slot_of shape (contents_of_roots shape words)) (contents core) shape.roots []
+  pub contents_by_roots : contents core ≡ rows_of shape (contents_of_roots shape words)
+  contents_by_roots = fill_by_all (slot_of shape (contents_of_roots shape words)) (contents core) shape.roots []
       (length-map core.roots (λ slot. get_or core.words slot [])
       ∙ (sound.shape.roots ∙ ap (λ (s : Shape). s.roots) is_shape))
       (λ root h. get_or-map (λ slot. get_or core.words slot []) core.roots root 0 []
       (subst (λ n. root < n) (sym (sound.shape.roots ∙ ap (λ (s : Shape). s.roots) is_shape)) h)
-      ∙ (row_shown root h ∙ slot_gathered shape words root h))
+      ∙ (row_shown root h ∙ slot_in_contents shape words root h))
 
 same_lists : {A : Type 0} (xs ys : List A) → length xs ≡ length ys
     → ((k : ℕ) → k < length xs → get_elem? xs k ≡ get_elem? ys k) → xs ≡ ys
@@ -153,7 +153,7 @@ module _ {N : Type 0} (keeps : List (List ℕ) → List N → Type 0) (whole : L
 
   pub closes : keeps (rows_of shape (contents_of_roots shape s.words)) last_notes
   closes = subst (keeps (rows_of shape (contents_of_roots shape s.words))) notes_last
-      (subst (λ c. keeps c rule.notes) (contents_gathered shape s.words rule.core rule.shape_is rule.sound rule.show)
+      (subst (λ c. keeps c rule.notes) (contents_by_roots shape s.words rule.core rule.shape_is rule.sound rule.show)
       rule.kept)
 
 -- what the last state tells

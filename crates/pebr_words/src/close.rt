@@ -70,7 +70,7 @@ fn put_root(
 }
 
 /// The contents of the roots, one after another.
-fn gather(alloc: Global, closed: &Closed<(), Global>, shape: Shape) -> Result<Vec<u64>, NoMemory>
+fn root_contents(alloc: Global, closed: &Closed<(), Global>, shape: Shape) -> Result<Vec<u64>, NoMemory>
     requires limits { IsWithinLimits shape }
     requires whole { IsFull closed.now.words × (slots_len closed.now.words ≡ word_count shape) }
     requires below { (root : ℕ) → root < shape.roots
@@ -116,7 +116,7 @@ impl<P: RootProtocol> Words<P> {
         drop(slots);
         drop(found);
         let closed = table.close(inner);
-        let contents = gather(alloc, &closed, shape);
+        let contents = root_contents(alloc, &closed, shape);
         closed.free();
         contents
     }

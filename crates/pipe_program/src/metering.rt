@@ -23,7 +23,7 @@ const OTHER_SEATS: usize = 2;
 
 /// Meters the capture that the input gives through a cache, by the reader and all workers at once, and closes the
 /// cache. The fragments that it gave, and what is known of the capture.
-fn meter_input<R: Threads + Wait + Sync, S: Source, M: Caches, G: Gate>(
+fn meter_in_batches<R: Threads + Wait + Sync, S: Source, M: Caches, G: Gate>(
     rt: &R,
     alloc: Global,
     settings: &PipeSettings,
@@ -63,7 +63,7 @@ fn meter_input<R: Threads + Wait + Sync, S: Source, M: Caches, G: Gate>(
 }
 
 /// The records of the capture that the input gives, metered through a cache of `caches`, or why there are none.
-fn gathered_from<R: Threads + Wait + Sync, S: Source, M: Caches, G: Gate>(
+fn gathered_in_batches<R: Threads + Wait + Sync, S: Source, M: Caches, G: Gate>(
     rt: &R,
     alloc: Global,
     settings: &PipeSettings,
@@ -77,7 +77,7 @@ fn gathered_from<R: Threads + Wait + Sync, S: Source, M: Caches, G: Gate>(
     ensures refused { IfErr result (λ status. MeterRefuses (side S.left S.faults input.old input.new) status) }
 {
     let limits = Timeouts::new(settings.idle, settings.active);
-    let (parts, counted) = meter_input(rt, alloc, settings, limits, input, caches, gate)?;
+    let (parts, counted) = meter_in_batches(rt, alloc, settings, limits, input, caches, gate)?;
     let gathered = gathered_of(rt, alloc, parts, limits, counted, settings.workers)?;
     Ok(gathered)
 }
@@ -98,7 +98,7 @@ pub fn pipe_input<R: Threads + Wait + Sync, S: Source, K: Sink, N: Sink, M: Cach
         (side N.held N.faults notes.old notes.new) (M.metered caches.new)
         in Ends (as_meter (piping_of settings.now)) seen (IsUntouched seen.notes) result }
 {
-    match gathered_from(rt, alloc, settings, input, caches, gate) {
+    match gathered_in_batches(rt, alloc, settings, input, caches, gate) {
         Ok(gathered) => write_stream(alloc, &gathered, settings.size, output, notes),
         Err(status) => status,
     }

@@ -90,23 +90,23 @@ fn meter_source<R: Threads + Sync, S: Source, G: Gate>(
         front: Some(limits),
     };
     let done = meter_windows(rt, alloc, source, &cache, passes, windows, gate);
-    let gathered = match done {
-        Ok(gathered) => gathered,
+    let metered = match done {
+        Ok(metered) => metered,
         Err(fault) => return Ok(Err(fault)),
     };
     let parts = in_one(
         alloc,
-        caches.close(alloc, cache, gathered.pass, gathered.parts)?,
+        caches.close(alloc, cache, metered.pass, metered.parts)?,
     )?;
     if !are_few(parts.as_slice()) {
         return Err(Fail::from("more packets than there are"));
     }
     let mut list = PartList::new(alloc);
     list.add_piece(parts)?;
-    let records = gather(rt, alloc, list, limits, gathered.tally.clock, seats)?;
+    let records = gather(rt, alloc, list, limits, metered.tally.clock, seats)?;
     Ok(Ok(Outcome {
         records,
-        tally: gathered.tally,
-        tail: gathered.tail,
+        tally: metered.tally,
+        tail: metered.tail,
     }))
 }

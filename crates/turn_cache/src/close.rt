@@ -95,7 +95,7 @@ fn add_set(
 }
 
 /// All entries.
-fn gather(
+fn fragments_in(
     alloc: Global,
     closed: &Closed<(), Global>,
     sets: usize,
@@ -134,7 +134,7 @@ impl TurnCache {
             timeouts: _,
         } = self;
         let closed = table.close_with(seat);
-        let entries = gather(alloc, &closed, sets as usize);
+        let entries = fragments_in(alloc, &closed, sets as usize);
         closed.free();
         entries
     }

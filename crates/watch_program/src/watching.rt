@@ -22,7 +22,7 @@ use flow_cache::{PebrCache, PebrCaches, PebrPass};
 use flow_key::FlowKey;
 use flow_parts::Timeouts;
 use flow_parts::laws::sharing_out_counts;
-use meter_workers::{Gate, Gathered, Part, meter_all};
+use meter_workers::{Gate, CaptureMetered, Part, meter_all};
 use no_memory::NoMemory;
 use pcap_reader::{Capture, RecordIndex};
 use std::alloc::Global;
@@ -57,7 +57,7 @@ fn meter_bytes<R: Threads + Sync, G: Gate>(
     cache: &PebrCache,
     passes: Vec<PebrPass>,
     gate: &G,
-) -> Result<Gathered<PebrCache>, NoMemory>
+) -> Result<CaptureMetered<PebrCache>, NoMemory>
     requires capture { IsCaptureOf (λ file. IsKnownLink file.link × IsIndexOf index.now file) bytes.now }
     requires few { length index.now.offsets < 2 ^ 32 }
     requires passes { (0 < length passes.items) × (length passes.items ≤ 64)
@@ -93,7 +93,7 @@ fn at_once<R: Threads + Sync, G: Gate>(
     keys: &[FlowKey],
     asks: usize,
     gate: &G,
-) -> (Asking, Result<Gathered<PebrCache>, NoMemory>)
+) -> (Asking, Result<CaptureMetered<PebrCache>, NoMemory>)
     requires capture { IsCaptureOf (λ file. IsKnownLink file.link × IsIndexOf index.now file) bytes.now }
     requires few { length index.now.offsets < 2 ^ 32 }
     requires passes { (0 < length passes.items) × (length passes.items ≤ 64)
@@ -122,7 +122,7 @@ fn at_once<R: Threads + Sync, G: Gate>(
             ensures sound { IfOk result.answers (λ answers. All IsSound answers.items) }
             ensures in_turn { IfOk result.answers (λ answers. AreInTurn keys.entry.now answers.items) }
         { ask_all(alloc, cache, own, keys, asks, number, gate) },
-        move || -> Result<Gathered<PebrCache>, NoMemory>
+        move || -> Result<CaptureMetered<PebrCache>, NoMemory>
             requires capture { IsCaptureOf (λ file. IsKnownLink file.link × IsIndexOf index.now file) bytes.now }
             requires few { length index.now.offsets < 2 ^ 32 }
             requires passes { (0 < length passes.items) × (length passes.items ≤ 64)
@@ -146,16 +146,16 @@ fn total_behind(
     bytes: &[u8],
     caches: &mut PebrCaches,
     cache: PebrCache,
-    gathered: Gathered<PebrCache>,
+    metered: CaptureMetered<PebrCache>,
     pass: PebrPass,
 ) -> Result<(u64, u64), NoMemory>
     requires pass { IsOf cache pass × IsAsker (shown_of pass).note }
-    requires own { IsOf cache gathered.pass }
-    requires seats { (shown_of gathered.pass).note.seats + 1 ≡ (means_of cache).seats }
+    requires own { IsOf cache metered.pass }
+    requires seats { (shown_of metered.pass).note.seats + 1 ≡ (means_of cache).seats }
     requires packets { IsCaptureOf (λ file. SharesOut (means_of cache).limits (packets_of file)
-        (shown_of gathered.pass).note.taken) bytes.now }
-    requires parts { gathered.parts ≡ (shown_of gathered.pass).note.handed }
-    requires tally { IsCaptureOf (λ file. IsTallyOf gathered.tally (answers_of file)) bytes.now }
+        (shown_of metered.pass).note.taken) bytes.now }
+    requires parts { metered.parts ≡ (shown_of metered.pass).note.handed }
+    requires tally { IsCaptureOf (λ file. IsTallyOf metered.tally (answers_of file)) bytes.now }
     ensures total { IfOk result
         (λ total. IsCaptureOf (λ file. (total.0 ≡ length (packets_of file)) × (total.1 ≡ octets_of (packets_of file)))
         bytes.now) }
@@ -164,11 +164,11 @@ fn total_behind(
 {
     sharing_out_counts();
     let _ = bytes;
-    let Gathered {
+    let CaptureMetered {
         pass: others,
         parts,
         ..
-    } = gathered;
+    } = metered;
     let pass = cache.unite(others, pass);
     let parts = caches.close(alloc, cache, pass, parts)?;
     let total = total_of(parts)?;
@@ -218,10 +218,10 @@ pub(crate) fn watch_capture<R: Threads + Sync, G: Gate>(
         settings.asks,
         gate,
     );
-    let gathered = metered?;
+    let metered = metered?;
     let Asking { pass, answers } = asking;
     let answers = answers?;
-    let (packets, octets) = total_behind(alloc, bytes, &mut caches, cache, gathered, pass)?;
+    let (packets, octets) = total_behind(alloc, bytes, &mut caches, cache, metered, pass)?;
     Ok(Watched {
         answers,
         packets,

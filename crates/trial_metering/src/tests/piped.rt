@@ -10,7 +10,7 @@ use cache_face::{Caches, FlowCache};
 use capture_tally::Tally;
 use flow_parts::Timeouts;
 use meter_io::{MemSource, Source};
-use meter_workers::{Batches, Gate, Gathered, MeterFault, Windows, meter_batches, meter_windows};
+use meter_workers::{Batches, Gate, CaptureMetered, MeterFault, Windows, meter_batches, meter_windows};
 use std::alloc::Global;
 use std::sync::Wait;
 use std::test::Fail;
@@ -54,7 +54,7 @@ fn run<S: Source, C: FlowCache, G: Gate, R: Threads + Wait + Sync>(
     limits: Timeouts,
     setting: Setting,
     gate: &G,
-) -> Result<Gathered<C>, MeterFault>
+) -> Result<CaptureMetered<C>, MeterFault>
     requires front { limits ≡ (C.means cache.now).limits }
     requires room { setting.room ≤ 64 }
     requires window { (262184 ≤ setting.window) × (setting.window ≤ 4194304) }
@@ -106,7 +106,7 @@ fn meter_capture<G: Gate, R: Threads + Wait + Sync>(
     let limits = Timeouts::new(300, 1800);
     let mut caches = TurnCaches::new();
     let (cache, passes) = caches.open(alloc, 4096, setting.passes, limits)?;
-    let gathered = match run(
+    let metered = match run(
         rt,
         alloc,
         &mut source,
@@ -116,12 +116,12 @@ fn meter_capture<G: Gate, R: Threads + Wait + Sync>(
         setting,
         gate,
     ) {
-        Ok(gathered) => gathered,
+        Ok(metered) => metered,
         Err(fault) => return Ok(Err(fault)),
     };
     let parts = in_one(
         alloc,
-        caches.close(alloc, cache, gathered.pass, gathered.parts)?,
+        caches.close(alloc, cache, metered.pass, metered.parts)?,
     )?;
     let mut packets = 0u64;
     let mut octets = 0u64;
@@ -130,8 +130,8 @@ fn meter_capture<G: Gate, R: Threads + Wait + Sync>(
         octets = octets.saturating_add(part.octets);
     }
     Ok(Ok(Outcome {
-        tally: gathered.tally,
-        tail: gathered.tail,
+        tally: metered.tally,
+        tail: metered.tail,
         packets,
         octets,
     }))

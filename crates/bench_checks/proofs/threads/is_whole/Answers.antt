@@ -5,6 +5,6 @@ use Rattle.bench_checks.proofs.threads.is_whole.Goals as goal
 
 pub close-requires-clause-handed : goal.close-requires-clause-handed
 close-requires-clause-handed g c =
-    let parts = c.in_ok-gathered.gathered.parts in
-    let same : parts ≡ c.in_ok-gathered.gathered.pass.seat.me.0.note.handed = search rules in
+    let parts = c.in_ok-metered.metered.parts in
+    let same : parts ≡ c.in_ok-metered.metered.pass.seat.me.0.note.handed = search rules in
     subst (λ list. IsPermutation parts list) same (IsPermutation-refl parts)

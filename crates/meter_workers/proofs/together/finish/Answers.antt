@@ -8,8 +8,8 @@ empty_front-requires-clause-room g c κs within =
     let few = put-few g.C.FlowCache c.args.cache.now _ c.args.share c.sharing_out_counts.ensures.counts had in
     (let most = had.few in omega (arith, few, most))
 
-pub returns-clause-gathered : goal.returns-clause-gathered
-returns-clause-gathered g c = λ done has.
+pub returns-clause-metered : goal.returns-clause-metered
+returns-clause-metered g c = λ done has.
     let told = c.in_ok-empty_front.ensures in
     record {
       own = told.own;

@@ -1,5 +1,5 @@
 use Rattle.meter_workers.proofs.Common.{◌≤◌, [], length, arith, IfOk, IfOk-weaker, Answer, answers_by}
-use Rattle.meter_workers.proofs.Common.{HasGathered, nothing-done}
+use Rattle.meter_workers.proofs.Common.{HasMetered, nothing-done}
 use Rattle.meter_workers.proofs.windows.meter_all.Given as given
 use Rattle.meter_workers.proofs.windows.meter_all.Goals as goal
 
@@ -8,20 +8,20 @@ meter_part-requires-clause-metered g c κs within =
     let none : length {A = Answer} [] ≤ c.args.part.now.base = omega arith in
     ([], none, nothing-done _ c.in_ok-shares.shares.items c.in_ok-shares.ensures.shares)
 
-pub gather_all-requires-clause-metered : goal.gather_all-requires-clause-metered
-gather_all-requires-clause-metered g c κs within =
+pub unite_shares-requires-clause-metered : goal.unite_shares-requires-clause-metered
+unite_shares-requires-clause-metered g c κs within =
     (_, c.in_ok-shares-2.ensures.metered [] (nothing-done _ c.in_ok-shares.shares.items c.in_ok-shares.ensures.shares))
 
-gathered : (g : given.Over) (c : goal.After-gather_all g)
-    → IfOk c.gather_all.result (HasGathered g.C.FlowCache c.args.cache.now (answers_by c.args.part.now))
-gathered g c = c.gather_all.ensures.metered _
+metered : (g : given.Over) (c : goal.After-unite_shares g)
+    → IfOk c.unite_shares.result (HasMetered g.C.FlowCache c.args.cache.now (answers_by c.args.part.now))
+metered g c = c.unite_shares.ensures.metered _
     (c.in_ok-shares-2.ensures.metered [] (nothing-done _ c.in_ok-shares.shares.items c.in_ok-shares.ensures.shares))
 
 pub returns-clause-shared : goal.returns-clause-shared
-returns-clause-shared g c = IfOk-weaker c.gather_all.result _ _ (λ r all. all.shared) (gathered g c)
+returns-clause-shared g c = IfOk-weaker c.unite_shares.result _ _ (λ r all. all.shared) (metered g c)
 
 pub returns-clause-parts : goal.returns-clause-parts
-returns-clause-parts g c = IfOk-weaker c.gather_all.result _ _ (λ r all. all.parts) (gathered g c)
+returns-clause-parts g c = IfOk-weaker c.unite_shares.result _ _ (λ r all. all.parts) (metered g c)
 
 pub returns-clause-tally : goal.returns-clause-tally
-returns-clause-tally g c = IfOk-weaker c.gather_all.result _ _ (λ r all. all.tallied) (gathered g c)
+returns-clause-tally g c = IfOk-weaker c.unite_shares.result _ _ (λ r all. all.tallied) (metered g c)

@@ -11,33 +11,33 @@ use Rattle.watch_program.proofs.watching.total_behind.Goals as goal
 
 pub close-requires-clause-handed : goal.close-requires-clause-handed
 close-requires-clause-handed c =
-    handed-same c.args.gathered.parts (shown_of c.args.gathered.pass) (shown_of c.args.pass)
+    handed-same c.args.metered.parts (shown_of c.args.metered.pass) (shown_of c.args.pass)
     (shown_of c.unite-pass.result) c.unite-pass.ensures.united
     c.requires.pass.1 c.requires.parts
 
 pub total_of-requires-clause-packets : goal.total_of-requires-clause-packets
 total_of-requires-clause-packets c =
-    let counts = counted c.args.bytes.now (means_of c.args.cache).limits (shown_of c.args.gathered.pass)
+    let counts = counted c.args.bytes.now (means_of c.args.cache).limits (shown_of c.args.metered.pass)
     (shown_of c.args.pass) (shown_of c.unite-pass.result)
     (metered_by c.close.new.self) c.in_ok-parts.parts
     c.sharing_out_counts.ensures.counts c.unite-pass.ensures.united
     c.requires.pass.1 c.requires.packets c.in_ok-parts.ensures.shared c.in_ok-parts.ensures.given in
-    let fits = (tallied c.args.bytes.now c.in_ok-parts.parts c.args.gathered.tally counts c.requires.tally).0 in
+    let fits = (tallied c.args.bytes.now c.in_ok-parts.parts c.args.metered.tally counts c.requires.tally).0 in
     omega (arith, fits)
 
 pub total_of-requires-clause-octets : goal.total_of-requires-clause-octets
 total_of-requires-clause-octets c =
-    let counts = counted c.args.bytes.now (means_of c.args.cache).limits (shown_of c.args.gathered.pass)
+    let counts = counted c.args.bytes.now (means_of c.args.cache).limits (shown_of c.args.metered.pass)
     (shown_of c.args.pass) (shown_of c.unite-pass.result)
     (metered_by c.close.new.self) c.in_ok-parts.parts
     c.sharing_out_counts.ensures.counts c.unite-pass.ensures.united
     c.requires.pass.1 c.requires.packets c.in_ok-parts.ensures.shared c.in_ok-parts.ensures.given in
-    let fits = (tallied c.args.bytes.now c.in_ok-parts.parts c.args.gathered.tally counts c.requires.tally).1 in
+    let fits = (tallied c.args.bytes.now c.in_ok-parts.parts c.args.metered.tally counts c.requires.tally).1 in
     omega (arith, fits)
 
 pub returns-clause-total : goal.returns-clause-total
 returns-clause-total c =
-    let counts = counted c.args.bytes.now (means_of c.args.cache).limits (shown_of c.args.gathered.pass)
+    let counts = counted c.args.bytes.now (means_of c.args.cache).limits (shown_of c.args.metered.pass)
     (shown_of c.args.pass) (shown_of c.unite-pass.result)
     (metered_by c.close.new.self) c.in_ok-parts.parts
     c.sharing_out_counts.ensures.counts c.unite-pass.ensures.united
@@ -49,6 +49,6 @@ returns-clause-total c =
 
 pub returns-clause-seen : goal.returns-clause-seen
 returns-clause-seen c =
-    seen-of c.args.bytes.now (means_of c.args.cache).limits (shown_of c.args.gathered.pass) (shown_of c.args.pass)
+    seen-of c.args.bytes.now (means_of c.args.cache).limits (shown_of c.args.metered.pass) (shown_of c.args.pass)
     (shown_of c.unite-pass.result) c.unite-pass.ensures.united c.requires.pass.1 c.requires.packets
     c.in_ok-parts.ensures.seen

@@ -29,10 +29,10 @@ returns c =
     let end = ends cache.timeouts cache.sets contents shape.seats number note c.requires.own.of.at.3
     (subst (λ cs. Keeps cache.timeouts cache.sets cs notes) rows kept) in
     record {
-      reached = IfOk-weaker c.gather.result _ _
+      reached = IfOk-weaker c.fragments_in.result _ _
           (λ parts is. subst (λ (ps : List Fragment). Reaches cache.timeouts note.taken (ps ++ note.handed))
           (sym (is cache.sets shape.seats ∙ ap (λ ws. parts_in (rows_at cache.sets shape.seats ws (4 * cache.sets)))
           c.as_slice.ensures.value)) end.0)
-          c.gather.ensures;
-      seen = on_ok c.gather.result _ end.1;
+          c.fragments_in.ensures;
+      seen = on_ok c.fragments_in.result _ end.1;
     }

@@ -26,9 +26,9 @@ returns c =
     let seen = bears_out cache.table.shared.key final.0 final.1.0 c.args.pass.seat.id c.args.pass.seat.me.0 final.1.1
     c.args.pass.no_turn (c.requires.all ∙ sym cache.told.1) in
     record {
-      reached = if_ok c.gather-entries.result _ _
+      reached = if_ok c.fragments_in-entries.result _ _
           (λ parts is. subst (λ (ps : List Fragment). Reaches cache.timeouts note.taken (ps ++ note.handed))
-          (sym is) kept') c.gather-entries.ensures;
-      seen = on_ok c.gather-entries.result _
+          (sym is) kept') c.fragments_in-entries.ensures;
+      seen = on_ok c.fragments_in-entries.result _
           (subst (λ (t : Timeouts). All (IsBorne t note.taken) note.seen) cache.told.2 seen);
     }

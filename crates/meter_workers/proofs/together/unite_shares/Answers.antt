@@ -1,12 +1,12 @@
 use Rattle.meter_workers.proofs.Common.{◌≡◌, ◌+◌, ◌++◌, List, [], length, ap, ◌∙◌, rules, arith}
 use Rattle.meter_workers.proofs.Common.{IsPermutation, IsPermutation-trans, IsPermutation-append_left, Answer, HaveDone}
-use Rattle.meter_workers.proofs.Common.{IsShareOf, HasGathered}
+use Rattle.meter_workers.proofs.Common.{IsShareOf, HasMetered}
 use Rattle.std.proofs.lemmas.List.Sorted.{IsPermutation-sym}
 use Rattle.work_pieces.proofs.Doing.{longer, popped, none-left, moved-back}
 use Rattle.meter_workers.proofs.Shares.{permuted}
-use Rattle.meter_workers.proofs.together.gather_all.Goals.{In_ok-one}
-use Rattle.meter_workers.proofs.together.gather_all.Given as given
-use Rattle.meter_workers.proofs.together.gather_all.Goals as goal
+use Rattle.meter_workers.proofs.together.unite_shares.Goals.{In_ok-one}
+use Rattle.meter_workers.proofs.together.unite_shares.Given as given
+use Rattle.meter_workers.proofs.together.unite_shares.Goals as goal
 
 pub finish-requires-clause-share : goal.finish-requires-clause-share
 finish-requires-clause-share g c κs within =
@@ -19,7 +19,7 @@ loop-share-init g c =
       many = omega (arith, longer _ _ _ is, c.in_ok-all.ensures.seats);
       tail = c.in_ok-all.ensures.tail;
       metered = λ answers have.
-          (let q = popped _ _ _ _ _ is have in (q.0, q.1, q.2, c.in_ok-all.ensures.gathered q.1 q.3, q.4));
+          (let q = popped _ _ _ _ _ is have in (q.0, q.1, q.2, c.in_ok-all.ensures.metered q.1 q.3, q.4));
     }
 
 pub finish-requires-in-Some-pop-clause-share : goal.finish-requires-in-Some-pop-clause-share
@@ -32,8 +32,8 @@ parted : (g : given.Over) (c : In_ok-one g) (answers : List Answer)
     → HaveDone (IsShareOf g.C.FlowCache c.args.cache.now) answers c.args.shares.items
     → (rest done list : List Answer)
     × HaveDone (IsShareOf g.C.FlowCache c.args.cache.now) rest c.pop-in-loop-share.new.self.items
-    × HasGathered g.C.FlowCache c.args.cache.now done c.loop-share.all
-    × HasGathered g.C.FlowCache c.args.cache.now list c.in_ok-one.one
+    × HasMetered g.C.FlowCache c.args.cache.now done c.loop-share.all
+    × HasMetered g.C.FlowCache c.args.cache.now list c.in_ok-one.one
     × IsPermutation answers (rest ++ (done ++ list))
 parted g c answers have =
     let m = c.loop-share.invariant.metered answers have in
@@ -43,7 +43,7 @@ parted g c answers have =
       q.1,
       q.2,
       m.3,
-      c.in_ok-one.ensures.gathered q.1 q.3,
+      c.in_ok-one.ensures.metered q.1 q.3,
       moved-back answers m.0 m.1 q.0 q.1 m.4 q.4,
     )
 
@@ -52,9 +52,9 @@ unite-requires-clause-seats g c κs within =
     let long = longer _ _ _ c.in-Some-pop.ensures.items in
     omega (arith, long, c.in_ok-one.ensures.seats, c.loop-share.invariant.many, c.requires.many.1)
 
-pub unite-requires-clause-gathered : goal.unite-requires-clause-gathered
-unite-requires-clause-gathered g c κs within =
-    let p = parted g (goal.at.unite-requires-clause-gathered g c).In_ok-one _ c.requires.metered.1 in (p.1, p.2, p.4, p.5)
+pub unite-requires-clause-metered : goal.unite-requires-clause-metered
+unite-requires-clause-metered g c κs within =
+    let p = parted g (goal.at.unite-requires-clause-metered g c).In_ok-one _ c.requires.metered.1 in (p.1, p.2, p.4, p.5)
 
 pub loop-share-preserved : goal.loop-share-preserved
 loop-share-preserved g c =
@@ -64,7 +64,7 @@ loop-share-preserved g c =
       many = omega (arith, both.seats, c.in_ok-one.ensures.seats, longer _ _ _ c.in-Some-pop.ensures.items, c.loop-share.invariant.many);
       tail = both.tail ∙ c.loop-share.invariant.tail;
       metered = λ answers have.
-          (let p = parted g at answers have in (p.0, p.1 ++ p.2, p.3, both.gathered p.1 p.2 p.4 p.5, p.6));
+          (let p = parted g at answers have in (p.0, p.1 ++ p.2, p.3, both.metered p.1 p.2 p.4 p.5, p.6));
     }
 
 pub returns-clause-metered : goal.returns-clause-metered

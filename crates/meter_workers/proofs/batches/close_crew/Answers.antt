@@ -10,9 +10,9 @@ use Rattle.work_pieces.proofs.Doing.{flat-flat, longer, one-more, told-each, reo
 use Rattle.batch_queue.specs.Uniting.{IsFirst, IsForAll, IsOther}
 use Rattle.batch_queue.proofs.Passing.{all-taken}
 use Rattle.batch_queue.proofs.Records.{all-answers}
-use Rattle.meter_workers.proofs.batches.gather.Goals.{In_ok-push-2}
-use Rattle.meter_workers.proofs.batches.gather.Given as given
-use Rattle.meter_workers.proofs.batches.gather.Goals as goal
+use Rattle.meter_workers.proofs.batches.close_crew.Goals.{In_ok-push-2}
+use Rattle.meter_workers.proofs.batches.close_crew.Given as given
+use Rattle.meter_workers.proofs.batches.close_crew.Goals as goal
 
 pub unseat_workers-requires : goal.unseat_workers-requires
 unseat_workers-requires g c = record { ended = λ k d inside. (c.requires.workers k d inside).0 }
@@ -61,14 +61,14 @@ all g c answers handed =
     reordered Has ((theirs ++ own) ++ left) answers _
     (all-answers answers own theirs (put_of first) drained.did.0 seats handed.all put are) have
 
-pub gather_all-requires-clause-metered : goal.gather_all-requires-clause-metered
-gather_all-requires-clause-metered g c κs within =
+pub unite_shares-requires-clause-metered : goal.unite_shares-requires-clause-metered
+unite_shares-requires-clause-metered g c κs within =
     let handed = c.requires.handed in
-    (handed.0, all g (goal.at.gather_all-requires-clause-metered g c).In_ok-push-2 handed.0 handed.1)
+    (handed.0, all g (goal.at.unite_shares-requires-clause-metered g c).In_ok-push-2 handed.0 handed.1)
 
 pub returns-clause-metered : goal.returns-clause-metered
 returns-clause-metered g c = λ answers handed.
-    c.gather_all.ensures.metered answers
+    c.unite_shares.ensures.metered answers
     (all g (goal.at.returns-clause-metered g c).In_ok-push-2 answers handed)
 
 pub returns-clause-own : goal.returns-clause-own
@@ -79,6 +79,6 @@ returns-clause-own g c =
     let two = longer _ _ _ c.in_ok-push-2.ensures.items in
     let had = ap length c.in_ok-shares.ensures.shares ∙ length-map ws (λ (w : W). w.share) in
     let all : length c.push-2.new.self.items ≡ length ws + 2 = omega (arith, one, two, had) in
-    subst (λ k. IfOk c.gather_all.result
+    subst (λ k. IfOk c.unite_shares.result
     (λ r. g.C.FlowCache.is_of c.args.cache.now r.pass × ((g.C.FlowCache.shown r.pass).note.seats ≡ k))) all
-    c.gather_all.ensures.own
+    c.unite_shares.ensures.own

@@ -5,7 +5,7 @@ use Rattle.cache_face.proofs.Apart.{snoc}
 use Rattle.pebr_words.specs.Opening.{slot_of}
 use Rattle.flow_cache.specs.Ending.{rows_at}
 use Rattle.flow_cache.specs.Places.{cache_shape}
-use Rattle.flow_cache.proofs.close.gather.Goals as goal
+use Rattle.flow_cache.proofs.close.fragments_in.Goals as goal
 
 pub loop-root-preserved : goal.loop-root-preserved
 loop-root-preserved c =

@@ -1,7 +1,7 @@
 use Rattle.std.proofs.lemmas.List.Sorted.{IsPermutation-sym}
 use Rattle.meter_io.specs.Sides.{side}
 use Rattle.meter_program.proofs.Metered.{read-and-kept}
-use Rattle.pipe_program.proofs.metering.meter_input.Goals as goal
+use Rattle.pipe_program.proofs.metering.meter_in_batches.Goals as goal
 
 pub close-requires-clause-handed : goal.close-requires-clause-handed
 close-requires-clause-handed g c =
