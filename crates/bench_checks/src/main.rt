@@ -6,11 +6,11 @@
 //!     bench_checks windows WORKERS WINDOW SETS < CAPTURE
 //!     bench_checks pace turn|pebr THREADS SETS < CAPTURE
 //!
-//! `threads` meters it by two threads through one cache of four sets, and tells whether the fragments are whole. `lists`
-//! looks at the lists of retired slots while workers meter and a watcher asks. `windows` meters it in windows, and
-//! neither gathers nor writes. `pace` tells the nanoseconds that a cache takes for a packet. A file for each says more.
-//! The status is 0; 1 where the capture isn't metered, what is checked doesn't hold, or the line can't be written; 2
-//! for other words.
+//! `threads` meters it by two threads through one cache of four sets, and tells whether the fragments are whole.
+//! `lists` looks at the lists of retired slots while workers meter and a watcher asks. `windows` meters it in windows,
+//! and neither gathers nor writes. `pace` tells the nanoseconds that a cache takes for a packet. A file for each says
+//! more. The status is 0; 1 where the capture isn't metered, what is checked doesn't hold, or the line can't be
+//! written; 2 for other words.
 #![tactic(auto)]
 
 mod asking;

@@ -1,5 +1,6 @@
 -- The fragments of some entries, of which one takes a fragment in or is emptied.
-use Rattle.std.proofs.Common.{◌≡◌, inl, inr, ℕ, zero, suc, ◌+◌, ◌*◌, ◌^◌, ◌<◌, ◌≤◌, List, [], ◌∷◌, ◌++◌, length, flat_map}
+use Rattle.std.proofs.Common.{◌≡◌, inl, inr, ℕ, zero, suc, ◌+◌, ◌*◌, ◌^◌, ◌<◌, ◌≤◌, List, [], ◌∷◌, ◌++◌, length}
+use Rattle.std.proofs.Common.{flat_map}
 use Rattle.std.proofs.Common.{Option, Some, None, IsNone, IfSome, option_to_list, set, refl, ap, sym, ◌∙◌, subst, arith}
 use Rattle.std.proofs.Common.{IsPermutation}
 use Rattle.std.proofs.lemmas.List.Concat.{flat_map-cons}
@@ -125,12 +126,14 @@ part_count : (entries : List (Option Fragment)) (place : ℕ) (old : Fragment) �
     → old.packets ≤ packet_count (parts_of entries)
 part_count [] place old is = (let none : None ≡ Some old = is in cc)
 part_count (entry ∷ entries) zero old is =
-    let sum : packet_count (parts_of (entry ∷ entries)) ≡ packet_count (listed entry) + packet_count (parts_of entries) =
+    let sum : packet_count (parts_of (entry ∷ entries)) ≡ packet_count (listed entry)
+    + packet_count (parts_of entries) =
     ap packet_count (flat_map-cons listed entry entries) ∙ sum_by-append count_of (listed entry) (parts_of entries) in
     let one : packet_count (listed entry) ≡ 0 + old.packets = ap (λ e. packet_count (listed e)) is in
     omega (arith, sum, one)
 part_count (entry ∷ entries) (suc place) old is =
-    let sum : packet_count (parts_of (entry ∷ entries)) ≡ packet_count (listed entry) + packet_count (parts_of entries) =
+    let sum : packet_count (parts_of (entry ∷ entries)) ≡ packet_count (listed entry)
+    + packet_count (parts_of entries) =
     ap packet_count (flat_map-cons listed entry entries) ∙ sum_by-append count_of (listed entry) (parts_of entries) in
     let next = part_count entries place old is in
     omega (arith, sum, next)

@@ -1,5 +1,6 @@
 -- A content of a key, and one that takes a fragment in.
-use Rattle.std.proofs.Common.{◌≡◌, ◌≢◌, inl, inr, ℕ, List, ◌∷◌, [], ◌++◌, Option, Some, None, MatchOption, get_or, set, take}
+use Rattle.std.proofs.Common.{◌≡◌, ◌≢◌, inl, inr, ℕ, List, ◌∷◌, [], ◌++◌, Option, Some, None, MatchOption, get_or, set}
+use Rattle.std.proofs.Common.{take}
 use Rattle.std.proofs.Common.{ap, sym, ◌∙◌, subst}
 use Rattle.flow_key.specs.declared.key.FlowKey.{FlowKey}
 use Rattle.flow_key.specs.Key.{words_of}

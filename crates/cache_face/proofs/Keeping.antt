@@ -164,7 +164,8 @@ all_borne limits taken taken' seen seen' is still borne =
     All-permutation (IsBorne limits taken') seen seen' (IsPermutation-sym seen' seen is)
     (All-weaker (IsBorne limits taken) (IsBorne limits taken') still seen borne)
 
-module _ (limits : Timeouts) (sets : ℕ) (contents : List (List ℕ)) (notes : List Note) (i : ℕ) (note : Note) (own : Fragment)
+module _ (limits : Timeouts) (sets : ℕ) (contents : List (List ℕ)) (notes : List Note) (i : ℕ) (note : Note)
+    (own : Fragment)
     (keeps : Keeps limits sets contents notes) (at : get_elem? notes i ≡ some note) (can : CanTake note own) where
   T : List Fragment
   T = taken_in notes
@@ -340,7 +341,8 @@ module _ (limits : Timeouts) (sets : ℕ) (contents : List (List ℕ)) (notes : 
         (ap (λ z. kept ∷ (R ++ z)) (sym (ap (λ z. H ++ option_to_list z) none_out ∙ append-nil H))))
 
 pub keeps_passed : KeepsPassed
-keeps_passed limits sets contents notes i note own keeps at can = passed limits sets contents notes i note own keeps at can
+keeps_passed limits sets contents notes i note own keeps at can =
+    passed limits sets contents notes i note own keeps at can
 
 pub joins_in : (limits : Timeouts) (own kept : Fragment) (entry : Option Fragment)
     → MatchOption entry ⊥ (λ old. IsJoinable limits old own × IsJoined old own kept)
@@ -402,7 +404,8 @@ keeps_opening limits sets contents notes many empty idle few = record {
 }
 
 -- notes that took the same fragments and were handed the same keep alike
-alike : (limits : Timeouts) (sets : ℕ) (contents : List (List ℕ)) (notes notes' : List Note) → Keeps limits sets contents notes
+alike : (limits : Timeouts) (sets : ℕ) (contents : List (List ℕ)) (notes notes' : List Note)
+    → Keeps limits sets contents notes
     → IsPermutation (taken_in notes') (taken_in notes) → IsPermutation (handed_in notes') (handed_in notes)
     → IsPermutation (seen_in notes') (seen_in notes)
     → sum_by seats_of notes' ≤ 64 → All IsWithin notes'
@@ -523,7 +526,8 @@ keeps_seen limits sets contents notes i note part keeps at borne =
     let after : Note = note_seeing note part in
     let notes' : List Note = set notes i after in
     let taken : IsPermutation (taken_in notes') (taken_in notes) = kept_pieces taken_of notes i note after at refl in
-    let handed : IsPermutation (handed_in notes') (handed_in notes) = kept_pieces handed_of notes i note after at refl in
+    let handed : IsPermutation (handed_in notes') (handed_in notes) =
+    kept_pieces handed_of notes i note after at refl in
     let still : (other : Fragment) → IsBorne limits (taken_in notes) other → IsBorne limits (taken_in notes') other =
     λ other. borne_same limits (taken_in notes) (taken_in notes') other taken in
     let s = sum_anew seats_of notes i note after at in

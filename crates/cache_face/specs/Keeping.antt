@@ -69,8 +69,8 @@ pub record IsWithin (note : Note) : Type 0 where
 
 -- What a cache of so many sets keeps. It has four contents for each set; each content is whole, and what it shows is of
 -- the set that it lies in. The contents that aren't empty and all fragments that were handed out are reached from all
--- that were put in, and what was seen is borne out by these. There are at most 64 seats, and each note is within bounds;
--- so all have at most 2^38 packets and fewer than 2^62 octets.
+-- that were put in, and what was seen is borne out by these. There are at most 64 seats, and each note is within
+-- bounds; so all have at most 2^38 packets and fewer than 2^62 octets.
 pub record Keeps (limits : Timeouts) (sets : ℕ) (contents : List (List ℕ)) (notes : List Note) : Type 0 where
   pub four : length contents ≡ 4 * sets
   pub whole : All IsWhole contents

@@ -1,5 +1,6 @@
 -- Laws by which a cache keeps what it keeps.
-use Rattle.std.specs.Prelude.{◌≡◌, ◌≢◌, ℕ, suc, ◌+◌, ◌*◌, ◌≤◌, ◌^◌, List, [], ◌∷◌, ◌++◌, length, sum_by, All, Option, Some}
+use Rattle.std.specs.Prelude.{◌≡◌, ◌≢◌, ℕ, suc, ◌+◌, ◌*◌, ◌≤◌, ◌^◌, List, [], ◌∷◌, ◌++◌, length, sum_by, All, Option}
+use Rattle.std.specs.Prelude.{Some}
 use Rattle.std.specs.Prelude.{slice_set}
 use mathlib.Core.Option.{some}
 use lib.ListN.{get_elem?}
@@ -27,7 +28,8 @@ IsUnused note = (note.taken ≡ []) × (note.handed ≡ []) × (note.seen ≡ []
 -- Empty contents, four for each set, and notes of at most 64 seats that have done nothing keep.
 abbrev pub KeepsOpening : Type 0
 KeepsOpening = (limits : Timeouts) (sets : ℕ) (contents : List (List ℕ)) (notes : List Note)
-    → length contents ≡ 4 * sets → All IsEmptyContent contents → All IsUnused notes → sum_by (λ (note : Note). note.seats) notes ≤ 64
+    → length contents ≡ 4 * sets → All IsEmptyContent contents → All IsUnused notes
+    → sum_by (λ (note : Note). note.seats) notes ≤ 64
     → Keeps limits sets contents notes
 
 -- A seat of an unused note gets a note of its own.
@@ -44,7 +46,8 @@ KeepsMerged = (limits : Timeouts) (sets : ℕ) (contents : List (List ℕ)) (not
 
 -- A fragment is put into a content of the set of its key: the words are its entry's afterwards, and the note grows.
 abbrev pub KeepsTaken : Type 0
-KeepsTaken = (limits : Timeouts) (sets : ℕ) (contents : List (List ℕ)) (notes : List Note) (place i : ℕ) (content : List ℕ)
+KeepsTaken = (limits : Timeouts) (sets : ℕ) (contents : List (List ℕ)) (notes : List Note) (place i : ℕ)
+    (content : List ℕ)
     (note : Note) (own kept : Fragment) (out : Option Fragment)
     → Keeps limits sets contents notes → get_elem? contents place ≡ some content → get_elem? notes i ≡ some note
     → CanTake note own → IsInSet sets place own → Takes limits own (entry_of content) out kept
@@ -52,13 +55,15 @@ KeepsTaken = (limits : Timeouts) (sets : ℕ) (contents : List (List ℕ)) (note
 
 -- A fragment is handed out as it is: the note grows alone.
 abbrev pub KeepsPassed : Type 0
-KeepsPassed = (limits : Timeouts) (sets : ℕ) (contents : List (List ℕ)) (notes : List Note) (i : ℕ) (note : Note) (own : Fragment)
+KeepsPassed = (limits : Timeouts) (sets : ℕ) (contents : List (List ℕ)) (notes : List Note) (i : ℕ) (note : Note)
+    (own : Fragment)
     → Keeps limits sets contents notes → get_elem? notes i ≡ some note → CanTake note own
     → Keeps limits sets contents (slice_set notes i (note_with note own (Some own)))
 
 -- An entry that is borne out is seen: the note grows alone.
 abbrev pub KeepsSeen : Type 0
-KeepsSeen = (limits : Timeouts) (sets : ℕ) (contents : List (List ℕ)) (notes : List Note) (i : ℕ) (note : Note) (part : Fragment)
+KeepsSeen = (limits : Timeouts) (sets : ℕ) (contents : List (List ℕ)) (notes : List Note) (i : ℕ) (note : Note)
+    (part : Fragment)
     → Keeps limits sets contents notes → get_elem? notes i ≡ some note → IsBorne limits (taken_in notes) part
     → Keeps limits sets contents (slice_set notes i (note_seeing note part))
 

@@ -22,7 +22,8 @@ pub record Written : Type 0 where
   pub place : ℕ
   pub kept : Fragment
 
--- A pass: what it has done, the set that its last try read, the four entries that it read there, and what it wrote last.
+-- A pass: what it has done, the set that its last try read, the four entries that it read there, and what it wrote
+-- last.
 pub record PassMeans : Type 0 where
   pub note : Note
   pub set : ℕ

@@ -64,7 +64,8 @@ pub trait FlowCache: Sync + Drop {
         requires octets { packet.now.octets < 2 ^ 24 }
         requires room { packet_count (shown pass.old).note.taken < 2 ^ 32 }
         ensures own { is_of self.now pass.new }
-        ensures metered { IsMetered (means self.now) (shown pass.old) (shown pass.new) packet.now result.how result.out }
+        ensures metered { IsMetered (means self.now) (shown pass.old) (shown pass.new) packet.now
+            result.how result.out }
         ensures lost { HasLost (is_try_of (set_number packet.now.key (means self.now).sets)) result.how (lost pass.old)
             (lost pass.new) }
     {

@@ -139,9 +139,9 @@ fn join_entry(timeouts: &Timeouts, entry: &Option<Fragment>, own: &Fragment) -> 
     }
 }
 
-/// Puts a fragment into one of a set's entries: the lowest one that can be one with it takes it in; else the lowest one of
-/// its key is put out and opened anew; else the lowest empty one is opened; else the one with the least last time, the
-/// lowest among equals, is put out and opened anew.
+/// Puts a fragment into one of a set's entries: the lowest one that can be one with it takes it in; else the lowest one
+/// of its key is put out and opened anew; else the lowest empty one is opened; else the one with the least last time,
+/// the lowest among equals, is put out and opened anew.
 pub fn choose(timeouts: Timeouts, entries: &[Option<Fragment>], own: Fragment) -> Choice
     requires some { 0 < length entries.now }
     requires entries { All IsSmallEntry entries.now }

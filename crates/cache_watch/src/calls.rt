@@ -7,7 +7,8 @@ ghost use Rattle.flow_cache.specs.Shown.{means_of, shown_of, tries_of};
 ghost use Rattle.flow_key.specs.Key.{set_number};
 ghost use Rattle.pebr_words.specs.Pasts.{was_ejected};
 ghost use Rattle.pebr_roots.specs.Orders.{HasMade};
-ghost use Rattle.cache_watch.specs.Watching.{IsOf, IsWatched, HasRead, held_by, slot_held_by, note_of, past_of, lost_of};
+ghost use Rattle.cache_watch.specs.Watching.{IsOf, IsWatched, HasRead, held_by, slot_held_by, note_of, past_of};
+ghost use Rattle.cache_watch.specs.Watching.{lost_of};
 ghost use Rattle.cache_watch.specs.Watching.{operations_of};
 ghost use Rattle.cache_watch.specs.Holding.{note_seen};
 

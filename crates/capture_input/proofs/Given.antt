@@ -1,5 +1,6 @@
 -- A capture that is read part by part: from one part to the next.
-use Rattle.std.proofs.Common.{◌≡◌, ◌⊎◌, ℕ, ◌+◌, ◌-◌, ◌^◌, ◌≤◌, ◌<◌, List, [], ◌++◌, length, drop, None, Result, Err, refl, sym, ap}
+use Rattle.std.proofs.Common.{◌≡◌, ◌⊎◌, ℕ, ◌+◌, ◌-◌, ◌^◌, ◌≤◌, ◌<◌, List, [], ◌++◌, length, drop, None, Result, Err}
+use Rattle.std.proofs.Common.{refl, sym, ap}
 use Rattle.std.proofs.Common.{◌∙◌, subst, arith, true}
 use Rattle.std.specs.Prelude.{Option, IfErr, IfOk, Ok}
 use Rattle.std.specs.Option.{option_map}
@@ -117,7 +118,8 @@ filled-again before left left' limit reading reading' answers kept got h given k
       given = Consumes-trans _ _ _ _ _ h.given given;
       at = subst (λ (d : Head). IsAt d reading'.input.window.bytes 0 reading'.input.taken h.file got) (sym head)
           (subst (λ (l : List ℕ). IsAt reading.head l 0 reading'.input.taken h.file got) (sym bytes)
-          (at-filled reading.head kept got reading.input.taken reading'.input.taken h.file h.sound (kept_is ∙ h.rest) h.count
+          (at-filled reading.head kept got reading.input.taken reading'.input.taken h.file h.sound
+          (kept_is ∙ h.rest) h.count
           taken));
       limit_is = limit_is ∙ h.limit_is;
       within = (let e = h.limit_is in omega (arith, within, limit_is, e));

@@ -36,7 +36,8 @@ left_in reading = reading.input.limit - reading.input.taken + cond reading.input
 -- The source gave a beginning of an undamaged capture so far, at most so many bytes, `before` being what it had left at
 -- first. These are the answers to its records, all of which were given in parts; the next part begins with what is left
 -- behind them, where the window has it.
-pub record HasGiven (before left : Option (List ℕ)) (limit : ℕ) (reading : Reading) (answers : List Answer) : Type 0 where
+pub record HasGiven (before left : Option (List ℕ)) (limit : ℕ) (reading : Reading) (answers : List Answer)
+    : Type 0 where
   pub file : CaptureFile
   pub are : answers ≡ answers_of file
   pub given : Consumes before left file.bytes
@@ -55,7 +56,8 @@ pub record HasGiven (before left : Option (List ℕ)) (limit : ℕ) (reading : R
   pub records : reading.base + reading.count ≡ length (records_of file)
 
 -- The same, where the window was filled again: it begins with what is left, and goes on.
-pub record HasFilled (before left : Option (List ℕ)) (limit : ℕ) (reading : Reading) (answers : List Answer) : Type 0 where
+pub record HasFilled (before left : Option (List ℕ)) (limit : ℕ) (reading : Reading) (answers : List Answer)
+    : Type 0 where
   pub file : CaptureFile
   pub more : List ℕ
   pub are : answers ≡ answers_of file

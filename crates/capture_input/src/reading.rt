@@ -36,8 +36,8 @@ impl Reading {
     /// Reads the first part of a capture, in a window of `size` bytes (262,184 to 2^27), and its index. At most `limit`
     /// bytes may come, and at most 2^30.
     ///
-    /// Refusals in the order of [`MeterFault`]: where the input is no capture, of an unknown link type or damaged, it is
-    /// read to its end first, so that `Failed` and `TooLarge` keep their place. `NoMemory` may come at any time.
+    /// Refusals in the order of [`MeterFault`]: where the input is no capture, of an unknown link type or damaged, it
+    /// is read to its end first, so that `Failed` and `TooLarge` keep their place. `NoMemory` may come at any time.
     pub fn begin<S: Source>(
         alloc: Global,
         source: &mut S,
@@ -91,7 +91,8 @@ impl Reading {
             (answers ++ answers_from (base_in r.0) (part_in r.0))) }
         ensures refused { (before : Option (List ℕ)) (limit : ℕ) (answers : List Answer)
             → HasFilled before (S.left source.old) limit self answers
-            → IfErr result (λ fault. IsRefused (side_from before (side S.left S.faults source.old source.new)) limit fault) }
+            → IfErr result (λ fault. IsRefused (side_from before (side S.left S.faults source.old source.new))
+            limit fault) }
         ensures faults { HasFaults (side S.left S.faults source.old source.new) result }
     {
         parts_law();
@@ -142,7 +143,8 @@ impl Reading {
             (answers ++ answers_from (base_in r.0) (part_in r.0))) }
         ensures refused { (before : Option (List ℕ)) (limit : ℕ) (answers : List Answer)
             → HasGiven before (S.left source.old) limit self answers
-            → IfErr result (λ fault. IsRefused (side_from before (side S.left S.faults source.old source.new)) limit fault) }
+            → IfErr result (λ fault. IsRefused (side_from before (side S.left S.faults source.old source.new))
+            limit fault) }
         ensures faults { HasFaults (side S.left S.faults source.old source.new) result }
     {
         let mut reading = self;

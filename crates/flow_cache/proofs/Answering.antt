@@ -39,7 +39,8 @@ lost_at limits seats set at past own count by out old new lost lost' tries outco
   many = subst (IsTryCount by) (sym tries.many) (try_count limits seats set past own count by out outcome);
 }
 
-module _ (cache : CacheMeans) (pass : PassMeans) (past : History) (own : Fragment) (out : Option Fragment) (at count : ℕ)
+module _ (cache : CacheMeans) (pass : PassMeans) (past : History) (own : Fragment) (out : Option Fragment)
+    (at count : ℕ)
     (set_is : at ≡ set_number own.key cache.sets) (set_shown : pass.set ≡ set_read past.loads)
     (entries_shown : pass.entries ≡ entries_read past (set_read past.loads))
     (written_shown : pass.written ≡ written_in past.put) where

@@ -1,5 +1,6 @@
 -- What the pass for all seats has at the end.
-use Rattle.std.proofs.Common.{◌≡◌, ◌≢◌, ℕ, zero, suc, ◌<◌, List, ◌++◌, All, Result, Ok, Err, OnOk, set, replicate, refl, sym, ap, subst, arith}
+use Rattle.std.proofs.Common.{◌≡◌, ◌≢◌, ℕ, zero, suc, ◌<◌, List, ◌++◌, All, Result, Ok, Err, OnOk, set, replicate, refl}
+use Rattle.std.proofs.Common.{sym, ap, subst, arith}
 use mathlib.Core.Option.{some, some-injective, some-ne-none}
 use lib.ListN.{get_elem?}
 use Rattle.flow_parts.specs.declared.timeouts.Timeouts.{Timeouts}

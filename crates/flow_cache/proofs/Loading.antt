@@ -13,7 +13,8 @@ use Rattle.pebr_roots.specs.Under.{slot_at}
 use Rattle.flow_cache.specs.Places.{root_of, set_of_root}
 use Rattle.flow_cache.specs.Trying.{AreLoaded}
 
-shown_here : (loads : List Load) (root slot : ℕ) → shown_at (record { root = root; slot = slot } ∷ loads) root ≡ Some slot
+shown_here : (loads : List Load) (root slot : ℕ)
+    → shown_at (record { root = root; slot = slot } ∷ loads) root ≡ Some slot
 shown_here loads root slot = grind (arith, common_steps)
 
 shown_else : (loads : List Load) (root slot other : ℕ) → root ≢ other

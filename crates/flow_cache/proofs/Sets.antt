@@ -1,5 +1,6 @@
 -- The entries of a set, and the content that is put in place of one.
-use Rattle.std.proofs.Common.{◌≡◌, ℕ, zero, suc, ◌+◌, ◌/◌, ◌<◌, ◌≤◌, Bool, true, false, List, [], ◌∷◌, ◌++◌, length, map}
+use Rattle.std.proofs.Common.{◌≡◌, ℕ, zero, suc, ◌+◌, ◌/◌, ◌<◌, ◌≤◌, Bool, true, false, List, [], ◌∷◌, ◌++◌, length}
+use Rattle.std.proofs.Common.{map}
 use Rattle.std.proofs.Common.{set, Option, Some, None, refl, sym, ap, ◌∙◌, subst, arith}
 use Rattle.std.specs.Prelude.{◌==◌, ◌%◌, option_map, slice_index, if◌then◌else◌, filter_map}
 use Rattle.std.specs.List.{range_with_len, cons_option}
@@ -180,7 +181,8 @@ pub can_replace : (limits : Timeouts) (sets set_at place : ℕ) (shape : Shape) 
     → place < 4 → shape.width ≡ 10 → HasTen past.reads slot
     → ((word : ℕ) → word < 10 → written_at past.written fresh word ≡ Some (slice_index (part_words kept) word))
     → IsOwn sets set_at note own → Takes limits own (entry_of (words_read past.reads slot)) out kept
-    → CanReplace (Keeps limits sets) IsWhole (AreBacking limits) shape past number (root_of set_at place) slot fresh note
+    → CanReplace (Keeps limits sets) IsWhole (AreBacking limits) shape past number (root_of set_at place)
+    slot fresh note
     (note_with note own out)
 can_replace limits sets set_at place shape past number slot fresh note own kept out low width ten filled owned takes
     contents notes from to keeps at at' long long' read written =

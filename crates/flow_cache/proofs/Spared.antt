@@ -1,5 +1,6 @@
 -- How often a pass collects: steps that neither note the epoch alone nor pin alone, and what it does before a try.
-use Rattle.std.proofs.Common.{◌≡◌, ◌≢◌, ◌<◌, ◌≤◌, ◌+◌, ◌∷◌, ℕ, Bool, true, false, List, Some, refl, sym, ◌∙◌, subst, arith}
+use Rattle.std.proofs.Common.{◌≡◌, ◌≢◌, ◌<◌, ◌≤◌, ◌+◌, ◌∷◌, ℕ, Bool, true, false, List, Some, refl, sym, ◌∙◌, subst}
+use Rattle.std.proofs.Common.{arith}
 use Rattle.std.specs.Prelude.{if◌then◌else◌}
 use mathlib.Core.Logic.{dite}
 use native.Mathlib.Decide.{ℕ_discrete, dec_le}
@@ -82,7 +83,8 @@ begun_on shape me known past old mid new n h more = record {
 
 -- what is collected before the first try, by how many slots are retired then, and how many are fresh behind the first
 -- collection
-pub collects_from : (shape : Shape) (me : ℕ) (known : Seat) (fresh : ℕ) (old mid new : History) (x y z : List Op) (n : ℕ)
+pub collects_from : (shape : Shape) (me : ℕ) (known : Seat) (fresh : ℕ) (old mid new : History)
+    (x y z : List Op) (n : ℕ)
     → (32 ≤ retired_count known → HasCollected 1 old mid)
     → (32 ≤ retired_count known → HasBegun shape me known old x y)
     → (retired_count known < 32 → HasCollected 0 old mid × (y ≡ x)) → (fresh ≡ 0 → HasCollected 1 mid new)

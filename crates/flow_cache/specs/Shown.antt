@@ -9,7 +9,8 @@ use Rattle.pebr_core.specs.declared.kinds.Shape.{Shape}
 use Rattle.pebr_table.specs.Operations.{Op}
 use Rattle.pebr_words.specs.Pasts.{Lost, was_ejected, found_other, Ejection, History}
 use Rattle.pebr_roots.specs.Passes as roots
-use Rattle.pebr_roots.specs.Passes.{shape_at, known_by, number_by, note_by, past_by, lost_by, operations_by, count_by_pass}
+use Rattle.pebr_roots.specs.Passes.{shape_at, known_by, number_by, note_by, past_by, lost_by, operations_by}
+use Rattle.pebr_roots.specs.Passes.{count_by_pass}
 use Rattle.pebr_roots.specs.Passes.{IsUnitedPass}
 use Rattle.pebr_roots.specs.declared.pass.RootPass.{RootPass}
 use Rattle.pebr_roots.specs.declared.pass.Roots.{Roots}

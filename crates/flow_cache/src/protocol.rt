@@ -28,8 +28,8 @@ pub struct CacheFixed {
 }
 
 /// The contents of the roots are entries of a cache. They and all fragments that were handed out are reached from all
-/// that were put in, whatever the threads do in turn; and so, with some others, is the fragment that any slot shows which
-/// no pass has fresh.
+/// that were put in, whatever the threads do in turn; and so, with some others, is the fragment that any slot shows
+/// which no pass has fresh.
 pub struct CacheRule;
 
 impl RootProtocol for CacheRule {
@@ -60,6 +60,6 @@ impl RootProtocol for CacheRule {
     ghost unites = { λ fixed contents notes i j a b kept apart at at'. keeps_merged fixed.timeouts fixed.sets contents
         notes i j a b kept apart at at' };
 
-    ghost backs = { λ fixed notes content i j a b backing apart at at'. backs_merged fixed.timeouts notes content i j a b
-        backing apart at at' };
+    ghost backs = { λ fixed notes content i j a b backing apart at at'. backs_merged fixed.timeouts notes content i j
+        a b backing apart at at' };
 }

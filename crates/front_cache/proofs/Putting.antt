@@ -96,7 +96,8 @@ module _ (limits : Timeouts) (old new : List (List ℕ)) (next next' first : ℕ
     emptied = λ other below.
         subst (λ (es : List (Option Fragment)). IsNone (entry_at es other)) (sym anew_is)
         (subst IsNone
-        (sym (get_or-set_other (map entry_of old) place other (Some put.kept) None (λ e. omega (arith, e, below, above))))
+        (sym (get_or-set_other (map entry_of old) place other (Some put.kept) None
+        (λ e. omega (arith, e, below, above))))
         (keeps.emptied other (omega (arith, below, less))));
   }
 

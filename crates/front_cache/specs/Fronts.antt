@@ -9,7 +9,8 @@ use Rattle.flow_parts.specs.Parts.{IsAlone}
 use Rattle.cache_face.specs.declared.metered.How.{How}
 use Rattle.cache_face.specs.Choice.{IsChoice, entry_at}
 
--- A front: the time-outs by which its fragments' heaps go, and its entries, two for each place, a place after the other.
+-- A front: the time-outs by which its fragments' heaps go, and its entries, two for each place, a place after the
+-- other.
 pub record FrontMeans : Type 0 where
   pub limits : Timeouts
   pub entries : List (Option Fragment)
@@ -30,8 +31,8 @@ place_of key = set_number key 2048
 abbrev pub entries_of : List (Option Fragment) → ℕ → List (Option Fragment)
 entries_of entries place = entry_at entries (2 * place) ∷ entry_at entries (2 * place + 1) ∷ []
 
--- A packet was taken in: its own fragment was put in by the choice over the two entries of its key's place. What was put
--- out leaves the front, and of all entries the chosen one alone was written.
+-- A packet was taken in: its own fragment was put in by the choice over the two entries of its key's place. What was
+-- put out leaves the front, and of all entries the chosen one alone was written.
 pub record IsTakenIn (old new : FrontMeans) (packet : Packet) (out : Option Fragment) : Type 0 where
   pub own : Fragment
   pub alone : IsAlone packet own

@@ -1,6 +1,7 @@
 //! The two contents of a place, each ten words that show an entry.
 
-ghost use Rattle.std.specs.Prelude.{◌≡◌, ◌↔◌, ◌+◌, ◌<◌, ℕ, [], ◌∷◌, All, IsTrue, MatchOption, None, length, slice_index_or};
+ghost use Rattle.std.specs.Prelude.{◌≡◌, ◌↔◌, ◌+◌, ◌<◌, ℕ, [], ◌∷◌, All, IsTrue, MatchOption, None, length};
+ghost use Rattle.std.specs.Prelude.{slice_index_or};
 ghost use Rattle.std.specs.Bool.{OnTrue, OnFalse};
 ghost use Rattle.std.specs.Prelude.{IfNone, IfSome};
 ghost use Rattle.flow_key.specs.Key.{words_of};
@@ -16,8 +17,8 @@ use cache_choice::{has_words, join_content, put_out};
 use cache_face::How;
 use flow_parts::{Fragment, Timeouts};
 
-/// Takes a fragment into the content where it can be one with the fragment that this shows, and tells whether it did. Of
-/// the ten words the five behind the key change.
+/// Takes a fragment into the content where it can be one with the fragment that this shows, and tells whether it did.
+/// Of the ten words the five behind the key change.
 #[inline(always)]
 fn take_into(timeouts: &Timeouts, content: &mut [u64; 10], words: &[u64; 5], own: &Fragment) -> bool
     requires whole { IsWhole content.old }

@@ -1,6 +1,7 @@
 //! The front.
 
-ghost use Rattle.std.specs.Prelude.{◌≡◌, ◌+◌, ◌*◌, ◌<◌, ◌≤◌, ◌^◌, ℕ, [], ◌∷◌, ◌++◌, length, map, All, Option, Some, List};
+ghost use Rattle.std.specs.Prelude.{◌≡◌, ◌+◌, ◌*◌, ◌<◌, ◌≤◌, ◌^◌, ℕ, [], ◌∷◌, ◌++◌, length, map, All, Option, Some};
+ghost use Rattle.std.specs.Prelude.{List};
 ghost use Rattle.std.specs.Prelude.{None, IsNone, IsSome, IfSome, IfOk, option_to_list, slice_set, slice_index_or};
 ghost use Rattle.flow_key.specs.Key.{words_of};
 ghost use Rattle.packet_accept.specs.declared.packet.Packet.{Packet};
@@ -77,7 +78,8 @@ fn next_open(contents: &[[u64; 10]], next: usize) -> usize
 fn take_content(contents: &mut [[u64; 10]], place: usize) -> Option<Fragment>
     requires { place < length contents.old }
     ensures shown { result ≡ entry_of (slice_index_or contents.old place []) }
-    ensures emptied { (content : List ℕ) × IsEmptyContent content × (contents.new ≡ slice_set contents.old place content) }
+    ensures emptied { (content : List ℕ) × IsEmptyContent content
+        × (contents.new ≡ slice_set contents.old place content) }
 {
     let out = put_out(How::Replaced, &contents[place]);
     contents[place] = [0; 10];
@@ -105,9 +107,9 @@ impl Front {
 
     /// Takes a packet in, and gives the fragment that leaves for it, if one does.
     ///
-    /// Of the two entries of the place of the packet's key, the lowest that the packet's own fragment is joinable with takes
-    /// it in; else the lowest entry of the key leaves, and is opened anew; else the lowest empty one is opened; else the one
-    /// with the least last time, the lowest among equals, leaves and is opened anew.
+    /// Of the two entries of the place of the packet's key, the lowest that the packet's own fragment is joinable with
+    /// takes it in; else the lowest entry of the key leaves, and is opened anew; else the lowest empty one is opened;
+    /// else the one with the least last time, the lowest among equals, leaves and is opened anew.
     #[inline]
     pub fn take_in(&mut self, packet: &Packet) -> Option<Fragment>
         requires octets { packet.now.octets < 2 ^ 24 }
@@ -127,7 +129,8 @@ impl Front {
         out
     }
 
-    /// Takes the next open fragment out: place by place, the first entry before the second. `None` where nothing is open.
+    /// Takes the next open fragment out: place by place, the first entry before the second. `None` where nothing is
+    /// open.
     pub fn take_out(&mut self) -> Option<Fragment>
         ensures limits { self.new.limits ≡ self.old.limits }
         ensures taken { open_in self.old ≡ option_to_list result ++ open_in self.new }

@@ -1,5 +1,6 @@
 -- The flow records of the records that were taken so far.
-use Rattle.std.proofs.Common.{◌≡◌, ◌≢◌, ◌<◌, ℕ, zero, suc, Bool, true, false, List, [], ◌∷◌, ◌++◌, length, get_or, Option, Some}
+use Rattle.std.proofs.Common.{◌≡◌, ◌≢◌, ◌<◌, ℕ, zero, suc, Bool, true, false, List, [], ◌∷◌, ◌++◌, length, get_or}
+use Rattle.std.proofs.Common.{Option, Some}
 use Rattle.std.proofs.Common.{None, Ok, option_map, refl, sym, ap, subst, ◌∙◌, arith, append_assoc, length-append}
 use Rattle.std.specs.Option.{option_and_then}
 use Rattle.std.specs.Result.{result_ok}
@@ -38,7 +39,8 @@ together first rest one others first_is rest_are = rw (first_is, rest_are) refl
 
 -- one flow record more
 pub flows-more : (records : List DataRecord) (flows : List FlowRecord) (one : DataRecord) (found : FlowRecord)
-    → flows_in records ≡ Some flows → flow one ≡ Some found → flows_in (records ++ one ∷ []) ≡ Some (flows ++ found ∷ [])
+    → flows_in records ≡ Some flows → flow one ≡ Some found → flows_in (records ++ one ∷ [])
+    ≡ Some (flows ++ found ∷ [])
 flows-more [] flows one found are is =
     together (flow one) (Some []) found [] is refl
     ∙ ap (λ (fs : List FlowRecord). Some (fs ++ found ∷ [])) (same_flows [] flows are)
@@ -49,13 +51,15 @@ flows-more (x ∷ xs) flows one found are is =
     ∙ ap (λ (fs : List FlowRecord). Some (fs ++ found ∷ [])) p.whole
 
 -- another record behind them
-pub flows-other : (records : List DataRecord) (flows : List FlowRecord) (one : DataRecord) → flows_in records ≡ Some flows
+pub flows-other : (records : List DataRecord) (flows : List FlowRecord) (one : DataRecord)
+    → flows_in records ≡ Some flows
     → flow one ≡ None → HasFlows flows true (records ++ one ∷ [])
 flows-other records flows one are is =
     record { front = records; one = one; behind = []; whole = refl; flows_are = are; other = is }
 
 -- and any behind that one
-pub flows-behind : (records : List DataRecord) (flows : List FlowRecord) (one : DataRecord) → HasFlows flows true records
+pub flows-behind : (records : List DataRecord) (flows : List FlowRecord) (one : DataRecord)
+    → HasFlows flows true records
     → HasFlows flows true (records ++ one ∷ [])
 flows-behind records flows one begun = record {
   front = begun.front;

@@ -178,7 +178,8 @@ module _ (walk : WalkState) (front bytes : List ℕ) (size : ℕ) (before : List
         let so_far = read.place in
         at_is ∙ omega (arith, length-append front message, long);
     onward = λ more. ap decode (append_assoc front message more) ∙ with_more more
-        ∙ ap (λ r. records_in (r >>= λ k. stream_messages k (record { at = walk.at + length message; bytes = more }))) ok
+        ∙ ap (λ r. records_in (r >>= λ k. stream_messages k
+        (record { at = walk.at + length message; bytes = more }))) ok
         ∙ ap (λ n. records_in (stream_messages (progress_of next.templates after next.sequences)
         (record { at = n; bytes = more }))) (ap (λ n. walk.at + n) long ∙ sym at_is);
   }
@@ -214,7 +215,8 @@ nothing-read = record { place = refl; onward = λ more. refl }
 -- ---- message by message
 
 -- what was read of a piece, and what is left of it
-pub record HasWalked (has has_now : List DataRecord → Type 0) (walk now : WalkState) (piece rest : List ℕ) : Type 0 where
+pub record HasWalked (has has_now : List DataRecord → Type 0) (walk now : WalkState) (piece rest : List ℕ)
+    : Type 0 where
   pub done : List ℕ
   pub whole : piece ≡ done ++ rest
   pub place : now.at ≡ walk.at + length done

@@ -7,8 +7,8 @@
 //!
 //! [`StreamWalk`] reads a stream that comes in pieces, message by message, and holds no bytes of it.
 //!
-//! [`read_into`] keeps no data record: each is taken as it is read, by a [`RecordTaker`]. [`flow_of`] is the flow record
-//! that a data record is, where it is one, and [`read_flows`] gives those of a stream, by such a taker.
+//! [`read_into`] keeps no data record: each is taken as it is read, by a [`RecordTaker`]. [`flow_of`] is the flow
+//! record that a data record is, where it is one, and [`read_flows`] gives those of a stream, by such a taker.
 //!
 //! A [`Cursor`](cursor::Cursor) is a part of the stream with its offset; each layer reads from one, and nothing is
 //! copied but the values.

@@ -43,8 +43,8 @@ pub fn read_stream(alloc: Global, bytes: &[u8]) -> Result<Vec<DataRecord>, Strea
     }
 }
 
-/// Reads a stream as [`read_stream`] does, but keeps none of its data records: each is taken as soon as it is read, also
-/// where a fault is met behind it.
+/// Reads a stream as [`read_stream`] does, but keeps none of its data records: each is taken as soon as it is read,
+/// also where a fault is met behind it.
 ///
 /// The errors are those of [`read_stream`]; no clause says what the taker then has.
 pub fn read_into<T: RecordTaker>(

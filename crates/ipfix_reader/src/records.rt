@@ -61,7 +61,8 @@ fn read_template<'a>(
     Ok(rest)
 }
 
-/// Reads the records of a data set of this template, and tells how many there are; each is taken behind those before it.
+/// Reads the records of a data set of this template, and tells how many there are; each is taken behind those before
+/// it.
 pub fn read_data<T: RecordTaker>(
     alloc: Global,
     domain: u32,

@@ -35,8 +35,8 @@ impl Model for StreamWalk {
     ghost view = { λ walk. record { templates = walk.table; sequences = walk.sequences; at = walk.at } };
 }
 
-/// The size of the message at the front of some bytes, where it is whole, and that of a header where it claims less than
-/// a header; 0 where neither is there.
+/// The size of the message at the front of some bytes, where it is whole, and that of a header where it claims less
+/// than a header; 0 where neither is there.
 fn front_size(bytes: &[u8]) -> usize
     ensures front { 0 < result → IsFront result bytes.now }
     ensures none { result ≡ 0 → length bytes.now < 65535 }
@@ -77,8 +77,10 @@ impl StreamWalk {
             → T.has_taken taker.old before → (after : List DataRecord) × T.has_taken taker.new after
             × HasRead (front ++ take size bytes.now) after self.new) }
         ensures place { OnOk result (self.new.at ≡ self.old.at + size) }
-        ensures fault { IfErr result (λ error. (front : List ℕ) (before : List DataRecord) → HasRead front before self.old
-            → T.has_taken taker.old before → (more : List ℕ) → IsFaultOf (decode (front ++ (bytes.now ++ more))) error) }
+        ensures fault { IfErr result (λ error. (front : List ℕ) (before : List DataRecord)
+            → HasRead front before self.old
+            → T.has_taken taker.old before → (more : List ℕ)
+            → IsFaultOf (decode (front ++ (bytes.now ++ more))) error) }
     {
         let (message, _) = bytes.split_at(size);
         let at = self.at;
@@ -103,14 +105,17 @@ impl StreamWalk {
         taker: &mut T,
     ) -> Result<usize, StreamError>
         requires countable { self.old.at + length bytes.now < 2 ^ 64 }
-        ensures taken { IfOk result (λ count. (front : List ℕ) (before : List DataRecord) → HasRead front before self.old
+        ensures taken { IfOk result (λ count. (front : List ℕ) (before : List DataRecord)
+            → HasRead front before self.old
             → T.has_taken taker.old before → (after : List DataRecord) × T.has_taken taker.new after
             × HasRead (front ++ take count bytes.now) after self.new) }
         ensures place { IfOk result (λ count. self.new.at ≡ self.old.at + count) }
         ensures within { IfOk result (λ count. count ≤ length bytes.now) }
         ensures left { IfOk result (λ count. length bytes.now < count + 65535) }
-        ensures fault { IfErr result (λ error. (front : List ℕ) (before : List DataRecord) → HasRead front before self.old
-            → T.has_taken taker.old before → (more : List ℕ) → IsFaultOf (decode (front ++ (bytes.now ++ more))) error) }
+        ensures fault { IfErr result (λ error. (front : List ℕ) (before : List DataRecord)
+            → HasRead front before self.old
+            → T.has_taken taker.old before → (more : List ℕ)
+            → IsFaultOf (decode (front ++ (bytes.now ++ more))) error) }
     {
         let mut rest = bytes;
         let mut size = front_size(rest);
@@ -138,7 +143,8 @@ impl StreamWalk {
         ensures taken { OnOk result ((front : List ℕ) (before : List DataRecord) → HasRead front before self.old
             → T.has_taken taker.old before → (after : List DataRecord) × T.has_taken taker.new after
             × (decode (front ++ bytes.now) ≡ Ok after)) }
-        ensures fault { IfErr result (λ error. (front : List ℕ) (before : List DataRecord) → HasRead front before self.old
+        ensures fault { IfErr result (λ error. (front : List ℕ) (before : List DataRecord)
+            → HasRead front before self.old
             → T.has_taken taker.old before → IsFaultOf (decode (front ++ bytes.now)) error) }
     {
         let at = self.at;

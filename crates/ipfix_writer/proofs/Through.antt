@@ -40,7 +40,8 @@ cut-off encode size export_time first records before now bytes front more is app
 
 -- what is left from a place on can be laid out
 some-rest : {A : Type 0} (encode : A → RecordSet) (size export_time : ℕ) (records : List A) (from : ℕ)
-    → ((x : A) → length_in encode (x ∷ []) ≤ size) → (bytes : List ℕ) × IsRest encode size export_time records from bytes
+    → ((x : A) → length_in encode (x ∷ []) ≤ size) → (bytes : List ℕ)
+    × IsRest encode size export_time records from bytes
 some-rest encode size export_time records from alone =
     let laid = in_messages encode size (drop from records) alone in (
       messages_in encode export_time from laid.parts,
@@ -56,7 +57,8 @@ goes-on-first encode size export_time first records before now empty held none p
     record {
       written = passed.taken;
       appended = passed.appended;
-      goes_on = λ bytes rest. subst (λ front. IsStream encode size export_time first records (front ++ bytes)) (sym whole)
+      goes_on = λ bytes rest. subst (λ front. IsStream encode size export_time first records
+          (front ++ bytes)) (sym whole)
           (rest-all encode size export_time first records bytes rest);
     }
 
@@ -88,7 +90,8 @@ goes-on-more encode size export_time first records rest done count before now af
           subst (IsStream encode size export_time first records)
           (sym (ap (λ bs. bs ++ bytes) front ∙ append_assoc (way.written ++ held) next bytes))
           (way.goes_on (next ++ bytes)
-          (rest-more encode size export_time records rest done count bytes is fills.some fills.within fills.fits fills.full
+          (rest-more encode size export_time records rest done count bytes is fills.some fills.within
+          fills.fits fills.full
           left));
     }
 
@@ -100,7 +103,8 @@ pub cut-more : {A : Type 0} (encode : A → RecordSet) (size export_time : ℕ) 
     → IsPassed now after held left (message export_time (done % 2 ^ 32) (body_in encode (take count rest)))
     → IsCutOff encode size export_time first records before after
 cut-more encode size export_time first records rest done count before now after held left alone is way fills passed =
-    let last = goes-on-more encode size export_time first records rest done count before now after held left is way fills
+    let last = goes-on-more encode size export_time first records rest done count before now after held
+    left is way fills
     passed in
     let others = some-rest encode size export_time records (done + count) alone in
     cut-off encode size export_time first records before after ((last.written ++ left) ++ others.0) last.written

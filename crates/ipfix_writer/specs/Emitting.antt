@@ -44,7 +44,8 @@ pub record IsUnderWay (emitter : EmitterState) (flows : List FlowRecord) (writte
   pub whole : together parts ++ emitter.waiting ≡ flows
   pub begun : emitter.waiting ≡ [] → parts ≡ []
   pub filled : AreFilled emitter.size (parts ++ waiting_part emitter.waiting)
-  pub bytes : written ++ emitter.held ≡ template_message emitter.export_time ++ data_messages emitter.export_time 0 parts
+  pub bytes : written ++ emitter.held ≡ template_message emitter.export_time
+      ++ data_messages emitter.export_time 0 parts
   pub sequence : emitter.sequence ≡ length (together parts) % 2 ^ 32
   pub messages : emitter.messages ≡ min (1 + length parts) (2 ^ 64 - 1)
 

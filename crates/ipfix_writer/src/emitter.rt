@@ -45,8 +45,8 @@ pub enum Phase {
 /// Writes records of flows to a sink as a stream of IPFIX messages.
 ///
 /// It keeps the records of one message, and puts their message into a buffer when the next record doesn't fit. The
-/// buffer goes out, in whole messages and by one call of [`write_all`](meter_io::write_all), when it has no room for the
-/// next message, and in the end. All memory is taken when the emitter is made.
+/// buffer goes out, in whole messages and by one call of [`write_all`](meter_io::write_all), when it has no room for
+/// the next message, and in the end. All memory is taken when the emitter is made.
 #[derive(Drop)]
 pub struct Emitter {
     size: usize,

@@ -195,19 +195,23 @@ module _ (asked : Asked) (inputs : List (List FlowRecord)) (count : ℕ) where
             (λ r e. ap not (eq-eqb (number_of count r.part.key) number e)) share own))
             ∙ filter_all others (together shares)
             (All-weaker (λ (r : FlowRecord). suc number ≤ number_of count r.part.key) (λ r. others r ≡ true)
-            (λ r low. ap not (not_equal (number_of count r.part.key) number (λ e. omega arith))) (together shares) later) in
+            (λ r low. ap not (not_equal (number_of count r.part.key) number (λ e. omega arith)))
+            (together shares) later) in
             let rest_perm : IsPermutation (together shares) rest =
-            subst (λ l. IsPermutation l rest) left (IsPermutation-filter others (share ++ together shares) whole perm) in
+            subst (λ l. IsPermutation l rest) left (IsPermutation-filter others (share ++ together shares)
+            whole perm) in
             law limits clock (filter (λ (p : Packet). falls count number p.key) (together packets))
             (packets_from (length shares) (suc number)) share rest whole
-            (subst (λ o. IsLawfulBy limits o (filter (λ (p : Packet). falls count number p.key) (together packets)) share)
+            (subst (λ o. IsLawfulBy limits o (filter (λ (p : Packet). falls count number p.key)
+            (together packets)) share)
             (same_clock h.0.0 h.0.1.latest) (lawful_share packets each number h.0.0 share h.0.1))
             (lawful_from shares (suc number) h.1 rest rest_perm (filter_sorted others whole sorted))
             (All-weaker (Numbered number) (λ (r : FlowRecord). All (λ (s : FlowRecord). r.part.key ≢ s.part.key) rest)
             (λ r e. All-weaker (λ (s : FlowRecord). suc number ≤ number_of count s.part.key)
             (λ (s : FlowRecord). r.part.key ≢ s.part.key)
             (λ s low same. let e' = ap (number_of count) same in omega arith) rest
-            (All-permutation (λ (s : FlowRecord). suc number ≤ number_of count s.part.key) (together shares) rest rest_perm
+            (All-permutation (λ (s : FlowRecord). suc number ≤ number_of count s.part.key) (together shares)
+            rest rest_perm
             later)) share own)
             (IsPermutation-trans (share ++ rest) (share ++ together shares) whole
             (IsPermutation-append_right share rest (together shares)
@@ -236,12 +240,14 @@ module _ (law : LawfulTogether) (own : OwnClockIsGiven) (are_sessions : LawfulAr
   lawful_for : (packets : List (List Packet)) → EachSharesOut limits packets inputs
       → IsLawfulBy limits clock (together packets) whole
   lawful_for packets each =
-      let lists : List (List Packet) = dealt (λ (p : Packet). p.key) (length shares) (length shares) 1 (together packets) in
+      let lists : List (List Packet) =
+      dealt (λ (p : Packet). p.key) (length shares) (length shares) 1 (together packets) in
       by_permuted limits clock (flat lists) (together packets) whole
       (IsPermutation-sym (together packets) (flat lists)
       (all_dealt (λ (p : Packet). p.key) (length shares) (length shares) 1
       (within (length shares) (length shares) refl some) (together packets)))
-      (lawful_from asked inputs (length shares) limits idle active law clock same_clock packets each shares 1 h whole perm
+      (lawful_from asked inputs (length shares) limits idle active law clock same_clock packets each shares
+      1 h whole perm
       sorted)
 
   clock_for : (packets : List (List Packet)) → EachSharesOut limits packets inputs → IsClock (together packets) clock

@@ -1,5 +1,6 @@
 -- Nothing is wrong with valid files where no call failed.
-use Rattle.std.proofs.Common.{◌≡◌, ◌≤◌, ◌<◌, ◌++◌, ℕ, zero, suc, List, [], ◌∷◌, length, get_or, take, Option, Some, Err, refl, sym}
+use Rattle.std.proofs.Common.{◌≡◌, ◌≤◌, ◌<◌, ◌++◌, ℕ, zero, suc, List, [], ◌∷◌, length, get_or, take, Option, Some, Err}
+use Rattle.std.proofs.Common.{refl, sym}
 use Rattle.std.proofs.Common.{ap, ◌∙◌, subst, arith, append_assoc}
 use Rattle.std.specs.List.{AllZip}
 use Rattle.std.proofs.lemmas.Grind.{flat_map-append}
@@ -29,7 +30,8 @@ one_given contents name bytes flows others told are given =
     same_some others flows (sym given.are ∙ ap flows_of same ∙ are)
 
 -- the file at a place, and the inputs before it and behind it
-pub record IsAt (contents : List ℕ → Option (List ℕ)) (name : List ℕ) (before all : List (List FlowRecord)) : Type 0 where
+pub record IsAt (contents : List ℕ → Option (List ℕ)) (name : List ℕ) (before all : List (List FlowRecord))
+    : Type 0 where
   pub bytes : List ℕ
   pub told : contents name ≡ Some bytes
   pub few : length bytes ≤ 4294967296
@@ -38,8 +40,10 @@ pub record IsAt (contents : List ℕ → Option (List ℕ)) (name : List ℕ) (b
   pub rest : List (List FlowRecord)
   pub whole : all ≡ before ++ flows ∷ rest
 
-pub at_place : (contents : List ℕ → Option (List ℕ)) (names streams : List (List ℕ)) (all before : List (List FlowRecord))
-    (place : ℕ) → AllZip (IsFile contents) names streams → AllZip (λ bytes flows. flows_of bytes ≡ Some flows) streams all
+pub at_place : (contents : List ℕ → Option (List ℕ)) (names streams : List (List ℕ))
+    (all before : List (List FlowRecord))
+    (place : ℕ) → AllZip (IsFile contents) names streams
+    → AllZip (λ bytes flows. flows_of bytes ≡ Some flows) streams all
     → HaveGiven contents (take place names) before → place < length names
     → IsAt contents (get_or names place []) before all
 at_place contents [] streams all before place told are given low = absurd (omega (arith, low))

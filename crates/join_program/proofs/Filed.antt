@@ -1,5 +1,6 @@
 -- One data record more of a file.
-use Rattle.std.proofs.Common.{◌≡◌, ◌+◌, ◌-◌, ◌≤◌, ◌^◌, min, ℕ, Bool, true, false, List, [], ◌∷◌, ◌++◌, length, Option, Some}
+use Rattle.std.proofs.Common.{◌≡◌, ◌+◌, ◌-◌, ◌≤◌, ◌^◌, min, ℕ, Bool, true, false, List, [], ◌∷◌, ◌++◌, length, Option}
+use Rattle.std.proofs.Common.{Some}
 use Rattle.std.proofs.Common.{None, Ok, sym, subst, arith, append_assoc, append-nil, length-append, refl, ◌∙◌}
 use Rattle.record_ledger.specs.declared.record.FlowRecord.{FlowRecord}
 use Rattle.ipfix_model.specs.declared.values.DataRecord.{DataRecord}
@@ -137,7 +138,12 @@ module _ (begun : List FlowRecord → Type 0) (share : Option OneOf) (taken : Ta
       let inside = found.inside in
       let within = read.within in
       omega (arith, few) in
-      record { bytes = bytes; read = read; fault = (records, decoded, subst (IsFirstOther records) (sym counted) found) }
+      record {
+        bytes = bytes;
+        read = read;
+        fault =
+            (records, decoded, subst (IsFirstOther records) (sym counted) found);
+      }
 
   all_flows : other ≡ false → flows_of bytes ≡ Some h.flows
   all_flows unset =

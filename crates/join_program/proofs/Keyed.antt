@@ -9,7 +9,8 @@ use Rattle.flow_parts.specs.declared.fragment.Fragment.{Fragment}
 abbrev pub flat : {X : Type 0} → List (List X) → List X
 flat lists = flat_map (λ list. list) lists
 
--- of lists that go together with fragments of their keys, the test leaves those that go together with the fragments left
+-- of lists that go together with fragments of their keys, the test leaves those that go together with the fragments
+-- left
 module _ {X : Type 0} (key_of : X → FlowKey) (R : List X → Fragment → Type 0)
     (one_key : (list : List X) (f : Fragment) → R list f → All (λ x. key_of x ≡ f.key) list) (q : FlowKey → Bool) where
   abbrev passes : X → Bool

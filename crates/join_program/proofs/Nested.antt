@@ -29,7 +29,8 @@ order_stands limits inputs others s = record {
       (IsPermutation-map part_of (together inputs) (together others)
       (flat_map-permutation (λ (flows : List FlowRecord). flows) inputs others s));
   shared = λ packets shares.
-      let z = AllZip-permutation (λ (own : List Packet) (flows : List FlowRecord). SharesOut limits own (parts_of flows))
+      let z = AllZip-permutation (λ (own : List Packet) (flows : List FlowRecord). SharesOut limits own
+      (parts_of flows))
       packets inputs others shares s in (
         z.0,
         z.2,

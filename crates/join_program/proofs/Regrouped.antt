@@ -212,7 +212,8 @@ to_parts [] (r ∷ records) z = absurd z
 to_parts (x ∷ groups) [] z = absurd z
 to_parts (x ∷ groups) (r ∷ records) z = (z.0, to_parts groups records z.1)
 
-to_records : (groups : List (List Fragment)) (records : List FlowRecord) → AllZip IsTogether groups (map part_of records)
+to_records : (groups : List (List Fragment)) (records : List FlowRecord)
+    → AllZip IsTogether groups (map part_of records)
     → AllZip (λ group (r : FlowRecord). IsTogether group r.part) groups records
 to_records [] [] z = tt
 to_records [] (r ∷ records) z = absurd z

@@ -8,7 +8,8 @@ use Rattle.std.specs.Option.{MatchOption}
 use Rattle.std.proofs.lemmas.List.{nil_from_length, map-append}
 use Rattle.std.proofs.lemmas.List.Concat.{flat_map-append}
 use Rattle.std.proofs.lemmas.List.Elements.{All-weaker, All-contains}
-use Rattle.std.proofs.lemmas.List.Sorted.{IsPermutation-refl, IsPermutation-sym, IsPermutation-trans, length_permutation}
+use Rattle.std.proofs.lemmas.List.Sorted.{IsPermutation-refl, IsPermutation-sym, IsPermutation-trans}
+use Rattle.std.proofs.lemmas.List.Sorted.{length_permutation}
 use Rattle.std.proofs.lemmas.List.Sorted.{IsPermutation-append_left}
 use Rattle.packet_accept.specs.declared.packet.Packet.{Packet}
 use Rattle.packet_accept.specs.Clock.{IsClock}
@@ -172,8 +173,8 @@ records_permuted limits packets others sessions records s h = record {
 
 -- ---- streams that stand for inputs
 
--- The streams' fragments regroup the inputs', and whatever packets the inputs share out, each its own, the streams share
--- out, each its own.
+-- The streams' fragments regroup the inputs', and whatever packets the inputs share out, each its own, the streams
+-- share out, each its own.
 pub record StandFor (limits : Timeouts) (inputs streams : List (List FlowRecord)) : Type 0 where
   pub grouped : IsGrouped (parts_of (together inputs)) (parts_of (together streams))
   pub shared : (packets : List (List Packet)) → EachSharesOut limits packets inputs
@@ -225,11 +226,13 @@ become asked inputs streams clock records h stand =
           (grouped_kept (falls_to asked.share) (parts_of (together inputs)) (parts_of (together streams)) stand.grouped)
           (grouped_of (kept asked.share (together streams)) records h.regroups));
       clock_is = λ packets shares.
-          clock_of h.limits (together packets) (together inputs) clock (all_shared h.limits packets inputs shares) latest;
+          clock_of h.limits (together packets) (together inputs) clock
+          (all_shared h.limits packets inputs shares) latest;
       lawful_by = λ packets shares.
           let k = stand.shared packets shares in
           by_permuted h.limits clock (falling asked.share (together k.0)) (falling asked.share (together packets))
-          records (IsPermutation-filter (λ (p : Packet). falls_to asked.share p.key) (together k.0) (together packets) k.2)
+          records (IsPermutation-filter (λ (p : Packet). falls_to asked.share p.key) (together k.0)
+          (together packets) k.2)
           (h.lawful_by k.0 k.1);
       lawful = λ none packets shares.
           let k = stand.shared packets shares in

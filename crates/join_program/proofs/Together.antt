@@ -13,7 +13,8 @@ use Rattle.record_ledger.specs.Lawful.{parts_of, IsLawful, IsLawfulBy}
 use Rattle.record_ledger.specs.Regrouping.{Regroups}
 use Rattle.record_ledger.specs.Sessions.{IsSessions, IsUncut, AreRecordsOf}
 use Rattle.join_program.specs.Words.{Asked, OneOf}
-use Rattle.join_program.specs.Joined.{together, kept, falling, falls_to, EachSharesOut, IsLatest, AreJoined, AreGathered}
+use Rattle.join_program.specs.Joined.{together, kept, falling, falls_to, EachSharesOut, IsLatest, AreJoined}
+use Rattle.join_program.specs.Joined.{AreGathered}
 use Rattle.join_program.proofs.Shared.{all_shared, some_shared, all_pass, clock_of}
 
 -- without shares all fragments are kept

@@ -132,7 +132,13 @@ module _ (had has : List DataRecord → Type 0) (before now : Option (List ℕ))
 
   -- the file is at its end
   pub pieced_all : 0 < left → IsAtEnd now → (faults_before faults_now : ℕ) → (more : List ℕ) → more ≡ window
-      → IsRead (record { before = before; after = now; faults_before = faults_before; faults_after = faults_now }) 4294967296
+      → IsRead (record {
+        before = before;
+        after = now;
+        faults_before = faults_before;
+        faults_after =
+            faults_now;
+      }) 4294967296
       (h.front ++ more)
   pieced_all some ended faults_before faults_now more is = record {
     given = subst (λ l. Consumes before now (h.front ++ l)) (sym is) h.given;

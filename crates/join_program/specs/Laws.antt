@@ -1,6 +1,7 @@
 -- Laws about what inputs become: of joins of joins, of the order of inputs, of the shares of one join, and of what is
 -- written.
-use Rattle.std.specs.Prelude.{◌≡◌, ◌≢◌, ◌*◌, ℕ, suc, List, [], ◌∷◌, ◌++◌, length, Option, Some, None, All, IsPermutation}
+use Rattle.std.specs.Prelude.{◌≡◌, ◌≢◌, ◌*◌, ℕ, suc, List, [], ◌∷◌, ◌++◌, length, Option, Some, None, All}
+use Rattle.std.specs.Prelude.{IsPermutation}
 use Rattle.std.specs.Prelude.{IsSorted, ⊤}
 use Rattle.packet_accept.specs.declared.packet.Packet.{Packet}
 use Rattle.flow_parts.specs.declared.timeouts.Timeouts.{Timeouts}
@@ -90,8 +91,8 @@ AnyAreAnswered = (asked : Asked) (inputs streams : List (List FlowRecord)) (writ
 
 -- ---- one text
 
--- Where nothing cuts the sessions of the packets, there is one answer, in whatever way these were cut into captures, and
--- their records shared among streams.
+-- Where nothing cuts the sessions of the packets, there is one answer, in whatever way these were cut into captures,
+-- and their records shared among streams.
 abbrev pub AnswerIsOne : Type 0
 AnswerIsOne = (asked other : Asked) (limits : Timeouts) (inputs others : List (List FlowRecord))
     (packets dealt sessions : List (List Packet)) (one text : List ℕ)

@@ -68,9 +68,9 @@ ReadFails file (Fault TooMany) = ⊥
 abbrev pub HasBegun : Option Taken → Option OneOf → List FlowRecord → Type 0
 HasBegun start share before = MatchOption start ⊥ (IsTaken share before)
 
--- What is kept of a file's data records, behind the flow records before it, of which `begun` tells: the flow records up to
--- the first other one; of these their number, where 64 bits hold it; and what was taken of them, unless they were too
--- many.
+-- What is kept of a file's data records, behind the flow records before it, of which `begun` tells: the flow records up
+-- to the first other one; of these their number, where 64 bits hold it; and what was taken of them, unless they were
+-- too many.
 pub record IsFiled (begun : List FlowRecord → Type 0) (share : Option OneOf) (taken : Taken) (count : ℕ)
     (has_other are_many : Bool) (records : List DataRecord) : Type 0 where
   pub flows : List FlowRecord

@@ -45,8 +45,8 @@ pub(crate) struct FileTaker<K: Begun> {
     pub taken: Taken,
     pub alloc: Global,
     pub share: Option<Share>,
-    /// How many records of the file are flow records, up to the first other one, or 2^64 - 1 where there are more: a file
-    /// that is read has fewer bytes, and no more records than bytes.
+    /// How many records of the file are flow records, up to the first other one, or 2^64 - 1 where there are more: a
+    /// file that is read has fewer bytes, and no more records than bytes.
     pub flows: u64,
     /// There was a record that is no flow record.
     pub has_other: bool,
@@ -63,7 +63,8 @@ impl<K: Begun> FileTaker<K> {
         ensures filed { OnOk result ((records : List DataRecord) (one : DataRecord) → flow one ≡ Some found.now
             → share_of self.old.share ≡ K.share
             → IsFiled (HasBegun K.start K.share) K.share self.old.taken self.old.flows false self.old.are_many records
-            → IsFiled (HasBegun K.start K.share) K.share self.new.taken self.new.flows false self.new.are_many (records ++ one ∷ [])) }
+            → IsFiled (HasBegun K.start K.share) K.share self.new.taken self.new.flows false self.new.are_many
+            (records ++ one ∷ [])) }
     {
         self.flows = self.flows.saturating_add(1);
         if self.are_many {
@@ -81,8 +82,8 @@ impl<K: Begun> FileTaker<K> {
 }
 
 impl<K: Begun> RecordTaker for FileTaker<K> {
-    ghost has_taken = { λ taker records. (share_of taker.share ≡ K.share) × IsFiled (HasBegun K.start K.share) K.share taker.taken
-        taker.flows taker.has_other taker.are_many records };
+    ghost has_taken = { λ taker records. (share_of taker.share ≡ K.share)
+        × IsFiled (HasBegun K.start K.share) K.share taker.taken taker.flows taker.has_other taker.are_many records };
 
     fn take(&mut self, rec: DataRecord) -> Result<(), NoMemory> {
         if self.has_other {

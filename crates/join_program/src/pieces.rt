@@ -1,6 +1,7 @@
 //! Reading a stream through a window, message by message.
 
-ghost use Rattle.std.specs.Prelude.{◌≡◌, ◌+◌, ◌<◌, ◌≤◌, ◌^◌, [], ◌++◌, List, ℕ, true, false, length, IfOk, IfErr, OnOk, Ok};
+ghost use Rattle.std.specs.Prelude.{◌≡◌, ◌+◌, ◌<◌, ◌≤◌, ◌^◌, [], ◌++◌, List, ℕ, true, false, length, IfOk, IfErr, OnOk};
+ghost use Rattle.std.specs.Prelude.{Ok};
 ghost use Rattle.std.specs.Prelude.{IsErrOf};
 ghost use Rattle.std.specs.Io.KnownBytes.{IsAtEnd};
 ghost use Rattle.meter_io.specs.Causes.{Rose};
@@ -152,8 +153,8 @@ fn read_through<S: Source, T: RecordTaker>(
     }
 }
 
-/// Reads all that the source has left, at most 2^32 bytes, as a stream, message by message. The data records are taken as
-/// they are read. What the window has is dropped.
+/// Reads all that the source has left, at most 2^32 bytes, as a stream, message by message. The data records are taken
+/// as they are read. What the window has is dropped.
 ///
 /// - `ReadFault`: only where a read failed, and the source counted it.
 /// - `TooLarge`: exactly where more bytes came.

@@ -62,23 +62,26 @@ fn note_refusal<N: Sink>(
     JoinStatus::Refused { place, fault }
 }
 
-/// Reads files of flow records, each the stream of a capture, and writes the stream of the records of all their packets.
+/// Reads files of flow records, each the stream of a capture, and writes the stream of the records of all their
+/// packets.
 ///
-/// The words are `join`; then its options, each at most once, in any order, as `--name value` or `--name=value`: `--idle`
-/// and `--active`, the time-outs in seconds from 1 to 86,400, by default 300 and 1800, `--size`, the most octets of a
-/// message, from 116 to 65,535, by default 1400, and both or none of `--part K` and `--parts N`, with K from 1 to N and N
-/// up to 4,096, by which the records are kept whose keys fall to the K-th of N shares; and then 1 to 65,536 files, of
-/// which `-`, standard input, is at most one.
+/// The words are `join`; then its options, each at most once, in any order, as `--name value` or `--name=value`:
+/// `--idle` and `--active`, the time-outs in seconds from 1 to 86,400, by default 300 and 1800, `--size`, the most
+/// octets of a message, from 116 to 65,535, by default 1400, and both or none of `--part K` and `--parts N`, with K
+/// from 1 to N and N up to 4,096, by which the records are kept whose keys fall to the K-th of N shares; and then 1 to
+/// 65,536 files, of which `-`, standard input, is at most one.
 ///
-/// The files are opened one after the other, each is read to its end, at most 2^32 bytes, and closed. All memory is taken
-/// before anything is written. At a refusal, any status but `Done` and `WriteFault`, nothing is written. They come in
-/// this order:
+/// The files are opened one after the other, each is read to its end, at most 2^32 bytes, and closed. All memory is
+/// taken before anything is written. At a refusal, any status but `Done` and `WriteFault`, nothing is written. They
+/// come in this order:
 ///
 /// - `Usage`: exactly where the words are no command. No file is opened.
 /// - `Refused`: exactly where something is wrong with a file, by the first such one. The notes get its line, `NAME: `
 ///   and what is wrong. Of a file come, in this order, `ReadFault`: only where it couldn't be opened or a read failed,
-///   and the opener counted it; `TooLarge`: exactly where more bytes came than 2^32; `NotStream`: exactly where they have
-///   that fault; `NotFlows`: exactly where they have none, and the data record at that place is the first that is no flow
+///   and the opener counted it; `TooLarge`: exactly where more bytes came than 2^32; `NotStream`: exactly where they
+///   have
+///   that fault; `NotFlows`: exactly where they have none, and the data record at that place is the first that is no
+///   flow
 ///   record; `TooMany`: exactly where the records kept, with those of the files before it, have 2^64 packets or octets.
 /// - `WriteFault`: only where a write failed and the output counted it; it took a beginning of what it was to take.
 /// - `NoMemory`: out of memory, at any point before the first write.

@@ -1,6 +1,7 @@
 //! The words of a command line.
 
-ghost use Rattle.std.specs.Prelude.{◌≡◌, ◌≤◌, Some, None, false, map, filter, length, codes, IfOk, IfErr, IfSome, IfNone};
+ghost use Rattle.std.specs.Prelude.{◌≡◌, ◌≤◌, Some, None, false, map, filter, length, codes, IfOk, IfErr, IfSome};
+ghost use Rattle.std.specs.Prelude.{IfNone};
 ghost use Rattle.std.specs.Prelude.{option_and_then, List, ℕ, drop};
 ghost use Rattle.std.specs.Str.{bytes_eq};
 ghost use Rattle.std.specs.String.{string_bytes};
@@ -163,11 +164,13 @@ fn share_settings(alloc: Global, words: &[String]) -> Result<JoinSettings, Optio
 /// The settings that options give, without a share or with one.
 fn any_settings(alloc: Global, words: &[String]) -> Result<JoinSettings, OptionsError>
     ensures asked { IfOk result (λ settings. (files : List (List ℕ)) → option_and_then (asked_with files)
-        (values_by (values_of options (map string_bytes words.now)) (values_of share_options (map string_bytes words.now)))
+        (values_by (values_of options (map string_bytes words.now))
+        (values_of share_options (map string_bytes words.now)))
         ≡ Some (asked_of settings files)) }
     ensures refused { IfErr result (λ error. error ≡ OptionsError.NotOptions → (files : List (List ℕ))
         → option_and_then (asked_with files)
-        (values_by (values_of options (map string_bytes words.now)) (values_of share_options (map string_bytes words.now)))
+        (values_by (values_of options (map string_bytes words.now))
+        (values_of share_options (map string_bytes words.now)))
         ≡ None) }
 {
     match settings(alloc, words) {

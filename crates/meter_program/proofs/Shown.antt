@@ -1,5 +1,6 @@
 -- The lines of the records that were taken, one record behind another.
-use Rattle.std.proofs.Common.{◌≡◌, ◌+◌, ◌-◌, ◌^◌, ◌<◌, ◌≤◌, ℕ, min, List, [], ◌∷◌, ◌++◌, length, flat_map, refl, sym, ap, ◌∙◌, arith}
+use Rattle.std.proofs.Common.{◌≡◌, ◌+◌, ◌-◌, ◌^◌, ◌<◌, ◌≤◌, ℕ, min, List, [], ◌∷◌, ◌++◌, length, flat_map, refl, sym}
+use Rattle.std.proofs.Common.{ap, ◌∙◌, arith}
 use Rattle.std.proofs.Common.{length-append, append-nil}
 use Rattle.std.specs.Prelude.{codes, decimal}
 use Rattle.std.proofs.lemmas.Grind.{flat_map-append}
@@ -16,7 +17,8 @@ line-some rec =
     let behind = length-append (flat_map field_text rec.fields) (codes "\n") in
     omega (arith, ends, all, behind)
 
-text-more : (records : List DataRecord) (rec : DataRecord) → text_of (records ++ rec ∷ []) ≡ text_of records ++ line_of rec
+text-more : (records : List DataRecord) (rec : DataRecord) → text_of (records ++ rec ∷ []) ≡ text_of records
+    ++ line_of rec
 text-more records rec =
     flat_map-append line_of records (rec ∷ []) ∙ ap (λ (l : List ℕ). text_of records ++ l) (append-nil (line_of rec))
 

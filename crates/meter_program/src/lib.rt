@@ -8,7 +8,8 @@
 //! 2. **`meter`**: `metering.rt` opens a cache of the caches that were handed in, with a pass for each worker. The
 //!    input is read in windows, and the workers meter each, all at once, before the next is read. Then the cache is
 //!    closed, and the fragments that it handed out and kept are gathered into records. `meter.rt` makes an emitter for
-//!    their stream, with all memory that writing takes. Up to here the run may refuse, and nothing was written. Then the
+//!    their stream, with all memory that writing takes. Up to here the run may refuse, and nothing was written. Then
+//!    the
 //!    stream goes out, in whole messages through a buffer, and the summary goes to the notes.
 //! 3. **`show`** (`show.rt`): the input is read to its end and decoded as a stream, whose data records become text
 //!    (`lines.rt`).

@@ -144,7 +144,8 @@ impl RecordTaker for Lines {
 ///
 /// `Fault` has the stream's first fault; the one other error is want of memory.
 pub fn lines_of(alloc: Global, stream: &[u8]) -> Result<Lines, StreamError>
-    ensures lines { IfOk result (λ lines. IsShown stream.now lines.text.items (count_line (codes "records") lines.count)) }
+    ensures lines { IfOk result (λ lines. IsShown stream.now lines.text.items
+        (count_line (codes "records") lines.count)) }
     ensures fault { IfErr result (IsFaultOf (decode stream.now)) }
 {
     let mut lines = Lines {

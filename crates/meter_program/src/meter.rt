@@ -34,8 +34,8 @@ fn export_time_of(clock: Option<u64>) -> u32
     }
 }
 
-/// An emitter for the stream of these records, in messages of at most `size` octets. It has all memory that writing them
-/// takes.
+/// An emitter for the stream of these records, in messages of at most `size` octets. It has all memory that writing
+/// them takes.
 ///
 /// `NoMemory` where that can't be had.
 pub fn emitter_for(alloc: Global, gathered: &Gathered, size: u32) -> Result<Emitter, NoMemory>

@@ -100,7 +100,8 @@ fn records_of<R: Threads + Sync>(
     Ok(records)
 }
 
-/// Gathers the fragments that a cache gave of a capture that was metered into the capture's records, by so many threads.
+/// Gathers the fragments that a cache gave of a capture that was metered into the capture's records, by so many
+/// threads.
 ///
 /// `NoMemory` where there is no room for them.
 pub fn gathered_of<R: Threads + Sync>(

@@ -26,8 +26,8 @@ pub record HasMetered {X P : Type 0} (the : Ghosts X P) (cache : X) (answers : L
   pub small : AreSmall (packets_in answers)
   pub few : all.tally.captured ≤ (the.shown all.pass).note.seats * 2 ^ 32
 
--- The source gave an undamaged capture and has nothing left. What was put into the cache shares out its packets by these
--- time-outs, the tally is that of all its records, and so many bytes are left behind the last of them.
+-- The source gave an undamaged capture and has nothing left. What was put into the cache shares out its packets by
+-- these time-outs, the tally is that of all its records, and so many bytes are left behind the last of them.
 pub record IsMeteredWhole (source : Side) (limit : ℕ) (limits : Timeouts) (taken : List Fragment) (tally : Tally)
     (tail : ℕ) : Type 0 where
   pub bytes : List ℕ

@@ -197,8 +197,8 @@ struct Reader<C: FlowCache> {
     next: u64,
 }
 
-/// Puts the reader's next batch into the queue. The reader meters it itself where the queue has no room, and the gate is
-/// told of it before.
+/// Puts the reader's next batch into the queue. The reader meters it itself where the queue has no room, and the gate
+/// is told of it before.
 fn hand_over<C: FlowCache, G: Gate, R: Wait>(
     rt: &R,
     shared: &Shared,
@@ -382,7 +382,8 @@ fn run_both<S: Source, C: FlowCache, G: Gate, R: Threads + Wait + Sync>(
             requires open { IsAtQueue shared.now.queue reader.now }
             requires fresh { HasHandedOn C.FlowCache cache.now shared.now.queue shared.now.workers [] reader.now }
             ensures read { IfOk result (λ tail. HasReadAll C.FlowCache cache.entry.now shared.entry.now.queue
-                shared.entry.now.workers (S.left source.entry.now) (S.left source.exit.now) limit reader.exit.now tail) }
+                shared.entry.now.workers (S.left source.entry.now) (S.left source.exit.now) limit reader.exit.now
+                tail) }
             ensures refused { IfErr result
                 (λ fault. IsRefused (side S.left S.faults source.entry.now source.exit.now) limit fault) }
             ensures faults { HasFaults (side S.left S.faults source.entry.now source.exit.now) result }

@@ -9,8 +9,8 @@
 //! fragments that the cache handed it, and the tally of its records. A share meters a run of records of a [`Part`]; a
 //! packet goes into the front, and what leaves it goes into the cache. At the end each front is emptied into the cache
 //! through its own pass, and what all did is put together (`together.rt`). `specs/Shares.antt` says what a share has
-//! done: what was put in shares out the packets of the records that it metered. So how many packets were put in is known
-//! from the tally alone, and nothing is said of the order of the records.
+//! done: what was put in shares out the packets of the records that it metered. So how many packets were put in is
+//! known from the tally alone, and nothing is said of the order of the records.
 //!
 //! Nothing on the packet's path is shared but the cache and the word that pieces are drawn from. Everything is generic
 //! over the cache ([`FlowCache`](cache_face::FlowCache)). A [`Gate`] is told before each piece and batch: tests hold

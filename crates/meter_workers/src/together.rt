@@ -24,7 +24,11 @@ pub struct CaptureMetered<C: FlowCache> {
 }
 
 /// What a share did, whose front is emptied into the cache.
-fn finish<C: FlowCache>(cache: &C, share: Share<C>, tail: u64) -> Result<CaptureMetered<C>, NoMemory>
+fn finish<C: FlowCache>(
+    cache: &C,
+    share: Share<C>,
+    tail: u64,
+) -> Result<CaptureMetered<C>, NoMemory>
     requires share { (done : List Answer) × IsShareOf C.FlowCache cache.now done share }
     ensures metered { (done : List Answer) → IsShareOf C.FlowCache cache.now done share
         → IfOk result (HasMetered C.FlowCache cache.now done) }
@@ -74,8 +78,8 @@ fn unite<C: FlowCache>(
     })
 }
 
-/// What all shares did, with so many bytes left behind the last record: each front is emptied into the cache through its
-/// own pass.
+/// What all shares did, with so many bytes left behind the last record: each front is emptied into the cache through
+/// its own pass.
 pub(crate) fn unite_shares<C: FlowCache>(
     cache: &C,
     shares: Vec<Share<C>>,

@@ -79,7 +79,8 @@ fn work<C: FlowCache, G: Gate>(
     requires ready { IsToDraw C.FlowCache cache.now pieces.now part.now.base worker.old }
     requires whole { count_of pieces.now ≡ length part.now.index.now.offsets }
     ensures ended { worker.new.state ≢ WorkState.Going }
-    ensures worked { HasDrawnAll (IsShareOf C.FlowCache cache.now) pieces.now (answers_by part.now) worker.old worker.new }
+    ensures worked { HasDrawnAll (IsShareOf C.FlowCache cache.now) pieces.now (answers_by part.now)
+        worker.old worker.new }
 {
     let end = work_through(
         part,
@@ -109,7 +110,8 @@ fn run_workers<C: FlowCache, G: Gate, R: Threads + Sync>(
     requires ready { All (IsToDraw C.FlowCache cache.now pieces.now part.now.base) workers.items }
     requires whole { count_of pieces.now ≡ length part.now.index.now.offsets }
     ensures ended { All (λ w. w.state ≢ WorkState.Going) result.items }
-    ensures worked { AllZip (HasDrawnAll (IsShareOf C.FlowCache cache.now) pieces.now (answers_by part.now)) workers.items
+    ensures worked { AllZip (HasDrawnAll (IsShareOf C.FlowCache cache.now) pieces.now
+        (answers_by part.now)) workers.items
         result.items }
 {
     let count = workers.len();
@@ -121,7 +123,8 @@ fn run_workers<C: FlowCache, G: Gate, R: Threads + Sync>(
             requires ready { IsToDraw C.FlowCache cache.now pieces.now part.now.base w.old }
             requires whole { count_of pieces.now ≡ length part.now.index.now.offsets }
             ensures ended { w.new.state ≢ WorkState.Going }
-            ensures worked { HasDrawnAll (IsShareOf C.FlowCache cache.entry.now) pieces.entry.now (answers_by part.entry.now) w.old
+            ensures worked { HasDrawnAll (IsShareOf C.FlowCache cache.entry.now) pieces.entry.now
+                (answers_by part.entry.now) w.old
                 w.new }
         { work(part, pieces, cache, gate, w) },
     );
@@ -172,7 +175,8 @@ fn meter_parts<S: Source, C: FlowCache, G: Gate, R: Threads + Sync>(
     ensures metered { IfOk result
         (λ r. (answers : List Answer) × IsReadWhole (S.left source.old) (S.left source.new) windows.limit answers r.1
         × HaveDone (IsShareOf C.FlowCache cache.now) answers r.0.items) }
-    ensures refused { IfErr result (λ fault. IsRefused (side S.left S.faults source.old source.new) windows.limit fault) }
+    ensures refused { IfErr result (λ fault. IsRefused (side S.left S.faults source.old source.new)
+        windows.limit fault) }
     ensures faults { HasFaults (side S.left S.faults source.old source.new) result }
 {
     let (mut reading, mut index) = Reading::begin(alloc, source, windows.size, windows.limit)?;

@@ -80,8 +80,8 @@ fn append_templates(buffer: &mut Vec<u8>, export_time: u32)
     append_template(buffer, V6_BI_TEMPLATE, &V6_BI_FIELDS);
 }
 
-/// The message with the templates of flows and of biflows, with this export time in seconds: the first one of a stream of
-/// biflows.
+/// The message with the templates of flows and of biflows, with this export time in seconds: the first one of a stream
+/// of biflows.
 ///
 /// `NoMemory` where the room for it can't be had.
 pub(crate) fn first_message(alloc: Global, export_time: u32) -> Result<Vec<u8>, NoMemory>

@@ -3,8 +3,8 @@
 ghost use Rattle.pair_program.specs.BiLaws.{ArePairedOnce, ReadsBack, IsOneBiLayout};
 ghost use Rattle.pair_program.specs.BiLaws.{HasTemplateSetLength, HasTemplateMessageLength};
 
-/// The pairs of flow records are one list: whoever orders the records by first time, last time and key, with ties in their
-/// order, and takes pairs out from the front, gets this one.
+/// The pairs of flow records are one list: whoever orders the records by first time, last time and key, with ties in
+/// their order, and takes pairs out from the front, gets this one.
 pub fn pairs_are_one()
     ensures { ArePairedOnce }
 {}

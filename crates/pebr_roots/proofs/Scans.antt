@@ -28,7 +28,11 @@ scanning_still known h = record { scanning = h; candidates = refl; rest = refl }
 
 pub scanning_on : (a b c : Seat) → IsScanning a b → IsScanning b c → IsScanning a c
 scanning_on a b c h k =
-    record { scanning = k.scanning; candidates = k.candidates ∙ h.candidates; rest = k.rest ∙ ap (λ (s : Seat). record s { scan = c.scan }) h.rest }
+    record {
+      scanning = k.scanning;
+      candidates = k.candidates ∙ h.candidates;
+      rest = k.rest ∙ ap (λ (s : Seat). record s { scan = c.scan }) h.rest;
+    }
 
 pub looked_on : (a b c : History) (m n : ℕ) → HasLooked a b m → HasLooked b c n → HasLooked a c (m + n)
 looked_on a b c m n h k = record {

@@ -170,7 +170,8 @@ pub collected_past : (shape : Shape) (force : Bool) (me : ℕ) (a : Answer) (old
     → HasOpened old opened noted → HasLooked opened passed (2 * (shape.seats - 1))
     → (force ≡ false → passed.ejections ≡ opened.ejections)
     → HasLooked passed scanned ((shape.seats - 1) * shape.shields) → scanned.ejections ≡ passed.ejections
-    → new ≡ past_after (step.Give me) a known scanned → is_scanning known' ≡ false → HasCollected shape force old new known'
+    → new ≡ past_after (step.Give me) a known scanned → is_scanning known' ≡ false
+    → HasCollected shape force old new known'
 collected_past shape force me a old opened passed scanned new noted known known' open' looked mild scans unejected
     new_is ended =
     let through = looked_on opened passed scanned (2 * (shape.seats - 1))

@@ -82,8 +82,8 @@ pub record IsCollected (shape : Shape) (force : Bool) (given left : ℕ) (old ne
   pub few : is_scanning new ≡ false → left ≤ (shape.seats - 1) * shape.shields
   pub held_up : is_scanning new ≡ true → (force ≡ false) × (given ≡ 0) × IsHeldUp new
 
--- What a collection adds to what the seat remembers: a Note, a Give unless a seat holds the scan up, and without force no
--- ejection. Which operations it makes, and so whether an Advance, `Orders` says.
+-- What a collection adds to what the seat remembers: a Note, a Give unless a seat holds the scan up, and without force
+-- no ejection. Which operations it makes, and so whether an Advance, `Orders` says.
 pub record HasCollected (shape : Shape) (force : Bool) (old new : History) (known : Seat) : Type 0 where
   pub rest : new ≡ record old {
     last = new.last;

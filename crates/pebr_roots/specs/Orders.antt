@@ -103,7 +103,8 @@ pub record HasEndedAt (shape : Shape) (known : Seat) (force : Bool) (me : ℕ) (
 -- A whole collection, of a seat that knew this: Note; Advance below the last epoch, from the epoch that Note gave; then
 -- each other seat is passed; then the shields of each are loaded; then Give. Without force it ends at the first seat
 -- that holds it up. 'ended' says whether it came to its end.
-pub record HasMadeCollection (shape : Shape) (force : Bool) (me : ℕ) (known : Seat) (ended : Bool) (past past' : History)
+pub record HasMadeCollection (shape : Shape) (force : Bool) (me : ℕ) (known : Seat) (ended : Bool)
+    (past past' : History)
     (old new : List Op) : Type 0 where
   -- the epoch that Note gave, and what Advance found
   pub noted : ℕ

@@ -37,8 +37,8 @@ impl<P: RootProtocol> Roots<P> {
         self.words.pin(&mut pass.seat);
     }
 
-    /// Takes the pin back. The act changes the note: the caller may take it that the notes back each content that the pass
-    /// has read in full under a valid shield.
+    /// Takes the pin back. The act changes the note: the caller may take it that the notes back each content that the
+    /// pass has read in full under a valid shield.
     pub fn leave(&self, pass: &mut RootPass<P>, act: Option<P::Act>)
         requires of { IsOf self.now pass.old }
         requires entered { is_out (known_by pass.old).status ≡ false }

@@ -37,9 +37,9 @@ impl<P: RootProtocol> Roots<P> {
     /// Puts the least fresh slot into a root, where the root still has the slot under the shield, and changes
     /// the note by the act.
     ///
-    /// The caller shows that a content as it wrote it is whole and backed, and that in place of a content as it read it,
-    /// and with the changed note, it keeps what the protocol keeps; and that what was backed still is. `Other` exactly where the root had another
-    /// slot at this step; then nothing was changed.
+    /// The caller shows that a content as it wrote it is whole and backed, and that in place of a content as it read
+    /// it, and with the changed note, it keeps what the protocol keeps; and that what was backed still is. `Other`
+    /// exactly where the root had another slot at this step; then nothing was changed.
     pub fn replace(
         &self,
         pass: &mut RootPass<P>,

@@ -110,7 +110,8 @@ same_lists (x ∷ xs) (y ∷ ys) long each =
     ap (λ z. z ∷ xs) (some-injective x y (each 0 (omega arith)))
     ∙ ap (λ l. y ∷ l) (same_lists xs ys (omega (arith, long)) (λ k h. each (suc k) (omega (arith, h))))
 
-module _ {N : Type 0} (keeps : List (List ℕ) → List N → Type 0) (whole : List N → List ℕ → Type 0) (shape : Shape) (empty : N)
+module _ {N : Type 0} (keeps : List (List ℕ) → List N → Type 0) (whole : List N → List ℕ → Type 0)
+    (shape : Shape) (empty : N)
     (s : Table keeps whole shape) (rule : Ruled keeps whole shape s) (id : ℕ) (own : Held N) (others : List (Held N))
     (at : get_elem? s.views id ≡ some (own ∷ others)) (all_held : length (own ∷ others) ≡ shape.seats)
     (rest : (place : ℕ) (held : Held N) → get_elem? others place ≡ some held → held.note ≡ empty) where
@@ -157,7 +158,8 @@ module _ {N : Type 0} (keeps : List (List ℕ) → List N → Type 0) (whole : L
       rule.kept)
 
 -- what the last state tells
-pub closes_at : {N : Type 0} (keeps : List (List ℕ) → List N → Type 0) (whole : List N → List ℕ → Type 0) (shape key : Shape)
+pub closes_at : {N : Type 0} (keeps : List (List ℕ) → List N → Type 0) (whole : List N → List ℕ → Type 0)
+    (shape key : Shape)
     (empty blank : N) → key ≡ shape → (id : ℕ) (view : List (Held N)) (words : List ℕ)
     → 0 < length view → length view ≡ shape.seats
     → ((place : ℕ) (held : Held N) → get_elem? (view_left view) place ≡ some held → held.note ≡ empty)
@@ -172,7 +174,8 @@ closes_at {N} keeps whole shape key empty blank is_key id (own ∷ others) words
     (closes keeps whole shape empty s (subst (λ k. Ruled keeps whole k s) is_key seen.0) id own others seen.1 all_held
     rest)
 
-pub roots_below : {N : Type 0} (keeps : List (List ℕ) → List N → Type 0) (whole : List N → List ℕ → Type 0) (shape key : Shape)
+pub roots_below : {N : Type 0} (keeps : List (List ℕ) → List N → Type 0) (whole : List N → List ℕ → Type 0)
+    (shape key : Shape)
     → key ≡ shape → (words : List ℕ)
     → (s : table.State (Unit {0}) (List (Held N))) → Ruled keeps whole key s → s.words ≡ words
     → (root : ℕ) → root < shape.roots → get_or words (roots_from shape + root) 0 < slot_count shape

@@ -1,5 +1,6 @@
 -- The step Leave by itself.
-use Rattle.std.proofs.Common.{◌≡◌, ℕ, List, [], get_or, ◌*◌, ◌<◌, le_refl, false, length, sym, refl, ap, ◌∙◌, subst, inl, inr}
+use Rattle.std.proofs.Common.{◌≡◌, ℕ, List, [], get_or, ◌*◌, ◌<◌, le_refl, false, length, sym, refl, ap, ◌∙◌, subst}
+use Rattle.std.proofs.Common.{inl, inr}
 use Rattle.std.specs.Prelude.{not, Option, None}
 use Rattle.pebr_core.specs.declared.kinds.Shape.{Shape}
 use Rattle.pebr_core.specs.State.{State, Seat, seat_at, is_out}

@@ -1,5 +1,6 @@
 -- A step that is made by itself keeps the rule: the one place where core, words and views meet.
-use Rattle.std.proofs.Common.{Some, ◌≡◌, ◌≢◌, ℕ, suc, ◌+◌, ◌<◌, ◌≤◌, Bool, true, false, List, [], ◌∷◌, length, get_or, map}
+use Rattle.std.proofs.Common.{Some, ◌≡◌, ◌≢◌, ℕ, suc, ◌+◌, ◌<◌, ◌≤◌, Bool, true, false, List, [], ◌∷◌, length, get_or}
+use Rattle.std.proofs.Common.{map}
 use Rattle.std.proofs.Common.{set, sym, refl, ap, ◌∙◌, subst, inl, inr, ◌⊎◌, ⊎_elim, le_trans, arith}
 use Rattle.std.proofs.lemmas.Bool.{cases_eq, cases_lt, false≢true}
 use Rattle.std.proofs.lemmas.List.{length-set, get_or_past}
@@ -20,7 +21,8 @@ use Rattle.pebr_words.specs.Places.{IsPlace, index}
 use Rattle.pebr_words.specs.Shown.{sign_at, Tells, Show}
 use Rattle.pebr_words.specs.Making.{place_of, known_after, note_after, answer_found, held_after, on_first, IsAsKnown}
 use Rattle.pebr_words.specs.Making.{number_in, known_in, note_in, past_in}
-use Rattle.pebr_words.specs.Ruled.{BackedWhole, IsIn, IsEjectionOf, IsFreshNowhere, contents, Ruled, Made, IsPicked, IsTold}
+use Rattle.pebr_words.specs.Ruled.{BackedWhole, IsIn, IsEjectionOf, IsFreshNowhere, contents, Ruled, Made, IsPicked}
+use Rattle.pebr_words.specs.Ruled.{IsTold}
 use Rattle.pebr_words.specs.Ruled.{view_left}
 use Rattle.pebr_words.specs.Facts.{IsMadeBy, IsKeptBy, IsRecalledBy, IsBefore, StepsAreSafe}
 use Rattle.pebr_words.specs.Pasts.{Ejection, History, was_ejected, found_other, past_after, is_ejected, is_replaced}
@@ -44,7 +46,8 @@ kept_same keeps whole after_act s act number {known} note left same_contents sam
       subst (λ c. keeps c (set notes number (note_after after_act s act found note))) (sym (same_contents core))
           (subst (keeps (contents core))
           (sym (ap (set notes number) (same_note found) ∙ set_again notes number note at)) kept),
-      λ slot low nowhere. subst (λ w. whole (set notes number (note_after after_act s act found note)) (get_or w slot []))
+      λ slot low nowhere. subst (λ w. whole (set notes number (note_after after_act s act found note))
+          (get_or w slot []))
           (sym (same_words core))
           (subst (λ ns. whole ns (get_or core.words slot []))
           (sym (ap (set notes number) (same_note found) ∙ set_again notes number note at))
@@ -272,7 +275,8 @@ pub makes_at : {N A : Type 0} (keeps : List (List ℕ) → List N → Type 0) (p
     (Made after_act plain shape' s' act' me)
 makes_at keeps plain backed after_act blank id law is_key limits picked
     ([], carried) live is_number inside placed made_by kept_by recalled_by = absurd (omega (arith, live))
-makes_at {N} {A} keeps plain backed after_act blank {key} {shape} {shape'} {s} {s'} {act} {act'} {written} {slots} {word} id
+makes_at {N} {A} keeps plain backed after_act blank {key} {shape} {shape'} {s} {s'} {act} {act'} {written}
+    {slots} {word} id
     law is_key limits picked (own ∷ others, carried) live is_number inside placed made_by kept_by recalled_by =
     let me : table.Me (Unit {0}) (List (Held N)) = (own ∷ others, carried) in
     let Goal : Shape → Shape → Step → Option A → Type 0 =

@@ -1,5 +1,6 @@
 -- Two views become one: no core and no word changes, and two notes are merged.
-use Rattle.std.proofs.Common.{◌≡◌, ◌≢◌, ℕ, zero, suc, ◌+◌, ◌<◌, List, [], ◌∷◌, ◌++◌, length, map, get_or, set, sym, refl, ap}
+use Rattle.std.proofs.Common.{◌≡◌, ◌≢◌, ℕ, zero, suc, ◌+◌, ◌<◌, List, [], ◌∷◌, ◌++◌, length, map, get_or, set, sym}
+use Rattle.std.proofs.Common.{refl, ap}
 use Rattle.std.proofs.Common.{◌∙◌, subst, ⊎_elim, arith, append_assoc}
 use Rattle.std.specs.List.{flat_map}
 use Rattle.pebr_words.specs.Pasts.{History}
@@ -152,7 +153,8 @@ module _ {N : Type 0} (keeps : List (List ℕ) → List N → Type 0) (whole : L
               ));
           many = length-set mid own'.number empty
               ∙ (length-set rule.notes own.number (merged own.note own'.note) ∙ rule.many);
-          whole_is = λ slot low nowhere. stays rule.notes (get_or rule.core.words slot []) own.number own'.number own.note
+          whole_is = λ slot low nowhere. stays rule.notes (get_or rule.core.words slot []) own.number
+              own'.number own.note
               own'.note (rule.whole_is slot low nowhere) differ fit.note fit'.note;
           kept = law (contents rule.core) rule.notes own.number own'.number own.note own'.note rule.kept differ fit.note
               fit'.note;

@@ -75,7 +75,8 @@ HasReadWhole shape past slot content =
 -- Each content that the seat has read in full under a valid shield is backed.
 abbrev pub AreBacked : (List ℕ → Type 0) → Shape → Seat → History → Type 0
 AreBacked backed shape known past =
-    (slot : ℕ) (content : List ℕ) → is_shielded known slot ≡ true → HasReadWhole shape past slot content → backed content
+    (slot : ℕ) (content : List ℕ) → is_shielded known slot ≡ true → HasReadWhole shape past slot content
+    → backed content
 
 -- What the rule tells a seat of what it remembers, whatever other seats do.
 pub record IsSure (whole : List ℕ → Type 0) (shape : Shape) (known : Seat) (past : History) : Type 0 where
@@ -184,8 +185,8 @@ module _ {N : Type 0} where
   abbrev pub StillBack : (List N → List ℕ → Type 0) → List N → List N → Type 0
   StillBack backed old new = (content : List ℕ) → backed old content → backed new content
 
-  -- For all contents and notes that keep, in which this seat has its note, and which back what the seat has read in full
-  -- under valid shields: the changed note in its place keeps too, and what was backed still is.
+  -- For all contents and notes that keep, in which this seat has its note, and which back what the seat has read in
+  -- full under valid shields: the changed note in its place keeps too, and what was backed still is.
   abbrev pub CanNote : (List (List ℕ) → List N → Type 0) → (List N → List ℕ → Type 0) → Shape → Seat → History → ℕ → N
       → N → Type 0
   CanNote keeps backed shape known past number old new =

@@ -55,7 +55,8 @@ module _ {P N A F : Type 0} where
   lost_of seat = (past_of seat).lost ++ flat_map (λ held. held.past.lost) (view_left (me_of seat.inner).0)
 
   abbrev pub ejections_of : {g : _} → Seat P N A F g → List Ejection
-  ejections_of seat = (past_of seat).ejections ++ flat_map (λ held. held.past.ejections) (view_left (me_of seat.inner).0)
+  ejections_of seat = (past_of seat).ejections
+      ++ flat_map (λ held. held.past.ejections) (view_left (me_of seat.inner).0)
 
   -- how many numbers it stands for
   abbrev pub count_of : {g : _} → Seat P N A F g → ℕ
@@ -69,7 +70,8 @@ module _ {P N A F : Type 0} where
   -- a seat of these words
   abbrev pub IsAt : {g : _} → Words P N A F → Seat P N A F g → Type 0
   IsAt words seat = (table_at seat.inner ≡ table_of words.table) × ((me_of seat.inner).1 ≡ [])
-      × (0 < length (me_of seat.inner).0) × (seat.number < words.shape.seats) × (length seat.found.items ≡ words.shape.seats)
+      × (0 < length (me_of seat.inner).0) × (seat.number < words.shape.seats)
+      × (length seat.found.items ≡ words.shape.seats)
       × (seat.slots.room ≡ slots_per_seat words.shape) × IsSeatOfShape words.shape (known_of seat)
 
   -- A step was made: it is a seat of these words with the same numbers as before.
@@ -82,7 +84,8 @@ module _ {P N A F : Type 0} where
   abbrev pub IsOpenedSeat : {g : _} → Words P N A F → N → ℕ → Seat P N A F g → Type 0
   IsOpenedSeat words first i seat =
       IsAt words seat × (seat.number ≡ i) × (known_of seat ≡ core.first_seat words.shape i)
-      × (note_of first seat ≡ first) × (past_of seat ≡ no_history) × (operations_of seat ≡ []) × (numbers_of seat ≡ i ∷ []) × (count_of seat ≡ 1)
+      × (note_of first seat ≡ first) × (past_of seat ≡ no_history) × (operations_of seat ≡ [])
+      × (numbers_of seat ≡ i ∷ []) × (count_of seat ≡ 1)
       × ((empty : N) → IsUnited empty seat)
 
   -- one seat for each number

@@ -70,7 +70,11 @@ fn put_root(
 }
 
 /// The contents of the roots, one after another.
-fn root_contents(alloc: Global, closed: &Closed<(), Global>, shape: Shape) -> Result<Vec<u64>, NoMemory>
+fn root_contents(
+    alloc: Global,
+    closed: &Closed<(), Global>,
+    shape: Shape,
+) -> Result<Vec<u64>, NoMemory>
     requires limits { IsWithinLimits shape }
     requires whole { IsFull closed.now.words × (slots_len closed.now.words ≡ word_count shape) }
     requires below { (root : ℕ) → root < shape.roots

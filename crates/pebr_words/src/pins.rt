@@ -7,7 +7,8 @@ ghost use Rattle.pebr_core.specs.State.{is_out};
 ghost use Rattle.pebr_core.specs.Steps.{after_note, after_pin, after_leave, last_epoch};
 ghost use Rattle.pebr_words.specs.Making.{act_on};
 ghost use Rattle.pebr_words.specs.Ruled.{CanNote};
-ghost use Rattle.pebr_words.specs.Seats.{IsAt, IsStill, IsStep, shape_of, known_of, number_of, note_of, fixed_of, past_of};
+ghost use Rattle.pebr_words.specs.Seats.{IsAt, IsStill, IsStep, shape_of, known_of, number_of, note_of, fixed_of};
+ghost use Rattle.pebr_words.specs.Seats.{past_of};
 
 use crate::protocol::RootProtocol;
 use crate::words::{Seat, Words};
@@ -55,8 +56,8 @@ impl<P: RootProtocol> Words<P> {
         self.store(&mut seat.inner, word, status, step, None);
     }
 
-    /// Takes the announcement back: the seat is out, and has seen no slot. The act changes its note, for which the caller
-    /// may take it that the notes back what the seat has read in full under valid shields.
+    /// Takes the announcement back: the seat is out, and has seen no slot. The act changes its note, for which the
+    /// caller may take it that the notes back what the seat has read in full under valid shields.
     pub fn leave(&self, seat: &mut Seat<P>, act: Option<P::Act>)
         requires at { IsAt self.now seat.old }
         requires not_out { is_out (known_of seat.old).status ≡ false }

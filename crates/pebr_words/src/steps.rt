@@ -50,7 +50,8 @@ impl<P: RootProtocol> Words<P> {
             (op.load (index self.now.shape (place_of _step))) }
         requires made { IsMadeBy self.now.shape _step (seat_of _step) (known_in (me_of seat.old).0) (λ found. found) }
         requires kept { IsKeptBy (P.keeps (key_of self.now.table).fixed)
-            (BackedWhole P.whole (P.backed (key_of self.now.table).fixed)) P.after self.now.shape _step _act (seat_of _step)
+            (BackedWhole P.whole (P.backed (key_of self.now.table).fixed)) P.after self.now.shape _step _act
+            (seat_of _step)
             (known_in (me_of seat.old).0) (past_in (me_of seat.old).0)
             (note_in P.first (me_of seat.old).0) (λ found. found) }
         requires recalled { IsRecalledBy self.now.shape _step (seat_of _step) (known_in (me_of seat.old).0)
@@ -80,7 +81,8 @@ impl<P: RootProtocol> Words<P> {
             (op.load (index self.now.shape (place_of step))) }
         requires made { IsMadeBy self.now.shape step (seat_of step) (known_in (me_of seat.old).0) (λ found. found) }
         requires kept { IsKeptBy (P.keeps (key_of self.now.table).fixed)
-            (BackedWhole P.whole (P.backed (key_of self.now.table).fixed)) P.after self.now.shape step act (seat_of step)
+            (BackedWhole P.whole (P.backed (key_of self.now.table).fixed)) P.after self.now.shape step act
+            (seat_of step)
             (known_in (me_of seat.old).0) (past_in (me_of seat.old).0)
             (note_in P.first (me_of seat.old).0) (λ found. found) }
         requires recalled { IsRecalledBy self.now.shape step (seat_of step) (known_in (me_of seat.old).0)
@@ -111,7 +113,8 @@ impl<P: RootProtocol> Words<P> {
             (λ _. op.store (index self.now.shape (place_of _step)) new) }
         requires made { IsMadeBy self.now.shape _step (seat_of _step) (known_in (me_of seat.old).0) (λ _. new) }
         requires kept { IsKeptBy (P.keeps (key_of self.now.table).fixed)
-            (BackedWhole P.whole (P.backed (key_of self.now.table).fixed)) P.after self.now.shape _step _act (seat_of _step)
+            (BackedWhole P.whole (P.backed (key_of self.now.table).fixed)) P.after self.now.shape _step _act
+            (seat_of _step)
             (known_in (me_of seat.old).0) (past_in (me_of seat.old).0)
             (note_in P.first (me_of seat.old).0) (λ _. new) }
         requires recalled { IsRecalledBy self.now.shape _step (seat_of _step) (known_in (me_of seat.old).0)
@@ -142,7 +145,8 @@ impl<P: RootProtocol> Words<P> {
             (λ _. op.store (index self.now.shape (place_of step)) new) }
         requires made { IsMadeBy self.now.shape step (seat_of step) (known_in (me_of seat.old).0) (λ _. new) }
         requires kept { IsKeptBy (P.keeps (key_of self.now.table).fixed)
-            (BackedWhole P.whole (P.backed (key_of self.now.table).fixed)) P.after self.now.shape step act (seat_of step)
+            (BackedWhole P.whole (P.backed (key_of self.now.table).fixed)) P.after self.now.shape step act
+            (seat_of step)
             (known_in (me_of seat.old).0) (past_in (me_of seat.old).0)
             (note_in P.first (me_of seat.old).0) (λ _. new) }
         requires recalled { IsRecalledBy self.now.shape step (seat_of step) (known_in (me_of seat.old).0)
@@ -176,7 +180,8 @@ impl<P: RootProtocol> Words<P> {
         requires made { IsMadeBy self.now.shape _step (seat_of _step) (known_in (me_of seat.old).0)
             (λ found. either (found == old) new found) }
         requires kept { IsKeptBy (P.keeps (key_of self.now.table).fixed)
-            (BackedWhole P.whole (P.backed (key_of self.now.table).fixed)) P.after self.now.shape _step _act (seat_of _step)
+            (BackedWhole P.whole (P.backed (key_of self.now.table).fixed)) P.after self.now.shape _step _act
+            (seat_of _step)
             (known_in (me_of seat.old).0) (past_in (me_of seat.old).0)
             (note_in P.first (me_of seat.old).0)
             (λ found. either (found == old) new found) }
@@ -210,7 +215,8 @@ impl<P: RootProtocol> Words<P> {
         requires made { IsMadeBy self.now.shape step (seat_of step) (known_in (me_of seat.old).0)
             (λ found. either (found == old) new found) }
         requires kept { IsKeptBy (P.keeps (key_of self.now.table).fixed)
-            (BackedWhole P.whole (P.backed (key_of self.now.table).fixed)) P.after self.now.shape step act (seat_of step)
+            (BackedWhole P.whole (P.backed (key_of self.now.table).fixed)) P.after self.now.shape step act
+            (seat_of step)
             (known_in (me_of seat.old).0) (past_in (me_of seat.old).0)
             (note_in P.first (me_of seat.old).0)
             (λ found. either (found == old) new found) }

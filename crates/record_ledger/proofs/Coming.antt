@@ -1,5 +1,6 @@
 -- What becomes of fragments when others come to them, and what of those of one key.
-use Rattle.std.proofs.Common.{◌≡◌, ℕ, Bool, true, false, cond, inl, inr, List, [], ◌∷◌, length, refl, sym, ap, ◌∙◌, subst}
+use Rattle.std.proofs.Common.{◌≡◌, ℕ, Bool, true, false, cond, inl, inr, List, [], ◌∷◌, length, refl, sym, ap, ◌∙◌}
+use Rattle.std.proofs.Common.{subst}
 use Rattle.std.proofs.Common.{reverse, arith, get_or, take, zero, suc, ◌-◌, ◌<◌, ◌≤◌, ◌++◌, add-one, All}
 use Rattle.std.specs.Ordering.{is_lt, is_eq}
 use Rattle.std.specs.declared.cmp.Ordering.TheVariants.{Less}
@@ -19,7 +20,8 @@ use Rattle.record_ledger.specs.Order.{joining_order}
 use Rattle.record_ledger.specs.Steps.{Rises}
 use Rattle.record_ledger.proofs.Filtered.{IsPermutation-filter, filter_reverse, kept_none}
 use Rattle.record_ledger.proofs.Gathered.{not_true}
-use Rattle.record_ledger.proofs.Keyed.{tie_from_test, first_not_less, less_otherwise, tie_flips, rises_filter, rises_weaker}
+use Rattle.record_ledger.proofs.Keyed.{tie_from_test, first_not_less, less_otherwise, tie_flips, rises_filter}
+use Rattle.record_ledger.proofs.Keyed.{rises_weaker}
 use Rattle.record_ledger.proofs.Placed.{sorted_from_rises}
 use Rattle.record_ledger.proofs.Rising.{keys_tie, rises_from_sorted, joining_weak}
 
@@ -115,7 +117,8 @@ module _ (limits : Timeouts) where
     none_below : (t : Fragment) (S : List Fragment) (f : Fragment) → f.key ≡ key → Down f t → All (Down t) S
         → Has t ≡ false → parts_with key (t ∷ S) ≡ []
     none_below t S f e d h n =
-        let less : key_order t.key f.key ≡ Less = less_otherwise key_order_total t.key f.key (key_order f.key t.key) refl d
+        let less : key_order t.key f.key ≡ Less =
+        less_otherwise key_order_total t.key f.key (key_order f.key t.key) refl d
         (tie_flips key_order_total f.key t.key ∙ ap (λ k. is_eq (key_order t.key k)) e ∙ n) in
         kept t S false n ∙ kept_none Has S (All-weaker (Down t) (λ g. Has g ≡ false)
         (λ g low. not_true (Has g) (λ is. (let never : true ≡ false = sym (ap is_lt less)
@@ -153,7 +156,8 @@ module _ (limits : Timeouts) where
           | inl is ↦ subst (λ l. AllComeTo limits (parts_with key S) l (parts_with key A)) (sym (kept f L true is))
               (parts_with key a.0, comes_among S f a.0 low k is a.1, rest)
           | inr not ↦ subst (λ l. AllComeTo limits (parts_with key S) l (parts_with key A)) (sym (kept f L false not))
-              (subst (λ l. AllComeTo limits l (parts_with key L) (parts_with key A)) (comes_beside S f a.0 not a.1) rest)
+              (subst (λ l. AllComeTo limits l (parts_with key L) (parts_with key A))
+              (comes_beside S f a.0 not a.1) rest)
         ]
 
   -- fragments are joined key by key

@@ -38,8 +38,11 @@ lies_set n i zero (c ∷ bs) b h k =
     let e : i + 0 ≡ i = omega arith in
     (subst (λ m. All (λ (r : FlowRecord). set_number r.part.key n ≡ m) b.items) e k, h.1)
 lies_set n i (suc j) (c ∷ bs) b h k =
-    let e : i + suc j ≡ suc i + j = omega arith in
-    (h.0, lies_set n (suc i) j bs b h.1 (subst (λ m. All (λ (r : FlowRecord). set_number r.part.key n ≡ m) b.items) e k))
+    let e : i + suc j ≡ suc i + j = omega arith in (
+      h.0,
+      lies_set n (suc i) j bs b h.1 (subst
+          (λ m. All (λ (r : FlowRecord). set_number r.part.key n ≡ m) b.items) e k),
+    )
 
 -- one more record in its bucket
 pub lies_pushed : (bs : List Bucket) (j : ℕ) (b : Bucket) (r : FlowRecord) (d : Bucket) → j < length bs

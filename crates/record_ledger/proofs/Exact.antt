@@ -17,7 +17,8 @@ use Rattle.record_ledger.specs.Lawful.{parts_of, of_key, EachWithNext, HasReason
 use Rattle.record_ledger.specs.Order.{joining_order, written_order}
 use Rattle.record_ledger.specs.Steps.{Rises}
 use Rattle.record_ledger.proofs.Coming.{all_come_once}
-use Rattle.record_ledger.proofs.Filtered.{IsPermutation-filter, kept_again, lost_again, same_sorted, one_sorted, NotLess}
+use Rattle.record_ledger.proofs.Filtered.{IsPermutation-filter, kept_again, lost_again, same_sorted, one_sorted}
+use Rattle.record_ledger.proofs.Filtered.{NotLess}
 use Rattle.record_ledger.proofs.Gathered.{has_key, key_from_test}
 use Rattle.record_ledger.proofs.Keyed.{part_of, tie_from_test, rises_of_map, rises_filter}
 use Rattle.record_ledger.proofs.Placed.{sorted_from_rises}
@@ -40,7 +41,8 @@ module _ (limits : Timeouts) where
   lined_up parts wholes j = rises_from_sorted (λ f g. is_lt (joining_order f g)) joining_weak j.line j.sorted
 
   -- fragments are joined in one way
-  pub joined_same : (parts wholes others : List Fragment) → AreJoined limits parts wholes → AreJoined limits parts others
+  pub joined_same : (parts wholes others : List Fragment) → AreJoined limits parts wholes
+      → AreJoined limits parts others
       → wholes ≡ others
   joined_same parts wholes others a b =
       let line : a.line ≡ b.line = one_sorted joining_total joining_exact a.line b.line

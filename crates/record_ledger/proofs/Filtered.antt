@@ -1,6 +1,7 @@
 -- What tests keep of lists, and lists that are one where they are in order.
 use Rattle.std.proofs.Common.{◌≡◌, Bool, true, false, cond, inl, inr, List, [], ◌∷◌, ◌++◌, length, get_or, drop}
-use Rattle.std.proofs.Common.{reverse, refl, sym, ap, ◌∙◌, subst, arith, append-nil, All, Contains, IsPermutation, filter}
+use Rattle.std.proofs.Common.{reverse, refl, sym, ap, ◌∙◌, subst, arith, append-nil, All, Contains, IsPermutation}
+use Rattle.std.proofs.Common.{filter}
 use Rattle.std.proofs.Common.{flat_map}
 use Rattle.std.specs.Cmp.{IsTotalOrder}
 use Rattle.std.specs.Ordering.{is_lt, is_eq, ordering_reverse}
@@ -21,7 +22,8 @@ module _ {X : Type 0} (p : X → Bool) where
   filter_flat (x ∷ xs) = put (p x) ∙ ap (λ l. cond (p x) (x ∷ l) l) (filter_flat xs)
     where
       put : (b : Bool) → cond b (x ∷ []) [] ++ flat_map (λ (y : X). cond (p y) (y ∷ []) []) xs
-          ≡ cond b (x ∷ flat_map (λ (y : X). cond (p y) (y ∷ []) []) xs) (flat_map (λ (y : X). cond (p y) (y ∷ []) []) xs)
+          ≡ cond b (x ∷ flat_map (λ (y : X). cond (p y) (y ∷ []) []) xs)
+          (flat_map (λ (y : X). cond (p y) (y ∷ []) []) xs)
       put true = refl
       put false = refl
 
@@ -125,7 +127,8 @@ module _ {X : Type 0} {R : X → X → Ordering} (o : IsTotalOrder R) where
     all_one z (x ∷ xs) [] h k e = absurd (omega (arith, e))
     all_one z (x ∷ xs) (y ∷ ys) h k e =
         ap (λ v. v ∷ xs) (h 0 x (omega arith) ∙ sym (k 0 y (omega arith)))
-        ∙ ap (λ l. y ∷ l) (all_one z xs ys (All-tail (λ x. x ≡ z) x xs h) (All-tail (λ x. x ≡ z) y ys k) (omega (arith, e)))
+        ∙ ap (λ l. y ∷ l) (all_one z xs ys (All-tail (λ x. x ≡ z) x xs h) (All-tail (λ x. x ≡ z) y ys k)
+        (omega (arith, e)))
 
     are : (z : X) (xs : List X) → All (λ x. x ≡ z) (filter (λ w. is_eq (R w z)) xs)
     are z xs = All-weaker (λ x. is_eq (R x z) ≡ true) (λ x. x ≡ z) (λ x e. exact x z (tie_from_test (R x z) e))

@@ -199,7 +199,8 @@ module _ (R : FlowRecord → Option Fragment → Type 0) where
       (keyed T h.1 b.1 key)
 
 -- the records of one key rise by their last times, in either order
-pub up_gathered : (key : FlowKey) (T : List FlowRecord) → Rises (λ (a b : FlowRecord). key_then_last a.part b.part ≡ Less) T
+pub up_gathered : (key : FlowKey) (T : List FlowRecord)
+    → Rises (λ (a b : FlowRecord). key_then_last a.part b.part ≡ Less) T
     → Rises (λ (a b : FlowRecord). a.part.last < b.part.last) (of_key key T)
 up_gathered key T h = rises_filter (has_key key) (λ (a b : FlowRecord). key_then_last a.part b.part ≡ Less)
     (λ (a b : FlowRecord). a.part.last < b.part.last)
@@ -407,7 +408,8 @@ module _ (limits : Timeouts) (IsNow : ℕ → Type 0) (packets others : List Pac
   across [] a b u = b
   across (r ∷ L) a b u = (
     All-append (Under r) L M a.0
-        (All-weaker (λ (s : FlowRecord). r.part.key ≢ s.part.key) (Under r) (λ s n. untied r s n (written_order r s) refl) M
+        (All-weaker (λ (s : FlowRecord). r.part.key ≢ s.part.key) (Under r)
+        (λ s n. untied r s n (written_order r s) refl) M
         (u 0 r (omega arith))),
     across L a.1 b (All-tail (λ (r : FlowRecord). All (λ (s : FlowRecord). r.part.key ≢ s.part.key) M) r L u),
   )
@@ -420,12 +422,14 @@ module _ (limits : Timeouts) (IsNow : ℕ → Type 0) (packets others : List Pac
       (rises_from_sorted (λ (a b : FlowRecord). is_lt (written_order a b)) written_weak B sorted)
       (IsDistinct-IsPermutation (λ (a b : FlowRecord). is_eq (written_order a b)) (tie_flips written_total) (L ++ M) B
       perm (distinct_from_rises (λ (a b : FlowRecord). is_eq (written_order a b)) (L ++ M)
-      (across L (apart_in L (rises_written limits IsNow packets L h)) (apart_in M (rises_written limits IsNow others M k))
+      (across L (apart_in L (rises_written limits IsNow packets L h))
+      (apart_in M (rises_written limits IsNow others M k))
       unlike)))
 
   -- the records of a key are all of the one list or all of the other
   same_as : (key : FlowKey) (F G : List FlowRecord) → Rises (λ (a b : FlowRecord). written_order a b ≡ Less) F
-      → ((z : FlowRecord) → Contains B z → Contains F z ⊎ Contains G z) → ((z : FlowRecord) → Contains F z → Contains B z)
+      → ((z : FlowRecord) → Contains B z → Contains F z ⊎ Contains G z)
+      → ((z : FlowRecord) → Contains F z → Contains B z)
       → of_key key G ≡ [] → of_key key B ≡ of_key key F
   same_as key F G up into from none = same_rising (λ (a b : FlowRecord). a.part.last < b.part.last)
       (λ a b l m. omega arith) (of_key key B) (of_key key F) (up_written key B strict) (up_written key F up)

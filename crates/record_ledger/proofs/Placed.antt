@@ -1,5 +1,6 @@
 -- Places of records in buckets, and their order.
-use Rattle.std.proofs.Common.{◌≡◌, ℕ, zero, suc, ◌+◌, ◌<◌, Bool, false, Option, Some, None, List, [], ◌∷◌, ◌++◌, length, get_or}
+use Rattle.std.proofs.Common.{◌≡◌, ℕ, zero, suc, ◌+◌, ◌<◌, Bool, false, Option, Some, None, List, [], ◌∷◌, ◌++◌, length}
+use Rattle.std.proofs.Common.{get_or}
 use Rattle.std.proofs.Common.{take, refl, sym, ap, ◌∙◌, subst, arith, add-one, append-nil, append_assoc, All}
 use Rattle.std.proofs.Common.{IsPermutation, ◌≤◌, true, cond, filter, ◌⊎◌, inl, inr}
 use Rattle.std.specs.Prelude.{slice_get, IsSorted}
@@ -31,7 +32,8 @@ use Rattle.record_ledger.proofs.Keyed.{rises_filter}
 use Rattle.record_ledger.proofs.Rising.{rises_from_sorted, not_less_shorter, keys_tie}
 use Rattle.record_ledger.specs.Lawful.{of_key}
 use Rattle.record_ledger.specs.Buckets.{seat_order, AreFirst, EndInTurn}
-use Rattle.record_ledger.specs.Buckets.{Bucket, item_at, record_at, IsPlaceOf, IsPlace, listed, records_at, place_order, records_of}
+use Rattle.record_ledger.specs.Buckets.{Bucket, item_at, record_at, IsPlaceOf, IsPlace, listed, records_at, place_order}
+use Rattle.record_ledger.specs.Buckets.{records_of}
 
 sorted_more : {X : Type 0} (lt : X → X → Bool) (x : X) (xs : List X) → All (λ y. lt y x ≡ false) xs → IsSortedBy lt xs
     → (k : ℕ) (d : X) → k + 1 < length (x ∷ xs) → lt (get_or (x ∷ xs) (k + 1) d) (get_or (x ∷ xs) k d) ≡ false
@@ -107,7 +109,8 @@ least_is x y l = go (nat_cmp x y) (ranked x y (nat_cmp x y) refl)
     go Greater h = refl
 
 seats_total : IsTotalOrder seat_order
-seats_total = then_total (on_total (λ (p : Place). p.bucket) nat_cmp_total) (on_total (λ (p : Place). p.at) nat_cmp_total)
+seats_total = then_total (on_total (λ (p : Place). p.bucket) nat_cmp_total)
+    (on_total (λ (p : Place). p.at) nat_cmp_total)
 
 -- the place is of a bucket below the one with this number, or in this one below a place
 abbrev pub IsBelow : ℕ → ℕ → Place → Type 0
@@ -136,7 +139,8 @@ pub more_ahead : (n i : ℕ) (ps qs : List Place) (p : Place) → p.bucket ≡ n
     → All (IsBelow n (i + 1)) qs × Rises (λ one other. seat_order one other ≡ Less) qs
 more_ahead n i ps qs p e f eq h = (
   subst (All (IsBelow n (i + 1))) (sym eq)
-      (All-append (IsBelow n (i + 1)) ps (p ∷ []) (All-weaker (IsBelow n i) (IsBelow n (i + 1)) (λ q b. onward q b) ps h.0)
+      (All-append (IsBelow n (i + 1)) ps (p ∷ [])
+      (All-weaker (IsBelow n i) (IsBelow n (i + 1)) (λ q b. onward q b) ps h.0)
       (All-one (IsBelow n (i + 1)) p (inr (e, omega (arith, f))))),
   subst (Rises (λ one other. seat_order one other ≡ Less)) (sym eq)
       (rises_snoc (λ one other. seat_order one other ≡ Less) ps p h.1
@@ -281,14 +285,16 @@ module _ (bs : List Bucket) where
         slice_get_within bs p.bucket v.0 v.1,
         λ b is.
             let same : v.0 ≡ b = sym (is ∙ get_or_from_slice_get bs p.bucket v.0 b v.1) in
-            let at : slice_get b.items p.at ≡ Some r = subst (λ (b : Bucket). slice_get b.items p.at ≡ Some r) same v.2 in
+            let at : slice_get b.items p.at ≡ Some r =
+            subst (λ (b : Bucket). slice_get b.items p.at ≡ Some r) same v.2 in
             (slice_get_within b.items p.at r at, λ s here. here ∙ get_or_from_slice_get b.items p.at r s at),
       )
 
   -- the places of all records, sorted
   pub all_sorted : (ps qs : List Place) → AllZip (IsPlaceOf bs) (records_of bs) ps → IsPermutation ps qs
       → IsSorted (place_order bs) qs
-      → All (IsPlace bs) qs × IsPermutation (records_of bs) (records_at bs qs) × IsSorted written_order (records_at bs qs)
+      → All (IsPlace bs) qs × IsPermutation (records_of bs) (records_at bs qs)
+      × IsSorted written_order (records_at bs qs)
   all_sorted ps qs z perm sorted =
       let y = AllZip-permutation (IsPlaceOf bs) (records_of bs) ps qs z perm in
       let same : records_at bs qs ≡ y.0 = read y.0 qs y.2 in (

@@ -32,7 +32,8 @@ use Rattle.record_ledger.proofs.Coming.{joined_of_key}
 use Rattle.record_ledger.proofs.Exact.{parts_of_key, nothing_joined, joined_of}
 use Rattle.record_ledger.proofs.Filtered.{IsPermutation-filter}
 use Rattle.record_ledger.proofs.Gathered.{has_key, key_from_test, none_left, not_true, untied, Untied, Before, keyed}
-use Rattle.record_ledger.proofs.Gathered.{beside_reasons, beside_apart, strictly, up_gathered, no_tie, regrouped, lawful_by}
+use Rattle.record_ledger.proofs.Gathered.{beside_reasons, beside_apart, strictly, up_gathered, no_tie, regrouped}
+use Rattle.record_ledger.proofs.Gathered.{lawful_by}
 use Rattle.record_ledger.proofs.Keyed.{part_of, All-unmap, All-of_map, rises_unmap, rises_weaker}
 use Rattle.record_ledger.proofs.Rising.{All-front, All-back, not_after_last}
 
@@ -72,7 +73,8 @@ of_other : (key : FlowKey) (n i m : ℕ) (r : FlowRecord) → set_number key n �
 of_other key n i m r e f apart = not_true (has_key key r)
     (λ is. apart (sym e ∙ sym (ap (λ k. set_number k n) (key_from_test key r is)) ∙ f))
 
-later : (n i : ℕ) (bs : List Bucket) → LieFrom n i bs → All (λ (r : FlowRecord). i ≤ set_number r.part.key n) (records_of bs)
+later : (n i : ℕ) (bs : List Bucket) → LieFrom n i bs
+    → All (λ (r : FlowRecord). i ≤ set_number r.part.key n) (records_of bs)
 later n i [] h = All-nil (λ (r : FlowRecord). i ≤ set_number r.part.key n)
 later n i (b ∷ bs) h = All-append (λ (r : FlowRecord). i ≤ set_number r.part.key n) b.items (records_of bs)
     (All-weaker (λ (r : FlowRecord). set_number r.part.key n ≡ i) (λ (r : FlowRecord). i ≤ set_number r.part.key n)
@@ -178,7 +180,8 @@ module _ (limits : Timeouts) (clock : ℕ) where
   all_reached [] (b ∷ bs) z = absurd z
   all_reached (o ∷ os) [] z = absurd z
   all_reached (o ∷ os) (b ∷ bs) z =
-      subst (λ F. Reaches limits F (parts_of (b.items ++ records_of bs))) (sym (map-append part_of o.items (records_of os)))
+      subst (λ F. Reaches limits F (parts_of (b.items ++ records_of bs)))
+      (sym (map-append part_of o.items (records_of os)))
       (subst (Reaches limits (parts_of o.items ++ parts_of (records_of os)))
       (sym (map-append part_of b.items (records_of bs)))
       (both limits (parts_of o.items) (parts_of b.items) (parts_of (records_of os)) (parts_of (records_of bs))

@@ -79,7 +79,8 @@ seat_order one other = ordering_then (nat_cmp one.bucket other.bucket) (nat_cmp 
 -- How two places stand: by their last times, then by the keys of their records, then by where they are.
 abbrev pub place_order : List Bucket → Place → Place → Ordering
 place_order buckets one other = ordering_then (nat_cmp one.last other.last) (ordering_then
-    (option_cmp (λ (r s : FlowRecord). key_order r.part.key s.part.key) (record_at buckets one) (record_at buckets other))
+    (option_cmp (λ (r s : FlowRecord). key_order r.part.key s.part.key) (record_at buckets one)
+    (record_at buckets other))
     (seat_order one other))
 
 -- The places are of buckets below the number, and rise by bucket, then by place in it.

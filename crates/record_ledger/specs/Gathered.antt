@@ -38,8 +38,8 @@ pub record AreJoined (limits : Timeouts) (parts wholes : List Fragment) : Type 0
   pub sorted : IsSorted joining_order line
   pub joined : AllComeTo limits [] line (reverse wholes)
 
--- The records are what is gathered of the fragments: they stand in the written order, those of each key are what becomes
--- of the fragments of this key, and each has its reason, by the next one of its key and the clock.
+-- The records are what is gathered of the fragments: they stand in the written order, those of each key are what
+-- becomes of the fragments of this key, and each has its reason, by the next one of its key and the clock.
 pub record IsGathered (limits : Timeouts) (clock : ℕ) (parts : List Fragment)
     (records : List FlowRecord) : Type 0 where
   pub ordered : IsSorted written_order records

@@ -60,8 +60,8 @@ impl SinkBuffer {
     /// Puts a piece of at most 262,144 bytes behind what is held. Where it has no room there, what is held is written
     /// to the sink before; a piece is always held whole.
     ///
-    /// `Failed` comes only where the sink's count of faults rose; the sink then took a beginning of what was held, which
-    /// is held still, and the piece is not.
+    /// `Failed` comes only where the sink's count of faults rose; the sink then took a beginning of what was held,
+    /// which is held still, and the piece is not.
     pub fn put<K: Sink>(&mut self, sink: &mut K, piece: &[u8]) -> Result<(), Failed>
         requires { length piece.now ≤ 262144 }
         ensures passed { OnOk result (IsPassed (K.held sink.old) (K.held sink.new) self.old self.new piece.now) }

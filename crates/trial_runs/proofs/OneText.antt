@@ -1,5 +1,6 @@
 -- What is written and noted of a capture whose sessions nothing cuts is one text.
-use Rattle.std.proofs.Common.{◌≡◌, ◌≤◌, ◌<◌, ◌+◌, ◌-◌, ◌*◌, ◌^◌, ℕ, List, [], ◌∷◌, ◌++◌, length, min, Option, Some, None, refl}
+use Rattle.std.proofs.Common.{◌≡◌, ◌≤◌, ◌<◌, ◌+◌, ◌-◌, ◌*◌, ◌^◌, ℕ, List, [], ◌∷◌, ◌++◌, length, min, Option, Some}
+use Rattle.std.proofs.Common.{None, refl}
 use Rattle.std.proofs.Common.{sym, ap, subst, ◌∙◌, arith, All, Any, slice_index}
 use Rattle.std.specs.Prelude.{codes}
 use mathlib.Core.HLevel.{is_prop→PathP}
@@ -123,10 +124,12 @@ module _ (records_one : RecordsAreOne) (idle active size : ℕ) (capture written
             ∙ summary-same one.tally other.tally (length one.records) one.messages (tail_of one.file)
             (length other.records) other.messages (tail_of other.file)
             (one.tally_is.captured ∙ counts 0 ∙ sym other.tally_is.captured)
-            (one.tally_is.accepted ∙ ap (λ (f : CaptureFile). length (packets_of f)) same-file ∙ sym other.tally_is.accepted)
+            (one.tally_is.accepted ∙ ap (λ (f : CaptureFile). length (packets_of f)) same-file
+            ∙ sym other.tally_is.accepted)
             (one.tally_is.ignored ∙ ap (λ (f : CaptureFile). ignored_counts (answers_of f)) same-file
             ∙ sym other.tally_is.ignored)
-            (one.tally_is.octets ∙ ap (λ (f : CaptureFile). octets_of (packets_of f)) same-file ∙ sym other.tally_is.octets)
+            (one.tally_is.octets ∙ ap (λ (f : CaptureFile). octets_of (packets_of f)) same-file
+            ∙ sym other.tally_is.octets)
             (ap length records) messages (ap tail_of same-file)
             ∙ sym other.summary_is,
       )
@@ -134,7 +137,8 @@ module _ (records_one : RecordsAreOne) (idle active size : ℕ) (capture written
 -- so is that of a made capture
 pub tests-write-one : AnswersOnce → RecordsAreOne → HaveSessions → (seed packets keys : ℕ)
     (metered others : List Fragment) (written noted written' noted' : List ℕ) → packets ≤ 1000000
-    → (one : IsTested seed packets keys metered written noted) → (other : IsTested seed packets keys others written' noted')
+    → (one : IsTested seed packets keys metered written noted)
+    → (other : IsTested seed packets keys others written' noted')
     → (one.stream ≡ other.stream) × (written ≡ written')
 tests-write-one once records_one have seed packets keys metered others written noted written' noted' few one other =
     let known = one.is_metered in

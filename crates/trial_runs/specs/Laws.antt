@@ -38,5 +38,6 @@ MeteredIsOne = (idle active size : ℕ) (capture written noted written' noted' :
 abbrev pub TestsWriteOne : Type 0
 TestsWriteOne = (seed packets keys : ℕ) (metered others : List Fragment) (written noted written' noted' : List ℕ)
     → packets ≤ 1000000
-    → (one : IsTested seed packets keys metered written noted) → (other : IsTested seed packets keys others written' noted')
+    → (one : IsTested seed packets keys metered written noted)
+    → (other : IsTested seed packets keys others written' noted')
     → (one.stream ≡ other.stream) × (written ≡ written')

@@ -32,7 +32,15 @@ written_as place content =
 
 -- A seat of these numbers that has done nothing.
 abbrev pub new_hand : List ℕ → Note → Hand
-new_hand numbers note = record { numbers = numbers; note = note; lost = []; turn = idle; set = 0; read = []; written = None }
+new_hand numbers note = record {
+  numbers = numbers;
+  note = note;
+  lost = [];
+  turn = idle;
+  set = 0;
+  read = [];
+  written = None;
+}
 
 -- A seat that was united with another.
 abbrev pub spent_hand : Hand

@@ -1,5 +1,6 @@
 -- What was held are flows of some of the packets.
-use Rattle.std.proofs.Common.{◌≡◌, ◌<◌, ℕ, zero, suc, false, arith, List, [], ◌∷◌, ◌++◌, flat_map, All, sym, ap, ◌∙◌, subst, append-nil}
+use Rattle.std.proofs.Common.{◌≡◌, ◌<◌, ℕ, zero, suc, false, arith, List, [], ◌∷◌, ◌++◌, flat_map, All, sym, ap, ◌∙◌}
+use Rattle.std.proofs.Common.{subst, append-nil}
 use Rattle.std.specs.List.{AllZip}
 use Rattle.std.specs.Prelude.{IsPermutation, ◌==◌}
 use Rattle.std.proofs.lemmas.Grind.{flat_map-append}

@@ -20,8 +20,8 @@ limit = 2 ^ 30
 
 -- The bytes are an undamaged capture. What is written is a line for each ask, or none where the capture has no accepted
 -- packet, and then the number and the octets of its accepted packets. Ask k is for the key of accepted packet k, modulo
--- the number of those that are asked for. A flow that was held has this key and is that of some of the accepted packets:
--- they are a heap of it, so it has a packet at least, and doesn't begin behind its end.
+-- the number of those that are asked for. A flow that was held has this key and is that of some of the accepted
+-- packets: they are a heap of it, so it has a packet at least, and doesn't begin behind its end.
 pub record IsWatched (asks : ℕ) (capture written : List ℕ) : Type 0 where
   pub file : CaptureFile
   pub is_file : capture_file capture ≡ Some file

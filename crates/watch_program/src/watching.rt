@@ -22,7 +22,7 @@ use flow_cache::{PebrCache, PebrCaches, PebrPass};
 use flow_key::FlowKey;
 use flow_parts::Timeouts;
 use flow_parts::laws::sharing_out_counts;
-use meter_workers::{Gate, CaptureMetered, Part, meter_all};
+use meter_workers::{CaptureMetered, Gate, Part, meter_all};
 use no_memory::NoMemory;
 use pcap_reader::{Capture, RecordIndex};
 use std::alloc::Global;

@@ -49,7 +49,8 @@ module _ {X : Type 0} (size : ℕ) (things : List X) where
   taken : (n : ℕ) → pieces_of size things (upto n) ≡ take (n * size) things
   taken zero = ap (λ k. take k things) (let e : 0 ≡ 0 * size = omega arith in e)
   taken (suc n) = flat_map-append (piece_of size things) (upto n) (n ∷ [])
-      ∙ ap (λ l. pieces_of size things (upto n) ++ l) (append-nil (piece_of size things n)) ∙ ap (λ l. l ++ piece_of size things n) (taken n)
+      ∙ ap (λ l. pieces_of size things (upto n) ++ l) (append-nil (piece_of size things n))
+      ∙ ap (λ l. l ++ piece_of size things n) (taken n)
       ∙ ap (λ l. take (n * size) things ++ l) (piece_is n) ∙ sym (take-add (n * size) size things)
       ∙ ap (λ k. take k things) (let e : n * size + size ≡ suc n * size = omega arith in e)
 

@@ -5,7 +5,8 @@ use Rattle.std.specs.Prelude.{flat_map, IsPermutation}
 use Rattle.std.specs.List.{AllZip}
 use Rattle.std.proofs.lemmas.Grind.{common_steps, flat_map-append}
 use Rattle.std.proofs.lemmas.List.{get_or-map, length-map, nil_from_length}
-use Rattle.std.proofs.lemmas.List.Elements.{All-nil, All-cons, All-tail, All-weaker, All-append, All-drop, All-same, All-take}
+use Rattle.std.proofs.lemmas.List.Elements.{All-nil, All-cons, All-tail, All-weaker, All-append, All-drop, All-same}
+use Rattle.std.proofs.lemmas.List.Elements.{All-take}
 use Rattle.std.proofs.lemmas.List.Sorted.{IsPermutation-refl, IsPermutation-trans, IsPermutation-append_comm}
 use Rattle.std.proofs.lemmas.List.Sorted.{IsPermutation-append_left, IsPermutation-append_right, length_permutation}
 use Rattle.std.proofs.lemmas.Slice.Zip.{AllZip-long, all_zipped_more}
@@ -40,7 +41,8 @@ pub taken-back : {A : Type 0} (n m : ℕ) (xs ys : List A) → n ≡ length ys �
 taken-back n m xs ys e f = ap (λ k. take k (ys ++ drop m xs)) e ∙ grind (arith, common_steps)
 
 -- what is taken of each is as much behind as it was before
-pub still-many : {A B C : Type 0} (R : A → A → Type 0) (f : A → B) (g : A → C) (xs ys : List A) (fs : List B) (gs : List C)
+pub still-many : {A B C : Type 0} (R : A → A → Type 0) (f : A → B) (g : A → C) (xs ys : List A)
+    (fs : List B) (gs : List C)
     → map f xs ≡ fs → gs ≡ map g ys → AllZip R xs ys → length gs ≡ length fs
 still-many R f g xs ys fs gs had has zip =
     ap length has ∙ length-map ys g ∙ AllZip-long R xs ys zip ∙ sym (length-map xs f) ∙ ap length had

@@ -8,8 +8,8 @@
 //! The word and the passes are tied by the rule of an `atomic_table`, `Dealt` in `specs/Dealing.antt`: it holds between
 //! any two steps, whatever the threads do in turn. The word lies on a cache line of its own.
 //!
-//! A [`Worker`] is a share, which tells what it has done, and its seat at what hands out the work. `specs/Doing.antt` says
-//! what workers have done: each its own list of things, together all.
+//! A [`Worker`] is a share, which tells what it has done, and its seat at what hands out the work. `specs/Doing.antt`
+//! says what workers have done: each its own list of things, together all.
 #![tactic(auto)]
 
 mod piece;

@@ -32,7 +32,8 @@ impl BatchQueue {
         requires room { (1 ≤ room) × (room ≤ 64) }
         requires others { (1 ≤ others) × (others ≤ 63) }
         ensures room { IfOk result (λ r. room_of r.0 ≡ room) }
-        ensures reader { IfOk result (λ r. IsPassOf r.0 (reader_of r.1) × IsFresh (reader_of r.1) × IsReaders (reader_of r.1)
+        ensures reader { IfOk result (λ r. IsPassOf r.0 (reader_of r.1) × IsFresh (reader_of r.1)
+            × IsReaders (reader_of r.1)
             × (others_of (reader_of r.1) ≡ others) × IsOpen r.1) }
         ensures many { IfOk result (λ r. length r.2.items ≡ others) }
         ensures passes { IfOk result (λ r. All (λ p. IsPassOf r.0 p × IsFresh p × (¬ IsReaders p) × (others_of p ≡ 0))

@@ -10,7 +10,9 @@ use cache_face::{Caches, FlowCache};
 use capture_tally::Tally;
 use flow_parts::Timeouts;
 use meter_io::{MemSource, Source};
-use meter_workers::{Batches, Gate, CaptureMetered, MeterFault, Windows, meter_batches, meter_windows};
+use meter_workers::{
+    Batches, CaptureMetered, Gate, MeterFault, Windows, meter_batches, meter_windows,
+};
 use std::alloc::Global;
 use std::sync::Wait;
 use std::test::Fail;

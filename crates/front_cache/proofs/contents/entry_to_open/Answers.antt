@@ -3,7 +3,8 @@ use Rattle.std.proofs.lemmas.Bool.{iff_false}
 use Rattle.flow_parts.specs.declared.fragment.Fragment.{Fragment}
 use Rattle.cache_face.specs.Choice.{HasKey, HasNone, entry_at}
 use Rattle.cache_face.specs.Keeping.{entry_of}
-use Rattle.cache_choice.proofs.Lowest.{lowest_here, lowest_behind, none_of_more, none_of_none, oldest_here, oldest_behind}
+use Rattle.cache_choice.proofs.Lowest.{lowest_here, lowest_behind, none_of_more, none_of_none, oldest_here}
+use Rattle.cache_choice.proofs.Lowest.{oldest_behind}
 use Rattle.cache_choice.proofs.Lowest.{opens_empty, opens_oldest}
 use Rattle.cache_choice.proofs.Others.{none_where, empty_where, last_shown}
 use Rattle.front_cache.proofs.contents.entry_to_open.Goals.{Else-is_of_key-2}

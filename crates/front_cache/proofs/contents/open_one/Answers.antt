@@ -11,7 +11,8 @@ returns c = (
   record {
     entry = c.entry_to_open-entry.result;
     kept = c.args.own.now;
-    chosen = subst (λ (out : Option Fragment). IsChoice c.args._timeouts.now (two_shown c.args.contents.now c.args.first)
+    chosen = subst (λ (out : Option Fragment). IsChoice c.args._timeouts.now
+        (two_shown c.args.contents.now c.args.first)
         c.args.own.now c.entry_to_open-entry.ensures.chosen.0 c.entry_to_open-entry.result out c.args.own.now)
         (one_of_two c.args.contents.now c.args.first c.entry_to_open-entry.result c.entry_to_open-entry.ensures.low
         ∙ sym c.put_out-out.ensures) c.entry_to_open-entry.ensures.chosen.1;

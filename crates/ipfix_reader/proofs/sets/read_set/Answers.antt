@@ -16,7 +16,8 @@ returns-in-Ok-clause-ok g c = λ before taken.
       after = way.after;
       taken = way.taken;
       counted = way.counted;
-      reads = set-read _ _ _ _ _ (part_of c.args.part) _ _ c.requires (sym c.if-is_bad_length.ensures) c.u16_at-2.ensures
+      reads = set-read _ _ _ _ _ (part_of c.args.part) _ _ c.requires (sym c.if-is_bad_length.ensures)
+          c.u16_at-2.ensures
           (c.from-size.ensures ∙ c.u16_at.ensures)
           (c.behind-content.ensures ∙ ap (behind 4) c.first_part.ensures) c.behind.ensures way.reads;
     }

@@ -17,7 +17,8 @@ returns-in-Err-record-clause-broken g c =
           (subst (λ (t : ℕ). BeginsLayout c.loop-place.emitter.size t records (way.0 ++ h.0))
           c.loop-place.invariant.export_time
           (subst (λ fs. BeginsLayout c.loop-place.emitter.size c.loop-place.emitter.export_time fs (way.0 ++ h.0))
-          (records-split records i c.get.result.now (omega (arith, c.loop-place-test.true, c.len-place-end.ensures)) c.get.ensures)
+          (records-split records i c.get.result.now (omega (arith, c.loop-place-test.true, c.len-place-end.ensures))
+          c.get.ensures)
           (h.2 (drop (i + 1) records)))),
     )
 
@@ -32,7 +33,8 @@ loop-place-preserved g c =
         way.0 ++ h.0,
         Appends-trans _ _ _ _ _ way.1 h.1,
         subst (λ fs. IsUnderWay c.record.new.self fs (way.0 ++ h.0))
-            (taken-one records i c.get.result.now (omega (arith, c.loop-place-test.true, c.len-place-end.ensures)) c.get.ensures) h.2,
+            (taken-one records i c.get.result.now (omega (arith, c.loop-place-test.true, c.len-place-end.ensures))
+            c.get.ensures) h.2,
       );
       size = c.in-Ok-record.ensures.settings.0 ∙ c.loop-place.invariant.size;
       export_time = c.in-Ok-record.ensures.settings.1 ∙ c.loop-place.invariant.export_time;

@@ -40,11 +40,13 @@ returns-in-Ok-emit_all g c =
     let w = c.in-Ok-emit_all.ensures.written in
     done c.layout_law.ensures c.args.size _ c.in-Ok.emitter.size c.in-Ok.emitter.export_time c.requires.1
     (ap (λ e. e.size) c.in-Ok.ensures) (ap (λ e. e.export_time) c.in-Ok.ensures ∙ c.export_time.ensures)
-    c.args.records.now (side g.K.Sink.held g.K.Sink.faults c.args.output.now c.emit_all.new.sink) w.0 c.in-Ok-emit_all.field-0 w.1 w.2
+    c.args.records.now (side g.K.Sink.held g.K.Sink.faults c.args.output.now c.emit_all.new.sink) w.0
+    c.in-Ok-emit_all.field-0 w.1 w.2
 
 pub returns-in-Err : goal.returns-in-Err
 returns-in-Err g c =
     let w = c.in-Err.ensures.broken in
     cut c.layout_law.ensures c.args.size _ c.in-Ok.emitter.size c.in-Ok.emitter.export_time c.requires.1
     (ap (λ e. e.size) c.in-Ok.ensures) (ap (λ e. e.export_time) c.in-Ok.ensures ∙ c.export_time.ensures)
-    c.args.records.now (side g.K.Sink.held g.K.Sink.faults c.args.output.now c.emit_all.new.sink) w.0 w.1 w.2 c.in-Err.ensures.cause.failed
+    c.args.records.now (side g.K.Sink.held g.K.Sink.faults c.args.output.now c.emit_all.new.sink) w.0 w.1 w.2
+    c.in-Err.ensures.cause.failed

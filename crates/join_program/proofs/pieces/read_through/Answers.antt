@@ -5,7 +5,8 @@ use Rattle.meter_io.specs.Sides.{side, IsWrong}
 use Rattle.ipfix_reader.specs.Messages.{decode}
 use Rattle.ipfix_reader.specs.Outcome.{IsFaultOf}
 use Rattle.join_program.specs.Outcome.{limit}
-use Rattle.join_program.proofs.Windows.{IsPieced, pieced_on, pieced_read, pieced_all, pieced_stop, pieced_fault, end_fails}
+use Rattle.join_program.proofs.Windows.{IsPieced, pieced_on, pieced_read, pieced_all, pieced_stop, pieced_fault}
+use Rattle.join_program.proofs.Windows.{end_fails}
 use Rattle.join_program.proofs.pieces.read_through.Goals as goal
 
 pub returns-in-Ok-true-clause-taken : goal.returns-in-Ok-true-clause-taken

@@ -14,13 +14,15 @@ err_more (Err e) P Q more is = more e is
 pub returns-in-Err-NotOptions-clause-asked : goal.returns-in-Err-NotOptions-clause-asked
 returns-in-Err-NotOptions-clause-asked c = IfOk-weaker c.share_settings.result _ _
     (λ settings asked files.
-    ap (λ v. option_and_then (asked_with files) (values_by v (values_of share_options (map string_bytes c.args.words.now))))
+    ap (λ v. option_and_then (asked_with files)
+    (values_by v (values_of share_options (map string_bytes c.args.words.now))))
     (c.in-Err-NotOptions.ensures.refused c.in-Err-NotOptions.field-0-is) ∙ asked files) c.share_settings.ensures.asked
 
 pub returns-in-Err-NotOptions-clause-refused : goal.returns-in-Err-NotOptions-clause-refused
 returns-in-Err-NotOptions-clause-refused c = err_more c.share_settings.result _ _
     (λ error refused is files.
-    ap (λ v. option_and_then (asked_with files) (values_by v (values_of share_options (map string_bytes c.args.words.now))))
+    ap (λ v. option_and_then (asked_with files)
+    (values_by v (values_of share_options (map string_bytes c.args.words.now))))
     (c.in-Err-NotOptions.ensures.refused c.in-Err-NotOptions.field-0-is) ∙ refused is files)
     c.share_settings.ensures.refused
 

@@ -1,5 +1,6 @@
 -- The front of the words are options, and the others are files.
-use Rattle.std.proofs.Common.{◌≡◌, ◌∙◌, ℕ, List, Bool, false, true, cond, sym, ap, subst, Some, None, Option, Result, Ok, Err, map}
+use Rattle.std.proofs.Common.{◌≡◌, ◌∙◌, ℕ, List, Bool, false, true, cond, sym, ap, subst, Some, None, Option, Result}
+use Rattle.std.proofs.Common.{Ok, Err, map}
 use Rattle.std.proofs.Common.{take, drop, refl}
 use Rattle.std.specs.Prelude.{option_and_then, IfErr, IsErrAnd}
 use Rattle.std.specs.String.{string_bytes}
@@ -15,7 +16,8 @@ err-weaker (Ok x) P Q is more = absurd is
 err-weaker (Err e) P Q is more = more e is
 
 abbrev asked_in : List (List ℕ) → List (List ℕ) → Option Asked
-asked_in files words = option_and_then (asked_with files) (values_by (values_of options words) (values_of share_options words))
+asked_in files words = option_and_then (asked_with files)
+    (values_by (values_of options words) (values_of share_options words))
 
 none_either : (b : Bool) (x : Option Asked) → x ≡ None → cond b x None ≡ None
 none_either true x e = e

@@ -1,5 +1,6 @@
 -- The values of the options with a share.
-use Rattle.std.proofs.Common.{◌≡◌, ◌∙◌, ◌≤◌, ℕ, List, [], ◌∷◌, sym, ap, arith, refl, Some, None, map, Ok, Err, Result, cond}
+use Rattle.std.proofs.Common.{◌≡◌, ◌∙◌, ◌≤◌, ℕ, List, [], ◌∷◌, sym, ap, arith, refl, Some, None, map, Ok, Err, Result}
+use Rattle.std.proofs.Common.{cond}
 use Rattle.std.proofs.Common.{get_or, length, ◌<◌}
 use Rattle.std.proofs.lemmas.Bool.{le-leb}
 use Rattle.std.specs.Prelude.{option_and_then, IfErr, IsErrAnd}

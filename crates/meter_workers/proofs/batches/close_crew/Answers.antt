@@ -50,7 +50,8 @@ all g c answers handed =
     (one-more Has theirs own _ _ _ c.in_ok-push.ensures.items workers handed.is)
     (drained.did.2.besides [] c.requires.last) in
     let count = c.requires.many.0 ∙ sym (ap length told.seats ∙ length-map ws (λ (w : W). w.seat)) in
-    let put = all-taken c.args.crew.shared.queue seats first c.unite_all-seat.result c.work_batches.new.seat drained.did.0
+    let put = all-taken c.args.crew.shared.queue seats first c.unite_all-seat.result
+    c.work_batches.new.seat drained.did.0
     (subst (λ n. IsFirst c.args.crew.shared.queue n first) count handed.first)
     (subst (λ p. IsForAll seats p c.unite_all-seat.result) c.into_pass.ensures c.unite_all-seat.ensures.all)
     drained.did.1 drained.all in

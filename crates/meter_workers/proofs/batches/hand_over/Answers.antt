@@ -1,7 +1,8 @@
 -- A batch is put, or metered.
 use Rattle.meter_workers.proofs.Common.{◌≡◌, List, [], ◌∷◌, ◌++◌, length, refl, sym, ap, ◌∙◌, subst, arith}
 use Rattle.meter_workers.proofs.Common.{append_assoc, length-append, IsPermutation, All-nil, All-cons, All-weaker}
-use Rattle.meter_workers.proofs.Common.{IsPermutation-trans, IsPermutation-append_left, Offsets, Answer, snoc, batch-answers, Batch}
+use Rattle.meter_workers.proofs.Common.{IsPermutation-trans, IsPermutation-append_left, Offsets, Answer, snoc}
+use Rattle.meter_workers.proofs.Common.{batch-answers, Batch}
 use Rattle.meter_workers.proofs.Common.{IsBefore, put_of, reader_of, more-keeps, more-none, StandsBefore}
 use Rattle.meter_workers.proofs.Common.{answers_of_batch, answers_in, HasMetered}
 use Rattle.std.proofs.lemmas.List.Sorted.{length_permutation}
@@ -35,7 +36,8 @@ returns-in-Ok-clause-handed g c = λ answers base handed.
     let new = reader_of c.offer.new.feed in
     let put = answers_in (put_of old) in
     let all : answers_in (put_of new) ≡ put ++ more =
-    ap answers_in (more-keeps old new (batch ∷ []) [] c.in-Ok.ensures.put).0 ∙ snoc answers_of_batch (put_of old) batch in
+    ap answers_in (more-keeps old new (batch ∷ []) [] c.in-Ok.ensures.put).0
+    ∙ snoc answers_of_batch (put_of old) batch in
     handed-more g.C.FlowCache c.args.cache.now _ _ answers handed.own batch (batch ∷ []) c.args.reader.now _
     c.requires.next.0 base c.requires.next.1 refl c.offer.ensures.own c.in-Ok.ensures.put
     (All-cons (λ b. b ≡ batch) batch [] refl (All-nil (λ b. b ≡ batch))) handed.is

@@ -1,5 +1,6 @@
 use Rattle.meter_workers.proofs.Common.{◌++◌, ◌∷◌, List, [], length, sym, ap, subst, ◌∙◌, arith, All, Offsets}
-use Rattle.meter_workers.proofs.Common.{Answer, batch-answers, IsBefore, IsMore, took_of, more-none, more-keeps, HasMetered}
+use Rattle.meter_workers.proofs.Common.{Answer, batch-answers, IsBefore, IsMore, took_of, more-none, more-keeps}
+use Rattle.meter_workers.proofs.Common.{HasMetered}
 use Rattle.meter_workers.proofs.Common.{IsShareOf, answers_of_batch, answers_in, IsReadyFor, snoc, done-none, done-more}
 use Rattle.batch_queue.specs.Queueing.{more_of}
 use Rattle.batch_queue.proofs.Passing.{more-both}
@@ -34,7 +35,8 @@ loop-preserved-in-Some-take g c =
       of = c.take.ensures.own;
       ready = ready-more (took_of c.loop.seat) (took_of c.take.new.pass) batch c.meter_run.new.share.tally.captured
           (more-keeps c.loop.seat c.take.new.pass [] (batch ∷ []) more).1
-          (let t = told.captured in let r = known.ready batch before in omega (arith, t, count, r, batch.indexed.count));
+          (let t = told.captured in let r = known.ready batch before in omega
+          (arith, t, count, r, batch.indexed.count));
       did = (
         known.did.0 ++ batch ∷ [],
         more-both c.args.seat.now c.loop.seat c.take.new.pass [] known.did.0 [] (batch ∷ []) known.did.1 more,

@@ -6,7 +6,8 @@ pub put_in-requires-clause-room : goal.put_in-requires-clause-room
 put_in-requires-clause-room g c κs within =
     let told = c.in-Some-take_in.ensures.reached in
     room-through c.in-Some.front.limits told.0 c.in-Some-take_in.out
-    (g.C.FlowCache.shown c.args.pass.now).note.taken c.args.front.now c.in-Some.front c.take_in.new.self c.in-Some.is told.1.packets c.requires.room told.2
+    (g.C.FlowCache.shown c.args.pass.now).note.taken c.args.front.now c.in-Some.front c.take_in.new.self c.in-Some.is
+    told.1.packets c.requires.room told.2
 
 pub returns-in-Some-take_in-clause-reached : goal.returns-in-Some-take_in-clause-reached
 returns-in-Some-take_in-clause-reached g c =

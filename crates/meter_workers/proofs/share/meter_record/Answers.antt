@@ -26,7 +26,8 @@ returns-in-Ok-clause-share g c =
     (λ seated reached keeps.
     subst (λ (l : List Answer). HasMetered g.C.FlowCache c.args.cache.now l c.args.share.now new) (sym one) (record {
       besides = λ done share.
-          share-more g.C.FlowCache c.args.cache.now done _ c.args.share.now new c.accept-answer.ensures.octets c.requires.room c.add.ensures keeps seated
+          share-more g.C.FlowCache c.args.cache.now done _ c.args.share.now new c.accept-answer.ensures.octets
+          c.requires.room c.add.ensures keeps seated
           (shared-packet _ done _ c.in-Ok.packet reached.0 _ _ c.sharing_out_goes_on.ensures.opened
           c.reaching_shares_out.ensures.shared c.in-Ok.is reached.1 reached.2 share.shared) share;
     }))
@@ -41,6 +42,7 @@ returns-in-Err-clause-share g c =
     record { pass = old.pass; front = old.front; parts = old.parts; tally = c.add.new.self } in
     subst (λ (l : List Answer). HasMetered g.C.FlowCache c.args.cache.now l old new) (sym one) (record {
       besides = λ done share.
-          share-more g.C.FlowCache c.args.cache.now done _ old new c.accept-answer.ensures.octets c.requires.room c.add.ensures (λ handed. handed)
+          share-more g.C.FlowCache c.args.cache.now done _ old new c.accept-answer.ensures.octets c.requires.room
+          c.add.ensures (λ handed. handed)
           share.seated (shared-none _ done _ c.in-Err.field-0 _ c.in-Err.is share.shared) share;
     })

@@ -14,7 +14,8 @@ returns-clause-metered g c = λ done has.
     record {
       own = told.own;
       some = omega (arith, told.single);
-      shared = subst (λ (l : List Fragment). SharesOut (g.C.FlowCache.means c.args.cache.now).limits (packets_in done) l)
+      shared = subst (λ (l : List Fragment). SharesOut (g.C.FlowCache.means c.args.cache.now).limits
+          (packets_in done) l)
           (sym told.taken) has.shared;
       parts = told.handed has.handed;
       tallied = has.tallied;

@@ -54,14 +54,21 @@ unite-requires-clause-seats g c κs within =
 
 pub unite-requires-clause-metered : goal.unite-requires-clause-metered
 unite-requires-clause-metered g c κs within =
-    let p = parted g (goal.at.unite-requires-clause-metered g c).In_ok-one _ c.requires.metered.1 in (p.1, p.2, p.4, p.5)
+    let p = parted g (goal.at.unite-requires-clause-metered g c).In_ok-one _ c.requires.metered.1 in
+    (p.1, p.2, p.4, p.5)
 
 pub loop-share-preserved : goal.loop-share-preserved
 loop-share-preserved g c =
     let at = (goal.at.loop-share-preserved g c).In_ok-one in
     let both = c.in_ok-all-2.ensures in
     record {
-      many = omega (arith, both.seats, c.in_ok-one.ensures.seats, longer _ _ _ c.in-Some-pop.ensures.items, c.loop-share.invariant.many);
+      many = omega (
+        arith,
+        both.seats,
+        c.in_ok-one.ensures.seats,
+        longer _ _ _ c.in-Some-pop.ensures.items,
+        c.loop-share.invariant.many,
+      );
       tail = both.tail ∙ c.loop-share.invariant.tail;
       metered = λ answers have.
           (let p = parted g at answers have in (p.0, p.1 ++ p.2, p.3, both.metered p.1 p.2 p.4 p.5, p.6));

@@ -1,4 +1,5 @@
-use Rattle.meter_workers.proofs.Common.{◌≡◌, rules, refl, List, length, sym, subst, DrawPass, answers_by, Share, Worker, IsShareOf}
+use Rattle.meter_workers.proofs.Common.{◌≡◌, rules, refl, List, length, sym, subst, DrawPass, answers_by, Share, Worker}
+use Rattle.meter_workers.proofs.Common.{IsShareOf}
 use Rattle.std.proofs.Common.{get_or}
 use Rattle.std.specs.List.{AllZip}
 use Rattle.work_pieces.proofs.Doing.{all-zip, taken-back}

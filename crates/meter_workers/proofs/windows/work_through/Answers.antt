@@ -69,7 +69,8 @@ loop-draw-preserved g c =
           c.meter_run.new.share)
           (ap (λ (l : List Answer). pieces_of size answers drawn ++ l) own
           ∙ sym (ap (pieces_of size answers) some.2 ∙ snoc (piece_of size answers) drawn n))
-          (done-more (IsShareOf g.C.FlowCache c.args.cache.now) _ _ _ c.loop-draw.share _ c.loop-draw.invariant.share told.share);
+          (done-more (IsShareOf g.C.FlowCache c.args.cache.now) _ _ _ c.loop-draw.share _
+          c.loop-draw.invariant.share told.share);
       behind = subst (λ l. IsBehind size c.args.share.now.tally.captured l c.meter_run.new.share.tally.captured)
           (sym some.2)
           (behind-more size c.args.share.now.tally.captured n c.loop-draw.share.tally.captured

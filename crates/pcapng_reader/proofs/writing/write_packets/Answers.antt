@@ -32,7 +32,8 @@ returns-in-Err-put_linked-clause-begun g c =
     let there = c.record-linked.ensures.value _ c.requires.index.found in
     let cut = c.in-Err-put_linked.ensures.cut in
     begun-capture _ _ _ cut.0 (capture_of (take (n + 1) records)) records (n + 1) refl
-    (passed-then _ _ _ _ _ _ _ (octets_of_record (linked_read c.record-linked.result)) (capture_of (take (n + 1) records))
+    (passed-then _ _ _ _ _ _ _ (octets_of_record (linked_read c.record-linked.result))
+    (capture_of (take (n + 1) records))
     c.loop-n.invariant.way cut.1 (sym (capture-more records n _ there)))
     refl
 

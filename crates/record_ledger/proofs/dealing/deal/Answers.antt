@@ -1,5 +1,6 @@
 -- Each turn deals the last piece that is left.
-use Rattle.std.proofs.Common.{◌≡◌, ◌≤◌, ◌++◌, List, length, take, drop, sym, ap, ◌∙◌, subst, arith, append-nil, IsPermutation}
+use Rattle.std.proofs.Common.{◌≡◌, ◌≤◌, ◌++◌, List, length, take, drop, sym, ap, ◌∙◌, subst, arith, append-nil}
+use Rattle.std.proofs.Common.{IsPermutation}
 use Rattle.std.proofs.lemmas.List.{take_at}
 use Rattle.std.proofs.lemmas.List.Sorted.{IsPermutation-refl}
 use Rattle.flow_parts.specs.Pieces.{items_of}
@@ -34,7 +35,8 @@ loop-piece-preserved c =
       some = subst (λ l. 1 ≤ length l) (sym same)
           (let many = c.in_ok-deal_piece.ensures.many in let some = c.loop-piece.invariant.some in
           omega (arith, many, ap length lent, some));
-      whole = subst (λ l. IsPermutation c.args.parts (items_of c.pop.new.self.items ++ parts_of (records_of l))) (sym same)
+      whole = subst (λ l. IsPermutation c.args.parts (items_of c.pop.new.self.items
+          ++ parts_of (records_of l))) (sym same)
           (piece_dealt c.args.parts c.loop-piece.pieces.items c.pop.new.self.items c.in-Some.piece
           (parts_of (records_of old.items)) (parts_of (records_of new)) c.in-Some.ensures.items
           c.loop-piece.invariant.whole dealt);

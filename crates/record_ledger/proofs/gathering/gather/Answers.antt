@@ -45,7 +45,8 @@ returns-clause-lawful g c = IfOk-weaker c.in_order.result _ _ (λ L lawful packe
 
 pub returns-clause-sessions : goal.returns-clause-sessions
 returns-clause-sessions g c = IfOk-weaker c.in_order.result _ _ (λ L lawful packets shares at sessions is uncut.
-    lawful_are_sessions c.args.timeouts packets sessions is uncut L (lawful packets shares at)) (returns-clause-lawful g c)
+    lawful_are_sessions c.args.timeouts packets sessions is uncut L (lawful packets shares at))
+    (returns-clause-lawful g c)
 
 pub returns-clause-gathered : goal.returns-clause-gathered
 returns-clause-gathered g c =

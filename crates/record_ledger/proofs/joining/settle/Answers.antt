@@ -1,5 +1,6 @@
 -- Each turn joins the top of the stack, which is of the part's key and doesn't end after it, with the fragment.
-use Rattle.std.proofs.Common.{◌≡◌, ◌-◌, ◌≤◌, ◌∷◌, ◌++◌, ℕ, List, [], length, reverse, take, refl, sym, ◌∙◌, subst, arith}
+use Rattle.std.proofs.Common.{◌≡◌, ◌-◌, ◌≤◌, ◌∷◌, ◌++◌, ℕ, List, [], length, reverse, take, refl, sym, ◌∙◌, subst}
+use Rattle.std.proofs.Common.{arith}
 use Rattle.std.proofs.lemmas.List.{take_all, length-map, length-take}
 use Rattle.std.proofs.lemmas.List.Sorted.{IsPermutation-refl}
 use Rattle.flow_parts.specs.declared.fragment.Fragment.{Fragment}
@@ -69,7 +70,8 @@ loop-top-preserved c =
       key = joined.key ∙ key;
       last = (let last = joined.last in let was = c.loop-top.invariant.last in omega arith);
       comes = λ after k. c.loop-top.invariant.comes after
-          (comes_joined c.args.timeouts.now (take n F) (take (n - 1) F) c.in-Some.top c.loop-top.whole c.join-whole.result
+          (comes_joined c.args.timeouts.now (take n F) (take (n - 1) F) c.in-Some.top c.loop-top.whole
+          c.join-whole.result
           after split top.2 joined k);
     }
 

@@ -37,7 +37,8 @@ loop-at-preserved c =
           (let end = c.loop-at.invariant.end b e in omega (arith, c.loop-at-test.true, end)) in
           more_placed c.args.buckets.now before c.args.bucket c.loop-at.at b c.index.result.now c.loop-at.order.items
           c.push.new.self.items _ e low
-          (subst (λ (v : Bucket). c.index.result.now ≡ get_or v.items c.loop-at.at c.index.result.now) same c.index.ensures)
+          (subst (λ (v : Bucket). c.index.result.now ≡ get_or v.items c.loop-at.at c.index.result.now) same
+          c.index.ensures)
           refl refl refl c.in_ok-push.ensures.items
           (c.loop-at.invariant.placed before b e h);
       first = λ h. more_ahead c.args.bucket c.loop-at.at c.loop-at.order.items c.push.new.self.items _ refl refl

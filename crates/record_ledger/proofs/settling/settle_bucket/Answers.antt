@@ -58,8 +58,16 @@ returns c =
     let same : parts_of given ≡ parts_of joined.items =
     c.give_reasons.ensures.parts ∙ ap parts_of c.deref_mut.ensures.value in
     let long : length given ≡ joined.len =
-    (let a = joined.ok.0 in omega (arith, a, ap length same, length-map given part_of, length-map joined.items part_of)) in
-    subst (AreSettled limits c.args.clock before) (sym (take_at given (drop (length given) joined.items) joined.len long))
+    (let a = joined.ok.0 in omega (
+      arith,
+      a,
+      ap length same,
+      length-map given part_of,
+      length-map
+          joined.items part_of,
+    )) in
+    subst (AreSettled limits c.args.clock before)
+    (sym (take_at given (drop (length given) joined.items) joined.len long))
     (record {
       reached = subst (Reaches limits (parts_of before)) (sym same)
           (onward (parts_of before) (parts_of sorted) (parts_of joined.items)

@@ -24,7 +24,8 @@ loop-turn-preserved c =
       pins = (let a = c.ask.ensures.pins in let b = before.pins in omega (arith, a, b));
       lost = none.1 ∙ ap (λ (l : List Lost). was_ejected ∷ l) before.lost
           ∙ ap (λ (l : List Lost). l ++ lost_of start) (sym (one_more n));
-      few = one_more_try n (operations_of start) (operations_of c.loop-turn.self) (operations_of c.ask.new.self) before.few
+      few = one_more_try n (operations_of start) (operations_of c.loop-turn.self)
+          (operations_of c.ask.new.self) before.few
           c.ask.ensures.few;
       others = λ _. none.2;
     }

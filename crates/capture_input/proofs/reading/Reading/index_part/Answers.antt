@@ -82,7 +82,8 @@ returns-clause-few g c =
 pub returns-clause-given : goal.returns-clause-given
 returns-clause-given g c = λ before limit answers h.
     let s = same-then g c in
-    given-part before (g.S.Source.left c.args.source.now) limit _ _ _ c.args.self answers c.in-Ok.index (laws-then g c) h
+    given-part before (g.S.Source.left c.args.source.now) limit _ _ _ c.args.self answers c.in-Ok.index
+    (laws-then g c) h
     (subst (λ (p : CaptureFile). IsKnownLink p.link) s c.part-part.ensures.known)
     (subst (λ (p : CaptureFile). damage_of p ≡ None) s c.in-Ok.ensures.undamaged)
     (subst (λ (p : CaptureFile). IsIndexOf c.in-Ok.index p) s c.in-Ok.ensures.index)

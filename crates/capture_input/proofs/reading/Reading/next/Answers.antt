@@ -24,29 +24,45 @@ returns-in-Err-clause-refused g c = λ before limit answers h.
     h.file.bytes told.got (c.args.self.input.taken + length told.got) c.args.self.input.limit c.in-Err.broken refl
     h.given told.given count told.cut).0
 
-filled : (g : given.Over) (c : goal.After-index_part-arg-1 g) (before : Option (List ℕ)) (limit : ℕ) (answers : List Answer)
+filled : (g : given.Over) (c : goal.After-index_part-arg-1 g) (before : Option (List ℕ)) (limit : ℕ)
+    (answers : List Answer)
     → HasGiven before (g.S.Source.left c.args.source.now) limit c.args.self answers
     → HasFilled before (g.S.Source.left c.fill.new.source) limit (let r : Reading =
-    record { input = c.fill.new.self; head = c.args.self.head; base = c.args.self.base; count = c.args.self.count; next = c.args.self.next }
+    record {
+      input = c.fill.new.self;
+      head = c.args.self.head;
+      base = c.args.self.base;
+      count = c.args.self.count;
+      next = c.args.self.next;
+    }
     in r) answers
 filled g c before limit answers h =
     let told = c.in-Ok.ensures in
     let more = told.more in
     filled-again before (g.S.Source.left c.args.source.now) (g.S.Source.left c.fill.new.source) limit c.args.self _
-    answers c.keep.new.self.bytes told.got h told.given (ap (λ (w : WindowState). w.bytes) c.keep.ensures) refl refl refl
+    answers c.keep.new.self.bytes told.got h told.given (ap (λ (w : WindowState). w.bytes) c.keep.ensures)
+    refl refl refl
     told.bytes (told.size ∙ ap (λ (w : WindowState). w.size) c.keep.ensures) more.taken_is told.limit more.within
     more.fits more.ended
 
-filled-then : (g : given.Over) (c : goal.After-index_part g) (before : Option (List ℕ)) (limit : ℕ) (answers : List Answer)
+filled-then : (g : given.Over) (c : goal.After-index_part g) (before : Option (List ℕ)) (limit : ℕ)
+    (answers : List Answer)
     → HasGiven before (g.S.Source.left c.args.source.now) limit c.args.self answers
     → HasFilled before (g.S.Source.left c.fill.new.source) limit (let r : Reading =
-    record { input = c.fill.new.self; head = c.args.self.head; base = c.args.self.base; count = c.args.self.count; next = c.args.self.next }
+    record {
+      input = c.fill.new.self;
+      head = c.args.self.head;
+      base = c.args.self.base;
+      count = c.args.self.count;
+      next = c.args.self.next;
+    }
     in r) answers
 filled-then g c before limit answers h =
     let told = c.in-Ok.ensures in
     let more = told.more in
     filled-again before (g.S.Source.left c.args.source.now) (g.S.Source.left c.fill.new.source) limit c.args.self _
-    answers c.keep.new.self.bytes told.got h told.given (ap (λ (w : WindowState). w.bytes) c.keep.ensures) refl refl refl
+    answers c.keep.new.self.bytes told.got h told.given (ap (λ (w : WindowState). w.bytes) c.keep.ensures)
+    refl refl refl
     told.bytes (told.size ∙ ap (λ (w : WindowState). w.size) c.keep.ensures) more.taken_is told.limit more.within
     more.fits more.ended
 

@@ -41,7 +41,8 @@ pub open-requires-clause-keeps : goal.open-requires-clause-keeps
 open-requires-clause-keeps c =
     let sets = c.args.sets in let seats = c.args.seats in
     let is : c.as_slice.result.now ≡ replicate (40 * sets) 0 = c.as_slice.ensures.value ∙ c.in_ok-words.ensures in
-    subst (λ (ws : List ℕ). Keeps c.args.timeouts sets (rows_of (cache_shape sets seats) ws) (replicate seats first_note))
+    subst (λ (ws : List ℕ). Keeps c.args.timeouts sets (rows_of (cache_shape sets seats) ws)
+    (replicate seats first_note))
     (sym is)
     (keeps_opening c.args.timeouts sets (rows_of (cache_shape sets seats) (replicate (40 * sets) 0))
     (replicate seats first_note)

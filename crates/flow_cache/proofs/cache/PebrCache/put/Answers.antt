@@ -74,10 +74,12 @@ replace-requires-clause-keeps g c =
     (sym c.read_contents.ensures.known) ∙ c.fill.ensures.written word lt
     ∙ ap (λ ws. Some (slice_index ws word)) (sym chosen.1) in
     let can : Timeouts → Seat → Note → Type 0 =
-    λ limits known note. CanReplace (Keeps limits cache.sets) IsWhole (AreBacking limits) shape (past_by end) (number_by end) root
+    λ limits known note. CanReplace (Keeps limits cache.sets) IsWhole (AreBacking limits) shape (past_by end)
+    (number_by end) root
     (slot_at known place) (least_in known.fresh) note (note_with note c.args.own.now out) in
     subst (λ (sets : ℕ). CanReplace (Keeps (fixed_at cache.roots).timeouts sets) IsWhole
-    (AreBacking (fixed_at cache.roots).timeouts) shape (past_by end) (number_by end) root (slot_at (known_by end) place) (least_in (known_by end).fresh) (note_by first_note end)
+    (AreBacking (fixed_at cache.roots).timeouts) shape (past_by end) (number_by end) root (slot_at (known_by end) place)
+    (least_in (known_by end).fresh) (note_by first_note end)
     (note_with (note_by first_note end) c.args.own.now out)) (sym cache.fixed.1)
     (subst (λ limits. can limits (known_by end) (note_by first_note end)) (sym cache.fixed.0)
     (subst (λ known. can cache.timeouts known (note_by first_note end)) (sym known_is)
@@ -189,7 +191,8 @@ returns-in-Replaced-clause-spared g c =
     (root_of c.args.set c.choose_by_words-choice.result.place)
     (slot_at (known_by c.fill.new.pass) c.choose_by_words-choice.result.place)
     (least_in (known_by c.fill.new.pass).fresh) (answer_to c.replace.result) (known_by c.fill.new.pass)
-    (ap (λ (p : History). p.notes) c.read_contents.ensures.past) (ap (λ (p : History). p.pins) c.read_contents.ensures.past)
+    (ap (λ (p : History). p.notes) c.read_contents.ensures.past)
+    (ap (λ (p : History). p.pins) c.read_contents.ensures.past)
     (ap (λ (p : History). p.notes) c.fill.ensures.past) (ap (λ (p : History). p.pins) c.fill.ensures.past)
     c.replace.ensures.step.past
 
@@ -200,7 +203,8 @@ returns-in-Other-clause-spared g c =
     (root_of c.args.set c.choose_by_words-choice.result.place)
     (slot_at (known_by c.fill.new.pass) c.choose_by_words-choice.result.place)
     (least_in (known_by c.fill.new.pass).fresh) (answer_to c.replace.result) (known_by c.fill.new.pass)
-    (ap (λ (p : History). p.notes) c.read_contents.ensures.past) (ap (λ (p : History). p.pins) c.read_contents.ensures.past)
+    (ap (λ (p : History). p.notes) c.read_contents.ensures.past)
+    (ap (λ (p : History). p.pins) c.read_contents.ensures.past)
     (ap (λ (p : History). p.notes) c.fill.ensures.past) (ap (λ (p : History). p.pins) c.fill.ensures.past)
     c.replace.ensures.step.past
 

@@ -1,4 +1,5 @@
-use Rattle.std.proofs.Common.{rules, refl, [], ◌≡◌, ◌<◌, ◌+◌, ◌*◌, ◌∷◌, ◌∙◌, ℕ, Bool, true, false, Some, List, ap, subst, arith}
+use Rattle.std.proofs.Common.{rules, refl, [], ◌≡◌, ◌<◌, ◌+◌, ◌*◌, ◌∷◌, ◌∙◌, ℕ, Bool, true, false, Some, List, ap}
+use Rattle.std.proofs.Common.{subst, arith}
 use Rattle.std.specs.Prelude.{◌==◌, if◌then◌else◌}
 use Rattle.std.proofs.lemmas.Grind.{common_steps}
 use Rattle.std.proofs.lemmas.List.Elements.{All-cons, All-nil}

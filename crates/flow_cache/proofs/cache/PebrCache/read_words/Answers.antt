@@ -85,7 +85,8 @@ loop-word-preserved c =
           (sym reads) (next_word (past_by old).reads slot word value c.loop-word.words low before.read k lt);
       whole = λ some content read. c.read.ensures.whole content
           (subst (λ n. HasReadWhole (shape_at roots) (past_by new) n content) (sym slot_is) read);
-      few = spared_on (shape_at roots) (number_by c.args.pass.now) word 1 (number_by old) (operations_by c.args.pass.now)
+      few = spared_on (shape_at roots) (number_by c.args.pass.now) word 1 (number_by old)
+          (operations_by c.args.pass.now)
           (operations_by old) (operations_by new) before.same.still.1 before.few
           (read_spares (shape_at roots) (number_by old) (ap (λ (s : Shape). s.shields) c.args.self.now.shaped)
           (slot_at (known_by old) place) word c.read.ensures.step.made.0 (operations_by old) (operations_by new)

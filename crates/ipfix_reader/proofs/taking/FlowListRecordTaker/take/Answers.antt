@@ -18,4 +18,5 @@ returns-in-Some c = λ before has.
     let all = flows-more before flows one c.in-Some.flow
     (subst (λ (b : Bool). HasFlows flows b before) c.if-self.false has) (sym c.flow_of.ensures ∙ c.in-Some.is) in
     subst (λ (b : Bool). HasFlows c.push.new.self.items b (before ++ one ∷ [])) (sym c.if-self.false)
-    (subst (λ (fs : List FlowRecord). HasFlows fs false (before ++ one ∷ [])) (sym c.in_ok-push-in-Some.ensures.items) all)
+    (subst (λ (fs : List FlowRecord). HasFlows fs false (before ++ one ∷ []))
+    (sym c.in_ok-push-in-Some.ensures.items) all)

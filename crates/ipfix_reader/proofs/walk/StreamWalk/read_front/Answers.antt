@@ -19,7 +19,8 @@ returns-in-Ok-clause-taken g c = λ front before read taken.
       way.1,
       front-read walk front c.args.bytes.now c.args.size before c.requires.front
           (subst (HasRead front before) (sym c.self.view_is) read) _ way.0 refl
-          (ap (λ l. stream_messages (progress_of walk.templates before walk.sequences) (record { at = walk.at; bytes = l }))
+          (ap (λ l. stream_messages (progress_of walk.templates before walk.sequences)
+          (record { at = walk.at; bytes = l }))
           (sym c.split_at.ensures.front) ∙ way.2),
     )
 

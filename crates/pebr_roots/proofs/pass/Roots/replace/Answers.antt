@@ -45,7 +45,8 @@ replace_root-requires-clause-keeps g c =
     let p = g.P.RootProtocol in
     let is = under_valid pass.under known c.args.place pass.slots c.requires.valid in
     let can : ℕ → ℕ → Type 0 = λ old new. CanReplace (p.keeps (fixed_at c.args.self.now)) p.whole
-    (p.backed (fixed_at c.args.self.now)) (shape_at c.args.self.now) (past_by pass) (number_by pass) c.args.root old new (note_by p.first pass)
+    (p.backed (fixed_at c.args.self.now)) (shape_at c.args.self.now) (past_by pass) (number_by pass) c.args.root old new
+    (note_by p.first pass)
     (act_on p.after c.args.act (note_by p.first pass)) in
     subst (λ old. can old c.least_fresh-new.result) (sym is)
     (subst (λ new. can (slot_at known c.args.place) new) (sym c.least_fresh-new.ensures) c.requires.keeps)

@@ -46,7 +46,8 @@ returns-clause-step g c =
     let is = ap (λ n. if c.exchange.result == n then answer.Epoch (known.noted + 1) else answer.Lost)
     seat.mirrors.noted_is in
     record {
-      core = subst (λ a. IsStepOf c.args.self.now.shape s a known (known_in (me_of c.exchange.new.seat).0)) is told.made;
+      core = subst (λ a. IsStepOf c.args.self.now.shape s a known
+          (known_in (me_of c.exchange.new.seat).0)) is told.made;
       past = told.past ∙ ap (λ a. past_after s a known (past_in (me_of seat.inner).0)) is;
       made = (c.exchange.result, sym is, c.exchange.ensures.recorded);
       sure = told.sure;

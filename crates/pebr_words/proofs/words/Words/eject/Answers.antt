@@ -83,7 +83,8 @@ returns-clause-step g c =
           (if c.exchange.result == 4 * n + 1 then answer.Ejected else answer.Lost) known
           (known_in (me_of c.exchange.new.seat).0))
           (ap (λ o. unwrap_or o 0) looked) c.exchange.ensures.told.made;
-      past = told.past ∙ ap (λ a. past_after (step.Eject seat.number c.args.other) a known (past_in (me_of seat.inner).0)) is;
+      past = told.past ∙ ap (λ a. past_after (step.Eject seat.number c.args.other) a known
+          (past_in (me_of seat.inner).0)) is;
       made = (c.exchange.result, sym is, c.exchange.ensures.recorded);
       sure = told.sure;
     }

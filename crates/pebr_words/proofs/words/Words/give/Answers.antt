@@ -67,7 +67,8 @@ returns-clause-step g c =
     (sym (c.give.ensures.given ∙ counts.0)) ∙ ap (answer.Given c.give.result.0)
     (sym (c.give.ensures.left ∙ counts.1)) in
     record {
-      core = subst (λ a. IsStepOf c.args.self.now.shape s a known (known_in (me_of c.load-epoch.new.seat).0)) is told.made;
+      core = subst (λ a. IsStepOf c.args.self.now.shape s a known
+          (known_in (me_of c.load-epoch.new.seat).0)) is told.made;
       past = told.past ∙ ap (λ a. past_after s a known (past_in (me_of seat.inner).0)) is;
       made = (epoch, sym is, c.load-epoch.ensures.recorded);
       sure = told.sure;

@@ -14,7 +14,8 @@ load-requires g c =
       subst (λ n. c.args.word < n) (sym words.counted)
           (subst (λ n. n < word_count words.shape) place.1 (place_in words.shape words.limits.shields _ place.0)),
       makes_at (g.P.RootProtocol.keeps (key_of words.table).fixed) g.P.RootProtocol.whole
-          (g.P.RootProtocol.backed (key_of words.table).fixed) g.P.RootProtocol.after g.P.RootProtocol.first _ c.safe_steps.ensures words.told words.limits
+          (g.P.RootProtocol.backed (key_of words.table).fixed) g.P.RootProtocol.after g.P.RootProtocol.first _
+          c.safe_steps.ensures words.told words.limits
           c.requires.picked (me_of c.args.seat.now) c.requires.at.1 c.requires.at.2 place.0 place.1 c.requires.made
           c.requires.kept c.requires.recalled,
     )

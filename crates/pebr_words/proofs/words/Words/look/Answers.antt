@@ -41,7 +41,8 @@ invariant_of-seat g c =
     c.judge-looked.ensures.answer in
     record {
       acts = told.number ∙ seat.acts;
-      mirrors = subst (λ l. Mirrors seat.noted seat.slots l (known_in (me_of c.load-found.new.seat).0)) (sym c.keep.ensures)
+      mirrors = subst (λ l. Mirrors seat.noted seat.slots l (known_in (me_of c.load-found.new.seat).0))
+          (sym c.keep.ensures)
           (subst (Mirrors seat.noted seat.slots (found_after seat.found.items c.args.other c.judge-looked.result))
           (sym both.0)
           (looked_mirrors seat.noted seat.slots seat.found.items known seat.mirrors c.requires.scanning c.args.other
@@ -69,7 +70,8 @@ returns-clause-step g c =
     record {
       core = both.1;
       past = c.load-found.ensures.told.past ∙ ap
-          (λ a. past_after (step.Look seat.number c.args.other) a (known_in (me_of seat.inner).0) (past_in (me_of seat.inner).0))
+          (λ a. past_after (step.Look seat.number c.args.other) a (known_in (me_of seat.inner).0)
+          (past_in (me_of seat.inner).0))
           both.2;
       made = (c.load-found.result, sym both.2, c.load-found.ensures.recorded);
       sure = c.load-found.ensures.told.sure;

@@ -15,7 +15,8 @@ exchange-found-requires-clause-made g c =
 pub exchange-found-requires-clause-kept : goal.exchange-found-requires-clause-kept
 exchange-found-requires-clause-kept g c =
     replace_kept (g.P.RootProtocol.keeps (key_of c.args.self.now.table).fixed) g.P.RootProtocol.whole
-    (g.P.RootProtocol.backed (key_of c.args.self.now.table).fixed) g.P.RootProtocol.after c.args.act c.args.seat.now.number c.args.root c.args.old c.args.new _ _
+    (g.P.RootProtocol.backed (key_of c.args.self.now.table).fixed) g.P.RootProtocol.after c.args.act
+    c.args.seat.now.number c.args.root c.args.old c.args.new _ _
     c.requires.root c.requires.slots.0 c.requires.slots.1 c.requires.shielded c.requires.keeps
 
 pub exchange-found-requires-clause-recalled : goal.exchange-found-requires-clause-recalled

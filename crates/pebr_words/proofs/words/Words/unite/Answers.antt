@@ -36,7 +36,8 @@ returns-clause-united g c rest rest' =
     let is = ap (λ (m : Me (Unit {0}) (List (Held _))). m.0) c.unite.ensures.2 in
     subst (λ (view : List (Held _)). (place : ℕ) (held : Held _) → get_elem? (view_left view) place ≡ some held
     → held.note ≡ empty) (sym is)
-    (united_rest merged empty (me_of c.args.first.inner).0 (me_of c.args.second.inner).0 c.requires.at.0.2 c.requires.at.1.2 rest
+    (united_rest merged empty (me_of c.args.first.inner).0 (me_of c.args.second.inner).0 c.requires.at.0.2
+    c.requires.at.1.2 rest
     rest')
 
 pub returns-clause-lost : goal.returns-clause-lost
@@ -58,11 +59,13 @@ pub returns-clause-count : goal.returns-clause-count
 returns-clause-count g c =
     let is = ap (λ (m : Me (Unit {0}) (List (Held _))). m.0) c.unite.ensures.2 in
     ap (λ (view : List (Held _)). length view) is
-    ∙ united_count g.P.RootProtocol.merged g.P.RootProtocol.empty (me_of c.args.first.inner).0 (me_of c.args.second.inner).0
+    ∙ united_count g.P.RootProtocol.merged g.P.RootProtocol.empty (me_of c.args.first.inner).0
+    (me_of c.args.second.inner).0
 
 pub returns-clause-numbers : goal.returns-clause-numbers
 returns-clause-numbers g c =
     let is = ap (λ (m : Me (Unit {0}) (List (Held _))). m.0) c.unite.ensures.2 in
     ap (λ (view : List (Held _)). map (λ held. held.number) view) is
-    ∙ united_numbers g.P.RootProtocol.merged g.P.RootProtocol.empty (me_of c.args.first.inner).0 (me_of c.args.second.inner).0
+    ∙ united_numbers g.P.RootProtocol.merged g.P.RootProtocol.empty (me_of c.args.first.inner).0
+    (me_of c.args.second.inner).0
     c.requires.at.0.2 c.requires.at.1.2

@@ -24,7 +24,8 @@ store-requires g c =
           c.args.new.now me c.requires.reading
           (let t = cache.told.0 in let s = c.requires.below.0 in omega (arith, t, s)) c.requires.below.1
           c.requires.read.2 c.requires.read.3 (search rules) (search rules) refl
-          c.requires.own (subst (λ n. set_number c.args._own.now.key n ≡ c.args.set) (sym cache.told.0) c.requires.of_set)
+          c.requires.own (subst (λ n. set_number c.args._own.now.key n ≡ c.args.set) (sym cache.told.0)
+          c.requires.of_set)
           c.requires.kept.1
           (subst (λ limits. Takes limits c.args._own.now (entry_of c.args._old.now)
           (out_of c.args._how (entry_of c.args._old.now)) c.requires.kept.0) (sym cache.told.2) c.requires.kept.2)),

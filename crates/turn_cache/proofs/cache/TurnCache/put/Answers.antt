@@ -118,8 +118,16 @@ returns-clause-filled c =
                   c.read_entry-4.new.seat.me.0,
               c.read_entry-4.new.seat.me.1,
             )) (sym c.answer.ensures.out)
-            ∙ (ap (λ (m : Sat). (filled_hand m.0.read choice.result.place choice.result.words c.args.own.now metered.out m.0, m.1)) all
-            ∙ ap (λ (new : List ℕ). (filled_hand words choice.result.place new c.args.own.now metered.out c.args.seat.now.me.0, c.args.seat.now.me.1)) (sym chosen.1))),
+            ∙ (ap (λ (m : Sat). (
+              filled_hand m.0.read choice.result.place choice.result.words c.args.own.now metered.out
+                  m.0,
+              m.1,
+            )) all
+            ∙ ap (λ (new : List ℕ). (
+              filled_hand words choice.result.place new c.args.own.now metered.out
+                  c.args.seat.now.me.0,
+              c.args.seat.now.me.1,
+            )) (sym chosen.1))),
         same_choice c.args.self.now.timeouts _ (entries_of words) c.args.own.now chosen.0 choice.result.how metered.how
             choice.result.place _ metered.out entries (sym c.answer.ensures.how)
             (ap (out_of choice.result.how) (there _ a b e d choice.result.place four choice.ensures.place)
