@@ -26,7 +26,7 @@ check() {
     status=$1
     line=$2
     shift 2
-    "$program" "$@" <"$capture" >"$work/output" 2>"$work/notes"
+    "$program" "$@" <"$capture" >"$work/output" 2>"$work/stderr"
     found=$?
     if [ "$found" -ne "$status" ] || [ "$(cat "$work/output")" != "$line" ]; then
         echo "DIFFERS: $*: status $found and '$(cat "$work/output")', and not $status and '$line'"
@@ -38,8 +38,8 @@ check 0 "packets 12 octets 431 most-retired 12 bound 40 held 0" lists 1 0
 check 0 "records 12 packets 12 octets 431" windows 2 262184 4
 for cache in turn pebr; do
     check 0 "" pace "$cache" 2 4
-    if ! grep -q -x -E '[0-9]+' "$work/notes"; then
-        echo "DIFFERS: pace $cache: no number: $(cat "$work/notes")"
+    if ! grep -q -x -E '[0-9]+' "$work/stderr"; then
+        echo "DIFFERS: pace $cache: no number: $(cat "$work/stderr")"
         differ=$((differ + 1))
     fi
 done

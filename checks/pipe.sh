@@ -33,8 +33,8 @@ differ=0
 for run in $(seq "$runs"); do
     "$program" make --seed "$((seed + run))" --packets 60000 >"$work/capture" 2>/dev/null || exit 2
     "$program" meter <"$work/capture" >"$work/wanted" 2>"$work/summary" || exit 2
-    if "$pipe" pipe --workers 62 --queue 1 --batch 262184 <"$work/capture" >"$work/stream" 2>"$work/notes" &&
-        cmp -s "$work/wanted" "$work/stream" && cmp -s "$work/summary" "$work/notes"; then
+    if "$pipe" pipe --workers 62 --queue 1 --batch 262184 <"$work/capture" >"$work/stream" 2>"$work/stderr" &&
+        cmp -s "$work/wanted" "$work/stream" && cmp -s "$work/summary" "$work/stderr"; then
         same=$((same + 1))
     else
         echo "DIFFERS: run $run of seed $seed"

@@ -5,7 +5,7 @@
 #
 # The blocks marked `run: sample`, `run: report` and `run: capture`, and the commands for pcapng and for cutting in the text, are
 # taken out of README.md and run in a folder with bin/, examples/ and man/. The last line that the first prints must be the one that
-# README.md shows, and the notes must have the counts that it names. The capture is of the loopback interface, with datagrams
+# README.md shows, and standard error must have the counts that it names. The capture is of the loopback interface, with datagrams
 # that this script sends. Besides, the programs are installed below a folder, and a manual page is read. What needs a program
 # that is missing (packages python3-ipfix, miller, gnuplot-nox, tcpdump, wireshark-common, man-db), or the right to capture,
 # is skipped with one line. The status is not 0 where anything differs.
@@ -51,7 +51,7 @@ row() {
         echo "same: $1"
     else
         echo "DIFFERS: $1"
-        [ ! -s notes ] || head -n 5 notes | sed 's/^/    /'
+        [ ! -s stderr ] || head -n 5 stderr | sed 's/^/    /'
         differ=1
     fi
 }
@@ -59,13 +59,13 @@ row() {
 # The commands of standard input, as a reader types them in one shell: typed OUTPUT
 typed() {
     { echo "${search:-}"; cat; } >commands
-    [ "$(grep -c . commands)" -gt 1 ] && timeout 300 bash -eu commands >"$1" 2>notes
+    [ "$(grep -c . commands)" -gt 1 ] && timeout 300 bash -eu commands >"$1" 2>stderr
 }
 
-noted() {
+reported() {
     local line
     for line in "$@"; do
-        grep -qx "$line" notes || return 1
+        grep -qx "$line" stderr || return 1
     done
 }
 
@@ -73,7 +73,7 @@ sample() {
     block "shown by: sample" | paste -sd ' ' >wanted
     block "run: sample" | typed out && [ -s wanted ] && tail -n 1 out | cmp - wanted &&
         [ "$(wc -l <out)" -eq 4 ] && [ "$(grep -c 'flowEndReason=4$' out)" -eq 3 ] &&
-        noted 'captured 10' 'accepted 9' 'not-ip 1' 'records 4'
+        reported 'captured 10' 'accepted 9' 'not-ip 1' 'records 4'
 }
 
 report() { block "run: report" | typed out && grep -q '</html>' report.html && grep -q 'Top biflows' report.html; }
@@ -92,7 +92,7 @@ PYTHON
 }
 
 capture() {
-    block "run: capture" | typed out && noted 'captured 100' && grep -qx 'accepted [1-9][0-9]*' notes &&
+    block "run: capture" | typed out && reported 'captured 100' && grep -qx 'accepted [1-9][0-9]*' stderr &&
         [ -s flows.ipfix ]
 }
 
@@ -105,21 +105,21 @@ pcapng() {
 cut() {
     cp examples/web-exchange.pcap large.pcap
     sed -n 's/.*`\(editcap -F pcap [^`]*\)`.*/\1/p' "$top/README.md" | typed out || return 1
-    bin/romtyalig meter <"$(ls piece_*.pcap)" 2>notes | cmp - examples/web-exchange.ipfix
+    bin/romtyalig meter <"$(ls piece_*.pcap)" 2>stderr | cmp - examples/web-exchange.ipfix
 }
 
 # Of all interfaces tcpdump writes Linux cooked mode, in version 2 (link type 276) unless told.
 any_interface() {
-    tcpdump -i any -c 20 -w any.pcap 2>notes && tcpdump -i any -y LINUX_SLL -c 20 -w cooked.pcap 2>notes || return 1
-    bin/romtyalig meter <cooked.pcap 2>notes >flows.ipfix && noted 'captured 20' || return 1
-    bin/romtyalig meter <any.pcap 2>notes >flows.ipfix || noted 'link type 276'
+    tcpdump -i any -c 20 -w any.pcap 2>stderr && tcpdump -i any -y LINUX_SLL -c 20 -w cooked.pcap 2>stderr || return 1
+    bin/romtyalig meter <cooked.pcap 2>stderr >flows.ipfix && reported 'captured 20' || return 1
+    bin/romtyalig meter <any.pcap 2>stderr >flows.ipfix || reported 'link type 276'
 }
 
-page() { man man/romtyalig.1 2>notes | grep -q 'short-transport'; }
+page() { man man/romtyalig.1 2>stderr | grep -q 'short-transport'; }
 
 # What is built is installed as it is.
 installed() {
-    make -s -C "$top" -o build install PREFIX="$work/installed" >notes 2>&1 &&
+    make -s -C "$top" -o build install PREFIX="$work/installed" >stderr 2>&1 &&
         cmp "$top/bin/romtyalig" installed/bin/romtyalig && [ -s installed/share/man/man1/romtyalig.1 ]
 }
 

@@ -38,7 +38,7 @@ gcc -O1 -shared -fPIC -o "$work/refuse.so" "$here/refuse.c" -ldl || exit 2
 run() {
     local number=$1 input=$2
     shift 2
-    REFUSED=$number COUNTED=$work/count LD_PRELOAD=$work/refuse.so "$@" <"$input" >"$work/out" 2>"$work/notes"
+    REFUSED=$number COUNTED=$work/count LD_PRELOAD=$work/refuse.so "$@" <"$input" >"$work/out" 2>"$work/stderr"
 }
 
 differ=0
@@ -48,7 +48,7 @@ refused=0
 is_right() {
     case $1 in
     0) cmp -s "$work/out" "$work/wanted" ;;
-    8) [ ! -s "$work/out" ] && [ "$(cat "$work/notes")" = "$2" ] ;;
+    8) [ ! -s "$work/out" ] && [ "$(cat "$work/stderr")" = "$2" ] ;;
     *) false ;;
     esac
 }

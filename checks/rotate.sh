@@ -45,7 +45,7 @@ are_metered() {
         "$program" meter <"$file" 2>/dev/null | cmp -s - "${file%.pcap}.ipfix" || return 1
         count=$((count + 1))
     done
-    [ "$count" -ge "$2" ] && [ -z "$(find "$1" -name '*.part' -o -name '*.notes')" ]
+    [ "$count" -ge "$2" ] && [ -z "$(find "$1" -name '*.part' -o -name '*.stderr')" ]
 }
 
 metered() {

@@ -38,17 +38,17 @@ same=0
 differ=0
 
 # A command, its exit status, what standard error has, and what standard output has: row NAME STATUS NOTES OUTPUT COMMAND. The
-# notes and the output are files.
+# stderr and the output are files.
 row() {
-    : >notes
+    : >stderr
     : >output
-    bash -c "$5" >output 2>notes
+    bash -c "$5" >output 2>stderr
     got=$?
-    if [ "$got" -eq "$2" ] && cmp -s notes "$3" && cmp -s output "$4"; then
+    if [ "$got" -eq "$2" ] && cmp -s stderr "$3" && cmp -s output "$4"; then
         echo "same: $1"
         same=$((same + 1))
     else
-        echo "DIFFERS: $1: status $got, $(head -n 1 notes)"
+        echo "DIFFERS: $1: status $got, $(head -n 1 stderr)"
         differ=$((differ + 1))
     fi
 }
@@ -79,9 +79,9 @@ row "a stream cut off" 9 "$(line "not a stream: cut at 0")" none 'romtyalig show
 row "a full device" 3 none none 'romtyalig meter <"$capture" >/dev/full'
 row "a full device of show" 3 none none 'romtyalig show <whole >/dev/full'
 row "a closed pipe" 3 none none '{ sleep 1; romtyalig meter <"$capture"; echo $? >status; } | :; exit "$(cat status)"'
-row "notes to a full device" 3 none whole 'romtyalig meter <"$capture" 2>/dev/full'
-row "notes of a refusal to a full device" 4 none none 'romtyalig meter </dev/null 2>/dev/full'
-row "notes of a wrong word to a closed standard error" 2 none none 'romtyalig metre 2>&-'
+row "the summary to a full device" 3 none whole 'romtyalig meter <"$capture" 2>/dev/full'
+row "the line of a refusal to a full device" 4 none none 'romtyalig meter </dev/null 2>/dev/full'
+row "the line of a wrong word to a closed standard error" 2 none none 'romtyalig metre 2>&-'
 
 piped=$(line "usage: pipe")
 row "a capture by the pipeline" 0 summary whole 'romtyalig-pipe pipe --workers 2 --queue=1 <"$capture"'
@@ -92,6 +92,6 @@ row "a folder as input of the pipeline" 1 "$(line "read fault")" none 'romtyalig
 row "an empty input of the pipeline" 4 "$(line "not a capture")" none 'romtyalig-pipe pipe </dev/null'
 row "a slow input of the pipeline" 0 summary whole '{ head -c 300 "$capture"; sleep 1; tail -c +301 "$capture"; } | romtyalig-pipe pipe'
 row "a full device of the pipeline" 3 none none 'romtyalig-pipe pipe <"$capture" >/dev/full'
-row "notes of the pipeline to a full device" 3 none whole 'romtyalig-pipe pipe <"$capture" 2>/dev/full'
+row "the summary of the pipeline to a full device" 3 none whole 'romtyalig-pipe pipe <"$capture" 2>/dev/full'
 echo "$same the same, $differ that differ"
 [ "$differ" -eq 0 ]

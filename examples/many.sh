@@ -21,7 +21,7 @@
 set -u
 : "${METER:=romtyalig meter}" "${JOIN:=romtyalig-join join}" "${TIMEOUTS:=}" "${PARTS:=1}" "${JOBS:=$(nproc)}"
 unfinished=
-trap '[ -z "$unfinished" ] || rm -f "$unfinished" "$unfinished.notes"' EXIT
+trap '[ -z "$unfinished" ] || rm -f "$unfinished" "$unfinished.stderr"' EXIT
 trap 'exit 1' HUP INT TERM
 
 # Begins a file that will get this name.
@@ -29,16 +29,16 @@ begin() {
     unfinished=$1.$(uname -n).$$
 }
 
-# Ends it, by whether what wrote it did well and what it noted: end GOOD NAME
+# Ends it, by whether what wrote it did well and what it reported: end GOOD NAME
 end() {
     [ "$1" -ne 0 ] || mv "$unfinished" "$2" || set -- 1 "$2"
     if [ "$1" -eq 0 ]; then
-        notes=$(tr '\n' ' ' <"$unfinished.notes")
-        echo "$2: ${notes:-made}"
+        told=$(tr '\n' ' ' <"$unfinished.stderr")
+        echo "$2: ${told:-made}"
     else
-        echo "$2: not made, status $1: $(cat "$unfinished.notes")" >&2
+        echo "$2: not made, status $1: $(cat "$unfinished.stderr")" >&2
     fi
-    rm -f "$unfinished" "$unfinished.notes"
+    rm -f "$unfinished" "$unfinished.stderr"
     unfinished=
     return "$1"
 }
@@ -54,7 +54,7 @@ meter() {
     [ -e "$stream" ] && return
     begin "$stream"
     # shellcheck disable=SC2086 # the command and its options are words
-    $METER $TIMEOUTS <"$2" >"$unfinished" 2>"$unfinished.notes"
+    $METER $TIMEOUTS <"$2" >"$unfinished" 2>"$unfinished.stderr"
     end $? "$stream"
 }
 
@@ -73,7 +73,7 @@ join() {
     if [ -e "$whole" ] && newer=$(find "$@" -newer "$whole") && [ -z "$newer" ]; then return; fi
     begin "$whole"
     # shellcheck disable=SC2086 # the command and its options are words
-    $JOIN $options "$@" >"$unfinished" 2>"$unfinished.notes"
+    $JOIN $options "$@" >"$unfinished" 2>"$unfinished.stderr"
     end $? "$whole"
 }
 

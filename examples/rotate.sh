@@ -19,13 +19,13 @@ set -u
 # Meters a file: status 1 where it is refused.
 meter() {
     stream=${1%.pcap}.ipfix
-    if $METER <"$1" >"$stream.part" 2>"$stream.notes"; then
+    if $METER <"$1" >"$stream.part" 2>"$stream.stderr"; then
         mv "$stream.part" "$stream"
-        echo "$1: $(tr '\n' ' ' <"$stream.notes")"
-        rm -f "$stream.notes"
+        echo "$1: $(tr '\n' ' ' <"$stream.stderr")"
+        rm -f "$stream.stderr"
     else
-        echo "$1: not metered: $(cat "$stream.notes")" >&2
-        rm -f "$stream.part" "$stream.notes"
+        echo "$1: not metered: $(cat "$stream.stderr")" >&2
+        rm -f "$stream.part" "$stream.stderr"
         return 1
     fi
 }

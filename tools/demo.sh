@@ -23,23 +23,23 @@ run_proved() {
 }
 
 # The same by one that isn't: `rt try` runs it on each file of a folder, and puts a line with the file's name before what it writes,
-# and a line of its own, which begins with case=, behind what it notes.
+# and a line of its own, which begins with case=, behind what it reports.
 run_unproved() {
     mkdir "$work/cases"
     cp "$capture" "$work/cases/meter"
     cp "$stream" "$work/cases/show"
     echo meter >"$work/cases/meter.args"
     echo show >"$work/cases/show.args"
-    if ! (cd crates/romtyalig && rt try --cases "$work/cases") >"$work/output" 2>"$work/notes"; then
-        cat "$work/notes" >&2
+    if ! (cd crates/romtyalig && rt try --cases "$work/cases") >"$work/output" 2>"$work/stderr"; then
+        cat "$work/stderr" >&2
         return 1
     fi
     { echo "== meter" && cat "$stream"; } >"$work/begins"
     size=$(wc -c <"$work/begins")
     head -c "$size" "$work/output" | cmp - "$work/begins" || return
-    sed '/^case=meter /,$d' "$work/notes" >"$work/summary"
+    sed '/^case=meter /,$d' "$work/stderr" >"$work/summary"
     tail -c "+$((size + 1))" "$work/output" | awk 'shown { print } /^== show$/ { shown = 1 }' >"$work/records"
-    awk '/^case=/ { done++ } done == 1 && !/^case=/' "$work/notes" >>"$work/records"
+    awk '/^case=/ { done++ } done == 1 && !/^case=/' "$work/stderr" >>"$work/records"
 }
 
 if [ -x bin/romtyalig ]; then

@@ -105,34 +105,34 @@ pub record IsFirstWrong (asked : Asked) (files : Files) (place : ℕ) (fault : F
   pub wrong : IsWrongWith asked.share (together inputs) file fault
   pub cause : HasCauseIn files fault
 
--- Nothing was written, and the notes have the line of the file.
-pub record IsRefused (asked : Asked) (files : Files) (output notes : Side) (place : ℕ)
+-- Nothing was written, and standard error has the line of the file.
+pub record IsRefused (asked : Asked) (files : Files) (output stderr : Side) (place : ℕ)
     (fault : FileFault) : Type 0 where
   pub first : IsFirstWrong asked files place fault
   pub unwritten : IsUntouched output
-  pub noted : HasTakenOrFailed notes (fault_line (slice_index_or asked.files place []) fault)
+  pub reported : HasTakenOrFailed stderr (fault_line (slice_index_or asked.files place []) fault)
 
 -- ---- the run
 
--- How a command ends, by its status. But where a file is refused nothing is noted.
+-- How a command ends, by its status. But where a file is refused nothing is reported.
 abbrev pub Ends : Asked → Files → Side → Side → JoinStatus → Type 0
-Ends asked files output notes Done = IsDone asked files output × IsUntouched notes
-Ends asked files output notes WriteFault = IsCutOff asked files output × IsUntouched notes
-Ends asked files output notes NoMemory = IsUntouched output × IsUntouched notes
-Ends asked files output notes Usage = ⊥
-Ends asked files output notes (Refused place fault) = IsRefused asked files output notes place fault
+Ends asked files output stderr Done = IsDone asked files output × IsUntouched stderr
+Ends asked files output stderr WriteFault = IsCutOff asked files output × IsUntouched stderr
+Ends asked files output stderr NoMemory = IsUntouched output × IsUntouched stderr
+Ends asked files output stderr Usage = ⊥
+Ends asked files output stderr (Refused place fault) = IsRefused asked files output stderr place fault
 
 -- The words ask for nothing, or memory was out before they were read: no file is opened and nothing is written.
-pub record IsUsage (files : Files) (output notes : Side) (status : JoinStatus) : Type 0 where
+pub record IsUsage (files : Files) (output stderr : Side) (status : JoinStatus) : Type 0 where
   pub usage : (status ≡ Usage) ⊎ (status ≡ NoMemory)
   pub unopened : files.faults_after ≡ files.faults_before
   pub unwritten : IsUntouched output
-  pub unnoted : IsUntouched notes
+  pub unreported : IsUntouched stderr
 
 -- What a run means, by what its words ask for.
 abbrev pub RunMeans : Option Asked → Files → Side → Side → JoinStatus → Type 0
-RunMeans None files output notes status = IsUsage files output notes status
-RunMeans (Some asked) files output notes status = Ends asked files output notes status
+RunMeans None files output stderr status = IsUsage files output stderr status
+RunMeans (Some asked) files output stderr status = Ends asked files output stderr status
 
 -- The file of this name has these bytes, not too many.
 abbrev pub IsFile : (List ℕ → Option (List ℕ)) → List ℕ → List ℕ → Type 0

@@ -64,7 +64,7 @@ EmitMeans size time records output NoMemory = IsUntouched output
 EmitMeans size time records output Usage = ⊥
 EmitMeans size time records output (Refused place fault) = ⊥
 
--- What joining means, by its status, before anything is noted.
+-- What joining means, by its status, before anything is reported.
 abbrev pub JoinMeans : Asked → Files → Side → JoinStatus → Type 0
 JoinMeans asked files output Done = IsDone asked files output
 JoinMeans asked files output WriteFault = IsCutOff asked files output
@@ -73,10 +73,10 @@ JoinMeans asked files output Usage = ⊥
 JoinMeans asked files output (Refused place fault) = IsFirstWrong asked files place fault × IsUntouched output
 
 -- What noting a refusal means, by its status.
-abbrev pub NoteMeans : List (List ℕ) → ℕ → FileFault → Side → JoinStatus → Type 0
-NoteMeans names place fault notes NoMemory = IsUntouched notes
-NoteMeans names place fault notes (Refused place' fault') = (place' ≡ place) × (fault' ≡ fault)
-    × HasTakenOrFailed notes (fault_line (slice_index_or names place []) fault)
-NoteMeans names place fault notes Done = ⊥
-NoteMeans names place fault notes Usage = ⊥
-NoteMeans names place fault notes WriteFault = ⊥
+abbrev pub RefusalMeans : List (List ℕ) → ℕ → FileFault → Side → JoinStatus → Type 0
+RefusalMeans names place fault stderr NoMemory = IsUntouched stderr
+RefusalMeans names place fault stderr (Refused place' fault') = (place' ≡ place) × (fault' ≡ fault)
+    × HasTakenOrFailed stderr (fault_line (slice_index_or names place []) fault)
+RefusalMeans names place fault stderr Done = ⊥
+RefusalMeans names place fault stderr Usage = ⊥
+RefusalMeans names place fault stderr WriteFault = ⊥

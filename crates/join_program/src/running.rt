@@ -6,12 +6,12 @@ ghost use Rattle.meter_io.specs.Causes.{Rose};
 ghost use Rattle.meter_io.specs.Sides.{side};
 ghost use Rattle.join_program.specs.Outcome.{RunMeans, IsComplete, files_seen};
 ghost use Rattle.join_program.specs.Words.{asked_by};
-ghost use Rattle.join_program.specs.Taking.{asked_of, JoinMeans, NoteMeans};
+ghost use Rattle.join_program.specs.Taking.{asked_of, JoinMeans, RefusalMeans};
 
 use crate::joining::{gather_taken, write_records};
-use crate::notes::fault_line;
 use crate::opener::Opener;
 use crate::reading::take_files;
+use crate::refusal::fault_line;
 use crate::status::{FileFault, JoinStatus};
 use crate::words::{Command, command_of};
 use command_words::OptionsError;
@@ -42,23 +42,23 @@ fn join_files<R: Threads + Sync, O: Opener, K: Sink>(
     write_records(alloc, command.settings.size, clock, &records, output)
 }
 
-/// Notes the line of the file at this place, which is refused.
-fn note_refusal<N: Sink>(
+/// Writes the line of the file at this place, which is refused.
+fn report_refusal<E: Sink>(
     alloc: Global,
     names: &[String],
     place: u64,
     fault: FileFault,
-    notes: &mut N,
+    stderr: &mut E,
 ) -> JoinStatus
     requires { place < length names.now }
-    ensures { NoteMeans (map string_bytes names.now) place fault (side N.held N.faults notes.old notes.new) result }
+    ensures { RefusalMeans (map string_bytes names.now) place fault (side E.held E.faults stderr.old stderr.new) result }
 {
     let name = names[place as usize].as_str();
     let Ok(line) = fault_line(alloc, name, &fault) else {
         return JoinStatus::NoMemory;
     };
-    // Where the notes take less of it the refusal stands.
-    let _noted = write_all(notes, line.as_slice());
+    // Where standard error takes less of it the refusal stands.
+    let _reported = write_all(stderr, line.as_slice());
     JoinStatus::Refused { place, fault }
 }
 
@@ -76,7 +76,8 @@ fn note_refusal<N: Sink>(
 /// come in this order:
 ///
 /// - `Usage`: exactly where the words are no command. No file is opened.
-/// - `Refused`: exactly where something is wrong with a file, by the first such one. The notes get its line, `NAME: `
+/// - `Refused`: exactly where something is wrong with a file, by the first such one. Standard error gets its line,
+///   `NAME: `
 ///   and what is wrong. Of a file come, in this order, `ReadFault`: only where it couldn't be opened or a read failed,
 ///   and the opener counted it; `TooLarge`: exactly where more bytes came than 2^32; `NotStream`: exactly where they
 ///   have
@@ -85,20 +86,20 @@ fn note_refusal<N: Sink>(
 ///   record; `TooMany`: exactly where the records kept, with those of the files before it, have 2^64 packets or octets.
 /// - `WriteFault`: only where a write failed and the output counted it; it took a beginning of what it was to take.
 /// - `NoMemory`: out of memory, at any point before the first write.
-pub fn run_join<R: Threads + Sync, O: Opener, K: Sink, N: Sink>(
+pub fn run_join<R: Threads + Sync, O: Opener, K: Sink, E: Sink>(
     rt: &R,
     alloc: Global,
     words: &[String],
     opener: &mut O,
     output: &mut K,
-    notes: &mut N,
+    stderr: &mut E,
 ) -> JoinStatus
     ensures usage { result ≡ JoinStatus.Usage → asked_by (map string_bytes words.now) ≡ None }
     ensures nothing { asked_by (map string_bytes words.now) ≡ None
         → (result ≡ JoinStatus.Usage) ⊎ (result ≡ JoinStatus.NoMemory) }
     ensures means { RunMeans (asked_by (map string_bytes words.now))
         (files_seen O.contents O.faults opener.old opener.new) (side K.held K.faults output.old output.new)
-        (side N.held N.faults notes.old notes.new) result }
+        (side E.held E.faults stderr.old stderr.new) result }
     ensures complete { IsComplete (asked_by (map string_bytes words.now))
         (files_seen O.contents O.faults opener.old opener.new) (side K.held K.faults output.old output.new) result }
     ensures write_fault { result ≡ JoinStatus.WriteFault → Rose (K.faults output.old) (K.faults output.new) }
@@ -110,7 +111,7 @@ pub fn run_join<R: Threads + Sync, O: Opener, K: Sink, N: Sink>(
     };
     match join_files(rt, alloc, &command, opener, output) {
         JoinStatus::Refused { place, fault } => {
-            note_refusal(alloc, command.files, place, fault, notes)
+            report_refusal(alloc, command.files, place, fault, stderr)
         }
         status => status,
     }

@@ -17,7 +17,7 @@ use Rattle.flow_parts.specs.declared.fragment.Fragment.{Fragment}
 use Rattle.meter_program.specs.Words.{Asked, meter, show, make, schedule, selftest}
 use Rattle.meter_program.specs.Outcome.{Ends, IsValid, IsQuiet}
 
--- at a refusal only what the notes are told is said of them
+-- at a refusal only what standard error took is said of it
 pub told-by : (asked : Asked) (input output before after : Side) (metered : List Fragment) (told : Type 0)
     (other : Type 0) (status : Status) → is_refusal status ≡ true
     → Ends asked (seen_of input output before metered) told status → other
@@ -25,23 +25,23 @@ pub told-by : (asked : Asked) (input output before after : Side) (metered : List
 told-by asked input output before after metered told other Done refusal h new = absurd (true≢false (sym refusal))
 told-by asked input output before after metered told other WriteFault refusal h new = absurd (true≢false (sym refusal))
 told-by asked input output before after metered told other ReadFault refusal h new =
-    record { cause = h.cause; output = h.output; notes = new }
+    record { cause = h.cause; output = h.output; stderr = new }
 told-by asked input output before after metered told other Usage refusal h new =
-    record { cause = h.cause; output = h.output; notes = new }
+    record { cause = h.cause; output = h.output; stderr = new }
 told-by asked input output before after metered told other NotCapture refusal h new =
-    record { cause = h.cause; output = h.output; notes = new }
+    record { cause = h.cause; output = h.output; stderr = new }
 told-by asked input output before after metered told other (LinkUnknown link) refusal h new =
-    record { cause = h.cause; output = h.output; notes = new }
+    record { cause = h.cause; output = h.output; stderr = new }
 told-by asked input output before after metered told other (Damaged at) refusal h new =
-    record { cause = h.cause; output = h.output; notes = new }
+    record { cause = h.cause; output = h.output; stderr = new }
 told-by asked input output before after metered told other TooLarge refusal h new =
-    record { cause = h.cause; output = h.output; notes = new }
+    record { cause = h.cause; output = h.output; stderr = new }
 told-by asked input output before after metered told other NoMemory refusal h new =
-    record { cause = h.cause; output = h.output; notes = new }
+    record { cause = h.cause; output = h.output; stderr = new }
 told-by asked input output before after metered told other (NotStream fault) refusal h new =
-    record { cause = h.cause; output = h.output; notes = new }
+    record { cause = h.cause; output = h.output; stderr = new }
 told-by asked input output before after metered told other (BadSchedule line) refusal h new =
-    record { cause = h.cause; output = h.output; notes = new }
+    record { cause = h.cause; output = h.output; stderr = new }
 
 -- ---- a run that nothing hinders is done
 
@@ -51,7 +51,7 @@ pub complete-by : (asked : Asked) (seen : Seen) (told : Type 0) (status : Status
 complete-by (meter idle active workers sets piece size) seen told Done h valid quiet = inl refl
 complete-by (meter idle active workers sets piece size) seen told NoMemory h valid quiet = inr refl
 complete-by (meter idle active workers sets piece size) seen told WriteFault h valid quiet =
-    absurd (⊎_elim quiet.output quiet.notes h.cause)
+    absurd (⊎_elim quiet.output quiet.stderr h.cause)
 complete-by (meter idle active workers sets piece size) seen told ReadFault h valid quiet =
     absurd (quiet.input h.cause.cause)
 complete-by (meter idle active workers sets piece size) seen told Usage h valid quiet = absurd h.cause
@@ -72,7 +72,7 @@ complete-by (meter idle active workers sets piece size) seen told (NotStream fau
 complete-by (meter idle active workers sets piece size) seen told (BadSchedule line) h valid quiet = absurd h.cause
 complete-by show seen told Done h valid quiet = inl refl
 complete-by show seen told NoMemory h valid quiet = inr refl
-complete-by show seen told WriteFault h valid quiet = absurd (⊎_elim quiet.output quiet.notes h.cause)
+complete-by show seen told WriteFault h valid quiet = absurd (⊎_elim quiet.output quiet.stderr h.cause)
 complete-by show seen told ReadFault h valid quiet = absurd (quiet.input h.cause.cause)
 complete-by show seen told Usage h valid quiet = absurd h.cause
 complete-by show seen told TooLarge h valid quiet =
@@ -87,7 +87,7 @@ complete-by show seen told (BadSchedule line) h valid quiet = absurd h.cause
 complete-by (make seed packets keys) seen told Done h valid quiet = inl refl
 complete-by (make seed packets keys) seen told NoMemory h valid quiet = inr refl
 complete-by (make seed packets keys) seen told WriteFault h valid quiet =
-    absurd (⊎_elim quiet.output quiet.notes h.cause)
+    absurd (⊎_elim quiet.output quiet.stderr h.cause)
 complete-by (make seed packets keys) seen told ReadFault h valid quiet = absurd h.cause
 complete-by (make seed packets keys) seen told Usage h valid quiet = absurd h.cause
 complete-by (make seed packets keys) seen told TooLarge h valid quiet = absurd h.cause
@@ -98,7 +98,7 @@ complete-by (make seed packets keys) seen told (NotStream fault) h valid quiet =
 complete-by (make seed packets keys) seen told (BadSchedule line) h valid quiet = absurd h.cause
 complete-by schedule seen told Done h valid quiet = inl refl
 complete-by schedule seen told NoMemory h valid quiet = inr refl
-complete-by schedule seen told WriteFault h valid quiet = absurd (⊎_elim quiet.output quiet.notes h.cause)
+complete-by schedule seen told WriteFault h valid quiet = absurd (⊎_elim quiet.output quiet.stderr h.cause)
 complete-by schedule seen told ReadFault h valid quiet = absurd (quiet.input h.cause.cause)
 complete-by schedule seen told Usage h valid quiet = absurd h.cause
 complete-by schedule seen told TooLarge h valid quiet =
@@ -123,27 +123,28 @@ complete-by (selftest seed packets keys) seen told (NotStream fault) h valid qui
 complete-by (selftest seed packets keys) seen told (BadSchedule line) h valid quiet = absurd h.cause
 
 -- the same of what is seen behind the line of the status
-pub complete-at : {X Y Z : Type 0} (input : X → Side) (output : Y → Side) (notes : Z → Side) (asked other : Asked)
+pub complete-at : {X Y Z : Type 0} (input : X → Side) (output : Y → Side) (stderr : Z → Side) (asked other : Asked)
     (x x' : X) (y y' : Y) (z z' : Z) (final : Side) (metered metered' : List Fragment) (s s' : Status)
-    → x ≡ x' → y ≡ y' → z ≡ z' → s ≡ s' → Ends asked (seen_of (input x') (output y') (notes z') metered)
-    (IsUntouched (notes z')) s' → is_refusal s ≡ true
+    → x ≡ x' → y ≡ y' → z ≡ z' → s ≡ s' → Ends asked (seen_of (input x') (output y') (stderr z') metered)
+    (IsUntouched (stderr z')) s' → is_refusal s ≡ true
     → asked ≡ other → IsValid other (input x) → IsQuiet (seen_of (input x) (output y) final metered')
     → (s ≡ Done) ⊎ (s ≡ NoMemory)
-complete-at input output notes asked other x x' y y' z z' final metered metered' s s' same_x same_y same_z same_s ends
+complete-at input output stderr asked other x x' y y' z z' final metered metered' s s' same_x same_y same_z same_s ends
     refusal same valid quiet =
-    let at_s : Ends asked (seen_of (input x') (output y') (notes z') metered) (IsUntouched (notes z')) s =
-    subst (Ends asked (seen_of (input x') (output y') (notes z') metered) (IsUntouched (notes z'))) (sym same_s) ends in
-    let at_z : Ends asked (seen_of (input x') (output y') (notes z) metered) (IsUntouched (notes z)) s =
-    subst (λ v. Ends asked (seen_of (input x') (output y') (notes v) metered) (IsUntouched (notes v)) s)
+    let at_s : Ends asked (seen_of (input x') (output y') (stderr z') metered) (IsUntouched (stderr z')) s =
+    subst (Ends asked (seen_of (input x') (output y') (stderr z') metered) (IsUntouched (stderr z')))
+    (sym same_s) ends in
+    let at_z : Ends asked (seen_of (input x') (output y') (stderr z) metered) (IsUntouched (stderr z)) s =
+    subst (λ v. Ends asked (seen_of (input x') (output y') (stderr v) metered) (IsUntouched (stderr v)) s)
     (sym same_z) at_s in
-    let at_y : Ends asked (seen_of (input x') (output y) (notes z) metered) (IsUntouched (notes z)) s =
-    subst (λ v. Ends asked (seen_of (input x') (output v) (notes z) metered) (IsUntouched (notes z)) s)
+    let at_y : Ends asked (seen_of (input x') (output y) (stderr z) metered) (IsUntouched (stderr z)) s =
+    subst (λ v. Ends asked (seen_of (input x') (output v) (stderr z) metered) (IsUntouched (stderr z)) s)
     (sym same_y) at_z in
-    let at_x : Ends asked (seen_of (input x) (output y) (notes z) metered) (IsUntouched (notes z)) s =
-    subst (λ v. Ends asked (seen_of (input v) (output y) (notes z) metered) (IsUntouched (notes z)) s)
+    let at_x : Ends asked (seen_of (input x) (output y) (stderr z) metered) (IsUntouched (stderr z)) s =
+    subst (λ v. Ends asked (seen_of (input v) (output y) (stderr z) metered) (IsUntouched (stderr z)) s)
     (sym same_x) at_y in
-    let told = told-by asked (input x) (output y) (notes z) final metered (IsUntouched (notes z))
+    let told = told-by asked (input x) (output y) (stderr z) final metered (IsUntouched (stderr z))
     (Unit {0}) s refusal at_x tt in
     complete-by asked (seen_of (input x) (output y) final metered) (Unit {0}) s told
     (subst (λ a. IsValid a (input x)) (sym same) valid)
-    (record { input = quiet.input; output = quiet.output; notes = quiet.notes })
+    (record { input = quiet.input; output = quiet.output; stderr = quiet.stderr })

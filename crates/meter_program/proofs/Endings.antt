@@ -44,31 +44,31 @@ metered idle active size kept capture written records tally tail messages gather
 pub meter-ends : (idle active workers sets piece size : ℕ) (seen : Seen) (records : List FlowRecord) (tally : Tally)
     (tail : ℕ) (status : Status)
     → IsReadAndGathered seen.input idle active seen.metered records tally tail
-    → WriteMeans size records tally tail seen.output seen.notes status
-    → Ends (meter idle active workers sets piece size) seen (IsUntouched seen.notes) status
+    → WriteMeans size records tally tail seen.output seen.stderr status
+    → Ends (meter idle active workers sets piece size) seen (IsUntouched seen.stderr) status
 meter-ends idle active workers sets piece size seen records tally tail Done read wrote = record {
   bytes = read.bytes;
   read = read.read;
   written = wrote.bytes;
-  noted = summary tally (length records) wrote.messages tail;
+  reported = summary tally (length records) wrote.messages tail;
   answer = metered idle active size seen.metered read.bytes wrote.bytes records tally tail wrote.messages read.gathered
       wrote.is_written;
   output = wrote.taken;
-  notes = wrote.noted;
+  stderr = wrote.reported;
 }
 meter-ends idle active workers sets piece size seen records tally tail WriteFault read wrote = record {
   bytes = read.bytes;
   read = read.read;
   written = wrote.bytes;
-  noted = summary tally (length records) wrote.messages tail;
+  reported = summary tally (length records) wrote.messages tail;
   answer = metered idle active size seen.metered read.bytes wrote.bytes records tally tail wrote.messages read.gathered
       wrote.is_written;
   output = wrote.taken;
-  notes = wrote.noted;
+  stderr = wrote.reported;
   cause = wrote.cause;
 }
 meter-ends idle active workers sets piece size seen records tally tail NoMemory read wrote =
-    record { cause = tt; output = wrote.0; notes = wrote.1 }
+    record { cause = tt; output = wrote.0; stderr = wrote.1 }
 meter-ends idle active workers sets piece size seen records tally tail ReadFault read wrote = absurd wrote
 meter-ends idle active workers sets piece size seen records tally tail Usage read wrote = absurd wrote
 meter-ends idle active workers sets piece size seen records tally tail NotCapture read wrote = absurd wrote

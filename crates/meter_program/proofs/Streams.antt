@@ -1,4 +1,4 @@
--- What is written of records, and noted behind it.
+-- What is written of records, and the summary behind it.
 use Rattle.std.proofs.Common.{◌≡◌, ◌≤◌, ◌+◌, ◌-◌, ◌^◌, min, ℕ, List, length, take, Some, subst, sym, ap, ◌∙◌, inl, inr}
 use Rattle.std.proofs.Common.{refl}
 use Rattle.std.proofs.Math.Seq.{take-append_seam}
@@ -58,47 +58,47 @@ begun-of size time flows flows' tally taken object law most time_is flows_is beg
     }
 
 pub wrote-both : (size size' : ℕ) (records : List FlowRecord) (tally : Tally) (tail flows messages : ℕ)
-    (bytes : List ℕ) (output notes : Side) → flows ≡ length records → size ≡ size'
+    (bytes : List ℕ) (output stderr : Side) → flows ≡ length records → size ≡ size'
     → IsWritten size records tally bytes messages → HasTaken output bytes
-    → HasTaken notes (summary tally flows messages tail)
-    → WroteBoth size' records tally tail output notes
-wrote-both size size' records tally tail flows messages bytes output notes flows_is size_is written taken noted =
+    → HasTaken stderr (summary tally flows messages tail)
+    → WroteBoth size' records tally tail output stderr
+wrote-both size size' records tally tail flows messages bytes output stderr flows_is size_is written taken reported =
     record {
       bytes = bytes;
       messages = messages;
       is_written = subst (λ n. IsWritten n records tally bytes messages) size_is written;
       taken = taken;
-      noted = subst (λ n. HasTaken notes (summary tally n messages tail)) flows_is noted;
+      reported = subst (λ n. HasTaken stderr (summary tally n messages tail)) flows_is reported;
     }
 
--- the write of the notes failed
+-- the write to standard error failed
 pub wrote-first : (size size' : ℕ) (records : List FlowRecord) (tally : Tally) (tail flows messages : ℕ)
-    (bytes : List ℕ) (output notes : Side) → flows ≡ length records → size ≡ size'
+    (bytes : List ℕ) (output stderr : Side) → flows ≡ length records → size ≡ size'
     → IsWritten size records tally bytes messages → HasTaken output bytes
-    → HasBegun notes (summary tally flows messages tail) → HasFailed notes
-    → WroteSome size' records tally tail output notes
-wrote-first size size' records tally tail flows messages bytes output notes flows_is size_is written taken noted
+    → HasBegun stderr (summary tally flows messages tail) → HasFailed stderr
+    → WroteSome size' records tally tail output stderr
+wrote-first size size' records tally tail flows messages bytes output stderr flows_is size_is written taken reported
     failed =
     record {
       bytes = bytes;
       messages = messages;
       is_written = subst (λ n. IsWritten n records tally bytes messages) size_is written;
       taken = inl taken;
-      noted = subst (λ n. HasBegun notes (summary tally n messages tail)) flows_is noted;
+      reported = subst (λ n. HasBegun stderr (summary tally n messages tail)) flows_is reported;
       cause = inr failed;
     }
 
 -- the write of the output failed
 pub wrote-some : (size size' : ℕ) (records : List FlowRecord) (tally : Tally) (tail messages : ℕ) (bytes : List ℕ)
-    (output notes : Side) → size ≡ size'
+    (output stderr : Side) → size ≡ size'
     → IsWritten size records tally bytes messages → HasBegun output bytes
-    → HasFailed output → notes.after ≡ notes.before
-    → WroteSome size' records tally tail output notes
-wrote-some size size' records tally tail messages bytes output notes size_is written begun failed untold = record {
+    → HasFailed output → stderr.after ≡ stderr.before
+    → WroteSome size' records tally tail output stderr
+wrote-some size size' records tally tail messages bytes output stderr size_is written begun failed untold = record {
   bytes = bytes;
   messages = messages;
   is_written = subst (λ n. IsWritten n records tally bytes messages) size_is written;
   taken = inr (begun, failed);
-  noted = none-begun notes (summary tally (length records) messages tail) untold;
+  reported = none-begun stderr (summary tally (length records) messages tail) untold;
   cause = inl failed;
 }

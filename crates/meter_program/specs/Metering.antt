@@ -99,35 +99,35 @@ pub record IsWritten (size : ℕ) (records : List FlowRecord) (tally : Tally) (b
   pub layout : IsLayoutOf size (export_time tally.clock) records bytes messages
   pub decoded : flows_of bytes ≡ Some records
 
--- The output took all, and the notes the summary.
+-- The output took all, and standard error the summary.
 pub record WroteBoth (size : ℕ) (records : List FlowRecord) (tally : Tally) (tail : ℕ)
-    (output notes : Side) : Type 0 where
+    (output stderr : Side) : Type 0 where
   pub bytes : List ℕ
   pub messages : ℕ
   pub is_written : IsWritten size records tally bytes messages
   pub taken : HasTaken output bytes
-  pub noted : HasTaken notes (summary tally (length records) messages tail)
+  pub reported : HasTaken stderr (summary tally (length records) messages tail)
 
 -- A write failed.
 pub record WroteSome (size : ℕ) (records : List FlowRecord) (tally : Tally) (tail : ℕ)
-    (output notes : Side) : Type 0 where
+    (output stderr : Side) : Type 0 where
   pub bytes : List ℕ
   pub messages : ℕ
   pub is_written : IsWritten size records tally bytes messages
   pub taken : HasTakenOrFailed output bytes
-  pub noted : HasBegun notes (summary tally (length records) messages tail)
-  pub cause : HasFailed output ⊎ HasFailed notes
+  pub reported : HasBegun stderr (summary tally (length records) messages tail)
+  pub cause : HasFailed output ⊎ HasFailed stderr
 
 -- What writing the records means, by its status.
 abbrev pub WriteMeans : ℕ → List FlowRecord → Tally → ℕ → Side → Side → Status → Type 0
-WriteMeans size records tally tail output notes Done = WroteBoth size records tally tail output notes
-WriteMeans size records tally tail output notes WriteFault = WroteSome size records tally tail output notes
-WriteMeans size records tally tail output notes NoMemory = IsUntouched output × IsUntouched notes
-WriteMeans size records tally tail output notes ReadFault = ⊥
-WriteMeans size records tally tail output notes Usage = ⊥
-WriteMeans size records tally tail output notes NotCapture = ⊥
-WriteMeans size records tally tail output notes (LinkUnknown link) = ⊥
-WriteMeans size records tally tail output notes (Damaged at) = ⊥
-WriteMeans size records tally tail output notes TooLarge = ⊥
-WriteMeans size records tally tail output notes (NotStream fault) = ⊥
-WriteMeans size records tally tail output notes (BadSchedule line) = ⊥
+WriteMeans size records tally tail output stderr Done = WroteBoth size records tally tail output stderr
+WriteMeans size records tally tail output stderr WriteFault = WroteSome size records tally tail output stderr
+WriteMeans size records tally tail output stderr NoMemory = IsUntouched output × IsUntouched stderr
+WriteMeans size records tally tail output stderr ReadFault = ⊥
+WriteMeans size records tally tail output stderr Usage = ⊥
+WriteMeans size records tally tail output stderr NotCapture = ⊥
+WriteMeans size records tally tail output stderr (LinkUnknown link) = ⊥
+WriteMeans size records tally tail output stderr (Damaged at) = ⊥
+WriteMeans size records tally tail output stderr TooLarge = ⊥
+WriteMeans size records tally tail output stderr (NotStream fault) = ⊥
+WriteMeans size records tally tail output stderr (BadSchedule line) = ⊥

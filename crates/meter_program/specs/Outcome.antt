@@ -50,10 +50,10 @@ HasRead (selftest seed packets keys) input bytes = IsUntouched input × (bytes �
 -- The bytes are an undamaged capture, of which these records are lawful: they partition its accepted packets, by these
 -- time-outs. They regroup the fragments that the cache kept and handed out, and where nothing cuts the sessions of the
 -- packets, they are the records of the sessions. What is written is their layout, in messages of at most so many
--- octets, and it decodes to them; the export time is the time of the latest packet in whole seconds. What is noted is
--- the summary.
+-- octets, and it decodes to them; the export time is the time of the latest packet in whole seconds. What standard
+-- error takes is the summary.
 pub record IsMetered (idle_seconds active_seconds size : ℕ) (metered : List Fragment)
-    (capture written noted : List ℕ) : Type 0 where
+    (capture written reported : List ℕ) : Type 0 where
   pub file : CaptureFile
   pub is_file : capture_file capture ≡ Some file
   pub known : IsKnownLink file.link
@@ -72,82 +72,84 @@ pub record IsMetered (idle_seconds active_seconds size : ℕ) (metered : List Fr
   pub messages : ℕ
   pub layout : IsLayoutOf size (export_time tally.clock) records written messages
   pub decoded : flows_of written ≡ Some records
-  pub summary_is : noted ≡ summary tally (length records) messages (tail_of file)
+  pub summary_is : reported ≡ summary tally (length records) messages (tail_of file)
 
 -- The bytes are a stream of data records. What is written is a line for each.
-pub record IsShown (stream written noted : List ℕ) : Type 0 where
+pub record IsShown (stream written reported : List ℕ) : Type 0 where
   pub records : List DataRecord
   pub decoded : decode stream ≡ Ok records
   pub lines : written ≡ text_of records
-  pub count : noted ≡ count_line (codes "records") (length records)
+  pub count : reported ≡ count_line (codes "records") (length records)
 
 -- What is written is the capture of the seed.
-pub record IsMade (seed packets keys : ℕ) (written noted : List ℕ) : Type 0 where
+pub record IsMade (seed packets keys : ℕ) (written reported : List ℕ) : Type 0 where
   pub octets : written ≡ capture_of seed packets keys
-  pub count : noted ≡ count_line (codes "packets") packets
+  pub count : reported ≡ count_line (codes "packets") packets
 
 -- The bytes are a schedule without a bad line. What is written is its replay.
-pub record IsReplayed (text written noted : List ℕ) : Type 0 where
+pub record IsReplayed (text written reported : List ℕ) : Type 0 where
   pub shape : Shape
   pub steps : List Step
   pub read : schedule_of text ≡ Ok (shape, steps)
   pub enabled : bad_line text ≡ None
   pub lines : written ≡ replay_text shape steps
-  pub count : noted ≡ count_line (codes "steps") (length steps)
+  pub count : reported ≡ count_line (codes "steps") (length steps)
 
 -- What is written is the summary of metering the capture of the seed with idle and active time-outs of 300 and 1800
--- seconds and messages of at most 1400 octets, whose stream goes nowhere. Nothing is noted.
-pub record IsTested (seed packets keys : ℕ) (metered : List Fragment) (written noted : List ℕ) : Type 0 where
+-- seconds and messages of at most 1400 octets, whose stream goes nowhere. Nothing is reported.
+pub record IsTested (seed packets keys : ℕ) (metered : List Fragment) (written reported : List ℕ) : Type 0 where
   pub stream : List ℕ
   pub is_metered : IsMetered 300 1800 1400 metered (capture_of seed packets keys) stream written
-  pub nothing : noted ≡ []
+  pub nothing : reported ≡ []
 
--- What the command writes to the output and to the notes for this input. The fragments are those of the last cache that
--- was closed.
+-- What the command writes to the output and to standard error for this input. The fragments are those of the last cache
+-- that was closed.
 abbrev pub IsAnswer : Asked → List Fragment → List ℕ → List ℕ → List ℕ → Type 0
-IsAnswer (meter idle active workers sets piece size) metered input written noted =
-    IsMetered idle active size metered input written noted
-IsAnswer show metered input written noted = IsShown input written noted
-IsAnswer (make seed packets keys) metered input written noted = IsMade seed packets keys written noted
-IsAnswer schedule metered input written noted = IsReplayed input written noted
-IsAnswer (selftest seed packets keys) metered input written noted = IsTested seed packets keys metered written noted
+IsAnswer (meter idle active workers sets piece size) metered input written reported =
+    IsMetered idle active size metered input written reported
+IsAnswer show metered input written reported = IsShown input written reported
+IsAnswer (make seed packets keys) metered input written reported = IsMade seed packets keys written reported
+IsAnswer schedule metered input written reported = IsReplayed input written reported
+IsAnswer (selftest seed packets keys) metered input written reported =
+    IsTested seed packets keys metered written reported
 
--- The notes took this text; those of `selftest`, which notes nothing, are as they were.
-abbrev pub HasNoted : Asked → Side → List ℕ → Type 0
-HasNoted (meter idle active workers sets piece size) notes noted = HasTaken notes noted
-HasNoted show notes noted = HasTaken notes noted
-HasNoted (make seed packets keys) notes noted = HasTaken notes noted
-HasNoted schedule notes noted = HasTaken notes noted
-HasNoted (selftest seed packets keys) notes noted = IsUntouched notes
+-- Standard error took this text; with `selftest`, which reports nothing, it is as it was.
+abbrev pub HasReported : Asked → Side → List ℕ → Type 0
+HasReported (meter idle active workers sets piece size) stderr reported = HasTaken stderr reported
+HasReported show stderr reported = HasTaken stderr reported
+HasReported (make seed packets keys) stderr reported = HasTaken stderr reported
+HasReported schedule stderr reported = HasTaken stderr reported
+HasReported (selftest seed packets keys) stderr reported = IsUntouched stderr
 
--- All was done: the input was read, and the output and the notes took the answer to it.
+-- All was done: the input was read, and the output and standard error took the answer to it.
 pub record IsDone (asked : Asked) (seen : Seen) : Type 0 where
   pub bytes : List ℕ
   pub read : HasRead asked seen.input bytes
   pub written : List ℕ
-  pub noted : List ℕ
-  pub answer : IsAnswer asked seen.metered bytes written noted
+  pub reported : List ℕ
+  pub answer : IsAnswer asked seen.metered bytes written reported
   pub output : HasTaken seen.output written
-  pub notes : HasNoted asked seen.notes noted
+  pub stderr : HasReported asked seen.stderr reported
 
--- A write to the output or to the notes failed; of `selftest`, whose notes are as they were, one to the output.
+-- A write to the output or to standard error failed; of `selftest`, which leaves standard error as it was, one to the
+-- output.
 abbrev pub HasFailedToWrite : Asked → Seen → Type 0
-HasFailedToWrite (meter idle active workers sets piece size) seen = HasFailed seen.output ⊎ HasFailed seen.notes
-HasFailedToWrite show seen = HasFailed seen.output ⊎ HasFailed seen.notes
-HasFailedToWrite (make seed packets keys) seen = HasFailed seen.output ⊎ HasFailed seen.notes
-HasFailedToWrite schedule seen = HasFailed seen.output ⊎ HasFailed seen.notes
-HasFailedToWrite (selftest seed packets keys) seen = HasFailed seen.output × IsUntouched seen.notes
+HasFailedToWrite (meter idle active workers sets piece size) seen = HasFailed seen.output ⊎ HasFailed seen.stderr
+HasFailedToWrite show seen = HasFailed seen.output ⊎ HasFailed seen.stderr
+HasFailedToWrite (make seed packets keys) seen = HasFailed seen.output ⊎ HasFailed seen.stderr
+HasFailedToWrite schedule seen = HasFailed seen.output ⊎ HasFailed seen.stderr
+HasFailedToWrite (selftest seed packets keys) seen = HasFailed seen.output × IsUntouched seen.stderr
 
--- A write failed: the input was read, and the output and the notes took a beginning of the answer each, the
+-- A write failed: the input was read, and the output and standard error took a beginning of the answer each, the
 -- output all of it where none of its own calls failed.
 pub record IsCutOff (asked : Asked) (seen : Seen) : Type 0 where
   pub bytes : List ℕ
   pub read : HasRead asked seen.input bytes
   pub written : List ℕ
-  pub noted : List ℕ
-  pub answer : IsAnswer asked seen.metered bytes written noted
+  pub reported : List ℕ
+  pub answer : IsAnswer asked seen.metered bytes written reported
   pub output : HasTakenOrFailed seen.output written
-  pub notes : HasBegun seen.notes noted
+  pub stderr : HasBegun seen.stderr reported
   pub cause : HasFailedToWrite asked seen
 
 -- ---- why a command refuses
@@ -217,13 +219,13 @@ Refuses (make seed packets keys) input status = MakeRefuses input status
 Refuses schedule input status = ScheduleRefuses input status
 Refuses (selftest seed packets keys) input status = MakeRefuses input status
 
--- The command refused: it has a cause, nothing was written, and the notes tell it so.
+-- The command refused: it has a cause, nothing was written, and standard error took its line.
 pub record IsRefused (asked : Asked) (seen : Seen) (told : Type 0) (status : Status) : Type 0 where
   pub cause : Refuses asked seen.input status
   pub output : IsUntouched seen.output
-  pub notes : told
+  pub stderr : told
 
--- How a command ends, by its status; `told` says what the notes took at a refusal.
+-- How a command ends, by its status; `told` says what standard error took at a refusal.
 abbrev pub Ends : Asked → Seen → Type 0 → Status → Type 0
 Ends asked seen told Done = IsDone asked seen
 Ends asked seen told WriteFault = IsCutOff asked seen
@@ -240,17 +242,17 @@ Ends asked seen told (BadSchedule line) = IsRefused asked seen told (BadSchedule
 -- ---- a run
 
 -- The words ask for nothing, or memory was out before they were read: nothing is read, nothing is written, and the
--- notes took this line.
+-- standard error took this line.
 pub record IsUsage (seen : Seen) (line : List ℕ) (status : Status) : Type 0 where
   pub usage : (status ≡ Usage) ⊎ (status ≡ NoMemory)
   pub input : IsUntouched seen.input
   pub output : IsUntouched seen.output
-  pub notes : HasTakenOrFailed seen.notes line
+  pub stderr : HasTakenOrFailed seen.stderr line
 
--- What a run means, by what its words ask for. At a refusal the notes took the line of the status.
+-- What a run means, by what its words ask for. At a refusal standard error took the line of the status.
 abbrev pub RunMeans : Option Asked → Seen → Status → Type 0
 RunMeans None seen status = IsUsage seen (fault_line status) status
-RunMeans (Some asked) seen status = Ends asked seen (HasTakenOrFailed seen.notes (fault_line status)) status
+RunMeans (Some asked) seen status = Ends asked seen (HasTakenOrFailed seen.stderr (fault_line status)) status
 
 -- ---- when a run is done
 
@@ -271,7 +273,7 @@ IsValid (selftest seed packets keys) input = ⊤
 pub record IsQuiet (seen : Seen) : Type 0 where
   pub input : ¬ HasFailed seen.input
   pub output : ¬ HasFailed seen.output
-  pub notes : ¬ HasFailed seen.notes
+  pub stderr : ¬ HasFailed seen.stderr
 
 -- For a command and an input that it takes, where no call failed, the run is done, or memory is out.
 abbrev pub IsComplete : Option Asked → Seen → Status → Type 0

@@ -47,7 +47,7 @@ stream_fault_text (BadPadding at) = codes "padding at " ++ decimal at
 stream_fault_text (BadSequence at) = codes "sequence at " ++ decimal at
 stream_fault_text (Withdrawal at) = codes "withdrawal at " ++ decimal at
 
--- What the notes say of a status, without the end of the line; nothing where all was done or a write failed.
+-- What is said of a status, without the end of the line; nothing where all was done or a write failed.
 abbrev pub fault_text : Status → List ℕ
 fault_text Done = []
 fault_text WriteFault = []
@@ -61,6 +61,6 @@ fault_text NoMemory = codes "no memory"
 fault_text (NotStream fault) = codes "not a stream: " ++ stream_fault_text fault
 fault_text (BadSchedule line) = codes "bad schedule line " ++ decimal line
 
--- The line of a status in the notes.
+-- The line of a status on standard error.
 abbrev pub fault_line : Status → List ℕ
 fault_line status = fault_text status ++ codes "\n"

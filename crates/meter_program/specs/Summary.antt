@@ -1,4 +1,4 @@
--- The notes of commands that are done: lines of a name and a number.
+-- What commands that are done report: lines of a name and a number.
 use Rattle.std.specs.Prelude.{ℕ, List, ◌++◌, codes, decimal, slice_index}
 use Rattle.capture_tally.specs.declared.tally.Tally.{Tally}
 

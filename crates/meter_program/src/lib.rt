@@ -1,4 +1,4 @@
-//! The top call: a command's words, an input, an output and notes, and how the run ended.
+//! The top call: a command's words, an input, an output and standard error, and how the run ended.
 //!
 //! [`run`] is the whole program but for its outside: `romtyalig` hands it the words behind the program's name and the
 //! standard streams, and ends with the exit status of its [`Status`]. A run goes so:
@@ -10,24 +10,24 @@
 //!    closed, and the fragments that it handed out and kept are gathered into records. `meter.rt` makes an emitter for
 //!    their stream, with all memory that writing takes. Up to here the run may refuse, and nothing was written. Then
 //!    the
-//!    stream goes out, in whole messages through a buffer, and the summary goes to the notes.
+//!    stream goes out, in whole messages through a buffer, and the summary goes to standard error.
 //! 3. **`show`** (`show.rt`): the input is read to its end and decoded as a stream, whose data records become text
 //!    (`lines.rt`).
 //!    **`make`** (`make.rt`): a capture is made by a seed; nothing is read. **`schedule`** (`schedule.rt`): the input
 //!    is read to its end as a schedule and replayed, and the replay is printed. The text of each goes out in one piece,
-//!    and a count to the notes (`ending.rt`).
+//!    and a count to standard error (`ending.rt`).
 //! 4. **`selftest`** (`selftest.rt`): a made capture is metered from memory as by `meter`, its stream is emitted to a
 //!    sink that keeps nothing, and the summary goes to the output.
-//! 5. **The end.** At a refusal the notes get its line (`notes.rt`), and nothing else was written.
+//! 5. **The end.** At a refusal its line goes to standard error (`reports.rt`), and nothing else was written.
 //!
 //! A program that meters in its own way gathers and writes as this one by [`gathered_of`] and [`write_stream`], and
-//! notes by [`summary`] and [`fault_line`].
+//! reports by [`summary`] and [`fault_line`].
 //!
 //! `specs/Outcome.antt` says what a run means, by its words and its status: that is the contract of `run`, and the file
-//! to read first. `Seen` there is what is seen of input, output and notes before and after; `Words` the command lines;
-//! `Shows`, `Summary` and `Replays` the texts; `Statuses` exit statuses and lines; `Gathering` the export time;
-//! `Metering` what metering, gathering and writing say of one another, for every program that meters. `Replaying` is
-//! the code's own.
+//! to read first. `Seen` there is what is seen of input, output and standard error before and after; `Words` the
+//! command lines; `Shows`, `Summary` and `Replays` the texts; `Statuses` exit statuses and lines; `Gathering` the
+//! export time; `Metering` what metering, gathering and writing say of one another, for every program that meters.
+//! `Replaying` is the code's own.
 #![tactic(auto)]
 
 mod ending;
@@ -35,7 +35,7 @@ mod lines;
 mod make;
 mod meter;
 mod metering;
-mod notes;
+mod reports;
 mod running;
 mod schedule;
 mod selftest;
@@ -46,7 +46,7 @@ mod words;
 
 pub use meter::write_stream;
 pub use metering::{CaptureCount, Gathered, gathered_of};
-pub use notes::{fault_line, summary};
+pub use reports::{fault_line, summary};
 pub use running::run;
 pub use settings::{Making, Settings};
 pub use status::Status;

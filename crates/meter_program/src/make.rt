@@ -14,24 +14,24 @@ use capture_maker::capture;
 use meter_io::{Failed, Sink};
 use std::alloc::Global;
 
-/// Writes the capture of a seed to the output, and notes how many packets it has. It reads nothing.
-pub fn make<K: Sink, N: Sink>(
+/// Writes the capture of a seed to the output, and to standard error how many packets it has. It reads nothing.
+pub fn make<K: Sink, E: Sink>(
     alloc: Global,
     settings: &Making,
     output: &mut K,
-    notes: &mut N,
+    stderr: &mut E,
 ) -> Status
     ensures { (input : Side) (metered : List Fragment) → IsUntouched input → let seen =
         seen_of input (side K.held K.faults output.old output.new)
-        (side N.held N.faults notes.old notes.new) metered
-        in Ends (make settings.now.seed settings.now.packets settings.now.keys) seen (IsUntouched seen.notes) result }
+        (side E.held E.faults stderr.old stderr.new) metered
+        in Ends (make settings.now.seed settings.now.packets settings.now.keys) seen (IsUntouched seen.stderr) result }
 {
     let Ok(bytes) = capture(alloc, settings.seed, settings.packets, settings.keys) else {
         return Status::NoMemory;
     };
     match write_and_count(
         output,
-        notes,
+        stderr,
         bytes.as_slice(),
         "packets",
         settings.packets as u64,

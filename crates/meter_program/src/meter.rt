@@ -11,7 +11,7 @@ ghost use Rattle.meter_program.specs.Seen.{seen_of};
 ghost use Rattle.meter_program.specs.Words.{meter};
 
 use crate::metering::{Gathered, gathered_from};
-use crate::notes::summary;
+use crate::reports::summary;
 use crate::settings::Settings;
 use crate::status::Status;
 use cache_face::Caches;
@@ -67,27 +67,28 @@ pub fn emit<K: Sink>(emitter: Emitter, gathered: &Gathered, sink: &mut K) -> Res
     emit_all(emitter, &gathered.records, sink)
 }
 
-/// Writes the stream of these records, in messages of at most `size` octets, and then notes the summary.
+/// Writes the stream of these records, in messages of at most `size` octets, and then the summary to standard error.
 ///
 /// All memory is taken before the first write.
 ///
-/// - `Done`: the output took the stream, and the notes the summary.
-/// - `WriteFault`: only where a write failed and the output or the notes counted it. Both took a beginning of what they
+/// - `Done`: the output took the stream, and standard error the summary.
+/// - `WriteFault`: only where a write failed and the output or standard error counted it. Both took a beginning of what
+///   they
 ///   were to take, the output all of it where none of its own writes failed.
 /// - `NoMemory`: out of memory; nothing was written.
 ///
 /// No other status comes.
-pub fn write_stream<K: Sink, N: Sink>(
+pub fn write_stream<K: Sink, E: Sink>(
     alloc: Global,
     gathered: &Gathered,
     size: u32,
     output: &mut K,
-    notes: &mut N,
+    stderr: &mut E,
 ) -> Status
     requires { (116 ≤ size) × (size ≤ 65535) }
     ensures { WriteMeans size gathered.now.records gathered.now.tally gathered.now.tail
         (side K.held K.faults output.old output.new)
-        (side N.held N.faults notes.old notes.new) result }
+        (side E.held E.faults stderr.old stderr.new) result }
 {
     let Ok(emitter) = emitter_for(alloc, gathered, size) else {
         return Status::NoMemory;
@@ -97,32 +98,32 @@ pub fn write_stream<K: Sink, N: Sink>(
         Err(Failed) => return Status::WriteFault,
     };
     let flows = gathered.records.len() as u64;
-    match summary(notes, &gathered.tally, flows, messages, gathered.tail) {
+    match summary(stderr, &gathered.tally, flows, messages, gathered.tail) {
         Ok(()) => Status::Done,
         Err(Failed) => Status::WriteFault,
     }
 }
 
 /// Reads a capture from the input to its end, meters it through a cache of `caches`, writes the records of its flows to
-/// the output and notes the summary.
-pub fn meter<R: Threads + Sync, S: Source, K: Sink, N: Sink, M: Caches, G: Gate>(
+/// the output, and the summary to standard error.
+pub fn meter<R: Threads + Sync, S: Source, K: Sink, E: Sink, M: Caches, G: Gate>(
     rt: &R,
     alloc: Global,
     settings: &Settings,
     input: &mut S,
     output: &mut K,
-    notes: &mut N,
+    stderr: &mut E,
     caches: &mut M,
     gate: &G,
 ) -> Status
     ensures { let seen = seen_of (side S.left S.faults input.old input.new) (side K.held K.faults output.old output.new)
-        (side N.held N.faults notes.old notes.new) (M.metered caches.new)
+        (side E.held E.faults stderr.old stderr.new) (M.metered caches.new)
         in Ends (meter settings.now.idle settings.now.active settings.now.workers settings.now.sets settings.now.piece
         settings.now.size)
-        seen (IsUntouched seen.notes) result }
+        seen (IsUntouched seen.stderr) result }
 {
     match gathered_from(rt, alloc, settings, input, caches, gate) {
-        Ok(gathered) => write_stream(alloc, &gathered, settings.size, output, notes),
+        Ok(gathered) => write_stream(alloc, &gathered, settings.size, output, stderr),
         Err(status) => status,
     }
 }

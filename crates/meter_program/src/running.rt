@@ -10,7 +10,7 @@ ghost use Rattle.meter_program.specs.Words.{asked_by, asked_of};
 
 use crate::make::make;
 use crate::meter::meter;
-use crate::notes::fault_line;
+use crate::reports::fault_line;
 use crate::schedule::schedule;
 use crate::selftest::selftest;
 use crate::show::show;
@@ -24,32 +24,32 @@ use std::alloc::Global;
 use std::thread::Threads;
 
 /// Does what a command says.
-fn command<R: Threads + Sync, S: Source, K: Sink, N: Sink, M: Caches, G: Gate>(
+fn command<R: Threads + Sync, S: Source, K: Sink, E: Sink, M: Caches, G: Gate>(
     rt: &R,
     alloc: Global,
     command: &Command,
     input: &mut S,
     output: &mut K,
-    notes: &mut N,
+    stderr: &mut E,
     caches: &mut M,
     gate: &G,
 ) -> Status
     ensures { let seen = seen_of (side S.left S.faults input.old input.new) (side K.held K.faults output.old output.new)
-        (side N.held N.faults notes.old notes.new) (M.metered caches.new)
-        in Ends (asked_of command.now) seen (IsUntouched seen.notes) result }
+        (side E.held E.faults stderr.old stderr.new) (M.metered caches.new)
+        in Ends (asked_of command.now) seen (IsUntouched seen.stderr) result }
 {
     match command {
-        Command::Meter(settings) => meter(rt, alloc, settings, input, output, notes, caches, gate),
-        Command::Show => show(alloc, input, output, notes),
-        Command::Make(settings) => make(alloc, settings, output, notes),
-        Command::Schedule => schedule(alloc, input, output, notes),
+        Command::Meter(settings) => meter(rt, alloc, settings, input, output, stderr, caches, gate),
+        Command::Show => show(alloc, input, output, stderr),
+        Command::Make(settings) => make(alloc, settings, output, stderr),
+        Command::Schedule => schedule(alloc, input, output, stderr),
         Command::Selftest(settings) => selftest(rt, alloc, settings, output, caches, gate),
     }
 }
 
 /// Runs the command that the words behind the program's name ask for, and tells how the run ended.
 ///
-/// | Command | Reads | Writes to `output` | Notes |
+/// | Command | Reads | Writes to `output` | Writes to `stderr` |
 /// |---|---|---|---|
 /// | `meter` | a capture, at most 2^30 bytes | the stream of its flow records | the summary, eleven lines |
 /// | `show` | a stream, at most 2^26 bytes | a line for each data record | how many records |
@@ -62,14 +62,15 @@ fn command<R: Threads + Sync, S: Source, K: Sink, N: Sink, M: Caches, G: Gate>(
 /// meters it.
 ///
 /// The input is read to its end before anything is written. At a refusal, any status but `Done` and `WriteFault`,
-/// nothing is written to `output`, and one line that names the refusal goes to `notes`; where that write fails, the
+/// nothing is written to `output`, and one line that names the refusal goes to `stderr`; where that write fails, the
 /// status stays.
 ///
 /// - `Done`: all was read and written.
 /// - `ReadFault`: only where a read failed and the input counted it.
 /// - `Usage`: exactly where the words are no command line. Nothing is read.
-/// - `WriteFault`: only where a write failed and the output or the notes counted it; in `selftest`, which leaves the
-///   notes as they were, the output. Both took a beginning of what they were to take, the output all of it where none
+/// - `WriteFault`: only where a write failed and the output or standard error counted it; in `selftest`, which leaves
+///   standard error as it was, the output. Both took a beginning of what they were to take, the output all of it where
+///   none
 ///   of its own writes failed.
 /// - `NotCapture`, `LinkUnknown`, `Damaged`: `meter`, exactly where the bytes read are no capture, have another link
 ///   type than 1, 101 and 113, or a record that claims too much.
@@ -78,13 +79,13 @@ fn command<R: Threads + Sync, S: Source, K: Sink, N: Sink, M: Caches, G: Gate>(
 ///   it and a step isn't enabled, with the line of the first.
 /// - `TooLarge`: exactly where more bytes came than the command's limit.
 /// - `NoMemory`: out of memory, at any point before the first write.
-pub fn run<R: Threads + Sync, S: Source, K: Sink, N: Sink, M: Caches, G: Gate>(
+pub fn run<R: Threads + Sync, S: Source, K: Sink, E: Sink, M: Caches, G: Gate>(
     rt: &R,
     alloc: Global,
     words: &[String],
     input: &mut S,
     output: &mut K,
-    notes: &mut N,
+    stderr: &mut E,
     caches: &mut M,
     gate: &G,
 ) -> Status
@@ -92,24 +93,26 @@ pub fn run<R: Threads + Sync, S: Source, K: Sink, N: Sink, M: Caches, G: Gate>(
     ensures nothing { asked_by (map string_bytes words.now) ≡ None
         → (result ≡ Status.Usage) ⊎ (result ≡ Status.NoMemory) }
     ensures means { RunMeans (asked_by (map string_bytes words.now)) (seen_of (side S.left S.faults input.old input.new)
-        (side K.held K.faults output.old output.new) (side N.held N.faults notes.old notes.new) (M.metered caches.new))
+        (side K.held K.faults output.old output.new) (side E.held E.faults stderr.old stderr.new)
+        (M.metered caches.new))
         result }
     ensures complete { IsComplete (asked_by (map string_bytes words.now))
         (seen_of (side S.left S.faults input.old input.new)
-        (side K.held K.faults output.old output.new) (side N.held N.faults notes.old notes.new) (M.metered caches.new))
+        (side K.held K.faults output.old output.new) (side E.held E.faults stderr.old stderr.new)
+        (M.metered caches.new))
         result }
     ensures read_fault { result ≡ Status.ReadFault → Rose (S.faults input.old) (S.faults input.new) }
     ensures write_fault { result ≡ Status.WriteFault
-        → Rose (K.faults output.old) (K.faults output.new) ⊎ Rose (N.faults notes.old) (N.faults notes.new) }
+        → Rose (K.faults output.old) (K.faults output.new) ⊎ Rose (E.faults stderr.old) (E.faults stderr.new) }
 {
     let status = match command_of(alloc, words) {
         Err(OptionsError::NotOptions) => Status::Usage,
         Err(OptionsError::NoMemory) => Status::NoMemory,
-        Ok(asked) => command(rt, alloc, &asked, input, output, notes, caches, gate),
+        Ok(asked) => command(rt, alloc, &asked, input, output, stderr, caches, gate),
     };
     if status.is_refusal() {
         // A refusal stays what it is where its line can't be written.
-        let _noted = fault_line(notes, &status);
+        let _reported = fault_line(stderr, &status);
     }
     status
 }

@@ -51,17 +51,17 @@ fn replay_of(alloc: Global, bytes: &[u8]) -> Result<Replay, Status>
 }
 
 /// Reads a schedule from the input to its end, replays it from the start, writes the answers and the state behind them
-/// to the output, and notes how many steps it has.
-pub fn schedule<S: Source, K: Sink, N: Sink>(
+/// to the output, and to standard error how many steps it has.
+pub fn schedule<S: Source, K: Sink, E: Sink>(
     alloc: Global,
     input: &mut S,
     output: &mut K,
-    notes: &mut N,
+    stderr: &mut E,
 ) -> Status
     ensures { (metered : List Fragment) → let seen =
         seen_of (side S.left S.faults input.old input.new) (side K.held K.faults output.old output.new)
-        (side N.held N.faults notes.old notes.new) metered
-        in Ends schedule seen (IsUntouched seen.notes) result }
+        (side E.held E.faults stderr.old stderr.new) metered
+        in Ends schedule seen (IsUntouched seen.stderr) result }
 {
     let bytes = match read_all(alloc, input, SCHEDULE_LIMIT) {
         Ok(bytes) => bytes,
@@ -73,7 +73,13 @@ pub fn schedule<S: Source, K: Sink, N: Sink>(
         Ok(replay) => replay,
         Err(status) => return status,
     };
-    match write_and_count(output, notes, replay.text.as_slice(), "steps", replay.steps) {
+    match write_and_count(
+        output,
+        stderr,
+        replay.text.as_slice(),
+        "steps",
+        replay.steps,
+    ) {
         Ok(()) => Status::Done,
         Err(Failed) => Status::WriteFault,
     }

@@ -8,7 +8,7 @@ ghost use Rattle.meter_program.specs.Words.{selftest};
 
 use crate::meter::{emit, emitter_for};
 use crate::metering::gathered_from;
-use crate::notes::summary;
+use crate::reports::summary;
 use crate::settings::{Making, Settings};
 use crate::status::Status;
 use cache_face::Caches;
@@ -69,7 +69,7 @@ fn four_workers() -> Settings
 }
 
 /// Meters the capture of a seed in memory, through a cache of `caches`, and writes the summary to the output. It reads
-/// nothing and notes nothing; the stream goes nowhere, and its messages are counted.
+/// nothing and tells nothing; the stream goes nowhere, and its messages are counted.
 pub fn selftest<R: Threads + Sync, K: Sink, M: Caches, G: Gate>(
     rt: &R,
     alloc: Global,
@@ -78,10 +78,10 @@ pub fn selftest<R: Threads + Sync, K: Sink, M: Caches, G: Gate>(
     caches: &mut M,
     gate: &G,
 ) -> Status
-    ensures { (input notes : Side) → IsUntouched input → IsUntouched notes → let seen =
+    ensures { (input stderr : Side) → IsUntouched input → IsUntouched stderr → let seen =
         seen_of input (side K.held K.faults output.old output.new)
-        notes (M.metered caches.new)
-        in Ends (selftest settings.now.seed settings.now.packets settings.now.keys) seen (IsUntouched notes) result }
+        stderr (M.metered caches.new)
+        in Ends (selftest settings.now.seed settings.now.packets settings.now.keys) seen (IsUntouched stderr) result }
 {
     let Ok(bytes) = capture(alloc, settings.seed, settings.packets, settings.keys) else {
         return Status::NoMemory;

@@ -14,18 +14,18 @@ use ipfix_reader::{STREAM_LIMIT, StreamError};
 use meter_io::{Failed, ReadError, Sink, Source, read_all};
 use std::alloc::Global;
 
-/// Reads a stream from the input to its end, writes a line for each of its data records to the output, and notes how
-/// many there are.
-pub fn show<S: Source, K: Sink, N: Sink>(
+/// Reads a stream from the input to its end, writes a line for each of its data records to the output, and to standard
+/// error how many there are.
+pub fn show<S: Source, K: Sink, E: Sink>(
     alloc: Global,
     input: &mut S,
     output: &mut K,
-    notes: &mut N,
+    stderr: &mut E,
 ) -> Status
     ensures { (metered : List Fragment) → let seen =
         seen_of (side S.left S.faults input.old input.new) (side K.held K.faults output.old output.new)
-        (side N.held N.faults notes.old notes.new) metered
-        in Ends show seen (IsUntouched seen.notes) result }
+        (side E.held E.faults stderr.old stderr.new) metered
+        in Ends show seen (IsUntouched seen.stderr) result }
 {
     let stream = match read_all(alloc, input, STREAM_LIMIT) {
         Ok(stream) => stream,
@@ -38,7 +38,13 @@ pub fn show<S: Source, K: Sink, N: Sink>(
         Err(StreamError::Fault(fault)) => return Status::NotStream(fault),
         Err(StreamError::NoMemory) => return Status::NoMemory,
     };
-    match write_and_count(output, notes, lines.text.as_slice(), "records", lines.count) {
+    match write_and_count(
+        output,
+        stderr,
+        lines.text.as_slice(),
+        "records",
+        lines.count,
+    ) {
         Ok(()) => Status::Done,
         Err(Failed) => Status::WriteFault,
     }

@@ -62,7 +62,7 @@ impl From<MeterFault> for Status {
 }
 
 impl Status {
-    /// Whether the run refused, so that the notes have a line for it.
+    /// Whether the run refused, so that standard error has a line for it.
     pub fn is_refusal(&self) -> bool
         ensures { result ≡ is_refusal self.now }
     {

@@ -6,7 +6,7 @@ use Rattle.meter_program.specs.declared.status.Status.TheVariants.{LinkUnknown, 
 use Rattle.meter_program.specs.declared.status.Status.TheVariants.{BadSchedule}
 use Rattle.meter_program.specs.Statuses.{fault_line}
 
--- The line of a status in the notes: that of `meter`, but for the words that this program takes.
+-- The line of a status on standard error: that of `meter`, but for the words that this program takes.
 abbrev pub pipe_line : Status → List ℕ
 pipe_line Usage = codes "usage: pipe\n"
 pipe_line Done = fault_line Done

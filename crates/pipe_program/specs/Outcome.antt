@@ -7,12 +7,12 @@ use Rattle.meter_program.specs.Outcome.{IsUsage, Ends, IsComplete}
 use Rattle.pipe_program.specs.Lines.{pipe_line}
 use Rattle.pipe_program.specs.Words.{Piping, as_meter}
 
--- What a run means, by what its words ask for: it ends as the command `meter` does. At a refusal the notes took the
--- line of the status.
+-- What a run means, by what its words ask for: it ends as the command `meter` does. At a refusal standard error took
+-- the line of the status.
 abbrev pub PipeMeans : Option Piping → Seen → Status → Type 0
 PipeMeans None seen status = IsUsage seen (pipe_line status) status
 PipeMeans (Some piping) seen status = Ends (as_meter piping) seen
-    (HasTakenOrFailed seen.notes (pipe_line status)) status
+    (HasTakenOrFailed seen.stderr (pipe_line status)) status
 
 -- For an input that `meter` takes, where no call failed, the run is done, or memory is out.
 abbrev pub IsPipeComplete : Option Piping → Seen → Status → Type 0

@@ -83,23 +83,23 @@ fn gathered_in_batches<R: Threads + Wait + Sync, S: Source, M: Caches, G: Gate>(
 }
 
 /// Reads a capture from the input to its end, meters it through a cache of `caches`, writes the records of its flows to
-/// the output and notes the summary.
-pub fn pipe_input<R: Threads + Wait + Sync, S: Source, K: Sink, N: Sink, M: Caches, G: Gate>(
+/// the output, and the summary to standard error.
+pub fn pipe_input<R: Threads + Wait + Sync, S: Source, K: Sink, E: Sink, M: Caches, G: Gate>(
     rt: &R,
     alloc: Global,
     settings: &PipeSettings,
     input: &mut S,
     output: &mut K,
-    notes: &mut N,
+    stderr: &mut E,
     caches: &mut M,
     gate: &G,
 ) -> Status
     ensures { let seen = seen_of (side S.left S.faults input.old input.new) (side K.held K.faults output.old output.new)
-        (side N.held N.faults notes.old notes.new) (M.metered caches.new)
-        in Ends (as_meter (piping_of settings.now)) seen (IsUntouched seen.notes) result }
+        (side E.held E.faults stderr.old stderr.new) (M.metered caches.new)
+        in Ends (as_meter (piping_of settings.now)) seen (IsUntouched seen.stderr) result }
 {
     match gathered_in_batches(rt, alloc, settings, input, caches, gate) {
-        Ok(gathered) => write_stream(alloc, &gathered, settings.size, output, notes),
+        Ok(gathered) => write_stream(alloc, &gathered, settings.size, output, stderr),
         Err(status) => status,
     }
 }

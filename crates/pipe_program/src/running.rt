@@ -9,7 +9,7 @@ ghost use Rattle.pipe_program.specs.Outcome.{PipeMeans, IsPipeComplete};
 ghost use Rattle.pipe_program.specs.Words.{piping_by};
 
 use crate::metering::pipe_input;
-use crate::notes::pipe_line;
+use crate::refusal::pipe_line;
 use crate::words::settings_of;
 use cache_face::Caches;
 use command_words::OptionsError;
@@ -22,7 +22,7 @@ use std::thread::Threads;
 
 /// Meters the capture of the input as the words behind the program's name ask for, and tells how the run ended.
 ///
-/// Reads a capture of at most 2^30 bytes to its end, writes the stream of its flow records to `output`, and notes the
+/// Reads a capture of at most 2^30 bytes to its end, writes the stream of its flow records to `output`, and the
 /// summary, eleven lines. The capture is cut into batches of whole records, which wait in a queue; workers meter them
 /// while the next bytes are read. One cache of `caches` is opened, with a pass for each worker, one for the reader and
 /// one for what is left in the queue in the end, and closed; the records that are written regroup the fragments that
@@ -33,12 +33,13 @@ use std::thread::Threads;
 ///
 /// This call may wait; what is said here holds if it returns. The input is read to its end before anything is written.
 /// At a refusal, any status but `Done` and `WriteFault`, nothing is written to `output`, and one line that names the
-/// refusal goes to `notes`; where that write fails, the status stays.
+/// refusal goes to `stderr`; where that write fails, the status stays.
 ///
 /// - `Done`: all was read and written.
 /// - `ReadFault`: only where a read failed and the input counted it.
 /// - `Usage`: exactly where the words are no command line. Nothing is read.
-/// - `WriteFault`: only where a write failed and the output or the notes counted it. Both took a beginning of what they
+/// - `WriteFault`: only where a write failed and the output or standard error counted it. Both took a beginning of what
+///   they
 ///   were to take, the output all of it where none of its own writes failed.
 /// - `NotCapture`, `LinkUnknown`, `Damaged`: exactly where the bytes read are no capture, have another link type than
 ///   1, 101 and 113, or a record that claims too much.
@@ -46,13 +47,13 @@ use std::thread::Threads;
 /// - `NoMemory`: out of memory, at any point before the first write.
 ///
 /// `NotStream` and `BadSchedule` never come.
-pub fn run_pipe<R: Threads + Wait + Sync, S: Source, K: Sink, N: Sink, M: Caches, G: Gate>(
+pub fn run_pipe<R: Threads + Wait + Sync, S: Source, K: Sink, E: Sink, M: Caches, G: Gate>(
     rt: &R,
     alloc: Global,
     words: &[String],
     input: &mut S,
     output: &mut K,
-    notes: &mut N,
+    stderr: &mut E,
     caches: &mut M,
     gate: &G,
 ) -> Status
@@ -61,24 +62,26 @@ pub fn run_pipe<R: Threads + Wait + Sync, S: Source, K: Sink, N: Sink, M: Caches
         → (result ≡ Status.Usage) ⊎ (result ≡ Status.NoMemory) }
     ensures means { PipeMeans (piping_by (map string_bytes words.now))
         (seen_of (side S.left S.faults input.old input.new)
-        (side K.held K.faults output.old output.new) (side N.held N.faults notes.old notes.new) (M.metered caches.new))
+        (side K.held K.faults output.old output.new) (side E.held E.faults stderr.old stderr.new)
+        (M.metered caches.new))
         result }
     ensures complete { IsPipeComplete (piping_by (map string_bytes words.now))
         (seen_of (side S.left S.faults input.old input.new)
-        (side K.held K.faults output.old output.new) (side N.held N.faults notes.old notes.new) (M.metered caches.new))
+        (side K.held K.faults output.old output.new) (side E.held E.faults stderr.old stderr.new)
+        (M.metered caches.new))
         result }
     ensures read_fault { result ≡ Status.ReadFault → Rose (S.faults input.old) (S.faults input.new) }
     ensures write_fault { result ≡ Status.WriteFault
-        → Rose (K.faults output.old) (K.faults output.new) ⊎ Rose (N.faults notes.old) (N.faults notes.new) }
+        → Rose (K.faults output.old) (K.faults output.new) ⊎ Rose (E.faults stderr.old) (E.faults stderr.new) }
 {
     let status = match settings_of(alloc, words) {
         Err(OptionsError::NotOptions) => Status::Usage,
         Err(OptionsError::NoMemory) => Status::NoMemory,
-        Ok(settings) => pipe_input(rt, alloc, &settings, input, output, notes, caches, gate),
+        Ok(settings) => pipe_input(rt, alloc, &settings, input, output, stderr, caches, gate),
     };
     if status.is_refusal() {
         // A refusal stays what it is where its line can't be written.
-        let _noted = pipe_line(notes, &status);
+        let _reported = pipe_line(stderr, &status);
     }
     status
 }

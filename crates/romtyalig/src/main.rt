@@ -9,9 +9,9 @@ use meter_workers::OpenGate;
 use std::alloc::Global;
 use std::process::ExitCode;
 
-/// Notes the line of a refusal.
-fn refuse<N: Sink>(notes: &mut N, status: Status) -> Status {
-    let _noted = fault_line(notes, &status);
+/// Writes the line of a refusal.
+fn refuse<E: Sink>(stderr: &mut E, status: Status) -> Status {
+    let _reported = fault_line(stderr, &status);
     status
 }
 
@@ -19,7 +19,7 @@ fn main(rt: HostRuntime) -> ExitCode {
     let alloc: Global = rt.alloc();
     let mut input = StdSource::new(rt.stdin());
     let mut output = StdSink::new(rt.stdout());
-    let mut notes = StdSink::new(rt.stderr());
+    let mut stderr = StdSink::new(rt.stderr());
     let status = match words_of(&rt) {
         Ok(words) => run(
             &rt,
@@ -27,12 +27,12 @@ fn main(rt: HostRuntime) -> ExitCode {
             words.as_slice(),
             &mut input,
             &mut output,
-            &mut notes,
+            &mut stderr,
             &mut PebrCaches::new(),
             &OpenGate,
         ),
-        Err(OptionsError::NotOptions) => refuse(&mut notes, Status::Usage),
-        Err(OptionsError::NoMemory) => refuse(&mut notes, Status::NoMemory),
+        Err(OptionsError::NotOptions) => refuse(&mut stderr, Status::Usage),
+        Err(OptionsError::NoMemory) => refuse(&mut stderr, Status::NoMemory),
     };
     ExitCode::from(status.code())
 }

@@ -14,7 +14,7 @@ use std::process::ExitCode;
 fn main(rt: HostRuntime) -> ExitCode {
     let alloc: Global = rt.alloc();
     let mut output = StdSink::new(rt.stdout());
-    let mut notes = StdSink::new(rt.stderr());
+    let mut stderr = StdSink::new(rt.stderr());
     let mut files = HostFiles::new(&rt);
     let status = match words_of(&rt) {
         Ok(words) => run_join(
@@ -23,7 +23,7 @@ fn main(rt: HostRuntime) -> ExitCode {
             words.as_slice(),
             &mut files,
             &mut output,
-            &mut notes,
+            &mut stderr,
         ),
         Err(OptionsError::NotOptions) => JoinStatus::Usage,
         Err(OptionsError::NoMemory) => JoinStatus::NoMemory,

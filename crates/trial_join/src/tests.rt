@@ -19,12 +19,12 @@ const TEMPLATES: &str = "00000000 00000001 0002 0064 \
 /// The header of a message of one record of IPv4 behind its export time, and of its set.
 const ONE: &str = "00000000 00000001 0100 0034";
 
-/// How a run ended, what it wrote, and what it noted.
+/// How a run ended, what it wrote, and what it reported.
 #[derive(Drop)]
 struct Ran {
     status: u8,
     output: Vec<u8>,
-    notes: Vec<u8>,
+    stderr: Vec<u8>,
 }
 
 /// Joins files by a command line with single spaces between its words.
@@ -40,19 +40,19 @@ fn join(
     }
     let mut opener = HeldFiles::new(files);
     let mut output = MemSink::open(alloc, 65_536, 1000, &[])?;
-    let mut notes = MemSink::open(alloc, 1000, 1000, &[])?;
+    let mut stderr = MemSink::open(alloc, 1000, 1000, &[])?;
     let status = run_join(
         rt,
         alloc,
         words.as_slice(),
         &mut opener,
         &mut output,
-        &mut notes,
+        &mut stderr,
     );
     Ok(Ran {
         status: status.code(),
         output: output.held().to_vec(alloc)?,
-        notes: notes.held().to_vec(alloc)?,
+        stderr: stderr.held().to_vec(alloc)?,
     })
 }
 

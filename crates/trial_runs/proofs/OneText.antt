@@ -1,4 +1,4 @@
--- What is written and noted of a capture whose sessions nothing cuts is one text.
+-- What is written and reported of a capture whose sessions nothing cuts is one text.
 use Rattle.std.proofs.Common.{◌≡◌, ◌≤◌, ◌<◌, ◌+◌, ◌-◌, ◌*◌, ◌^◌, ℕ, List, [], ◌∷◌, ◌++◌, length, min, Option, Some}
 use Rattle.std.proofs.Common.{None, refl}
 use Rattle.std.proofs.Common.{sym, ap, subst, ◌∙◌, arith, All, Any, slice_index}
@@ -75,9 +75,9 @@ clock-once packets (Some n) None a b =
     absurd (no-greatest n (subst (λ (ps : List Packet). IsGreatest (λ (p : Packet). p.time) ps n) b a))
 clock-once packets (Some n) (Some m) a b = ap Some (greatest-once packets n m a b)
 
-module _ (records_one : RecordsAreOne) (idle active size : ℕ) (capture written noted written' noted' : List ℕ)
-    (metered others : List Fragment) (one : IsMetered idle active size metered capture written noted)
-    (other : IsMetered idle active size others capture written' noted') where
+module _ (records_one : RecordsAreOne) (idle active size : ℕ) (capture written reported written' reported' : List ℕ)
+    (metered others : List Fragment) (one : IsMetered idle active size metered capture written reported)
+    (other : IsMetered idle active size others capture written' reported') where
   same-file : one.file ≡ other.file
   same-file = some-same one.file other.file (sym one.is_file ∙ other.is_file)
 
@@ -104,7 +104,7 @@ module _ (records_one : RecordsAreOne) (idle active size : ℕ) (capture written
       theirs))
 
   pub metered-one : (sessions : List (List Packet)) → IsSessions one.limits.idle (packets_of one.file) sessions
-      → All (IsUncut one.limits) sessions → (written ≡ written') × (noted ≡ noted')
+      → All (IsUncut one.limits) sessions → (written ≡ written') × (reported ≡ reported')
   metered-one sessions cut uncut =
       let records : one.records ≡ other.records = same-records sessions cut uncut in
       let layout : IsLayoutOf size (export_time one.tally.clock) one.records written' other.messages =
@@ -136,11 +136,12 @@ module _ (records_one : RecordsAreOne) (idle active size : ℕ) (capture written
 
 -- so is that of a made capture
 pub tests-write-one : AnswersOnce → RecordsAreOne → HaveSessions → (seed packets keys : ℕ)
-    (metered others : List Fragment) (written noted written' noted' : List ℕ) → packets ≤ 1000000
-    → (one : IsTested seed packets keys metered written noted)
-    → (other : IsTested seed packets keys others written' noted')
+    (metered others : List Fragment) (written reported written' reported' : List ℕ) → packets ≤ 1000000
+    → (one : IsTested seed packets keys metered written reported)
+    → (other : IsTested seed packets keys others written' reported')
     → (one.stream ≡ other.stream) × (written ≡ written')
-tests-write-one once records_one have seed packets keys metered others written noted written' noted' few one other =
+tests-write-one once records_one have seed packets keys metered others written reported written' reported'
+    few one other =
     let known = one.is_metered in
     let sessions = have known.limits.idle (packets_of known.file) in
     let uncut = nothing-cuts once seed packets keys known.file known.limits (sessions.0) few known.is_file

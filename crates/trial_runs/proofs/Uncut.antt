@@ -233,12 +233,12 @@ nothing-cuts once seed packets keys file limits sessions few is long cut =
     each-uncut limits sessions long
     (All-permutation IsSoon (packets_of file) (flat_map (λ (session : List Packet). session) sessions) cut.whole soon)
 
-pub tests-are-one : AnswersOnce → (seed packets keys : ℕ) (metered : List Fragment) (written noted : List ℕ)
-    (tested : IsTested seed packets keys metered written noted)
+pub tests-are-one : AnswersOnce → (seed packets keys : ℕ) (metered : List Fragment) (written reported : List ℕ)
+    (tested : IsTested seed packets keys metered written reported)
     (sessions : List (List Packet)) → packets ≤ 1000000
     → IsSessions tested.is_metered.limits.idle (packets_of tested.is_metered.file) sessions
     → AreRecordsOf tested.is_metered.limits (packets_of tested.is_metered.file) sessions tested.is_metered.records
-tests-are-one once seed packets keys metered written noted tested sessions few cut =
+tests-are-one once seed packets keys metered written reported tested sessions few cut =
     let known = tested.is_metered in
     known.sessions sessions cut
     (nothing-cuts once seed packets keys known.file known.limits sessions few known.is_file

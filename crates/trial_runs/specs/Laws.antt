@@ -19,25 +19,26 @@ NothingCuts = (seed packets keys : ℕ) (file : CaptureFile) (limits : Timeouts)
 
 -- The records that a self test sums up are those of the sessions of its capture.
 abbrev pub TestsAreOne : Type 0
-TestsAreOne = (seed packets keys : ℕ) (metered : List Fragment) (written noted : List ℕ)
-    (tested : IsTested seed packets keys metered written noted)
+TestsAreOne = (seed packets keys : ℕ) (metered : List Fragment) (written reported : List ℕ)
+    (tested : IsTested seed packets keys metered written reported)
     (sessions : List (List Packet)) → packets ≤ 1000000
     → IsSessions tested.is_metered.limits.idle (packets_of tested.is_metered.file) sessions
     → AreRecordsOf tested.is_metered.limits (packets_of tested.is_metered.file) sessions tested.is_metered.records
 
--- What `meter` writes and notes of a capture whose sessions nothing cuts is one text by its settings, whatever the
--- workers did and the cache gave: two runs write the same stream and note the same summary.
+-- What `meter` writes and reports of a capture whose sessions nothing cuts is one text by its settings, whatever the
+-- workers did and the cache gave: two runs write the same stream and report the same summary.
 abbrev pub MeteredIsOne : Type 0
-MeteredIsOne = (idle active size : ℕ) (capture written noted written' noted' : List ℕ) (metered others : List Fragment)
-    (one : IsMetered idle active size metered capture written noted)
-    → IsMetered idle active size others capture written' noted'
+MeteredIsOne = (idle active size : ℕ) (capture written reported written' reported' : List ℕ)
+    (metered others : List Fragment)
+    (one : IsMetered idle active size metered capture written reported)
+    → IsMetered idle active size others capture written' reported'
     → (sessions : List (List Packet)) → IsSessions one.limits.idle (packets_of one.file) sessions
-    → All (IsUncut one.limits) sessions → (written ≡ written') × (noted ≡ noted')
+    → All (IsUncut one.limits) sessions → (written ≡ written') × (reported ≡ reported')
 
 -- So the stream of a self test, and what it writes, are one for its three numbers.
 abbrev pub TestsWriteOne : Type 0
-TestsWriteOne = (seed packets keys : ℕ) (metered others : List Fragment) (written noted written' noted' : List ℕ)
+TestsWriteOne = (seed packets keys : ℕ) (metered others : List Fragment) (written reported written' reported' : List ℕ)
     → packets ≤ 1000000
-    → (one : IsTested seed packets keys metered written noted)
-    → (other : IsTested seed packets keys others written' noted')
+    → (one : IsTested seed packets keys metered written reported)
+    → (other : IsTested seed packets keys others written' reported')
     → (one.stream ≡ other.stream) × (written ≡ written')

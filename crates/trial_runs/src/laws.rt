@@ -7,7 +7,7 @@ use record_ledger::laws::lawful_lists_are_sessions;
 
 /// Neither an active time-out of 1000 s and more nor the end of a flow cuts a session of a made capture of at most
 /// 1,000,000 packets, whatever the idle time-out. And so what a self test sums up are the records of the capture's
-/// sessions, and its stream and its summary are one text. What `meter` writes and notes of any capture whose sessions
+/// sessions, and its stream and its summary are one text. What `meter` writes and reports of any capture whose sessions
 /// nothing cuts is one text, too.
 pub fn made_captures_law()
     ensures uncut { NothingCuts }

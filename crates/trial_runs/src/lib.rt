@@ -1,6 +1,6 @@
 //! Trials of the top calls, [`run`](meter_program::run) and [`run_pipe`](pipe_program::run_pipe), over caches and
 //! workers: command lines; captures, streams and schedules octet by octet; reads and writes that fail; workers that
-//! wait for each other; and that the pipeline writes and notes what `meter` does. They stand above both, so that
+//! wait for each other; and that the pipeline writes what `meter` does. They stand above both, so that
 //! neither proof waits for theirs.
 //!
 //! Beside them stands the law of made captures: nothing cuts their sessions, so what `selftest` writes is one function

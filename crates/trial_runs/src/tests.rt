@@ -1,4 +1,4 @@
-//! Whole runs: captures and streams octet by octet, what is written of them, and what is noted.
+//! Whole runs: captures and streams octet by octet, what is written of them, and what is reported.
 
 use flow_cache::PebrCaches;
 use meter_io::{MemSink, MemSource};
@@ -62,12 +62,12 @@ fn words_of(alloc: Global, line: &str) -> Result<Vec<String>, Fail> {
     Ok(words)
 }
 
-/// How a run over some input ended, what it wrote, and what it noted.
+/// How a run over some input ended, what it wrote, and what it reported.
 #[derive(Drop)]
 struct Ran {
     status: Status,
     output: Vec<u8>,
-    notes: Vec<u8>,
+    stderr: Vec<u8>,
 }
 
 /// A run over this input, whose workers are told to this gate.
@@ -81,25 +81,25 @@ fn run_by<R: Threads + Sync + AllocGlobal, G: Gate>(
     let words = words_of(alloc, line)?;
     let mut source = MemSource::new(input, 1000, &[]);
     let mut output = MemSink::open(alloc, 65_536, 65_536, &[])?;
-    let mut notes = MemSink::open(alloc, 1000, 1000, &[])?;
+    let mut stderr = MemSink::open(alloc, 1000, 1000, &[])?;
     let status = run(
         rt,
         alloc,
         words.as_slice(),
         &mut source,
         &mut output,
-        &mut notes,
+        &mut stderr,
         &mut PebrCaches::new(),
         gate,
     );
     Ok(Ran {
         status,
         output: output.held().to_vec(alloc)?,
-        notes: notes.held().to_vec(alloc)?,
+        stderr: stderr.held().to_vec(alloc)?,
     })
 }
 
-/// Runs a command line over an input, and compares status, output and notes with what is wanted; `name` tells the run.
+/// Runs a command line over an input, and compares status, output and standard error with what is wanted; `name` tells the run.
 fn check_run<R: Threads + Sync + Abort + AllocGlobal>(
     rt: &R,
     name: &str,
@@ -107,11 +107,11 @@ fn check_run<R: Threads + Sync + Abort + AllocGlobal>(
     input: &[u8],
     status: Status,
     output: &[u8],
-    notes: &str,
+    stderr: &str,
 ) -> Result<(), Fail> {
     let ran = run_by(rt, line, input, &OpenGate)?;
     assert_eq!(rt; ran.status, status, "{name}");
     assert_eq!(rt; ran.output.as_slice(), output, "{name}");
-    assert_eq!(rt; ran.notes.as_slice(), notes.as_bytes(), "{name}");
+    assert_eq!(rt; ran.stderr.as_slice(), stderr.as_bytes(), "{name}");
     Ok(())
 }

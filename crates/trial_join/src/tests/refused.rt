@@ -66,7 +66,7 @@ fn files_of(alloc: Global) -> Result<Vec<Held>, Fail> {
     Ok(files)
 }
 
-/// A command line, the status, the line that is noted, and what is written: nothing, or a stream of this record; or of
+/// A command line, the status, the line that is reported, and what is written: nothing, or a stream of this record; or of
 /// none, where that is empty.
 type Row = (&'static str, u8, &'static str, Option<&'static str>);
 
@@ -114,10 +114,10 @@ fn written(alloc: Global, record: &str) -> Result<Vec<u8>, Fail> {
 fn files_are_joined_or_refused(rt: HostRuntime) -> Result<(), Fail> {
     let alloc = rt.alloc();
     let files = files_of(alloc)?;
-    for (line, status, note, record) in ROWS {
+    for (line, status, report, record) in ROWS {
         let ran = join(&rt, alloc, line, files.as_slice())?;
         assert_eq!(rt; ran.status, status, "{line}");
-        assert_eq!(rt; ran.notes.as_slice(), note.as_bytes(), "{line}");
+        assert_eq!(rt; ran.stderr.as_slice(), report.as_bytes(), "{line}");
         let wanted = match record {
             Some(record) => written(alloc, record)?,
             None => Vec::new(alloc),

@@ -170,7 +170,7 @@ fn a_file_for_each_packet(rt: HostRuntime) -> Result<(), Fail> {
         let files = streams_of(alloc, capture.time, capture.packets)?;
         let line = line_of(alloc, capture.packets, 0, 0)?;
         let ran = join(&rt, alloc, line.as_str(), files.as_slice())?;
-        assert_eq!(rt; (ran.status, ran.notes.len()), (0, 0), "{line}");
+        assert_eq!(rt; (ran.status, ran.stderr.len()), (0, 0), "{line}");
         assert_eq!(rt;
             ran.output.as_slice(),
             whole_of(alloc, capture)?.as_slice(),

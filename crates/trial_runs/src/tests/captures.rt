@@ -398,9 +398,9 @@ static REFUSED: [(&str, Status, &str); 4] = [
 
 #[test]
 fn other_inputs_are_refused(rt: HostRuntime) -> Result<(), Fail> {
-    for (input, status, note) in REFUSED {
+    for (input, status, report) in REFUSED {
         let input = octets_of(rt.alloc(), &[input])?;
-        check_run(&rt, note, "meter", input.as_slice(), status, b"", note)?;
+        check_run(&rt, report, "meter", input.as_slice(), status, b"", report)?;
     }
     Ok(())
 }
@@ -428,6 +428,6 @@ fn messages_are_filled(rt: HostRuntime) -> Result<(), Fail> {
     let showed = run_by(&rt, "show", ran.output.as_slice(), &OpenGate)?;
     let lines = showed.output.iter().filter(|byte| **byte == b'\n').count();
     assert_eq!(rt; (showed.status, lines), (Status::Done, 29));
-    assert_eq!(rt; showed.notes.as_slice(), b"records 29\n".as_slice());
+    assert_eq!(rt; showed.stderr.as_slice(), b"records 29\n".as_slice());
     Ok(())
 }

@@ -55,7 +55,7 @@ const IPV6_MESSAGE: &str = "000a005c 000003e8 00000000 00000001 0101 004c \
     20010db8000000000000000000000001 20010db8000000000000000000000002 0fa0 0035 11 0000 \
     0000000000000001 0000000000000030 00000000000f4240 00000000000f4240 04";
 
-/// Runs a command line of `meter` or of `pipe`, and compares what it wrote and noted.
+/// Runs a command line of `meter` or of `pipe`, and compares its output and its standard error.
 fn check_line<R: Threads + Wait + Sync + Abort + AllocGlobal>(
     rt: &R,
     line: &str,
@@ -63,16 +63,16 @@ fn check_line<R: Threads + Wait + Sync + Abort + AllocGlobal>(
     stream: &[u8],
     summary: &str,
 ) -> Result<(), Fail> {
-    let (status, output, notes) = if line.starts_with("pipe") {
+    let (status, output, stderr) = if line.starts_with("pipe") {
         let ran = run_piped(rt, rt.alloc(), line, capture, &OpenGate)?;
-        (ran.status, ran.output, ran.notes)
+        (ran.status, ran.output, ran.stderr)
     } else {
         let ran = run_by(rt, line, capture, &OpenGate)?;
-        (ran.status, ran.output, ran.notes)
+        (ran.status, ran.output, ran.stderr)
     };
     assert_eq!(rt; status, Status::Done, "{line}");
     assert_eq!(rt; output.as_slice(), stream, "{line}");
-    assert_eq!(rt; notes.as_slice(), summary.as_bytes(), "{line}");
+    assert_eq!(rt; stderr.as_slice(), summary.as_bytes(), "{line}");
     Ok(())
 }
 

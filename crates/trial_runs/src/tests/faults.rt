@@ -10,14 +10,14 @@ use meter_workers::OpenGate;
 use std::test::Fail;
 use std::thread::Threads;
 
-/// How a run ended, and how many bytes its output and its notes took.
+/// How a run ended, and how many bytes its output and its standard error took.
 type Ended = (Status, usize, usize);
 
 /// Which calls fail, each counted from 1: one of the input, one of the output, which takes at most so many bytes a
-/// call, and one of the notes.
+/// call, and one of standard error.
 type Faulty = (u64, u64, usize, u64);
 
-/// A run over this input, of which such calls fail. The input gives at most 50 bytes a call, and the notes take at most
+/// A run over this input, of which such calls fail. The input gives at most 50 bytes a call, and standard error takes at most
 /// 64.
 fn run_faulty<R: Threads + Sync + AllocGlobal>(
     rt: &R,
@@ -25,24 +25,24 @@ fn run_faulty<R: Threads + Sync + AllocGlobal>(
     input: &[u8],
     faulty: Faulty,
 ) -> Result<Ended, Fail> {
-    let (read, write, piece, note) = faulty;
-    let (reads, writes, notings) = ([read], [write], [note]);
+    let (read, write, piece, report) = faulty;
+    let (reads, writes, reportings) = ([read], [write], [report]);
     let alloc = rt.alloc();
     let words = words_of(alloc, line)?;
     let mut source = MemSource::new(input, 50, reads.as_slice());
     let mut output = MemSink::open(alloc, 4096, piece.max(1), writes.as_slice())?;
-    let mut notes = MemSink::open(alloc, 4096, 64, notings.as_slice())?;
+    let mut stderr = MemSink::open(alloc, 4096, 64, reportings.as_slice())?;
     let status = run(
         rt,
         alloc,
         words.as_slice(),
         &mut source,
         &mut output,
-        &mut notes,
+        &mut stderr,
         &mut PebrCaches::new(),
         &OpenGate,
     );
-    Ok((status, output.held().len(), notes.held().len()))
+    Ok((status, output.held().len(), stderr.held().len()))
 }
 
 /// The calls that fail, and how the run ends.

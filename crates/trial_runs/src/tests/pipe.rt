@@ -1,4 +1,4 @@
-//! Whole runs of the pipelined meter: what they write and note, beside runs of `meter`.
+//! Whole runs of the pipelined meter: what they write and report, beside runs of `meter`.
 
 use flow_cache::PebrCaches;
 use meter_io::{MemSink, MemSource};
@@ -44,12 +44,12 @@ fn words_of(alloc: Global, line: &str) -> Result<Vec<String>, Fail> {
     Ok(words)
 }
 
-/// How a run over some input ended, what it wrote, and what it noted.
+/// How a run over some input ended, what it wrote, and what it reported.
 #[derive(PartialEq, Eq, Drop)]
 pub(super) struct Ran {
     pub(super) status: Status,
     pub(super) output: Vec<u8>,
-    pub(super) notes: Vec<u8>,
+    pub(super) stderr: Vec<u8>,
 }
 
 /// A sink with room for what these runs write.
@@ -67,21 +67,21 @@ pub(super) fn run_piped<R: Threads + Wait + Sync, G: Gate>(
 ) -> Result<Ran, Fail> {
     let words = words_of(alloc, line)?;
     let mut source = MemSource::new(input, 1000, &[]);
-    let (mut output, mut notes) = (sink(alloc)?, sink(alloc)?);
+    let (mut output, mut stderr) = (sink(alloc)?, sink(alloc)?);
     let status = run_pipe(
         rt,
         alloc,
         words.as_slice(),
         &mut source,
         &mut output,
-        &mut notes,
+        &mut stderr,
         &mut PebrCaches::new(),
         gate,
     );
     Ok(Ran {
         status,
         output: output.held().to_vec(alloc)?,
-        notes: notes.held().to_vec(alloc)?,
+        stderr: stderr.held().to_vec(alloc)?,
     })
 }
 
@@ -89,20 +89,20 @@ pub(super) fn run_piped<R: Threads + Wait + Sync, G: Gate>(
 fn run_meter<R: Threads + Sync>(rt: &R, alloc: Global, input: &[u8]) -> Result<Ran, Fail> {
     let words = words_of(alloc, "meter")?;
     let mut source = MemSource::new(input, 1000, &[]);
-    let (mut output, mut notes) = (sink(alloc)?, sink(alloc)?);
+    let (mut output, mut stderr) = (sink(alloc)?, sink(alloc)?);
     let status = run(
         rt,
         alloc,
         words.as_slice(),
         &mut source,
         &mut output,
-        &mut notes,
+        &mut stderr,
         &mut PebrCaches::new(),
         &OpenGate,
     );
     Ok(Ran {
         status,
         output: output.held().to_vec(alloc)?,
-        notes: notes.held().to_vec(alloc)?,
+        stderr: stderr.held().to_vec(alloc)?,
     })
 }

@@ -16,7 +16,7 @@ fn lines_of(alloc: Global, text: &str) -> Result<String, Fail> {
     Ok(lines)
 }
 
-/// Schedules: a name, the lines, what is written, and the note.
+/// Schedules: a name, the lines, what is written, and what is reported.
 static REPLAYS: [(&str, &str, &str, &str); 4] = [
     (
         "an ejection",
@@ -67,7 +67,7 @@ static REPLAYS: [(&str, &str, &str, &str); 4] = [
 #[test]
 fn schedules_are_replayed(rt: HostRuntime) -> Result<(), Fail> {
     let alloc = rt.alloc();
-    for (name, steps, written, note) in REPLAYS {
+    for (name, steps, written, report) in REPLAYS {
         let text = lines_of(alloc, steps)?;
         let wanted = lines_of(alloc, written)?;
         check_run(
@@ -77,7 +77,7 @@ fn schedules_are_replayed(rt: HostRuntime) -> Result<(), Fail> {
             text.as_str().as_bytes(),
             Status::Done,
             wanted.as_str().as_bytes(),
-            note,
+            report,
         )?;
     }
     Ok(())
@@ -113,7 +113,7 @@ static BAD: [(&str, u64); 18] = [
 fn bad_schedules_are_refused(rt: HostRuntime) -> Result<(), Fail> {
     for (text, line) in BAD {
         let status = Status::BadSchedule(line);
-        let note = format!(in rt.alloc(); "bad schedule line {line}\n")?;
+        let report = format!(in rt.alloc(); "bad schedule line {line}\n")?;
         check_run(
             &rt,
             text,
@@ -121,7 +121,7 @@ fn bad_schedules_are_refused(rt: HostRuntime) -> Result<(), Fail> {
             text.as_bytes(),
             status,
             b"",
-            note.as_str(),
+            report.as_str(),
         )?;
     }
     Ok(())
@@ -138,6 +138,14 @@ fn captures_are_made(rt: HostRuntime) -> Result<(), Fail> {
         ],
     )?;
     let line = "make --seed 1 --packets 1 --keys 1";
-    let note = "packets 1\n";
-    check_run(&rt, line, line, &[], Status::Done, wanted.as_slice(), note)
+    let report = "packets 1\n";
+    check_run(
+        &rt,
+        line,
+        line,
+        &[],
+        Status::Done,
+        wanted.as_slice(),
+        report,
+    )
 }

@@ -11,7 +11,7 @@ use trial_samples::octets_of;
 /// A message's sequence number 0 and domain 1, behind its export time.
 const ZEROS: &str = "00000000 00000000 00000001";
 
-/// Streams, and what is written and noted of them.
+/// Streams, and what is written and reported of them.
 static SHOWN: [(&[&str], &str, &str); 4] = [
     (&[], "", "records 0\n"),
     (&["000a0010", ZEROS], "", "records 0\n"),
@@ -34,16 +34,16 @@ static SHOWN: [(&[&str], &str, &str); 4] = [
 
 #[test]
 fn streams_are_shown(rt: HostRuntime) -> Result<(), Fail> {
-    for (pieces, output, note) in SHOWN {
+    for (pieces, output, report) in SHOWN {
         let input = octets_of(rt.alloc(), pieces)?;
         check_run(
             &rt,
-            note,
+            report,
             "show",
             input.as_slice(),
             Status::Done,
             output.as_bytes(),
-            note,
+            report,
         )?;
     }
     Ok(())
@@ -175,7 +175,7 @@ fn a_value_is_written_by_its_element_and_length(rt: HostRuntime) -> Result<(), F
     Ok(())
 }
 
-/// Messages with a fault, and what is noted of it.
+/// Messages with a fault, and what is reported of it.
 static FAULTS: [(&[&str], StreamFault, &str); 9] = [
     (
         &["00090010", ZEROS],
@@ -232,10 +232,10 @@ static FAULTS: [(&[&str], StreamFault, &str); 9] = [
 
 #[test]
 fn faults_of_streams_are_noted(rt: HostRuntime) -> Result<(), Fail> {
-    for (pieces, fault, note) in FAULTS {
+    for (pieces, fault, report) in FAULTS {
         let input = octets_of(rt.alloc(), pieces)?;
         let status = Status::NotStream(fault);
-        check_run(&rt, note, "show", input.as_slice(), status, b"", note)?;
+        check_run(&rt, report, "show", input.as_slice(), status, b"", report)?;
     }
     Ok(())
 }

@@ -10,6 +10,6 @@ returns-in-Ok g c =
     meter-ends settings.idle settings.active settings.workers settings.sets settings.piece settings.size
     (seen_of (side g.S.Source.left g.S.Source.faults c.args.input.now c.gathered_from.new.input)
     (side g.K.Sink.held g.K.Sink.faults c.args.output.now c.write_stream.new.output)
-    (side g.N.Sink.held g.N.Sink.faults c.args.notes.now c.write_stream.new.notes)
+    (side g.E.Sink.held g.E.Sink.faults c.args.stderr.now c.write_stream.new.stderr)
     (g.M.Caches.metered c.gathered_from.new.caches))
     gathered.records gathered.tally gathered.tail _ c.in-Ok.ensures.records c.write_stream.ensures

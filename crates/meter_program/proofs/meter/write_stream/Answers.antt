@@ -9,7 +9,7 @@ returns-in-Err g c =
     wrote-some c.in-Ok.emitter.size c.args.size c.args.gathered.now.records c.args.gathered.now.tally
     c.args.gathered.now.tail h.1 h.0
     (side g.K.Sink.held g.K.Sink.faults c.args.output.now c.emit.new.sink)
-    (side g.N.Sink.held g.N.Sink.faults c.args.notes.now c.args.notes.now) c.in-Ok.ensures.size h.3 h.2
+    (side g.E.Sink.held g.E.Sink.faults c.args.stderr.now c.args.stderr.now) c.in-Ok.ensures.size h.3 h.2
     c.in-Err.ensures.cause.failed refl
 
 pub returns-in-Ok-summary : goal.returns-in-Ok-summary
@@ -19,7 +19,7 @@ returns-in-Ok-summary g c =
     c.args.gathered.now.tail
     c.len-flows.result c.in-Ok-emit.messages h.0
     (side g.K.Sink.held g.K.Sink.faults c.args.output.now c.emit.new.sink)
-    (side g.N.Sink.held g.N.Sink.faults c.args.notes.now c.summary.new.notes)
+    (side g.E.Sink.held g.E.Sink.faults c.args.stderr.now c.summary.new.stderr)
     c.len-flows.ensures c.in-Ok.ensures.size
     h.2 h.1 c.in-Ok-summary.ensures.whole
 
@@ -30,6 +30,6 @@ returns-in-Err-summary g c =
     c.args.gathered.now.tail
     c.len-flows.result c.in-Ok-emit.messages h.0
     (side g.K.Sink.held g.K.Sink.faults c.args.output.now c.emit.new.sink)
-    (side g.N.Sink.held g.N.Sink.faults c.args.notes.now c.summary.new.notes)
+    (side g.E.Sink.held g.E.Sink.faults c.args.stderr.now c.summary.new.stderr)
     c.len-flows.ensures c.in-Ok.ensures.size
     h.2 h.1 c.in-Err-summary.ensures.begun c.in-Err-summary.ensures.cause.failed

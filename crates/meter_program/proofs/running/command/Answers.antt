@@ -18,5 +18,5 @@ returns-in-Schedule g c = rw c.in-Schedule.is (c.schedule.ensures (g.M.Caches.me
 pub returns-in-Selftest : goal.returns-in-Selftest
 returns-in-Selftest g c =
     rw c.in-Selftest.is (c.selftest.ensures (side g.S.Source.left g.S.Source.faults c.args.input.now c.args.input.now)
-    (side g.N.Sink.held g.N.Sink.faults c.args.notes.now c.args.notes.now) (record { bytes = refl; faults = refl })
+    (side g.E.Sink.held g.E.Sink.faults c.args.stderr.now c.args.stderr.now) (record { bytes = refl; faults = refl })
     (record { bytes = refl; faults = refl }))

@@ -19,10 +19,11 @@ returns-then-is_refusal-clause-complete g c = λ other is valid quiet. elim c.ma
   | in-Ok w ↦
       complete-at (side g.S.Source.left g.S.Source.faults c.args.input.now)
       (side g.K.Sink.held g.K.Sink.faults c.args.output.now)
-      (side g.N.Sink.held g.N.Sink.faults c.args.notes.now)
-      (asked_of w.in-Ok.asked) other c.match-command_of.input _ c.match-command_of.output _ c.match-command_of.notes _
-      (side g.N.Sink.held g.N.Sink.faults c.args.notes.now c.fault_line-noted.new.notes) _ _ c.match-command_of.status _
-      w.input-is w.output-is w.notes-is w.status-is
+      (side g.E.Sink.held g.E.Sink.faults c.args.stderr.now)
+      (asked_of w.in-Ok.asked) other c.match-command_of.input _ c.match-command_of.output _ c.match-command_of.stderr _
+      (side g.E.Sink.held g.E.Sink.faults c.args.stderr.now c.fault_line-reported.new.stderr) _ _
+      c.match-command_of.status _
+      w.input-is w.output-is w.stderr-is w.status-is
       w.command-status.ensures (sym c.is_refusal.ensures ∙ c.if-is_refusal.true)
       (some-same (asked_of w.in-Ok.asked) other (sym w.in-Ok.ensures.command ∙ is)) valid quiet
 ]

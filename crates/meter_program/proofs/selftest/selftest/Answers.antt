@@ -9,7 +9,7 @@ use Rattle.meter_program.proofs.Streams.{none-begun}
 use Rattle.meter_program.proofs.selftest.selftest.Goals as goal
 
 pub returns-in-Err : goal.returns-in-Err
-returns-in-Err g c = λ input notes still quiet.
+returns-in-Err g c = λ input stderr still quiet.
     let settings = c.args.settings.now in
     let few : length c.as_slice.result.now ≤ 2 ^ 30 =
     subst (λ bytes. length bytes ≤ 2 ^ 30) (sym c.as_slice.ensures.value)
@@ -19,16 +19,16 @@ returns-in-Err g c = λ input notes still quiet.
     (c.as_slice.ensures.value ∙ c.in-Ok.ensures.octets) few
     (λ rose. absurd (omega (arith, rose))) c.in-Err.ensures.refused in
     subst (λ status. Ends (selftest settings.seed settings.packets settings.keys)
-    (seen_of input (side g.K.Sink.held g.K.Sink.faults c.args.output.now c.args.output.now) notes
-    (g.M.Caches.metered c.gathered_from.new.caches)) (IsUntouched notes) status) (sym same)
-    (record { cause = still; output = record { bytes = refl; faults = refl }; notes = quiet })
+    (seen_of input (side g.K.Sink.held g.K.Sink.faults c.args.output.now c.args.output.now) stderr
+    (g.M.Caches.metered c.gathered_from.new.caches)) (IsUntouched stderr) status) (sym same)
+    (record { cause = still; output = record { bytes = refl; faults = refl }; stderr = quiet })
 
 pub returns-in-Ok-summary : goal.returns-in-Ok-summary
-returns-in-Ok-summary g c = λ input notes still quiet. record {
+returns-in-Ok-summary g c = λ input stderr still quiet. record {
   bytes = [];
   read = (still, refl);
   written = _;
-  noted = [];
+  reported = [];
   answer = tested c.args.settings.now.seed c.args.settings.now.packets c.args.settings.now.keys
       c.four_workers-settings.result.idle c.four_workers-settings.result.active
       c.in-Ok-emitter_for.emitter.size c.len-flows.result _ c.as_slice.result.now
@@ -41,15 +41,15 @@ returns-in-Ok-summary g c = λ input notes still quiet. record {
       (c.as_slice.ensures.value ∙ c.in-Ok.ensures.octets) c.in-Ok-gathered_from.ensures.records
       c.in-Ok-emit.ensures.written.2;
   output = c.in-Ok-summary.ensures.whole;
-  notes = quiet;
+  stderr = quiet;
 }
 
 pub returns : goal.returns
-returns g c = λ input notes still quiet. record {
+returns g c = λ input stderr still quiet. record {
   bytes = [];
   read = (still, refl);
   written = _;
-  noted = [];
+  reported = [];
   answer = tested c.args.settings.now.seed c.args.settings.now.packets c.args.settings.now.keys
       c.four_workers-settings.result.idle c.four_workers-settings.result.active
       c.in-Ok-emitter_for.emitter.size c.len-flows.result _ c.as_slice.result.now
@@ -62,6 +62,6 @@ returns g c = λ input notes still quiet. record {
       (c.as_slice.ensures.value ∙ c.in-Ok.ensures.octets) c.in-Ok-gathered_from.ensures.records
       c.in-Ok-emit.ensures.written.2;
   output = inr (c.in-Err-summary.ensures.begun, c.in-Err-summary.ensures.cause.failed);
-  notes = none-begun notes [] quiet.bytes;
+  stderr = none-begun stderr [] quiet.bytes;
   cause = (c.in-Err-summary.ensures.cause.failed, quiet);
 }

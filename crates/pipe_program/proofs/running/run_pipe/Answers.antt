@@ -22,11 +22,12 @@ returns-then-is_refusal-clause-complete g c = λ other is valid quiet. elim c.ma
   | in-Ok w ↦
       complete-at (side g.S.Source.left g.S.Source.faults c.args.input.now)
       (side g.K.Sink.held g.K.Sink.faults c.args.output.now)
-      (side g.N.Sink.held g.N.Sink.faults c.args.notes.now)
+      (side g.E.Sink.held g.E.Sink.faults c.args.stderr.now)
       (as_meter (piping_of w.in-Ok.settings)) other c.match-settings_of.input _ c.match-settings_of.output _
-      c.match-settings_of.notes _ (side g.N.Sink.held g.N.Sink.faults c.args.notes.now c.pipe_line-noted.new.notes) _ _
+      c.match-settings_of.stderr _ (side g.E.Sink.held g.E.Sink.faults c.args.stderr.now
+      c.pipe_line-reported.new.stderr) _ _
       c.match-settings_of.status _ w.input-is w.output-is
-      w.notes-is w.status-is w.pipe_input-status.ensures (sym c.is_refusal.ensures ∙ c.if-is_refusal.true)
+      w.stderr-is w.status-is w.pipe_input-status.ensures (sym c.is_refusal.ensures ∙ c.if-is_refusal.true)
       (some-same (as_meter (piping_of w.in-Ok.settings)) other
       (sym (ap (option_map as_meter) w.in-Ok.ensures.settings) ∙ is)) valid quiet
 ]

@@ -9,8 +9,9 @@ pub returns-clause-one : goal.returns-clause-one
 returns-clause-one c = tests-are-one c.keys_have_fields.ensures.once
 
 pub returns-clause-metered : goal.returns-clause-metered
-returns-clause-metered c = λ idle active size capture written noted written' noted' metered others one other.
-    metered-one c.lawful_lists_are_sessions.ensures.one idle active size capture written noted written' noted' metered
+returns-clause-metered c = λ idle active size capture written reported written' reported' metered others one other.
+    metered-one c.lawful_lists_are_sessions.ensures.one idle active size capture written reported written'
+    reported' metered
     others one other
 
 pub returns-clause-written : goal.returns-clause-written

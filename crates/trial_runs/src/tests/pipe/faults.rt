@@ -19,7 +19,11 @@ fn other_words_are_refused(rt: HostRuntime) -> Result<(), Fail> {
         let ran = run_piped(&rt, alloc, line, b"not read", &OpenGate)?;
         assert_eq!(rt; ran.status, Status::Usage, "{line}");
         assert_eq!(rt; ran.output.len(), 0, "{line}");
-        assert_eq!(rt; ran.notes.as_slice(), b"usage: pipe\n".as_slice(), "{line}");
+        assert_eq!(rt;
+            ran.stderr.as_slice(),
+            b"usage: pipe\n".as_slice(),
+            "{line}"
+        );
     }
     Ok(())
 }
@@ -52,17 +56,17 @@ fn other_inputs_are_refused(rt: HostRuntime) -> Result<(), Fail> {
         let ran = run_piped(&rt, alloc, "pipe", input_octets.as_slice(), &OpenGate)?;
         assert_eq!(rt; ran.status, status, "{input}");
         assert_eq!(rt; ran.output.len(), 0, "{input}");
-        assert_eq!(rt; ran.notes.as_slice(), line.as_bytes(), "{input}");
+        assert_eq!(rt; ran.stderr.as_slice(), line.as_bytes(), "{input}");
     }
     Ok(())
 }
 
-/// How a run ended, and how many bytes its output and its notes took.
+/// How a run ended, and how many bytes its output and its standard error took.
 type Ended = (Status, usize, usize);
 
-/// Which call of the input, of the output and of the notes fails, each counted from 1, and how the run ends. The input
-/// is a capture of 140 bytes, of which it gives at most 50 a call; the output takes at most 100 of 184 a call, the
-/// notes 64 of 117.
+/// Which call of the input, of the output and of standard error fails, each counted from 1, and how the run ends. The input
+/// is a capture of 140 bytes, of which it gives at most 50 a call; the output takes at most 100 of 184 a call, standard
+/// error 64 of 117.
 static FAULTS: [((u64, u64, u64), Ended); 9] = [
     ((1, 99, 99), (Status::ReadFault, 0, 11)),
     ((2, 99, 99), (Status::ReadFault, 0, 11)),
@@ -80,23 +84,23 @@ fn reads_and_writes_can_fail(rt: HostRuntime) -> Result<(), Fail> {
     let alloc = rt.alloc();
     let input = capture_of(alloc, TWO_PACKETS.as_slice())?;
     let words = words_of(alloc, "pipe --workers 2")?;
-    for ((read, write, note), wanted) in FAULTS {
-        let (reads, writes, notings) = ([read], [write], [note]);
+    for ((read, write, report), wanted) in FAULTS {
+        let (reads, writes, reportings) = ([read], [write], [report]);
         let mut source = MemSource::new(input.as_slice(), 50, reads.as_slice());
         let mut output = MemSink::open(alloc, 4096, 100, writes.as_slice())?;
-        let mut notes = MemSink::open(alloc, 4096, 64, notings.as_slice())?;
+        let mut stderr = MemSink::open(alloc, 4096, 64, reportings.as_slice())?;
         let status = run_pipe(
             &rt,
             alloc,
             words.as_slice(),
             &mut source,
             &mut output,
-            &mut notes,
+            &mut stderr,
             &mut PebrCaches::new(),
             &OpenGate,
         );
-        let ended = (status, output.held().len(), notes.held().len());
-        assert_eq!(rt; ended, wanted, "calls {read}, {write} and {note}");
+        let ended = (status, output.held().len(), stderr.held().len());
+        assert_eq!(rt; ended, wanted, "calls {read}, {write} and {report}");
     }
     Ok(())
 }

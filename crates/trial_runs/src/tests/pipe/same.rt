@@ -1,4 +1,4 @@
-//! What is written and noted is what `meter` writes and notes.
+//! The stream and the summary are those of `meter`.
 
 use super::{capture_of, run_meter, run_piped};
 use capture_maker::capture;
@@ -49,7 +49,7 @@ fn an_exchange_is_as_by_meter(rt: HostRuntime) -> Result<(), Fail> {
     let input = capture_of(alloc, EXCHANGE.as_slice())?;
     let wanted = run_meter(&rt, alloc, input.as_slice())?;
     assert_eq!(rt; wanted.status, Status::Done);
-    assert_eq!(rt; wanted.notes.as_slice(), SUMMARY.as_bytes());
+    assert_eq!(rt; wanted.stderr.as_slice(), SUMMARY.as_bytes());
     for (line, turns) in LINES {
         for turn in 0..turns {
             let ran = run_piped(&rt, alloc, line, input.as_slice(), &OpenGate)?;

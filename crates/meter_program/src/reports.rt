@@ -1,4 +1,4 @@
-//! What goes to the notes: the summary, a count, and the line of a refusal.
+//! What goes to standard error: the summary, a count, and the line of a refusal.
 //!
 //! Each text is put together in an array of fixed size and written in one piece, so no memory is taken.
 
@@ -59,23 +59,23 @@ fn append_ignored(text: &mut Text, ignored: &[u64; 5])
     append_count(text, "bad-time", ignored[4]);
 }
 
-/// Notes the summary of a metered capture, eleven lines: the numbers of its tally, how many records of flows were
+/// Writes the summary of a metered capture, eleven lines: the numbers of its tally, how many records of flows were
 /// written, in how many messages, and how many bytes are left behind the last record of the capture.
 ///
-/// `Failed` comes only where the count of faults of the notes rose; they then took a beginning of it.
+/// `Failed` comes only where the count of faults of standard error rose; it then took a beginning of the line.
 #[tactic(auto, unfolding(crate::specs::Summary::summary))]
-pub fn summary<N: Sink>(
-    notes: &mut N,
+pub fn summary<E: Sink>(
+    stderr: &mut E,
     tally: &Tally,
     flows: u64,
     messages: u64,
     tail: u64,
 ) -> Result<(), Failed>
     ensures whole { OnOk result
-        (HasTaken (side N.held N.faults notes.old notes.new) (summary tally.now flows messages tail)) }
+        (HasTaken (side E.held E.faults stderr.old stderr.new) (summary tally.now flows messages tail)) }
     ensures begun { OnErr result
-        (HasBegun (side N.held N.faults notes.old notes.new) (summary tally.now flows messages tail)) }
-    ensures cause { HasCause (N.faults notes.old) (N.faults notes.new) result }
+        (HasBegun (side E.held E.faults stderr.old stderr.new) (summary tally.now flows messages tail)) }
+    ensures cause { HasCause (E.faults stderr.old) (E.faults stderr.new) result }
 {
     let mut text = Text::new();
     append_count(&mut text, "captured", tally.captured);
@@ -85,21 +85,21 @@ pub fn summary<N: Sink>(
     append_count(&mut text, "flows", flows);
     append_count(&mut text, "messages", messages);
     append_count(&mut text, "tail", tail);
-    write_all(notes, text.as_str().as_bytes())
+    write_all(stderr, text.as_str().as_bytes())
 }
 
-/// Notes the line of a name and a number.
+/// Writes the line of a name and a number.
 ///
-/// `Failed` comes only where the count of faults of the notes rose; they then took a beginning of it.
-pub fn count<N: Sink>(notes: &mut N, name: &str, count: u64) -> Result<(), Failed>
+/// `Failed` comes only where the count of faults of standard error rose; it then took a beginning of the line.
+pub fn count<E: Sink>(stderr: &mut E, name: &str, count: u64) -> Result<(), Failed>
     requires { length name.now ≤ 100 }
-    ensures whole { OnOk result (HasTaken (side N.held N.faults notes.old notes.new) (count_line name.now count)) }
-    ensures begun { OnErr result (HasBegun (side N.held N.faults notes.old notes.new) (count_line name.now count)) }
-    ensures cause { HasCause (N.faults notes.old) (N.faults notes.new) result }
+    ensures whole { OnOk result (HasTaken (side E.held E.faults stderr.old stderr.new) (count_line name.now count)) }
+    ensures begun { OnErr result (HasBegun (side E.held E.faults stderr.old stderr.new) (count_line name.now count)) }
+    ensures cause { HasCause (E.faults stderr.old) (E.faults stderr.new) result }
 {
     let mut text = Text::new();
     append_count(&mut text, name, count);
-    write_all(notes, text.as_str().as_bytes())
+    write_all(stderr, text.as_str().as_bytes())
 }
 
 /// Appends words and the number behind them.
@@ -133,7 +133,7 @@ fn append_stream_fault(text: &mut Text, fault: &StreamFault)
     }
 }
 
-/// Appends what the notes say of a status; nothing where all was done or a write failed.
+/// Appends what is said of a status; nothing where all was done or a write failed.
 fn append_fault(text: &mut Text, status: &Status)
     requires { array_string_len text.old + 80 ≤ 512 }
     ensures bytes { text.new.bytes ≡ text.old.bytes ++ fault_text status.now }
@@ -156,16 +156,16 @@ fn append_fault(text: &mut Text, status: &Status)
     }
 }
 
-/// Notes the line of a status. `Done` and `WriteFault` have none: of them an empty line is noted.
+/// Writes the line of a status. `Done` and `WriteFault` have none: of them nothing is written.
 ///
-/// `Failed` comes only where the count of faults of the notes rose; they then took a beginning of it.
-pub fn fault_line<N: Sink>(notes: &mut N, status: &Status) -> Result<(), Failed>
-    ensures whole { OnOk result (HasTaken (side N.held N.faults notes.old notes.new) (fault_line status.now)) }
-    ensures begun { OnErr result (HasBegun (side N.held N.faults notes.old notes.new) (fault_line status.now)) }
-    ensures cause { HasCause (N.faults notes.old) (N.faults notes.new) result }
+/// `Failed` comes only where the count of faults of standard error rose; it then took a beginning of the line.
+pub fn fault_line<E: Sink>(stderr: &mut E, status: &Status) -> Result<(), Failed>
+    ensures whole { OnOk result (HasTaken (side E.held E.faults stderr.old stderr.new) (fault_line status.now)) }
+    ensures begun { OnErr result (HasBegun (side E.held E.faults stderr.old stderr.new) (fault_line status.now)) }
+    ensures cause { HasCause (E.faults stderr.old) (E.faults stderr.new) result }
 {
     let mut text = Text::new();
     append_fault(&mut text, status);
     text.push_str("\n");
-    write_all(notes, text.as_str().as_bytes())
+    write_all(stderr, text.as_str().as_bytes())
 }
