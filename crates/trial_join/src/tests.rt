@@ -6,7 +6,7 @@ use meter_io::MemSink;
 use std::alloc::Global;
 use std::test::Fail;
 use std::thread::Threads;
-use trial_samples::octets_of;
+use trial_samples::{octets_of, words_of};
 
 mod refused;
 mod splits;
@@ -34,10 +34,7 @@ fn join(
     line: &str,
     files: &[Held],
 ) -> Result<Ran, Fail> {
-    let mut words = Vec::new(alloc);
-    for word in line.split(' ') {
-        words.push(String::from_str(alloc, word)?)?;
-    }
+    let words = words_of(alloc, line)?;
     let mut opener = HeldFiles::new(files);
     let mut output = MemSink::open(alloc, 65_536, 1000, &[])?;
     let mut stderr = MemSink::open(alloc, 1000, 1000, &[])?;

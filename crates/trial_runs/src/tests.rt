@@ -8,7 +8,7 @@ use std::alloc::Global;
 use std::process::Abort;
 use std::test::Fail;
 use std::thread::Threads;
-use trial_samples::octets_of;
+use trial_samples::{octets_of, words_of};
 
 mod captures;
 mod extremes;
@@ -51,15 +51,6 @@ fn two_packets(alloc: Global) -> Result<Vec<u8>, Fail> {
 /// The stream that `meter` writes of it.
 fn two_packets_stream(alloc: Global) -> Result<Vec<u8>, Fail> {
     octets_of(alloc, &["000a0074 000003e9", TEMPLATES, TWO_PACKETS_RECORD])
-}
-
-/// The words of a command line with single spaces between them.
-fn words_of(alloc: Global, line: &str) -> Result<Vec<String>, Fail> {
-    let mut words = Vec::new(alloc);
-    for word in line.split(' ') {
-        words.push(String::from_str(alloc, word)?)?;
-    }
-    Ok(words)
 }
 
 /// How a run over some input ended, what it wrote, and what it reported.

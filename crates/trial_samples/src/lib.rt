@@ -1,10 +1,12 @@
-//! Frames, headers and keys, and octets written in hexadecimal, that the tests of several crates share. No program
-//! stands on it.
+//! Frames, headers and keys, octets written in hexadecimal, and the words of command lines, that the tests of several
+//! crates share. No program stands on it.
 #![tactic(auto)]
 
 pub mod frames;
 mod hexadecimal;
 mod keys;
+mod lines;
 
 pub use hexadecimal::octets_of;
 pub use keys::{tcp_over_ipv6, udp_key};
+pub use lines::words_of;

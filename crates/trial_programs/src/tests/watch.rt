@@ -6,7 +6,7 @@ use std::alloc::Global;
 use std::sync::atomic::{AtomicU64, Ordering};
 use std::test::Fail;
 use std::thread::Threads;
-use trial_samples::octets_of;
+use trial_samples::{octets_of, words_of};
 use watch_program::{WatchStatus, run_watch};
 
 /// A capture's header: little-endian, microseconds, Ethernet.
@@ -41,15 +41,6 @@ const BOTH: &str = "held 2 56 1000000 1001000";
 struct Ran {
     status: WatchStatus,
     output: Vec<u8>,
-}
-
-/// The words of a command line.
-fn words_of(alloc: Global, line: &str) -> Result<Vec<String>, Fail> {
-    let mut words = Vec::new(alloc);
-    for word in line.split_whitespace() {
-        words.push(String::from_str(alloc, word)?)?;
-    }
-    Ok(words)
 }
 
 /// A run over a capture of these pieces, of which these reads and writes fail. The source gives 50 bytes a read, and

@@ -1,6 +1,6 @@
 //! Runs whose reads and writes fail, and the exit statuses.
 
-use super::{two_packets, two_packets_stream, words_of};
+use super::{two_packets, two_packets_stream};
 use Status::{Done, ReadFault, WriteFault};
 use flow_cache::PebrCaches;
 use ipfix_reader::StreamFault;
@@ -9,6 +9,7 @@ use meter_program::{Status, run};
 use meter_workers::OpenGate;
 use std::test::Fail;
 use std::thread::Threads;
+use trial_samples::words_of;
 
 /// How a run ended, and how many bytes its output and its standard error took.
 type Ended = (Status, usize, usize);

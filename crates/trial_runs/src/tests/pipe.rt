@@ -9,7 +9,7 @@ use std::alloc::Global;
 use std::sync::Wait;
 use std::test::Fail;
 use std::thread::Threads;
-use trial_samples::octets_of;
+use trial_samples::{octets_of, words_of};
 
 mod faults;
 mod gates;
@@ -33,15 +33,6 @@ fn capture_of(alloc: Global, records: &[&str]) -> Result<Vec<u8>, Fail> {
     let mut capture = octets_of(alloc, &[HEADER])?;
     capture.extend_from_slice(octets_of(alloc, records)?.as_slice())?;
     Ok(capture)
-}
-
-/// The words of a command line.
-fn words_of(alloc: Global, line: &str) -> Result<Vec<String>, Fail> {
-    let mut words = Vec::new(alloc);
-    for word in line.split_whitespace() {
-        words.push(String::from_str(alloc, word)?)?;
-    }
-    Ok(words)
 }
 
 /// How a run over some input ended, what it wrote, and what it reported.

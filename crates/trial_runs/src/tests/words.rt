@@ -1,9 +1,10 @@
 //! Command lines.
 
-use super::{check_run, words_of};
+use super::check_run;
 use command_words::OptionsError;
 use meter_program::{Command, Status, command_of};
 use std::test::Fail;
+use trial_samples::words_of;
 
 /// What a line asks for: 1 for `meter` with its settings in the order of their options, 2 for `show`, 3 for `make` with
 /// its seed, packets and keys, 4 for `schedule`, 5 for `selftest` with those of `make`.

@@ -1,13 +1,13 @@
 //! Runs that refuse, and those whose reads or writes fail.
 
-use super::{TWO_PACKETS, capture_of, run_piped, words_of};
+use super::{TWO_PACKETS, capture_of, run_piped};
 use flow_cache::PebrCaches;
 use meter_io::{MemSink, MemSource};
 use meter_program::Status;
 use meter_workers::OpenGate;
 use pipe_program::run_pipe;
 use std::test::Fail;
-use trial_samples::octets_of;
+use trial_samples::{octets_of, words_of};
 
 /// Command lines that are none.
 static USAGE: [&str; 4] = ["", "meter", "pipe --piece 1", "pipe --workers 63"];
