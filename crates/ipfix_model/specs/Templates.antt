@@ -13,15 +13,10 @@ use Rattle.ipfix_model.specs.Elements.{reverse_enterprise}
 abbrev pub iana_field : ℕ → ℕ → FieldSpec
 iana_field element length = record { element = element; length = length; enterprise = None }
 
--- The template for flows over IPv4.
-abbrev pub v4_template : ℕ
-v4_template = 256
-
-abbrev pub v4_fields : List FieldSpec
-v4_fields =
-    iana_field source_ipv4_address 4
-    ∷ iana_field destination_ipv4_address 4
-    ∷ iana_field source_transport_port 2
+-- What the templates of both IP versions have behind the two addresses.
+abbrev pub fields_behind_addresses : List FieldSpec
+fields_behind_addresses =
+    iana_field source_transport_port 2
     ∷ iana_field destination_transport_port 2
     ∷ iana_field protocol_identifier 1
     ∷ iana_field tcp_control_bits 2
@@ -31,6 +26,14 @@ v4_fields =
     ∷ iana_field flow_end_milliseconds 8
     ∷ iana_field flow_end_reason 1
     ∷ []
+
+-- The template for flows over IPv4.
+abbrev pub v4_template : ℕ
+v4_template = 256
+
+abbrev pub v4_fields : List FieldSpec
+v4_fields =
+    iana_field source_ipv4_address 4 ∷ iana_field destination_ipv4_address 4 ∷ fields_behind_addresses
 
 -- The template for flows over IPv6.
 abbrev pub v6_template : ℕ
@@ -38,18 +41,7 @@ v6_template = 257
 
 abbrev pub v6_fields : List FieldSpec
 v6_fields =
-    iana_field source_ipv6_address 16
-    ∷ iana_field destination_ipv6_address 16
-    ∷ iana_field source_transport_port 2
-    ∷ iana_field destination_transport_port 2
-    ∷ iana_field protocol_identifier 1
-    ∷ iana_field tcp_control_bits 2
-    ∷ iana_field packet_delta_count 8
-    ∷ iana_field octet_delta_count 8
-    ∷ iana_field flow_start_milliseconds 8
-    ∷ iana_field flow_end_milliseconds 8
-    ∷ iana_field flow_end_reason 1
-    ∷ []
+    iana_field source_ipv6_address 16 ∷ iana_field destination_ipv6_address 16 ∷ fields_behind_addresses
 
 -- The template of a flow record, by the IP version of its key.
 unfoldable pub template_of : FlowRecord → ℕ

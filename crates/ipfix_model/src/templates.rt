@@ -53,6 +53,43 @@ macro_rules! field {
     };
 }
 
+/// The fields of a template of flows: two addresses of one length, what all templates have behind them, and more.
+macro_rules! flow_fields {
+    ($source:expr, $destination:expr, $length:expr $(, $more:expr)*) => {
+        [
+            field!($source, $length),
+            field!($destination, $length),
+            field!(SOURCE_TRANSPORT_PORT, 2),
+            field!(DESTINATION_TRANSPORT_PORT, 2),
+            field!(PROTOCOL_IDENTIFIER, 1),
+            field!(TCP_CONTROL_BITS, 2),
+            field!(PACKET_DELTA_COUNT, 8),
+            field!(OCTET_DELTA_COUNT, 8),
+            field!(FLOW_START_MILLISECONDS, 8),
+            field!(FLOW_END_MILLISECONDS, 8),
+            field!(FLOW_END_REASON, 1),
+            $($more,)*
+        ]
+    };
+}
+
+/// The fields of a template of biflows (RFC 5103): those of the forward flow, then those of the reverse one.
+macro_rules! biflow_fields {
+    ($source:expr, $destination:expr, $length:expr) => {
+        flow_fields!(
+            $source,
+            $destination,
+            $length,
+            field!(reverse TCP_CONTROL_BITS, 2),
+            field!(reverse PACKET_DELTA_COUNT, 8),
+            field!(reverse OCTET_DELTA_COUNT, 8),
+            field!(reverse FLOW_START_MILLISECONDS, 8),
+            field!(reverse FLOW_END_MILLISECONDS, 8),
+            field!(reverse FLOW_END_REASON, 1)
+        )
+    };
+}
+
 /// The number of the template for flows over IPv4.
 pub const V4_TEMPLATE: u16 = 256;
 
@@ -60,34 +97,18 @@ pub const V4_TEMPLATE: u16 = 256;
 pub const V6_TEMPLATE: u16 = 257;
 
 /// The fields of the template for flows over IPv4, 48 octets a record.
-pub const V4_FIELDS: [FieldSpec; 11] = [
-    field!(SOURCE_IPV4_ADDRESS, 4),
-    field!(DESTINATION_IPV4_ADDRESS, 4),
-    field!(SOURCE_TRANSPORT_PORT, 2),
-    field!(DESTINATION_TRANSPORT_PORT, 2),
-    field!(PROTOCOL_IDENTIFIER, 1),
-    field!(TCP_CONTROL_BITS, 2),
-    field!(PACKET_DELTA_COUNT, 8),
-    field!(OCTET_DELTA_COUNT, 8),
-    field!(FLOW_START_MILLISECONDS, 8),
-    field!(FLOW_END_MILLISECONDS, 8),
-    field!(FLOW_END_REASON, 1),
-];
+pub const V4_FIELDS: [FieldSpec; 11] = flow_fields!(
+    SOURCE_IPV4_ADDRESS,
+    DESTINATION_IPV4_ADDRESS,
+    4
+);
 
 /// The fields of the template for flows over IPv6, 72 octets a record.
-pub const V6_FIELDS: [FieldSpec; 11] = [
-    field!(SOURCE_IPV6_ADDRESS, 16),
-    field!(DESTINATION_IPV6_ADDRESS, 16),
-    field!(SOURCE_TRANSPORT_PORT, 2),
-    field!(DESTINATION_TRANSPORT_PORT, 2),
-    field!(PROTOCOL_IDENTIFIER, 1),
-    field!(TCP_CONTROL_BITS, 2),
-    field!(PACKET_DELTA_COUNT, 8),
-    field!(OCTET_DELTA_COUNT, 8),
-    field!(FLOW_START_MILLISECONDS, 8),
-    field!(FLOW_END_MILLISECONDS, 8),
-    field!(FLOW_END_REASON, 1),
-];
+pub const V6_FIELDS: [FieldSpec; 11] = flow_fields!(
+    SOURCE_IPV6_ADDRESS,
+    DESTINATION_IPV6_ADDRESS,
+    16
+);
 
 /// The number of the template for biflows over IPv4.
 pub const V4_BI_TEMPLATE: u16 = 258;
@@ -95,45 +116,16 @@ pub const V4_BI_TEMPLATE: u16 = 258;
 /// The number of the template for biflows over IPv6.
 pub const V6_BI_TEMPLATE: u16 = 259;
 
-/// The fields of the template for biflows over IPv4 (RFC 5103): those of the forward flow, then those of the reverse
-/// one, 83 octets a record.
-pub const V4_BI_FIELDS: [FieldSpec; 17] = [
-    field!(SOURCE_IPV4_ADDRESS, 4),
-    field!(DESTINATION_IPV4_ADDRESS, 4),
-    field!(SOURCE_TRANSPORT_PORT, 2),
-    field!(DESTINATION_TRANSPORT_PORT, 2),
-    field!(PROTOCOL_IDENTIFIER, 1),
-    field!(TCP_CONTROL_BITS, 2),
-    field!(PACKET_DELTA_COUNT, 8),
-    field!(OCTET_DELTA_COUNT, 8),
-    field!(FLOW_START_MILLISECONDS, 8),
-    field!(FLOW_END_MILLISECONDS, 8),
-    field!(FLOW_END_REASON, 1),
-    field!(reverse TCP_CONTROL_BITS, 2),
-    field!(reverse PACKET_DELTA_COUNT, 8),
-    field!(reverse OCTET_DELTA_COUNT, 8),
-    field!(reverse FLOW_START_MILLISECONDS, 8),
-    field!(reverse FLOW_END_MILLISECONDS, 8),
-    field!(reverse FLOW_END_REASON, 1),
-];
+/// The fields of the template for biflows over IPv4, 83 octets a record.
+pub const V4_BI_FIELDS: [FieldSpec; 17] = biflow_fields!(
+    SOURCE_IPV4_ADDRESS,
+    DESTINATION_IPV4_ADDRESS,
+    4
+);
 
 /// The fields of the template for biflows over IPv6, 107 octets a record.
-pub const V6_BI_FIELDS: [FieldSpec; 17] = [
-    field!(SOURCE_IPV6_ADDRESS, 16),
-    field!(DESTINATION_IPV6_ADDRESS, 16),
-    field!(SOURCE_TRANSPORT_PORT, 2),
-    field!(DESTINATION_TRANSPORT_PORT, 2),
-    field!(PROTOCOL_IDENTIFIER, 1),
-    field!(TCP_CONTROL_BITS, 2),
-    field!(PACKET_DELTA_COUNT, 8),
-    field!(OCTET_DELTA_COUNT, 8),
-    field!(FLOW_START_MILLISECONDS, 8),
-    field!(FLOW_END_MILLISECONDS, 8),
-    field!(FLOW_END_REASON, 1),
-    field!(reverse TCP_CONTROL_BITS, 2),
-    field!(reverse PACKET_DELTA_COUNT, 8),
-    field!(reverse OCTET_DELTA_COUNT, 8),
-    field!(reverse FLOW_START_MILLISECONDS, 8),
-    field!(reverse FLOW_END_MILLISECONDS, 8),
-    field!(reverse FLOW_END_REASON, 1),
-];
+pub const V6_BI_FIELDS: [FieldSpec; 17] = biflow_fields!(
+    SOURCE_IPV6_ADDRESS,
+    DESTINATION_IPV6_ADDRESS,
+    16
+);
