@@ -8,6 +8,7 @@ use Rattle.ipfix_model.specs.declared.fields.FieldSpec.{FieldSpec}
 use Rattle.ipfix_model.specs.Fields.{least_length}
 use Rattle.ipfix_model.specs.Templates.{v4_fields, v6_fields, v4_template, v6_template, template_of, fields_of}
 use Rattle.ipfix_model.specs.Values.{field_value}
+use Rattle.ipfix_model.specs.Sizes.{template_message_length}
 use Rattle.octets.specs.Numbers.{number_at}
 use Rattle.ipfix_writer.specs.Encoding.{template_record, field_specifier, template_message, data_record}
 use Rattle.ipfix_writer.specs.Layout.{encode_flow, IsLayout}
@@ -39,8 +40,8 @@ templates-read =
     template_records-next false 1 [] (record { at = 20; bytes = both }) (record { fields = v4_fields; rest = second })
     (omega arith) refl
     ∙ template_records-next false 1 (((1, v4_template), v4_fields) ∷ []) second
-    (record { fields = v6_fields; rest = record { at = 116; bytes = [] } }) (omega arith) refl
-    ∙ template_records-end false 1 known (record { at = 116; bytes = [] }) (omega arith)
+    (record { fields = v6_fields; rest = record { at = template_message_length; bytes = [] } }) (omega arith) refl
+    ∙ template_records-end false 1 known (record { at = template_message_length; bytes = [] }) (omega arith)
 
 -- the facts on both templates
 abbrev template_for : Bool → ℕ

@@ -1,4 +1,5 @@
 pub mod Elements
 pub mod Fields
 pub mod Templates
+pub mod Sizes
 pub mod Values

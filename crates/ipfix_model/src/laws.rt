@@ -8,10 +8,17 @@ ghost use Rattle.ipfix_model.specs.Elements.{destination_transport_port, destina
 ghost use Rattle.ipfix_model.specs.Elements.{destination_ipv6_address, flow_end_reason, flow_start_milliseconds};
 ghost use Rattle.ipfix_model.specs.Elements.{flow_end_milliseconds, reverse_enterprise};
 ghost use Rattle.ipfix_model.specs.Fields.{record_length};
+ghost use Rattle.ipfix_model.specs.Sizes.{counts_length, v4_record_length, v6_record_length, v4_bi_record_length};
+ghost use Rattle.ipfix_model.specs.Sizes.{v6_bi_record_length, template_set_length, template_message_length};
+ghost use Rattle.ipfix_model.specs.Sizes.{bi_template_set_length, bi_template_message_length};
 ghost use Rattle.ipfix_model.specs.Templates.{v4_template, v4_fields, v6_template, v6_fields, v4_bi_template};
 ghost use Rattle.ipfix_model.specs.Templates.{v4_bi_fields, v6_bi_template, v6_bi_fields};
 
 use crate::elements::*;
+use crate::sizes::{
+    BI_TEMPLATE_MESSAGE_LENGTH, BI_TEMPLATE_SET_LENGTH, COUNTS_LENGTH, TEMPLATE_MESSAGE_LENGTH,
+    TEMPLATE_SET_LENGTH, V4_RECORD_LENGTH, V6_RECORD_LENGTH,
+};
 use crate::templates::{
     V4_BI_FIELDS, V4_BI_TEMPLATE, V4_FIELDS, V4_TEMPLATE, V6_BI_FIELDS, V6_BI_TEMPLATE, V6_FIELDS,
     V6_TEMPLATE,
@@ -35,22 +42,33 @@ pub fn elements_are_registered()
     ensures reverse { REVERSE_ENTERPRISE ≡ reverse_enterprise }
 {}
 
-/// The templates in the code are those of the definition, and their records have 48 and 72 octets.
+/// The templates in the code are those of the definition, and records of flows are as long as their fields together.
 pub fn templates_are_defined()
     ensures v4_number { V4_TEMPLATE ≡ v4_template }
     ensures v4_fields { V4_FIELDS ≡ v4_fields }
-    ensures v4_length { record_length v4_fields ≡ 48 }
+    ensures v4_length { record_length v4_fields ≡ v4_record_length }
     ensures v6_number { V6_TEMPLATE ≡ v6_template }
     ensures v6_fields { V6_FIELDS ≡ v6_fields }
-    ensures v6_length { record_length v6_fields ≡ 72 }
+    ensures v6_length { record_length v6_fields ≡ v6_record_length }
 {}
 
-/// And so are those for biflows, whose records have 83 and 107 octets.
+/// And so are those for biflows, and so long are their records.
 pub fn biflow_templates_are_defined()
     ensures v4_number { V4_BI_TEMPLATE ≡ v4_bi_template }
     ensures v4_fields { V4_BI_FIELDS ≡ v4_bi_fields }
-    ensures v4_length { record_length v4_bi_fields ≡ 83 }
+    ensures v4_length { record_length v4_bi_fields ≡ v4_bi_record_length }
     ensures v6_number { V6_BI_TEMPLATE ≡ v6_bi_template }
     ensures v6_fields { V6_BI_FIELDS ≡ v6_bi_fields }
-    ensures v6_length { record_length v6_bi_fields ≡ 107 }
+    ensures v6_length { record_length v6_bi_fields ≡ v6_bi_record_length }
+{}
+
+/// The lengths in the code are those of the definition.
+pub fn lengths_are_defined()
+    ensures counts { COUNTS_LENGTH ≡ counts_length }
+    ensures v4_record { V4_RECORD_LENGTH ≡ v4_record_length }
+    ensures v6_record { V6_RECORD_LENGTH ≡ v6_record_length }
+    ensures template_set { TEMPLATE_SET_LENGTH ≡ template_set_length }
+    ensures template_message { TEMPLATE_MESSAGE_LENGTH ≡ template_message_length }
+    ensures bi_template_set { BI_TEMPLATE_SET_LENGTH ≡ bi_template_set_length }
+    ensures bi_template_message { BI_TEMPLATE_MESSAGE_LENGTH ≡ bi_template_message_length }
 {}

@@ -96,14 +96,14 @@ pub const V4_TEMPLATE: u16 = 256;
 /// The number of the template for flows over IPv6.
 pub const V6_TEMPLATE: u16 = 257;
 
-/// The fields of the template for flows over IPv4, 48 octets a record.
+/// The fields of the template for flows over IPv4.
 pub const V4_FIELDS: [FieldSpec; 11] = flow_fields!(
     SOURCE_IPV4_ADDRESS,
     DESTINATION_IPV4_ADDRESS,
     4
 );
 
-/// The fields of the template for flows over IPv6, 72 octets a record.
+/// The fields of the template for flows over IPv6.
 pub const V6_FIELDS: [FieldSpec; 11] = flow_fields!(
     SOURCE_IPV6_ADDRESS,
     DESTINATION_IPV6_ADDRESS,
@@ -116,14 +116,14 @@ pub const V4_BI_TEMPLATE: u16 = 258;
 /// The number of the template for biflows over IPv6.
 pub const V6_BI_TEMPLATE: u16 = 259;
 
-/// The fields of the template for biflows over IPv4, 83 octets a record.
+/// The fields of the template for biflows over IPv4.
 pub const V4_BI_FIELDS: [FieldSpec; 17] = biflow_fields!(
     SOURCE_IPV4_ADDRESS,
     DESTINATION_IPV4_ADDRESS,
     4
 );
 
-/// The fields of the template for biflows over IPv6, 107 octets a record.
+/// The fields of the template for biflows over IPv6.
 pub const V6_BI_FIELDS: [FieldSpec; 17] = biflow_fields!(
     SOURCE_IPV6_ADDRESS,
     DESTINATION_IPV6_ADDRESS,

@@ -8,6 +8,7 @@ use Rattle.ipfix_writer.specs.Layout.{RecordSet, put_before, sets_in, bytes_of_s
 use Rattle.ipfix_writer.specs.Layout.{message_length}
 use Rattle.ipfix_writer.specs.Emitting.{last_template, header_before}
 use Rattle.ipfix_writer.proofs.Sizes.{length-set, record_size-bounds}
+use Rattle.ipfix_model.specs.Sizes.{v4_record_length}
 
 -- a set header where the template changes
 abbrev pub header_between : ℕ → ℕ → ℕ
@@ -131,7 +132,7 @@ length_in-more encode xs (x ∷ more) =
     let whole = ap (length_in encode) (append_assoc xs (x ∷ []) more) in
     omega arith
 
-body_length-bound : (flows : List FlowRecord) → 48 * length flows ≤ body_length encode_flow flows
+body_length-bound : (flows : List FlowRecord) → v4_record_length * length flows ≤ body_length encode_flow flows
 body_length-bound [] = omega arith
 body_length-bound (flow ∷ []) = let own = record_size-bounds flow in omega arith
 body_length-bound (flow ∷ (next ∷ flows)) =
@@ -140,7 +141,7 @@ body_length-bound (flow ∷ (next ∷ flows)) =
     grind arith
 
 -- how many records a message has at most
-pub message_length-bound : (flows : List FlowRecord) → 16 + 48 * length flows ≤ message_length flows
+pub message_length-bound : (flows : List FlowRecord) → 16 + v4_record_length * length flows ≤ message_length flows
 unfolding length_in
 message_length-bound flows =
     let exact = length-body_in encode_flow flows in

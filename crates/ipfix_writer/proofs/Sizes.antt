@@ -5,23 +5,28 @@ use Rattle.byteorder.specs.Numbers.{length-bytes_high_first}
 use Rattle.record_ledger.specs.declared.record.FlowRecord.{FlowRecord}
 use Rattle.ipfix_model.specs.Fields.{record_length}
 use Rattle.ipfix_model.specs.Templates.{v4_fields, v6_fields}
+use Rattle.ipfix_model.specs.Sizes.{v4_record_length, v6_record_length, counts_length}
 use Rattle.ipfix_writer.specs.Encoding.{message_header, message, set, data_record, record_size}
 use Rattle.ipfix_writer.specs.DataParts.{address_size, key_part, counts_part}
 use Rattle.ipfix_writer.specs.DataSizes.{length-data_record}
 
 -- the length of the records of each template
-pub record_size-if : (v4 : Bool) → record_length (if v4 then v4_fields else v6_fields) ≡ (if v4 then 48 else 72)
+pub record_size-if : (v4 : Bool) → record_length (if v4 then v4_fields else v6_fields)
+    ≡ (if v4 then v4_record_length else v6_record_length)
 record_size-if true = refl
 record_size-if false = refl
 
-pub record_size-is : (flow : FlowRecord) → record_size flow ≡ (if flow.part.key.version == 4 then 48 else 72)
+pub record_size-is : (flow : FlowRecord) → record_size flow
+    ≡ (if flow.part.key.version == 4 then v4_record_length else v6_record_length)
 record_size-is flow = record_size-if (flow.part.key.version == 4)
 
-record_size-range : (v4 : Bool) → (48 ≤ (if v4 then 48 else 72)) × ((if v4 then 48 else 72) ≤ 72)
+record_size-range : (v4 : Bool) → (v4_record_length ≤ (if v4 then v4_record_length else v6_record_length))
+    × ((if v4 then v4_record_length else v6_record_length) ≤ v6_record_length)
 record_size-range true = (omega arith, omega arith)
 record_size-range false = (omega arith, omega arith)
 
-pub record_size-bounds : (flow : FlowRecord) → (48 ≤ length (data_record flow)) × (length (data_record flow) ≤ 72)
+pub record_size-bounds : (flow : FlowRecord) → (v4_record_length ≤ length (data_record flow))
+    × (length (data_record flow) ≤ v6_record_length)
 record_size-bounds flow =
     let range = record_size-range (flow.part.key.version == 4) in
     let long = length-data_record flow ∙ record_size-is flow in
@@ -47,7 +52,7 @@ pub data_record-parts : (flow : FlowRecord) → data_record flow ≡ key_part fl
 data_record-parts flow = parts-if flow (flow.part.key.version == 4) refl
 
 -- the lengths of both parts
-pub length-counts_part : (flow : FlowRecord) → length (counts_part flow) ≡ 35
+pub length-counts_part : (flow : FlowRecord) → length (counts_part flow) ≡ counts_length
 unfolding counts_part
 length-counts_part flow = simp (length-append, length-bytes_high_first)
 
@@ -55,11 +60,12 @@ pub length-key_part : (flow : FlowRecord) → length (key_part flow) ≡ 2 * add
 unfolding key_part
 length-key_part flow = simp (length-append, length-bytes_high_first) (omega arith)
 
-sizes_add : (v4 : Bool) → 2 * (if v4 then 4 else 16) + 5 + 35 ≡ (if v4 then 48 else 72)
+sizes_add : (v4 : Bool) → 2 * (if v4 then 4 else 16) + 5 + counts_length
+    ≡ (if v4 then v4_record_length else v6_record_length)
 sizes_add true = refl
 sizes_add false = refl
 
-pub key_leaves_counts : (flow : FlowRecord) → length (key_part flow) + 35 ≡ length (data_record flow)
+pub key_leaves_counts : (flow : FlowRecord) → length (key_part flow) + counts_length ≡ length (data_record flow)
 key_leaves_counts flow =
     let sum = sizes_add (flow.part.key.version == 4) in
     omega (arith, sum, length-key_part flow, length-data_record flow, record_size-is flow)

@@ -12,6 +12,7 @@ use Rattle.record_ledger.specs.declared.record.FlowRecord.{FlowRecord}
 use Rattle.ipfix_writer.specs.declared.emitter.Phase.{Phase}
 use Rattle.ipfix_writer.specs.declared.emitter.Phase.TheVariants.{Fresh, Started}
 use Rattle.ipfix_model.specs.Templates.{template_of}
+use Rattle.ipfix_model.specs.Sizes.{v4_record_length, template_message_length}
 use Rattle.ipfix_writer.specs.Encoding.{message, template_message, data_record}
 use Rattle.ipfix_writer.specs.Layout.{body_of, message_length, AreFilledBy, AreFilled, messages_in, data_messages}
 use Rattle.ipfix_writer.specs.Layout.{together, encode_flow, IsLayoutOf, BeginsLayout}
@@ -28,7 +29,8 @@ not_fresh : Fresh ≡ Started → ⊥
 not_fresh e = cc
 
 -- an emitter that was just made keeps what it must
-pub keeps-fresh : (size bytes records : ℕ) → 116 ≤ size → size < 2 ^ 16 → size ≤ bytes → size / 48 ≤ records
+pub keeps-fresh : (size bytes records : ℕ) → template_message_length ≤ size → size < 2 ^ 16 → size ≤ bytes
+    → size / v4_record_length ≤ records
     → EmitterKeeps size Fresh [] 0 0 16 None bytes records []
 keeps-fresh size bytes records least most room places = record {
   least = least;
@@ -94,7 +96,8 @@ under_way-start size export_time waiting sequence held_before held bytes piece n
 
 -- a part of the template message begins every layout
 pub begins-template : (size export_time : ℕ) (flows : List FlowRecord) (held_before bytes left piece : List ℕ)
-    → 116 ≤ size → held_before ≡ [] → bytes ++ left ≡ held_before ++ piece → piece ≡ template_message export_time
+    → template_message_length ≤ size → held_before ≡ [] → bytes ++ left ≡ held_before ++ piece → piece
+        ≡ template_message export_time
     → BeginsLayout size export_time flows bytes
 begins-template size export_time flows held_before bytes left piece room empty passed is =
     begins-start size export_time flows bytes left (omega arith)
@@ -114,7 +117,7 @@ length-with length_now header size waiting last flow exact last_is header_is siz
 -- a message that fits has fewer records than there are places
 pub places-left : (size places length_now : ℕ) (waiting : List FlowRecord) (flow : FlowRecord)
     → length_now ≡ message_length (waiting ++ flow ∷ [])
-    → length_now ≤ size → size / 48 ≤ places → length waiting < places
+    → length_now ≤ size → size / v4_record_length ≤ places → length waiting < places
 places-left size places length_now waiting flow exact fits room =
     let bound = message_length-bound (waiting ++ flow ∷ []) in
     let longer = length-append waiting (flow ∷ []) in
@@ -236,7 +239,7 @@ passed-whole written held held_now taken piece whole passed is =
 
 -- one more record behind a message that was written
 pub under_way-next : (emitter after : EmitterState) (flows : List FlowRecord) (written taken held : List ℕ)
-    (flow : FlowRecord) → 116 ≤ emitter.size
+    (flow : FlowRecord) → template_message_length ≤ emitter.size
     → IsUnderWay emitter flows written → emitter.size < message_length (emitter.waiting ++ flow ∷ [])
     → taken ++ held ≡ emitter.held ++ message emitter.export_time emitter.sequence (body_of emitter.waiting)
     → after ≡ record emitter {
@@ -269,7 +272,7 @@ under_way-next emitter after flows written taken held flow room way full passed 
 
 -- what the sink took of the messages begins every layout that goes on with the record
 pub begins-next : (emitter : EmitterState) (flows : List FlowRecord) (written taken left : List ℕ) (flow : FlowRecord)
-    (rest : List FlowRecord) → 116 ≤ emitter.size
+    (rest : List FlowRecord) → template_message_length ≤ emitter.size
     → IsUnderWay emitter flows written → emitter.size < message_length (emitter.waiting ++ flow ∷ [])
     → taken ++ left ≡ emitter.held ++ message emitter.export_time emitter.sequence (body_of emitter.waiting)
     → BeginsLayout emitter.size emitter.export_time (flows ++ flow ∷ rest) (written ++ taken)

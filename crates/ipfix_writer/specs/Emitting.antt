@@ -7,6 +7,7 @@ use Rattle.ipfix_writer.specs.declared.emitter.Phase.TheVariants.{Fresh, Started
 use Rattle.ipfix_writer.specs.Encoding.{template_message}
 use Rattle.ipfix_writer.specs.Layout.{RecordSet, encode_flow, AreFilled, data_messages, together, message_length}
 use Rattle.ipfix_writer.specs.Layout.{length_in}
+use Rattle.ipfix_model.specs.Sizes.{v4_record_length, template_message_length}
 
 -- What contracts see of an emitter: the message size, the export time, how far it came, the records that wait for
 -- their message to be full, the sequence number of that message, how many messages were written, and the bytes of
@@ -54,13 +55,13 @@ pub record IsUnderWay (emitter : EmitterState) (flows : List FlowRecord) (writte
 pub record EmitterKeeps (size : ℕ) (phase : Phase) (waiting : List FlowRecord) (sequence messages length_of_message : ℕ)
     (template : Option ℕ)
     (room_of_bytes room_of_records : ℕ) (held : List ℕ) : Type 0 where
-  pub least : 116 ≤ size
+  pub least : template_message_length ≤ size
   pub most : size < 2 ^ 16
   pub exact : length_of_message ≡ message_length waiting
   pub within : length_of_message ≤ size
   pub last : template ≡ last_template encode_flow waiting
   pub bytes : size ≤ room_of_bytes
-  pub records : size / 48 ≤ room_of_records
+  pub records : size / v4_record_length ≤ room_of_records
   pub fresh : phase ≡ Fresh → (waiting ≡ []) × (sequence ≡ 0) × (messages ≡ 0) × (held ≡ [])
 
 -- The code's own: so many of the first records fill a message: it has one or more and is at most `size` bytes long, and

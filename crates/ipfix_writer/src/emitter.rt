@@ -7,19 +7,17 @@ ghost use Rattle.std.specs.Vec.{vec_capacity};
 ghost use Rattle.meter_io.specs.Causes.{HasCause};
 ghost use Rattle.sink_buffer.specs.Passing.{IsPassed};
 ghost use Rattle.ipfix_writer.specs.Emitting.{header_before};
+ghost use Rattle.ipfix_model.specs.Sizes.{template_message_length};
 
 use crate::encode::Encode;
 use crate::message::{encode_message, encode_template_message};
-use ipfix_model::{MESSAGE_HEADER, SET_HEADER};
+use ipfix_model::{MESSAGE_HEADER, SET_HEADER, V4_RECORD_LENGTH};
 use meter_io::{Failed, Sink};
 use no_memory::NoMemory;
 use record_ledger::FlowRecord;
 use sink_buffer::SinkBuffer;
 use std::alloc::Global;
 use std::marker::Model;
-
-/// The length of the least data record, in octets.
-const LEAST_RECORD: usize = 48;
 
 /// The length of the set header in front of a record of this template, where the record before has template `last`.
 pub fn header_length(last: Option<u16>, template: u16) -> usize
@@ -94,7 +92,7 @@ impl Emitter {
     ///
     /// `NoMemory` where the room for one message, its records and the messages in front of the sink can't be had.
     pub fn open(alloc: Global, size: usize, export_time: u32) -> Result<Emitter, NoMemory>
-        requires { (116 ≤ size) × (size < 2 ^ 16) }
+        requires { (template_message_length ≤ size) × (size < 2 ^ 16) }
         ensures { IfOk result (λ emitter. emitter ≡ record {
           size = size;
           export_time = export_time;
@@ -106,7 +104,7 @@ impl Emitter {
         }) }
     {
         let buffer = Vec::with_capacity(alloc, size)?;
-        let waiting = Vec::with_capacity(alloc, size / LEAST_RECORD)?;
+        let waiting = Vec::with_capacity(alloc, size / V4_RECORD_LENGTH)?;
         let out = SinkBuffer::open(alloc)?;
         Ok(Emitter {
             size,

@@ -3,8 +3,9 @@
 ghost use Rattle.std.specs.Prelude.{◌≡◌, ◌+◌, ◌*◌, ◌≤◌, ◌++◌, length};
 ghost use Rattle.std.specs.Vec.{vec_capacity};
 ghost use Rattle.ipfix_writer.specs.DataParts.{address_size, key_part, counts_part};
+ghost use Rattle.ipfix_model.specs.Sizes.{counts_length};
 
-use ipfix_model::{V4_TEMPLATE, V6_TEMPLATE};
+use ipfix_model::{V4_RECORD_LENGTH, V4_TEMPLATE, V6_RECORD_LENGTH, V6_TEMPLATE};
 use octets::{append_u8, append_u16, append_u32, append_u64, append_u128};
 use record_ledger::FlowRecord;
 
@@ -52,10 +53,14 @@ impl Encode for FlowRecord {
         }
     }
 
-    /// The bytes of a data record: 48 for version 4, 72 for version 6.
+    /// The octets of a data record, by the version of its key.
     #[inline]
     fn size(&self) -> usize {
-        if self.part.key.version == 4 { 48 } else { 72 }
+        if self.part.key.version == 4 {
+            V4_RECORD_LENGTH
+        } else {
+            V6_RECORD_LENGTH
+        }
     }
 
     /// Appends the data record of a flow.
@@ -88,7 +93,7 @@ pub fn append_key(buffer: &mut Vec<u8>, flow: &FlowRecord)
 /// Appends the values that are not of the key: flags, counts, times and reason.
 #[tactic(auto, unfolding(crate::specs::DataParts::counts_part))]
 pub fn append_counts(buffer: &mut Vec<u8>, flow: &FlowRecord)
-    requires { length buffer.old.items + 35 ≤ vec_capacity buffer.old }
+    requires { length buffer.old.items + counts_length ≤ vec_capacity buffer.old }
     ensures items { buffer.new.items ≡ buffer.old.items ++ counts_part flow.now }
     ensures room { vec_capacity buffer.old ≤ vec_capacity buffer.new }
 {

@@ -8,8 +8,8 @@ pub fn layout_is_one()
     ensures { IsOneLayout }
 {}
 
-/// The lengths that the field lists give: data records of 48 and of 72 octets, and a message of templates of 116
-/// octets, 100 of them in its set.
+/// The lengths that the field lists give: those of data records, of the set of templates, and of the
+/// message that has it.
 pub fn lengths_are_fixed()
     ensures records { HasRecordLengths }
     ensures template_set { HasTemplateSetLength }

@@ -5,18 +5,15 @@ ghost use Rattle.std.specs.List.{list_all};
 ghost use Rattle.std.specs.Vec.{vec_capacity};
 ghost use Rattle.ipfix_writer.specs.Encoding.{message, template_message, template_record, field_specifier};
 ghost use Rattle.ipfix_writer.specs.Layout.{body_in, length_in};
+ghost use Rattle.ipfix_model.specs.Sizes.{template_message_length};
 
 use crate::body::{append_body, append_message_header};
 use crate::encode::Encode;
 use ipfix_model::{
-    ENTERPRISE_BIT, FieldSpec, TEMPLATE_SET, V4_FIELDS, V4_TEMPLATE, V6_FIELDS, V6_TEMPLATE,
+    ENTERPRISE_BIT, FieldSpec, TEMPLATE_MESSAGE_LENGTH, TEMPLATE_SET, TEMPLATE_SET_LENGTH,
+    V4_FIELDS, V4_TEMPLATE, V6_FIELDS, V6_TEMPLATE,
 };
 use octets::{append_u16, append_u32};
-
-/// The length of the set of templates in the first message, and of that message.
-const TEMPLATE_SET_LENGTH: u16 = 100;
-
-pub const TEMPLATE_MESSAGE_LENGTH: u16 = 116;
 
 /// Puts the message of these records, of this length, into the buffer.
 #[tactic(auto, unfolding(crate::specs::Encoding::message, crate::specs::Layout::length_in))]
@@ -87,7 +84,7 @@ pub fn append_template(buffer: &mut Vec<u8>, number: u16, fields: &[FieldSpec])
 
 /// Puts the message with the two templates into the buffer.
 pub fn encode_template_message(buffer: &mut Vec<u8>, export_time: u32)
-    requires { 116 ≤ vec_capacity buffer.old }
+    requires { template_message_length ≤ vec_capacity buffer.old }
     ensures items { buffer.new.items ≡ template_message export_time }
     ensures room { vec_capacity buffer.old ≤ vec_capacity buffer.new }
 {

@@ -4,10 +4,12 @@ ghost use Rattle.std.specs.Prelude.{◌≡◌, ◌≤◌, ◌<◌, ◌^◌, List
 ghost use Rattle.std.specs.Io.KnownBytes.{Appends};
 ghost use Rattle.meter_io.specs.Causes.{HasCause};
 ghost use Rattle.ipfix_writer.specs.Layout.{IsLayout, IsLayoutOf, BeginsLayout};
+ghost use Rattle.ipfix_model.specs.Sizes.{template_message_length};
 
 use crate::emitter::{Emitter, Phase};
-use crate::message::{TEMPLATE_MESSAGE_LENGTH, encode_template_message};
+use crate::message::encode_template_message;
 use crate::messages::append_messages;
+use ipfix_model::TEMPLATE_MESSAGE_LENGTH;
 use meter_io::{Failed, Sink};
 use no_memory::NoMemory;
 use record_ledger::{FlowRecord, RecordList};
@@ -53,7 +55,7 @@ pub fn layout(
     size: usize,
     export_time: u32,
 ) -> Result<Vec<u8>, NoMemory>
-    requires { (116 ≤ size) × (size < 2 ^ 16) }
+    requires { (template_message_length ≤ size) × (size < 2 ^ 16) }
     ensures { IfOk result (λ bytes. IsLayout size export_time records.now bytes.items) }
 {
     let mut stream = Vec::with_capacity(alloc, TEMPLATE_MESSAGE_LENGTH as usize)?;

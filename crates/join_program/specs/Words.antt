@@ -4,6 +4,7 @@ use Rattle.std.specs.Prelude.{length, take, drop, filter, Option, Some, None, co
 use Rattle.std.specs.List.{list_any}
 use Rattle.std.specs.Str.{bytes_eq}
 use Rattle.command_words.specs.Options.{Rule, values_of}
+use Rattle.ipfix_model.specs.Sizes.{template_message_length}
 
 -- One share of several: its number, counted from 1, and how many there are.
 pub record OneOf : Type 0 where
@@ -49,14 +50,14 @@ abbrev pub options : List Rule
 options =
     record { name = codes "idle"; low = 1; high = 86400; default = Some 300 }
     ∷ record { name = codes "active"; low = 1; high = 86400; default = Some 1800 }
-    ∷ record { name = codes "size"; low = 116; high = 65535; default = Some 1400 } ∷ []
+    ∷ record { name = codes "size"; low = template_message_length; high = 65535; default = Some 1400 } ∷ []
 
 -- Those with a share: both of its numbers must be given.
 abbrev pub share_options : List Rule
 share_options =
     record { name = codes "idle"; low = 1; high = 86400; default = Some 300 }
     ∷ record { name = codes "active"; low = 1; high = 86400; default = Some 1800 }
-    ∷ record { name = codes "size"; low = 116; high = 65535; default = Some 1400 }
+    ∷ record { name = codes "size"; low = template_message_length; high = 65535; default = Some 1400 }
     ∷ record { name = codes "part"; low = 1; high = 4096; default = None }
     ∷ record { name = codes "parts"; low = 1; high = 4096; default = None } ∷ []
 

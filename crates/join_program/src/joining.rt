@@ -6,6 +6,7 @@ ghost use Rattle.meter_io.specs.Sides.{side};
 ghost use Rattle.join_program.specs.Joined.{AreJoined, AreGathered, together, export_time};
 ghost use Rattle.join_program.specs.Taking.{IsTaken, share_of, asked_of, EmitMeans};
 ghost use Rattle.std.specs.Prelude.{ℕ};
+ghost use Rattle.ipfix_model.specs.Sizes.{template_message_length};
 
 use crate::settings::JoinSettings;
 use crate::status::JoinStatus;
@@ -61,7 +62,7 @@ pub(crate) fn write_records<K: Sink>(
     records: &RecordList,
     output: &mut K,
 ) -> JoinStatus
-    requires { (116 ≤ size) × (size ≤ 65535) }
+    requires { (template_message_length ≤ size) × (size ≤ 65535) }
     ensures { EmitMeans size (export_time clock) records.now (side K.held K.faults output.old output.new) result }
 {
     layout_law();

@@ -51,7 +51,8 @@ fn report_refusal<E: Sink>(
     stderr: &mut E,
 ) -> JoinStatus
     requires { place < length names.now }
-    ensures { RefusalMeans (map string_bytes names.now) place fault (side E.held E.faults stderr.old stderr.new) result }
+    ensures { RefusalMeans (map string_bytes names.now) place fault
+        (side E.held E.faults stderr.old stderr.new) result }
 {
     let name = names[place as usize].as_str();
     let Ok(line) = fault_line(alloc, name, &fault) else {

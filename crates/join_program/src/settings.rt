@@ -1,6 +1,7 @@
 //! The settings of a run.
 
 ghost use Rattle.std.specs.Prelude.{◌≤◌};
+ghost use Rattle.ipfix_model.specs.Sizes.{template_message_length};
 
 /// One share of several, to which the keys of records fall by their hash.
 #[derive(Clone, Copy, Debug, PartialEq, Eq)]
@@ -25,5 +26,5 @@ pub struct JoinSettings {
     pub share: Option<Share>,
     pub ghost idle_bounds: { (1 ≤ idle) × (idle ≤ 86400) },
     pub ghost active_bounds: { (1 ≤ active) × (active ≤ 86400) },
-    pub ghost size_bounds: { (116 ≤ size) × (size ≤ 65535) },
+    pub ghost size_bounds: { (template_message_length ≤ size) × (size ≤ 65535) },
 }

@@ -12,6 +12,7 @@ ghost use Rattle.join_program.specs.Taking.{asked_of};
 
 use crate::settings::{JoinSettings, Share};
 use command_words::{OptionRule, OptionsError, values_of};
+use ipfix_model::TEMPLATE_MESSAGE_LENGTH;
 use std::alloc::Global;
 
 const IDLE: OptionRule<'static> = OptionRule {
@@ -30,7 +31,7 @@ const ACTIVE: OptionRule<'static> = OptionRule {
 
 const SIZE: OptionRule<'static> = OptionRule {
     name: "size",
-    low: 116,
+    low: TEMPLATE_MESSAGE_LENGTH as u64,
     high: 65_535,
     default: Some(1400),
 };

@@ -4,6 +4,7 @@ use Rattle.std.specs.Str.{bytes_eq}
 use Rattle.command_words.specs.Options.{Rule, values_of}
 use Rattle.meter_program.specs.declared.words.Command.{Command}
 use Rattle.meter_program.specs.declared.words.Command.TheVariants.{Meter, Show, Make, Schedule, Selftest}
+use Rattle.ipfix_model.specs.Sizes.{template_message_length}
 
 -- An option by its name, its least and its greatest value, and its default; without one it must be given.
 abbrev pub option : List ℕ → ℕ → ℕ → Option ℕ → Rule
@@ -16,7 +17,7 @@ meter_options =
     ∷ (option (codes "workers") 1 64 (Some 1)
     ∷ (option (codes "sets") 1 65536 (Some 4096)
     ∷ (option (codes "piece") 1 65536 (Some 256)
-    ∷ (option (codes "size") 116 65535 (Some 1400)
+    ∷ (option (codes "size") template_message_length 65535 (Some 1400)
     ∷ [])))))
 
 abbrev pub make_options : List Rule

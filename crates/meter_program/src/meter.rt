@@ -9,6 +9,7 @@ ghost use Rattle.meter_io.specs.Causes.{HasCause};
 ghost use Rattle.meter_io.specs.Sides.{IsUntouched, HasTaken, HasBegun, side};
 ghost use Rattle.meter_program.specs.Seen.{seen_of};
 ghost use Rattle.meter_program.specs.Words.{meter};
+ghost use Rattle.ipfix_model.specs.Sizes.{template_message_length};
 
 use crate::metering::{Gathered, gathered_from};
 use crate::reports::summary;
@@ -39,7 +40,7 @@ fn export_time_of(clock: Option<u64>) -> u32
 ///
 /// `NoMemory` where that can't be had.
 pub fn emitter_for(alloc: Global, gathered: &Gathered, size: u32) -> Result<Emitter, NoMemory>
-    requires { (116 ≤ size) × (size ≤ 65535) }
+    requires { (template_message_length ≤ size) × (size ≤ 65535) }
     ensures fresh { IfOk result (λ emitter. emitter.phase ≡ Phase.Fresh) }
     ensures size { IfOk result (λ emitter. emitter.size ≡ size) }
     ensures time { IfOk result (λ emitter. emitter.export_time ≡ export_time gathered.now.tally.clock) }
@@ -85,7 +86,7 @@ pub fn write_stream<K: Sink, E: Sink>(
     output: &mut K,
     stderr: &mut E,
 ) -> Status
-    requires { (116 ≤ size) × (size ≤ 65535) }
+    requires { (template_message_length ≤ size) × (size ≤ 65535) }
     ensures { WriteMeans size gathered.now.records gathered.now.tally gathered.now.tail
         (side K.held K.faults output.old output.new)
         (side E.held E.faults stderr.old stderr.new) result }

@@ -1,6 +1,7 @@
 //! The settings of commands.
 
 ghost use Rattle.std.specs.Prelude.{◌≤◌};
+ghost use Rattle.ipfix_model.specs.Sizes.{template_message_length};
 
 /// The settings of the command `meter`.
 #[derive(Clone, Copy, Debug, PartialEq, Eq)]
@@ -22,7 +23,7 @@ pub struct Settings {
     pub ghost workers_bounds: { (1 ≤ workers) × (workers ≤ 64) },
     pub ghost sets_bounds: { (1 ≤ sets) × (sets ≤ 65536) },
     pub ghost piece_bounds: { (1 ≤ piece) × (piece ≤ 65536) },
-    pub ghost size_bounds: { (116 ≤ size) × (size ≤ 65535) },
+    pub ghost size_bounds: { (template_message_length ≤ size) × (size ≤ 65535) },
 }
 
 /// The settings of the commands `make` and `selftest`.

@@ -8,6 +8,7 @@ ghost use Rattle.meter_program.specs.Words.{asked_with, asked_to_make, asked_by,
 
 use crate::settings::{Making, Settings};
 use command_words::{OptionRule, OptionsError, values_of};
+use ipfix_model::TEMPLATE_MESSAGE_LENGTH;
 use std::alloc::Global;
 
 /// A command, with its settings.
@@ -59,7 +60,7 @@ static METER: [OptionRule<'static>; 6] = [
     },
     OptionRule {
         name: "size",
-        low: 116,
+        low: TEMPLATE_MESSAGE_LENGTH as u64,
         high: 65_535,
         default: Some(1400),
     },

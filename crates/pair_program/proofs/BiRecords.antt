@@ -5,6 +5,8 @@ use Rattle.octets.specs.Numbers.{octets_of}
 use Rattle.record_ledger.specs.declared.record.FlowRecord.{FlowRecord}
 use Rattle.ipfix_model.specs.Templates.{v4_template, v4_fields, v6_template, v6_fields, v4_bi_template, v4_bi_fields}
 use Rattle.ipfix_model.specs.Templates.{v6_bi_template, v6_bi_fields}
+use Rattle.ipfix_model.specs.Sizes.{counts_length, v6_bi_record_length, template_record_length, bi_template_set_length}
+use Rattle.ipfix_model.specs.Sizes.{bi_template_message_length}
 use Rattle.ipfix_writer.specs.Encoding.{message_header, message, set, template_record, field_specifier, data_record}
 use Rattle.ipfix_writer.specs.DataParts.{counts_part}
 use Rattle.ipfix_writer.specs.Layout.{length_in}
@@ -34,9 +36,9 @@ pub bi_record-parts : (forward reverse : FlowRecord)
     → bi_record forward reverse ≡ data_record forward ++ counts_part reverse
 bi_record-parts forward reverse = parts-if forward reverse (is_v4 forward) refl
 
--- so it is 35 octets longer
+-- so it is longer by these
 pub length-bi_record : (forward reverse : FlowRecord)
-    → length (bi_record forward reverse) ≡ length (data_record forward) + 35
+    → length (bi_record forward reverse) ≡ length (data_record forward) + counts_length
 length-bi_record forward reverse =
     ap length (bi_record-parts forward reverse) ∙ length-append (data_record forward) (counts_part reverse)
     ∙ ap (λ n. length (data_record forward) + n) (length-counts_part reverse)
@@ -48,13 +50,14 @@ forward_within forward None = omega arith
 forward_within forward (Some reverse) = omega (arith, length-bi_record forward reverse)
 
 -- a message of one biflow fits
-length_by-bound : (both v4 : Bool) → length_by both v4 ≤ 107
+length_by-bound : (both v4 : Bool) → length_by both v4 ≤ v6_bi_record_length
 length_by-bound true true = omega arith
 length_by-bound true false = omega arith
 length_by-bound false true = omega arith
 length_by-bound false false = omega arith
 
-pub biflow-fits : (size : ℕ) (pair : Biflow) → 308 ≤ size → length_in encode_biflow (pair ∷ []) ≤ size
+pub biflow-fits : (size : ℕ) (pair : Biflow) → bi_template_message_length ≤ size
+    → length_in encode_biflow (pair ∷ []) ≤ size
 biflow-fits size pair room =
     let one = length_in-one encode_biflow pair in
     let long = length-both pair.forward pair.reverse in
@@ -62,11 +65,11 @@ biflow-fits size pair room =
     omega arith
 
 -- the lengths of the template records
-pub length-v4_record : length (template_record v4_template v4_fields) ≡ 48
+pub length-v4_record : length (template_record v4_template v4_fields) ≡ template_record_length
 unfolding template_record field_specifier
 length-v4_record = refl
 
-pub length-v6_record : length (template_record v6_template v6_fields) ≡ 48
+pub length-v6_record : length (template_record v6_template v6_fields) ≡ template_record_length
 unfolding template_record field_specifier
 length-v6_record = refl
 
@@ -82,7 +85,8 @@ pub length-bi_template_records : length bi_template_records ≡ 288
 unfolding template_record field_specifier
 length-bi_template_records = refl
 
-pub length-bi_template_message : (export_time : ℕ) → length (bi_template_message export_time) ≡ 308
+pub length-bi_template_message : (export_time : ℕ) → length (bi_template_message export_time)
+    ≡ bi_template_message_length
 unfolding bi_template_message
 length-bi_template_message export_time =
     length-message export_time 0 (set 2 bi_template_records)
@@ -90,18 +94,19 @@ length-bi_template_message export_time =
 
 -- the first message, written part by part
 pub bi_template_message-is : (export_time : ℕ)
-    → bi_template_message export_time ≡ message_header 308 export_time 0
-    ++ (octets_of 2 2 ++ (octets_of 2 292 ++ bi_template_records))
+    → bi_template_message export_time ≡ message_header bi_template_message_length export_time 0
+    ++ (octets_of 2 2 ++ (octets_of 2 bi_template_set_length ++ bi_template_records))
 unfolding bi_template_message message set
 bi_template_message-is export_time =
     ap (λ n. message_header (16 + n) export_time 0 ++ set 2 bi_template_records)
     (length-set 2 bi_template_records ∙ ap (λ n. 4 + n) length-bi_template_records)
-    ∙ ap (λ n. message_header 308 export_time 0 ++ (octets_of 2 2 ++ (octets_of 2 (4 + n) ++ bi_template_records)))
+    ∙ ap (λ n. message_header bi_template_message_length export_time 0
+        ++ (octets_of 2 2 ++ (octets_of 2 (4 + n) ++ bi_template_records)))
     length-bi_template_records
 
 pub bi_template_message-written : (export_time : ℕ) (empty header number size one two three all : List ℕ) → empty ≡ []
-    → header ≡ empty ++ message_header 308 export_time 0 → number ≡ header ++ octets_of 2 2
-    → size ≡ number ++ octets_of 2 292
+    → header ≡ empty ++ message_header bi_template_message_length export_time 0 → number ≡ header ++ octets_of 2 2
+    → size ≡ number ++ octets_of 2 bi_template_set_length
     → one ≡ size ++ template_record v4_template v4_fields → two ≡ one ++ template_record v6_template v6_fields
     → three ≡ two ++ template_record v4_bi_template v4_bi_fields
     → all ≡ three ++ template_record v6_bi_template v6_bi_fields
@@ -111,12 +116,12 @@ bi_template_message-written export_time empty header number size one two three a
 
 -- a template record at the end makes a list longer by its length
 pub longer_by-v4 : (old new : List ℕ) → new ≡ old ++ template_record v4_template v4_fields
-    → length new ≡ length old + 48
+    → length new ≡ length old + template_record_length
 longer_by-v4 old new is =
     ap length is ∙ length-append old (template_record v4_template v4_fields) ∙ ap (λ k. length old + k) length-v4_record
 
 pub longer_by-v6 : (old new : List ℕ) → new ≡ old ++ template_record v6_template v6_fields
-    → length new ≡ length old + 48
+    → length new ≡ length old + template_record_length
 longer_by-v6 old new is =
     ap length is ∙ length-append old (template_record v6_template v6_fields) ∙ ap (λ k. length old + k) length-v6_record
 

@@ -15,6 +15,7 @@ use Rattle.ipfix_model.specs.Templates.{iana_field, reverse_field, reverse_field
 use Rattle.ipfix_model.specs.Templates.{v6_fields, template_of, fields_of as template_fields_of, v4_bi_template}
 use Rattle.ipfix_model.specs.Templates.{v4_bi_fields, v6_bi_template, v6_bi_fields, bi_template_of, bi_fields_of}
 use Rattle.ipfix_model.specs.Values.{field_value, bi_field_value}
+use Rattle.ipfix_model.specs.Sizes.{template_message_length, bi_template_message_length}
 use Rattle.ipfix_writer.specs.Encoding.{template_record, field_specifier, data_record}
 use Rattle.ipfix_reader.specs.Part.{Part}
 use Rattle.ipfix_reader.specs.Known.{Templates, fields_in as known_fields, with_template}
@@ -50,7 +51,7 @@ templates-read =
     let fourth : Part = record { at = 212; bytes = template_record v6_bi_template v6_bi_fields } in
     let third : Part =
     record {
-      at = 116;
+      at = template_message_length;
       bytes = template_record v4_bi_template v4_bi_fields
           ++ template_record v6_bi_template v6_bi_fields;
     } in
@@ -68,8 +69,8 @@ templates-read =
     (record { fields = v4_bi_fields; rest = fourth }) (omega arith) refl
     ∙ template_records-next false 1 (((1, v4_template), v4_fields) ∷ ((1, v6_template), v6_fields)
     ∷ ((1, v4_bi_template), v4_bi_fields) ∷ []) fourth
-    (record { fields = v6_bi_fields; rest = record { at = 308; bytes = [] } }) (omega arith) refl
-    ∙ template_records-end false 1 known (record { at = 308; bytes = [] }) (omega arith)
+    (record { fields = v6_bi_fields; rest = record { at = bi_template_message_length; bytes = [] } }) (omega arith) refl
+    ∙ template_records-end false 1 known (record { at = bi_template_message_length; bytes = [] }) (omega arith)
 
 -- the facts on the templates
 abbrev template_for : Bool → Bool → ℕ

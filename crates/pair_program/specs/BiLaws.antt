@@ -6,6 +6,7 @@ use Rattle.pair_program.specs.declared.biflow.Biflow.{Biflow}
 use Rattle.pair_program.specs.Pairs.{ArePairs}
 use Rattle.pair_program.specs.BiLayout.{IsBiLayout, bi_template_records, bi_template_message}
 use Rattle.pair_program.specs.BiFlows.{reverse_of, biflows_of}
+use Rattle.ipfix_model.specs.Sizes.{bi_template_set_length, bi_template_message_length}
 
 -- A reverse flow has the reverse key.
 abbrev pub IsReverseOf : FlowRecord → Option FlowRecord → Type 0
@@ -30,9 +31,9 @@ abbrev pub IsOneBiLayout : Type 0
 IsOneBiLayout = (size export_time : ℕ) (pairs : List Biflow) (one other : List ℕ)
     → IsBiLayout size export_time pairs one → IsBiLayout size export_time pairs other → one ≡ other
 
--- The set of templates has 292 bytes, its header among them, and the message that has it 308.
+-- The length of the set of templates, its header among it, and of the message that has it.
 abbrev pub HasTemplateSetLength : Type 0
-HasTemplateSetLength = 4 + length bi_template_records ≡ 292
+HasTemplateSetLength = 4 + length bi_template_records ≡ bi_template_set_length
 
 abbrev pub HasTemplateMessageLength : Type 0
-HasTemplateMessageLength = (export_time : ℕ) → length (bi_template_message export_time) ≡ 308
+HasTemplateMessageLength = (export_time : ℕ) → length (bi_template_message export_time) ≡ bi_template_message_length

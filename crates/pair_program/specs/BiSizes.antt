@@ -6,6 +6,7 @@ use Rattle.ipfix_model.specs.Fields.{record_length}
 use Rattle.ipfix_model.specs.Templates.{v4_template, v4_fields, v6_template, v6_fields, template_of, v4_bi_template}
 use Rattle.ipfix_model.specs.Templates.{v4_bi_fields, v6_bi_template, v6_bi_fields, bi_template_of, bi_fields_of}
 use Rattle.ipfix_model.specs.Values.{bi_field_value}
+use Rattle.ipfix_model.specs.Sizes.{v4_record_length, v6_record_length, v4_bi_record_length, v6_bi_record_length}
 use Rattle.ipfix_writer.specs.DataSizes.{length-record_bytes, length-data_record}
 use Rattle.pair_program.specs.declared.biflow.Biflow.{Biflow}
 use Rattle.pair_program.specs.BiLayout.{bi_record, encode_both, encode_biflow}
@@ -16,7 +17,8 @@ template_by both v4 = if both then (if v4 then v4_bi_template else v6_bi_templat
     else (if v4 then v4_template else v6_template)
 
 abbrev pub length_by : Bool → Bool → ℕ
-length_by both v4 = if both then (if v4 then 83 else 107) else (if v4 then 48 else 72)
+length_by both v4 = if both then (if v4 then v4_bi_record_length else v6_bi_record_length) else
+    (if v4 then v4_record_length else v6_record_length)
 
 sized_by : (both v4 both' v4' : Bool) → template_by both v4 ≡ template_by both' v4'
     → length_by both v4 ≡ length_by both' v4'
@@ -45,11 +47,13 @@ has_reverse (Some reverse) = true
 abbrev pub is_v4 : FlowRecord → Bool
 is_v4 flow = flow.part.key.version == 4
 
-flow_length : (v4 : Bool) → record_length (if v4 then v4_fields else v6_fields) ≡ (if v4 then 48 else 72)
+flow_length : (v4 : Bool) → record_length (if v4 then v4_fields else v6_fields)
+    ≡ (if v4 then v4_record_length else v6_record_length)
 flow_length true = refl
 flow_length false = refl
 
-bi_length : (v4 : Bool) → record_length (if v4 then v4_bi_fields else v6_bi_fields) ≡ (if v4 then 83 else 107)
+bi_length : (v4 : Bool) → record_length (if v4 then v4_bi_fields else v6_bi_fields)
+    ≡ (if v4 then v4_bi_record_length else v6_bi_record_length)
 bi_length true = refl
 bi_length false = refl
 

@@ -3,6 +3,7 @@ use Rattle.std.specs.Prelude.{ℕ, if◌then◌else◌, List, [], ◌∷◌, Opt
 use Rattle.std.specs.Str.{bytes_eq}
 use Rattle.command_words.specs.Options.{Rule, values_of}
 use Rattle.pair_program.specs.declared.settings.PairSettings.{PairSettings}
+use Rattle.ipfix_model.specs.Sizes.{bi_template_message_length}
 
 -- To pair with an idle time-out in seconds and a message size in octets.
 pub record Asked : Type 0 where
@@ -16,7 +17,7 @@ asked_of settings = record { idle = settings.idle; size = settings.size }
 abbrev pub options : List Rule
 options =
     record { name = codes "idle"; low = 1; high = 86400; default = Some 300 }
-    ∷ record { name = codes "size"; low = 308; high = 65535; default = Some 1400 } ∷ []
+    ∷ record { name = codes "size"; low = bi_template_message_length; high = 65535; default = Some 1400 } ∷ []
 
 -- What the values of the options ask for.
 abbrev pub asked_with : List ℕ → Option Asked

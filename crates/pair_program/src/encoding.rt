@@ -3,11 +3,12 @@
 ghost use Rattle.std.specs.Prelude.{◌≡◌, ◌≤◌, ◌<◌, ◌^◌, ◌++◌, [], IfOk, length};
 ghost use Rattle.std.specs.Vec.{vec_capacity};
 ghost use Rattle.pair_program.specs.BiLayout.{bi_template_message, IsBiLayout};
+ghost use Rattle.ipfix_model.specs.Sizes.{bi_template_message_length};
 
 use crate::biflow::Biflow;
 use ipfix_model::{
-    TEMPLATE_SET, V4_BI_FIELDS, V4_BI_TEMPLATE, V4_FIELDS, V4_TEMPLATE, V6_BI_FIELDS,
-    V6_BI_TEMPLATE, V6_FIELDS, V6_TEMPLATE,
+    BI_TEMPLATE_MESSAGE_LENGTH, BI_TEMPLATE_SET_LENGTH, COUNTS_LENGTH, TEMPLATE_SET, V4_BI_FIELDS,
+    V4_BI_TEMPLATE, V4_FIELDS, V4_TEMPLATE, V6_BI_FIELDS, V6_BI_TEMPLATE, V6_FIELDS, V6_TEMPLATE,
 };
 use ipfix_writer::{
     Encode, append_counts, append_message_header, append_messages, append_template,
@@ -15,14 +16,6 @@ use ipfix_writer::{
 use no_memory::NoMemory;
 use octets::append_u16;
 use std::alloc::Global;
-
-/// The length of the set of templates in the first message, and of that message, in octets.
-const TEMPLATE_SET_LENGTH: u16 = 292;
-
-const TEMPLATE_MESSAGE_LENGTH: u16 = 308;
-
-/// The length of what a record has of the reverse flow, in octets.
-const REVERSE_LENGTH: usize = 35;
 
 impl Encode for Biflow {
     ghost use Rattle.pair_program.specs.BiLayout.{encode_biflow};
@@ -47,11 +40,11 @@ impl Encode for Biflow {
         }
     }
 
-    /// The octets of its data record: 48 or 72, and 35 more with a reverse flow.
+    /// The octets of its data record: those of a flow, and with a reverse flow those of its counts besides.
     fn size(&self) -> usize {
         match self.reverse {
             None => self.forward.size(),
-            Some(_) => self.forward.size() + REVERSE_LENGTH,
+            Some(_) => self.forward.size() + COUNTS_LENGTH,
         }
     }
 
@@ -68,12 +61,12 @@ impl Encode for Biflow {
 /// Appends the message with the four templates to an empty buffer.
 fn append_templates(buffer: &mut Vec<u8>, export_time: u32)
     requires empty { buffer.old.items ≡ [] }
-    requires room { 308 ≤ vec_capacity buffer.old }
+    requires room { bi_template_message_length ≤ vec_capacity buffer.old }
     ensures { buffer.new.items ≡ bi_template_message export_time }
 {
-    append_message_header(buffer, TEMPLATE_MESSAGE_LENGTH, export_time, 0);
+    append_message_header(buffer, BI_TEMPLATE_MESSAGE_LENGTH, export_time, 0);
     append_u16(buffer, TEMPLATE_SET);
-    append_u16(buffer, TEMPLATE_SET_LENGTH);
+    append_u16(buffer, BI_TEMPLATE_SET_LENGTH);
     append_template(buffer, V4_TEMPLATE, &V4_FIELDS);
     append_template(buffer, V6_TEMPLATE, &V6_FIELDS);
     append_template(buffer, V4_BI_TEMPLATE, &V4_BI_FIELDS);
@@ -87,7 +80,7 @@ fn append_templates(buffer: &mut Vec<u8>, export_time: u32)
 pub(crate) fn first_message(alloc: Global, export_time: u32) -> Result<Vec<u8>, NoMemory>
     ensures { IfOk result (λ first. first.items ≡ bi_template_message export_time) }
 {
-    let mut first = Vec::with_capacity(alloc, TEMPLATE_MESSAGE_LENGTH as usize)?;
+    let mut first = Vec::with_capacity(alloc, BI_TEMPLATE_MESSAGE_LENGTH as usize)?;
     append_templates(&mut first, export_time);
     Ok(first)
 }
@@ -102,7 +95,7 @@ pub fn bi_layout(
     size: usize,
     export_time: u32,
 ) -> Result<Vec<u8>, NoMemory>
-    requires { (308 ≤ size) × (size < 2 ^ 16) }
+    requires { (bi_template_message_length ≤ size) × (size < 2 ^ 16) }
     ensures { IfOk result (λ bytes. IsBiLayout size export_time pairs.now bytes.items) }
 {
     let mut stream = first_message(alloc, export_time)?;

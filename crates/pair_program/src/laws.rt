@@ -16,7 +16,7 @@ pub fn bi_layout_reads_back()
     ensures back { ReadsBack }
 {}
 
-/// The lengths that the field lists give: a message of templates of 308 octets, 292 of them in its set.
+/// The lengths that the field lists give: that of the set of templates, and of the message that has it.
 pub fn bi_lengths_are_fixed()
     ensures template_set { HasTemplateSetLength }
     ensures template_message { HasTemplateMessageLength }

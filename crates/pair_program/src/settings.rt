@@ -1,6 +1,7 @@
 //! The settings of a run.
 
 ghost use Rattle.std.specs.Prelude.{◌≤◌};
+ghost use Rattle.ipfix_model.specs.Sizes.{bi_template_message_length};
 
 /// What the words ask for.
 #[derive(Clone, Copy, Debug, PartialEq, Eq)]
@@ -10,5 +11,5 @@ pub struct PairSettings {
     /// The most octets of a message, from 308 to 65,535.
     pub size: u32,
     pub ghost idle_bounds: { (1 ≤ idle) × (idle ≤ 86400) },
-    pub ghost size_bounds: { (308 ≤ size) × (size ≤ 65535) },
+    pub ghost size_bounds: { (bi_template_message_length ≤ size) × (size ≤ 65535) },
 }

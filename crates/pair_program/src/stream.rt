@@ -4,6 +4,7 @@ ghost use Rattle.std.specs.Prelude.{◌≡◌, ◌≤◌, ◌<◌, ◌^◌, ℕ,
 ghost use Rattle.ipfix_reader.specs.Flows.{flows_of};
 ghost use Rattle.pair_program.specs.BiLayout.{IsBiLayout};
 ghost use Rattle.pair_program.specs.Pairing.{greatest_last, IsPaired, PairingFails};
+ghost use Rattle.ipfix_model.specs.Sizes.{bi_template_message_length};
 
 use crate::biflow::Biflow;
 use crate::encoding::bi_layout;
@@ -89,7 +90,7 @@ pub fn pair_stream(
     size: usize,
 ) -> Result<Vec<u8>, PairError>
     requires idle { idle ≤ 86400000 }
-    requires size { (308 ≤ size) × (size < 2 ^ 16) }
+    requires size { (bi_template_message_length ≤ size) × (size < 2 ^ 16) }
     ensures paired { IfOk result (λ written. IsPaired idle size stream.items written.items) }
     ensures cause { IfErr result (PairingFails stream.items) }
 {

@@ -7,6 +7,7 @@ ghost use Rattle.pair_program.specs.Words.{asked_of, asked_with, asked_by, optio
 
 use crate::settings::PairSettings;
 use command_words::{OptionRule, OptionsError, values_of};
+use ipfix_model::BI_TEMPLATE_MESSAGE_LENGTH;
 use std::alloc::Global;
 
 /// The options of the command.
@@ -19,7 +20,7 @@ static OPTIONS: [OptionRule<'static>; 2] = [
     },
     OptionRule {
         name: "size",
-        low: 308,
+        low: BI_TEMPLATE_MESSAGE_LENGTH as u64,
         high: 65_535,
         default: Some(1400),
     },

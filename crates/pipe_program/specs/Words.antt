@@ -4,6 +4,7 @@ use Rattle.std.specs.Str.{bytes_eq}
 use Rattle.command_words.specs.Options.{Rule, values_of}
 use Rattle.meter_program.specs.Words.{Asked, meter, option}
 use Rattle.pipe_program.specs.declared.settings.PipeSettings.{PipeSettings}
+use Rattle.ipfix_model.specs.Sizes.{template_message_length}
 
 abbrev pub pipe_options : List Rule
 pipe_options =
@@ -13,7 +14,7 @@ pipe_options =
     ∷ (option (codes "sets") 1 65536 (Some 4096)
     ∷ (option (codes "queue") 1 64 (Some 16)
     ∷ (option (codes "batch") 262184 4194304 (Some 1048576)
-    ∷ (option (codes "size") 116 65535 (Some 1400)
+    ∷ (option (codes "size") template_message_length 65535 (Some 1400)
     ∷ []))))))
 
 -- What a command line asks for: to meter with an idle time-out and an active time-out in seconds, by so many workers,

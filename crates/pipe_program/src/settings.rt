@@ -1,6 +1,7 @@
 //! The settings of a run.
 
 ghost use Rattle.std.specs.Prelude.{◌≤◌};
+ghost use Rattle.ipfix_model.specs.Sizes.{template_message_length};
 
 /// The settings that the words of a command line give.
 #[derive(Clone, Copy, Debug, PartialEq, Eq)]
@@ -25,5 +26,5 @@ pub struct PipeSettings {
     pub ghost sets_bounds: { (1 ≤ sets) × (sets ≤ 65536) },
     pub ghost queue_bounds: { (1 ≤ queue) × (queue ≤ 64) },
     pub ghost batch_bounds: { (262184 ≤ batch) × (batch ≤ 4194304) },
-    pub ghost size_bounds: { (116 ≤ size) × (size ≤ 65535) },
+    pub ghost size_bounds: { (template_message_length ≤ size) × (size ≤ 65535) },
 }

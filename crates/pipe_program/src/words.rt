@@ -6,6 +6,7 @@ ghost use Rattle.pipe_program.specs.Words.{piping_of, piping_by, piping_with};
 
 use crate::settings::PipeSettings;
 use command_words::{OptionRule, OptionsError, values_of};
+use ipfix_model::TEMPLATE_MESSAGE_LENGTH;
 use std::alloc::Global;
 
 /// The options of `pipe`.
@@ -48,7 +49,7 @@ static PIPE: [OptionRule<'static>; 7] = [
     },
     OptionRule {
         name: "size",
-        low: 116,
+        low: TEMPLATE_MESSAGE_LENGTH as u64,
         high: 65_535,
         default: Some(1400),
     },

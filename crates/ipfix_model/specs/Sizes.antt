@@ -1,0 +1,39 @@
+-- What the fields of the templates come to, in octets. Each number stands here once, for whoever writes or reads
+-- records; `ipfix_model::laws` says that the fields come to it.
+use Rattle.std.specs.Prelude.{ℕ}
+
+-- What a record of a flow has behind its key: flags, counts, times and end reason.
+abbrev pub counts_length : ℕ
+counts_length = 35
+
+-- A data record of a flow, over IPv4 and over IPv6.
+abbrev pub v4_record_length : ℕ
+v4_record_length = 48
+
+abbrev pub v6_record_length : ℕ
+v6_record_length = 72
+
+-- A data record of a biflow.
+abbrev pub v4_bi_record_length : ℕ
+v4_bi_record_length = 83
+
+abbrev pub v6_bi_record_length : ℕ
+v6_bi_record_length = 107
+
+-- A template record of a flow, and the set of both of these, with its header.
+abbrev pub template_record_length : ℕ
+template_record_length = 48
+
+abbrev pub template_set_length : ℕ
+template_set_length = 100
+
+-- The message that has the templates of flows: no message of a stream is held to fewer octets.
+abbrev pub template_message_length : ℕ
+template_message_length = 116
+
+-- The set and the message that have the templates of biflows besides.
+abbrev pub bi_template_set_length : ℕ
+bi_template_set_length = 292
+
+abbrev pub bi_template_message_length : ℕ
+bi_template_message_length = 308
