@@ -27,7 +27,7 @@ pub use Rattle.front_cache.specs.Fronts.{open_in}
 pub use Rattle.meter_io.specs.Sides.{side}
 pub use Rattle.meter_workers.specs.Batched.{HasHandedOn, StandsBefore}
 pub use Rattle.meter_workers.specs.Shares.{IsShareOf, put_by, HasMetered}
-pub use Rattle.meter_workers.specs.Whole.{HasMetered}
+pub use Rattle.meter_workers.specs.Whole.{HaveMetered}
 pub use Rattle.meter_workers.specs.declared.share.Share.{Share}
 pub use Rattle.meter_workers.specs.declared.together.CaptureMetered.{CaptureMetered}
 pub use Rattle.work_pieces.specs.declared.worker.WorkState.TheVariants.{Finished}

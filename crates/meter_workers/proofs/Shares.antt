@@ -2,7 +2,7 @@
 use Rattle.meter_workers.proofs.Common.{◌≡◌, ℕ, ◌+◌, ◌<◌, ◌≤◌, ◌^◌, List, [], ◌∷◌, ◌++◌, Some, sym, ap, ◌∙◌, subst}
 use Rattle.meter_workers.proofs.Common.{arith, append-nil, length-append, IfOk, IsPermutation, IsPermutation-refl}
 use Rattle.meter_workers.proofs.Common.{IsPermutation-append_comm, packets_in, Fragment, SharesOut, IsTallyOf, Ghosts}
-use Rattle.meter_workers.proofs.Common.{open_in, Answer, Share, CaptureMetered, IsShareOf, put_by, HasMetered, All-nil}
+use Rattle.meter_workers.proofs.Common.{open_in, Answer, Share, CaptureMetered, IsShareOf, put_by, HaveMetered, All-nil}
 use Rattle.meter_workers.proofs.Common.{All-cons, All-append}
 use Rattle.std.proofs.lemmas.List.Sorted.{All-permutation}
 use Rattle.std.proofs.Common.{None}
@@ -150,7 +150,7 @@ module _ {X P : Type 0} (the : Ghosts X P) (cache : X) where
       → IsUnited (the.shown one.pass) (the.shown other.pass) (the.shown both.pass) → the.is_of cache both.pass
       → both.parts ≡ one.parts ++ other.parts
       → ((a b : List Answer) → IsTallyOf one.tally a → IsTallyOf other.tally b → IsTallyOf both.tally (a ++ b))
-      → HasMetered the cache done one → HasMetered the cache rest other → HasMetered the cache (done ++ rest) both
+      → HaveMetered the cache done one → HaveMetered the cache rest other → HaveMetered the cache (done ++ rest) both
   united done rest one other both stands is own parts joins first second =
       let packets = sym (packets_together done rest) in
       let tallied = joins done rest first.tallied second.tallied in
@@ -174,7 +174,7 @@ module _ {X P : Type 0} (the : Ghosts X P) (cache : X) where
   -- the order of the answers plays no part
   pub permuted : (answers others : List Answer) (all : CaptureMetered X P) → StandsPermuted
       → ((t : Tally) (a b : List Answer) → IsPermutation a b → IsTallyOf t a → IsTallyOf t b)
-      → IsPermutation answers others → HasMetered the cache answers all → HasMetered the cache others all
+      → IsPermutation answers others → HaveMetered the cache answers all → HaveMetered the cache others all
   permuted answers others all stands order perm metered =
       let packets = packets_permuted answers others perm in
       let put = (the.shown all.pass).note.taken in

@@ -16,7 +16,7 @@ use Rattle.meter_workers.specs.declared.together.CaptureMetered.{CaptureMetered}
 
 -- The seats together metered these answers: what was put into the cache shares out their packets, the list is just what
 -- the pass was handed, and the tally is theirs. `the` is what the type of the cache means.
-pub record HasMetered {X P : Type 0} (the : Ghosts X P) (cache : X) (answers : List Answer)
+pub record HaveMetered {X P : Type 0} (the : Ghosts X P) (cache : X) (answers : List Answer)
     (all : CaptureMetered X P) : Type 0 where
   pub own : the.is_of cache all.pass
   pub some : 0 < (the.shown all.pass).note.seats

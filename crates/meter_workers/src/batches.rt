@@ -15,7 +15,7 @@ ghost use Rattle.batch_queue.specs.Passes.{IsPassOf, IsMore, StandsForAll, put_o
 ghost use Rattle.batch_queue.specs.declared.batch.Batch.{Batch};
 ghost use Rattle.meter_workers.specs.Shares.{IsShareOf, HasMetered};
 ghost use Rattle.meter_workers.specs.Batched.{IsToTake, HasTakenAll, HasHandedOn, HasReadAll, IsAtQueue};
-ghost use Rattle.meter_workers.specs.Whole.{HasMetered, IsMeteredWhole};
+ghost use Rattle.meter_workers.specs.Whole.{HaveMetered, IsMeteredWhole};
 
 use crate::gate::Gate;
 use crate::share::{Share, meter_run, open_shares};
@@ -463,7 +463,7 @@ fn close_crew<C: FlowCache, G: Gate, R: Wait>(
         × ((C.shown r.pass).note.seats ≡ length crew.workers.items + 2)) }
     ensures metered { (answers : List Answer)
         → HasHandedOn C.FlowCache cache.now crew.shared.queue crew.shared.workers answers crew.reader
-        → IfOk result (HasMetered C.FlowCache cache.now answers) }
+        → IfOk result (HaveMetered C.FlowCache cache.now answers) }
     ensures tail { IfOk result (λ r. r.tail ≡ tail) }
 {
     let Crew {

@@ -4,7 +4,7 @@ ghost use Rattle.std.specs.Prelude.{◌≡◌, ◌+◌, ◌++◌, ◌<◌, ◌�
 ghost use Rattle.capture_input.specs.Parts.{Answer};
 ghost use Rattle.work_pieces.specs.Doing.{HaveDone};
 ghost use Rattle.meter_workers.specs.Shares.{IsShareOf};
-ghost use Rattle.meter_workers.specs.Whole.{HasMetered};
+ghost use Rattle.meter_workers.specs.Whole.{HaveMetered};
 
 use crate::share::{Share, empty_front};
 use cache_face::FlowCache;
@@ -31,7 +31,7 @@ fn finish<C: FlowCache>(
 ) -> Result<CaptureMetered<C>, NoMemory>
     requires share { (done : List Answer) × IsShareOf C.FlowCache cache.now done share }
     ensures metered { (done : List Answer) → IsShareOf C.FlowCache cache.now done share
-        → IfOk result (HasMetered C.FlowCache cache.now done) }
+        → IfOk result (HaveMetered C.FlowCache cache.now done) }
     ensures seats { IfOk result (λ r. (C.shown r.pass).note.seats ≡ 1) }
     ensures tail { IfOk result (λ r. r.tail ≡ tail) }
 {
@@ -58,10 +58,10 @@ fn unite<C: FlowCache>(
     other: CaptureMetered<C>,
 ) -> Result<CaptureMetered<C>, NoMemory>
     requires seats { (C.shown one.pass).note.seats + (C.shown other.pass).note.seats ≤ 64 }
-    requires metered { (done rest : List Answer) × HasMetered C.FlowCache cache.now done one
-        × HasMetered C.FlowCache cache.now rest other }
-    ensures metered { (done rest : List Answer) → HasMetered C.FlowCache cache.now done one
-        → HasMetered C.FlowCache cache.now rest other → IfOk result (HasMetered C.FlowCache cache.now (done ++ rest)) }
+    requires metered { (done rest : List Answer) × HaveMetered C.FlowCache cache.now done one
+        × HaveMetered C.FlowCache cache.now rest other }
+    ensures metered { (done rest : List Answer) → HaveMetered C.FlowCache cache.now done one
+        → HaveMetered C.FlowCache cache.now rest other → IfOk result (HaveMetered C.FlowCache cache.now (done ++ rest)) }
     ensures seats { IfOk result (λ r. (C.shown r.pass).note.seats
         ≡ (C.shown one.pass).note.seats + (C.shown other.pass).note.seats) }
     ensures tail { IfOk result (λ r. r.tail ≡ one.tail) }
@@ -88,7 +88,7 @@ pub(crate) fn unite_shares<C: FlowCache>(
     requires many { (0 < length shares.items) × (length shares.items ≤ 64) }
     requires metered { (answers : List Answer) × HaveDone (IsShareOf C.FlowCache cache.now) answers shares.items }
     ensures metered { (answers : List Answer) → HaveDone (IsShareOf C.FlowCache cache.now) answers shares.items
-        → IfOk result (HasMetered C.FlowCache cache.now answers) }
+        → IfOk result (HaveMetered C.FlowCache cache.now answers) }
     ensures own { IfOk result (λ r. C.is_of cache.now r.pass × ((C.shown r.pass).note.seats ≡ length shares.items)) }
     ensures tail { IfOk result (λ r. r.tail ≡ tail) }
 {

@@ -1,6 +1,6 @@
 use Rattle.meter_workers.proofs.Common.{◌≡◌, ◌+◌, ◌++◌, List, [], length, ap, ◌∙◌, rules, arith}
 use Rattle.meter_workers.proofs.Common.{IsPermutation, IsPermutation-trans, IsPermutation-append_left, Answer, HaveDone}
-use Rattle.meter_workers.proofs.Common.{IsShareOf, HasMetered}
+use Rattle.meter_workers.proofs.Common.{IsShareOf, HaveMetered}
 use Rattle.std.proofs.lemmas.List.Sorted.{IsPermutation-sym}
 use Rattle.work_pieces.proofs.Doing.{longer, popped, none-left, moved-back}
 use Rattle.meter_workers.proofs.Shares.{permuted}
@@ -32,8 +32,8 @@ parted : (g : given.Over) (c : In_ok-one g) (answers : List Answer)
     → HaveDone (IsShareOf g.C.FlowCache c.args.cache.now) answers c.args.shares.items
     → (rest done list : List Answer)
     × HaveDone (IsShareOf g.C.FlowCache c.args.cache.now) rest c.pop-in-loop-share.new.self.items
-    × HasMetered g.C.FlowCache c.args.cache.now done c.loop-share.all
-    × HasMetered g.C.FlowCache c.args.cache.now list c.in_ok-one.one
+    × HaveMetered g.C.FlowCache c.args.cache.now done c.loop-share.all
+    × HaveMetered g.C.FlowCache c.args.cache.now list c.in_ok-one.one
     × IsPermutation answers (rest ++ (done ++ list))
 parted g c answers have =
     let m = c.loop-share.invariant.metered answers have in

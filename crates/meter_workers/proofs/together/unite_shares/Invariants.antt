@@ -1,5 +1,5 @@
 use Rattle.meter_workers.proofs.Common.{◌≡◌, ◌+◌, ◌++◌, List, length, vec_len, IsPermutation, Answer, HaveDone}
-use Rattle.meter_workers.proofs.Common.{IsShareOf, HasMetered}
+use Rattle.meter_workers.proofs.Common.{IsShareOf, HaveMetered}
 use Rattle.meter_workers.proofs.together.unite_shares.Given as goal
 
 abbrev pub invariant-loop-share : goal.invariant-loop-share
@@ -8,7 +8,7 @@ invariant-loop-share g l = record {
   tail : l.all.tail ≡ l.tail;
   metered : (answers : List Answer) → HaveDone (IsShareOf g.C.FlowCache l.cache) answers l.fn.shares.items
       → (rest done : List Answer) × HaveDone (IsShareOf g.C.FlowCache l.cache) rest l.shares.items
-      × HasMetered g.C.FlowCache l.cache done l.all × IsPermutation answers (rest ++ done);
+      × HaveMetered g.C.FlowCache l.cache done l.all × IsPermutation answers (rest ++ done);
 }
 
 abbrev pub decreases-loop-share : goal.decreases-loop-share

@@ -1,5 +1,5 @@
 use Rattle.meter_workers.proofs.Common.{◌≤◌, [], length, arith, IfOk, IfOk-weaker, Answer, answers_by}
-use Rattle.meter_workers.proofs.Common.{HasMetered, nothing-done}
+use Rattle.meter_workers.proofs.Common.{HaveMetered, nothing-done}
 use Rattle.meter_workers.proofs.windows.meter_all.Given as given
 use Rattle.meter_workers.proofs.windows.meter_all.Goals as goal
 
@@ -13,7 +13,7 @@ unite_shares-requires-clause-metered g c κs within =
     (_, c.in_ok-shares-2.ensures.metered [] (nothing-done _ c.in_ok-shares.shares.items c.in_ok-shares.ensures.shares))
 
 metered : (g : given.Over) (c : goal.After-unite_shares g)
-    → IfOk c.unite_shares.result (HasMetered g.C.FlowCache c.args.cache.now (answers_by c.args.part.now))
+    → IfOk c.unite_shares.result (HaveMetered g.C.FlowCache c.args.cache.now (answers_by c.args.part.now))
 metered g c = c.unite_shares.ensures.metered _
     (c.in_ok-shares-2.ensures.metered [] (nothing-done _ c.in_ok-shares.shares.items c.in_ok-shares.ensures.shares))
 
