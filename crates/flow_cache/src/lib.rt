@@ -34,8 +34,7 @@
 //! shared out by the entries and the fragments that were handed out. [`PebrCache`] is a
 //! [`FlowCache`](cache_face::FlowCache): what `meter` answers is the choice over the four entries that the pass's
 //! history has (`specs/Reading.antt`), and each lost try is a step in this history. [`PebrCache::meter_stopping`] calls
-//! a [`Stop`] at each [`Point`] of a try, and has the same contract.
-//! `specs/Trying.antt` says how far a try is.
+//! a [`Stop`] at each [`Point`] of a try, and has the same contract. `specs/Trying.antt` says how far a try is.
 #![tactic(auto)]
 
 mod act;

@@ -57,8 +57,8 @@ EachSharesOut limits packets inputs = AllZip (λ own flows. SharesOut limits own
 
 -- The records are those of the inputs, joined. Whatever packets the records of the inputs share out, each input its
 -- own: the clock is that of all these packets; and the records are lawful, by this clock, for those of them whose keys
--- fall to the share.
--- Without shares they are lawful for all, and where nothing cuts the sessions of all, they are the records of these.
+-- fall to the share. Without shares they are lawful for all, and where nothing cuts the sessions of all, they are the
+-- records of these.
 pub record AreJoined (asked : Asked) (inputs : List (List FlowRecord)) (clock : Option ℕ)
     (records : List FlowRecord) : Type 0 where
   pub limits : Timeouts

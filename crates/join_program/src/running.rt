@@ -78,13 +78,11 @@ fn report_refusal<E: Sink>(
 ///
 /// - `Usage`: exactly where the words are no command. No file is opened.
 /// - `Refused`: exactly where something is wrong with a file, by the first such one. Standard error gets its line,
-///   `NAME: `
-///   and what is wrong. Of a file come, in this order, `ReadFault`: only where it couldn't be opened or a read failed,
-///   and the opener counted it; `TooLarge`: exactly where more bytes came than 2^32; `NotStream`: exactly where they
-///   have
-///   that fault; `NotFlows`: exactly where they have none, and the data record at that place is the first that is no
-///   flow
-///   record; `TooMany`: exactly where the records kept, with those of the files before it, have 2^64 packets or octets.
+///   `NAME: ` and what is wrong. Of a file come, in this order, `ReadFault`: only where it couldn't be opened or a read
+///   failed, and the opener counted it; `TooLarge`: exactly where more bytes came than 2^32; `NotStream`: exactly where
+///   they have that fault; `NotFlows`: exactly where they have none, and the data record at that place is the first
+///   that is no flow record; `TooMany`: exactly where the records kept, with those of the files before it, have 2^64
+///   packets or octets.
 /// - `WriteFault`: only where a write failed and the output counted it; it took a beginning of what it was to take.
 /// - `NoMemory`: out of memory, at any point before the first write.
 pub fn run_join<R: Threads + Sync, O: Opener, K: Sink, E: Sink>(

@@ -9,8 +9,7 @@
 //!    input is read in windows, and the workers meter each, all at once, before the next is read. Then the cache is
 //!    closed, and the fragments that it handed out and kept are gathered into records. `meter.rt` makes an emitter for
 //!    their stream, with all memory that writing takes. Up to here the run may refuse, and nothing was written. Then
-//!    the
-//!    stream goes out, in whole messages through a buffer, and the summary goes to standard error.
+//!    the stream goes out, in whole messages through a buffer, and the summary goes to standard error.
 //! 3. **`show`** (`show.rt`): the input is read to its end and decoded as a stream, whose data records become text
 //!    (`lines.rt`).
 //!    **`make`** (`make.rt`): a capture is made by a seed; nothing is read. **`schedule`** (`schedule.rt`): the input

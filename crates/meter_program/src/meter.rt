@@ -74,8 +74,7 @@ pub fn emit<K: Sink>(emitter: Emitter, gathered: &Gathered, sink: &mut K) -> Res
 ///
 /// - `Done`: the output took the stream, and standard error the summary.
 /// - `WriteFault`: only where a write failed and the output or standard error counted it. Both took a beginning of what
-///   they
-///   were to take, the output all of it where none of its own writes failed.
+///   they were to take, the output all of it where none of its own writes failed.
 /// - `NoMemory`: out of memory; nothing was written.
 ///
 /// No other status comes.

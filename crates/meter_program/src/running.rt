@@ -70,8 +70,7 @@ fn command<R: Threads + Sync, S: Source, K: Sink, E: Sink, M: Caches, G: Gate>(
 /// - `Usage`: exactly where the words are no command line. Nothing is read.
 /// - `WriteFault`: only where a write failed and the output or standard error counted it; in `selftest`, which leaves
 ///   standard error as it was, the output. Both took a beginning of what they were to take, the output all of it where
-///   none
-///   of its own writes failed.
+///   none of its own writes failed.
 /// - `NotCapture`, `LinkUnknown`, `Damaged`: `meter`, exactly where the bytes read are no capture, have another link
 ///   type than 1, 101 and 113, or a record that claims too much.
 /// - `NotStream`: `show`, exactly where the bytes read have that fault.

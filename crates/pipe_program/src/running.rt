@@ -39,8 +39,7 @@ use std::thread::Threads;
 /// - `ReadFault`: only where a read failed and the input counted it.
 /// - `Usage`: exactly where the words are no command line. Nothing is read.
 /// - `WriteFault`: only where a write failed and the output or standard error counted it. Both took a beginning of what
-///   they
-///   were to take, the output all of it where none of its own writes failed.
+///   they were to take, the output all of it where none of its own writes failed.
 /// - `NotCapture`, `LinkUnknown`, `Damaged`: exactly where the bytes read are no capture, have another link type than
 ///   1, 101 and 113, or a record that claims too much.
 /// - `TooLarge`: exactly where more bytes came than the limit.
