@@ -20,7 +20,7 @@ use flow_cache::{PebrCaches, PebrPass};
 use flow_key::FlowKey;
 use flow_parts::Timeouts;
 use meter_io::{Source, StdSource, read_all};
-use meter_workers::{CaptureMetered, OpenGate, Part, meter_all};
+use meter_workers::{CaptureMetered, Engine, OpenGate, Part, meter_all};
 use pcap_reader::{CAPTURE_LIMIT, Capture, RecordIndex};
 use std::alloc::Global;
 use std::process::ExitCode;
@@ -123,7 +123,12 @@ fn meter_bytes<R: Threads + Sync>(
         index,
         base: 0,
     };
-    meter_all(rt, alloc, &part, cache, passes, PIECE, &OpenGate).ok()
+    let engine = Engine {
+        rt,
+        alloc,
+        gate: &OpenGate,
+    };
+    meter_all(&engine, &part, cache, passes, PIECE).ok()
 }
 
 /// Meters, and asks for open flows at the seat of one more pass, at once.

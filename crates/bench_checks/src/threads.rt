@@ -8,7 +8,7 @@ use crate::counts::{Counts, counts_of};
 use cache_face::Caches;
 use flow_parts::Timeouts;
 use meter_io::{Source, StdSink, StdSource, read_all, write_all};
-use meter_workers::{OpenGate, Part, meter_all};
+use meter_workers::{Engine, OpenGate, Part, meter_all};
 use pcap_reader::{CAPTURE_LIMIT, Capture};
 use std::alloc::Global;
 use std::process::ExitCode;
@@ -28,7 +28,12 @@ fn is_whole<R: Threads + Sync>(rt: &R, alloc: Global, bytes: &[u8]) -> Option<bo
         index: &index,
         base: 0,
     };
-    let metered = meter_all(rt, alloc, &part, &cache, passes, 64, &OpenGate).ok()?;
+    let engine = Engine {
+        rt,
+        alloc,
+        gate: &OpenGate,
+    };
+    let metered = meter_all(&engine, &part, &cache, passes, 64).ok()?;
     let parts = caches
         .close(alloc, cache, metered.pass, metered.parts)
         .ok()?;

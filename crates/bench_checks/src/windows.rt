@@ -8,7 +8,7 @@ use cache_face::Caches;
 use capture_tally::Tally;
 use flow_parts::Timeouts;
 use meter_io::{Source, StdSource};
-use meter_workers::{OpenGate, Windows, meter_windows};
+use meter_workers::{Engine, OpenGate, Windows, meter_windows};
 use pcap_reader::CAPTURE_LIMIT;
 use std::alloc::Global;
 use std::process::ExitCode;
@@ -59,9 +59,13 @@ fn meter_source<R: Threads + Sync, S: Source>(
     let (cache, passes) = caches
         .open(alloc, setting.sets, setting.workers, limits)
         .ok()?;
-    let done = meter_windows(
+    let engine = Engine {
         rt,
         alloc,
+        gate: &OpenGate,
+    };
+    let done = meter_windows(
+        &engine,
         input,
         &cache,
         passes,
@@ -71,7 +75,6 @@ fn meter_source<R: Threads + Sync, S: Source>(
             piece: PIECE,
             front: Some(limits),
         },
-        &OpenGate,
     );
     let Ok(metered) = done else {
         return None;

@@ -19,7 +19,7 @@ use cache_face::Caches;
 use ipfix_law::layout_law;
 use ipfix_writer::{Emitter, Phase, emit_all};
 use meter_io::{Failed, Sink, Source};
-use meter_workers::Gate;
+use meter_workers::{Engine, Gate};
 use no_memory::NoMemory;
 use std::alloc::Global;
 use std::thread::Threads;
@@ -107,14 +107,12 @@ pub fn write_stream<K: Sink, E: Sink>(
 /// Reads a capture from the input to its end, meters it through a cache of `caches`, writes the records of its flows to
 /// the output, and the summary to standard error.
 pub fn meter<R: Threads + Sync, S: Source, K: Sink, E: Sink, M: Caches, G: Gate>(
-    rt: &R,
-    alloc: Global,
+    engine: &Engine<'_, R, G>,
     settings: &Settings,
     input: &mut S,
     output: &mut K,
     stderr: &mut E,
     caches: &mut M,
-    gate: &G,
 ) -> Status
     ensures { let seen = seen_of (side S.left S.faults input.old input.new) (side K.held K.faults output.old output.new)
         (side E.held E.faults stderr.old stderr.new) (M.metered caches.new)
@@ -122,8 +120,8 @@ pub fn meter<R: Threads + Sync, S: Source, K: Sink, E: Sink, M: Caches, G: Gate>
         settings.now.size)
         seen (IsUntouched seen.stderr) result }
 {
-    match gathered_from(rt, alloc, settings, input, caches, gate) {
-        Ok(gathered) => write_stream(alloc, &gathered, settings.size, output, stderr),
+    match gathered_from(engine, settings, input, caches) {
+        Ok(gathered) => write_stream(engine.alloc, &gathered, settings.size, output, stderr),
         Err(status) => status,
     }
 }

@@ -14,7 +14,7 @@ use capture_tally::Tally;
 use flow_parts::laws::sharing_out_counts;
 use flow_parts::{PartList, Timeouts};
 use meter_io::Source;
-use meter_workers::{Gate, Windows, meter_windows};
+use meter_workers::{Engine, Gate, Windows, meter_windows};
 use no_memory::NoMemory;
 use pcap_reader::CAPTURE_LIMIT;
 use record_ledger::{RecordList, gather};
@@ -43,13 +43,11 @@ pub struct Gathered {
 /// Meters the capture that the input gives through a cache, by all workers at once, and closes the cache. The fragments
 /// that it gave, and what is known of the capture.
 fn meter_input<R: Threads + Sync, S: Source, M: Caches, G: Gate>(
-    rt: &R,
-    alloc: Global,
+    engine: &Engine<'_, R, G>,
     settings: &Settings,
     limits: Timeouts,
     input: &mut S,
     caches: &mut M,
-    gate: &G,
 ) -> Result<(PartList, CaptureCount), Status>
     ensures kept { IfOk result
         (λ r. IsReadAndKept (side S.left S.faults input.old input.new) limits (M.metered caches.new) r.1.tally
@@ -57,10 +55,9 @@ fn meter_input<R: Threads + Sync, S: Source, M: Caches, G: Gate>(
     ensures given { IfOk result (λ r. r.0 ≡ M.metered caches.new) }
     ensures refused { IfErr result (λ status. MeterRefuses (side S.left S.faults input.old input.new) status) }
 {
-    let (cache, passes) = caches.open(alloc, settings.sets, settings.workers, limits)?;
+    let (cache, passes) = caches.open(engine.alloc, settings.sets, settings.workers, limits)?;
     let done = meter_windows(
-        rt,
-        alloc,
+        engine,
         input,
         &cache,
         passes,
@@ -70,9 +67,8 @@ fn meter_input<R: Threads + Sync, S: Source, M: Caches, G: Gate>(
             piece: settings.piece,
             front: Some(limits),
         },
-        gate,
     )?;
-    let parts = caches.close(alloc, cache, done.pass, done.parts)?;
+    let parts = caches.close(engine.alloc, cache, done.pass, done.parts)?;
     let counted = CaptureCount {
         tally: done.tally,
         tail: done.tail,
@@ -139,12 +135,10 @@ pub fn gathered_of<R: Threads + Sync>(
 
 /// The records of the capture that the input gives, metered through a cache of `caches`, or why there are none.
 pub fn gathered_from<R: Threads + Sync, S: Source, M: Caches, G: Gate>(
-    rt: &R,
-    alloc: Global,
+    engine: &Engine<'_, R, G>,
     settings: &Settings,
     input: &mut S,
     caches: &mut M,
-    gate: &G,
 ) -> Result<Gathered, Status>
     ensures records { IfOk result
         (λ g. IsReadAndGathered (side S.left S.faults input.old input.new) settings.now.idle settings.now.active
@@ -152,7 +146,8 @@ pub fn gathered_from<R: Threads + Sync, S: Source, M: Caches, G: Gate>(
     ensures refused { IfErr result (λ status. MeterRefuses (side S.left S.faults input.old input.new) status) }
 {
     let limits = Timeouts::new(settings.idle, settings.active);
-    let (parts, counted) = meter_input(rt, alloc, settings, limits, input, caches, gate)?;
+    let (parts, counted) = meter_input(engine, settings, limits, input, caches)?;
+    let (rt, alloc) = (engine.rt, engine.alloc);
     let gathered = gathered_of(rt, alloc, parts, limits, counted, settings.workers)?;
     Ok(gathered)
 }

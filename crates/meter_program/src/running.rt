@@ -19,31 +19,29 @@ use crate::words::{Command, command_of};
 use cache_face::Caches;
 use command_words::OptionsError;
 use meter_io::{Sink, Source};
-use meter_workers::Gate;
+use meter_workers::{Engine, Gate};
 use std::alloc::Global;
 use std::thread::Threads;
 
 /// Does what a command says.
 fn command<R: Threads + Sync, S: Source, K: Sink, E: Sink, M: Caches, G: Gate>(
-    rt: &R,
-    alloc: Global,
+    engine: &Engine<'_, R, G>,
     command: &Command,
     input: &mut S,
     output: &mut K,
     stderr: &mut E,
     caches: &mut M,
-    gate: &G,
 ) -> Status
     ensures { let seen = seen_of (side S.left S.faults input.old input.new) (side K.held K.faults output.old output.new)
         (side E.held E.faults stderr.old stderr.new) (M.metered caches.new)
         in Ends (asked_of command.now) seen (IsUntouched seen.stderr) result }
 {
     match command {
-        Command::Meter(settings) => meter(rt, alloc, settings, input, output, stderr, caches, gate),
-        Command::Show => show(alloc, input, output, stderr),
-        Command::Make(settings) => make(alloc, settings, output, stderr),
-        Command::Schedule => schedule(alloc, input, output, stderr),
-        Command::Selftest(settings) => selftest(rt, alloc, settings, output, caches, gate),
+        Command::Meter(settings) => meter(engine, settings, input, output, stderr, caches),
+        Command::Show => show(engine.alloc, input, output, stderr),
+        Command::Make(settings) => make(engine.alloc, settings, output, stderr),
+        Command::Schedule => schedule(engine.alloc, input, output, stderr),
+        Command::Selftest(settings) => selftest(engine, settings, output, caches),
     }
 }
 
@@ -104,10 +102,11 @@ pub fn run<R: Threads + Sync, S: Source, K: Sink, E: Sink, M: Caches, G: Gate>(
     ensures write_fault { result ≡ Status.WriteFault
         → Rose (K.faults output.old) (K.faults output.new) ⊎ Rose (E.faults stderr.old) (E.faults stderr.new) }
 {
+    let engine = Engine { rt, alloc, gate };
     let status = match command_of(alloc, words) {
         Err(OptionsError::NotOptions) => Status::Usage,
         Err(OptionsError::NoMemory) => Status::NoMemory,
-        Ok(asked) => command(rt, alloc, &asked, input, output, stderr, caches, gate),
+        Ok(asked) => command(&engine, &asked, input, output, stderr, caches),
     };
     if status.is_refusal() {
         // A refusal stays what it is where its line can't be written.

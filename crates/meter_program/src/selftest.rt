@@ -14,7 +14,7 @@ use crate::status::Status;
 use cache_face::Caches;
 use capture_maker::capture;
 use meter_io::{Failed, Sink, Source};
-use meter_workers::Gate;
+use meter_workers::{Engine, Gate};
 use std::alloc::Global;
 use std::thread::Threads;
 
@@ -71,31 +71,29 @@ fn four_workers() -> Settings
 /// Meters the capture of a seed in memory, through a cache of `caches`, and writes the summary to the output. It reads
 /// nothing and tells nothing; the stream goes nowhere, and its messages are counted.
 pub fn selftest<R: Threads + Sync, K: Sink, M: Caches, G: Gate>(
-    rt: &R,
-    alloc: Global,
+    engine: &Engine<'_, R, G>,
     settings: &Making,
     output: &mut K,
     caches: &mut M,
-    gate: &G,
 ) -> Status
     ensures { (input stderr : Side) → IsUntouched input → IsUntouched stderr → let seen =
         seen_of input (side K.held K.faults output.old output.new)
         stderr (M.metered caches.new)
         in Ends (selftest settings.now.seed settings.now.packets settings.now.keys) seen (IsUntouched stderr) result }
 {
-    let Ok(bytes) = capture(alloc, settings.seed, settings.packets, settings.keys) else {
+    let Ok(bytes) = capture(engine.alloc, settings.seed, settings.packets, settings.keys) else {
         return Status::NoMemory;
     };
     let settings = four_workers();
     let mut source = Made {
         left: bytes.as_slice(),
     };
-    let gathered = match gathered_from(rt, alloc, &settings, &mut source, caches, gate) {
+    let gathered = match gathered_from(engine, &settings, &mut source, caches) {
         Ok(gathered) => gathered,
         // Want of memory: a made capture is refused for nothing else.
         Err(status) => return status,
     };
-    let Ok(emitter) = emitter_for(alloc, &gathered, settings.size) else {
+    let Ok(emitter) = emitter_for(engine.alloc, &gathered, settings.size) else {
         return Status::NoMemory;
     };
     let messages = match emit(emitter, &gathered, &mut Nowhere) {

@@ -17,6 +17,7 @@ ghost use Rattle.meter_workers.specs.Shares.{IsShareOf, HasMetered};
 ghost use Rattle.meter_workers.specs.Batched.{IsToTake, HasTakenAll, HasHandedOn, HasReadAll, IsAtQueue};
 ghost use Rattle.meter_workers.specs.Whole.{HaveMetered, IsMeteredWhole};
 
+use crate::engine::Engine;
 use crate::gate::Gate;
 use crate::share::{Share, meter_run, open_shares};
 use crate::together::{CaptureMetered, unite_shares};
@@ -98,10 +99,9 @@ impl Shared {
 /// Takes batches and meters each, until it is told that no more come and none is left. The gate is told of each batch
 /// before. A seat that stands for all took all batches that were put then.
 fn work_batches<C: FlowCache, G: Gate, R: Wait>(
-    rt: &R,
+    engine: &Engine<'_, R, G>,
     shared: &Shared,
     cache: &C,
-    gate: &G,
     number: usize,
     seat: &mut QueuePass,
     share: &mut Share<C>,
@@ -115,14 +115,14 @@ fn work_batches<C: FlowCache, G: Gate, R: Wait>(
     ensures all { OnOk result (StandsForAll seat.new → IsPermutation (put_of seat.new) (took_of seat.new)) }
     ensures told { OnOk result (WasTold seat.new) }
 {
-    for _ in rt.forever() {
+    for _ in engine.rt.forever() {
         let ended = shared.queue.is_ended(seat);
-        match shared.queue.take(rt, seat) {
+        match shared.queue.take(engine.rt, seat) {
             Some(batch) => {
-                gate.reach(number, batch.number);
+                engine.gate.reach(number, batch.number);
                 let part = batch.part();
                 meter_run(cache, &part, 0, part.index.count(), share)?;
-                shared.give_back(rt, batch);
+                shared.give_back(engine.rt, batch);
             }
             None => {
                 if ended {
@@ -137,20 +137,18 @@ fn work_batches<C: FlowCache, G: Gate, R: Wait>(
 
 /// The same by a worker.
 fn work<C: FlowCache, G: Gate, R: Wait>(
-    rt: &R,
+    engine: &Engine<'_, R, G>,
     shared: &Shared,
     cache: &C,
-    gate: &G,
     worker: &mut Worker<Share<C>, QueuePass>,
 )
     requires ready { IsToTake C.FlowCache cache.now shared.now.queue worker.old }
     ensures worked { HasTakenAll C.FlowCache cache.now shared.now.queue worker.new }
 {
     let end = work_batches(
-        rt,
+        engine,
         shared,
         cache,
-        gate,
         worker.number,
         &mut worker.seat,
         &mut worker.share,
@@ -163,11 +161,9 @@ fn work<C: FlowCache, G: Gate, R: Wait>(
 
 /// All workers work at once. The workers, once they have worked; none are left where they stood.
 fn run_workers<C: FlowCache, G: Gate, R: Threads + Wait + Sync>(
-    rt: &R,
-    alloc: Global,
+    engine: &Engine<'_, R, G>,
     shared: &Shared,
     cache: &C,
-    gate: &G,
     workers: &mut Vec<Worker<Share<C>, QueuePass>>,
 ) -> Vec<Worker<Share<C>, QueuePass>>
     requires some { 0 < length workers.old.items }
@@ -175,6 +171,7 @@ fn run_workers<C: FlowCache, G: Gate, R: Threads + Wait + Sync>(
     ensures same { length result.items ≡ length workers.old.items }
     ensures worked { All (HasTakenAll C.FlowCache cache.now shared.now.queue) result.items }
 {
+    let Engine { rt, alloc, gate } = *engine;
     let mut crew = mem::replace(workers, Vec::new(alloc));
     let count = crew.len();
     thread::for_each_mut(
@@ -184,7 +181,7 @@ fn run_workers<C: FlowCache, G: Gate, R: Threads + Wait + Sync>(
         &|_, w: &mut Worker<Share<C>, QueuePass>|
             requires ready { IsToTake C.FlowCache cache.now shared.now.queue w.old }
             ensures worked { HasTakenAll C.FlowCache cache.entry.now shared.entry.now.queue w.new }
-        { work(rt, shared, cache, gate, w) },
+        { work(&Engine { rt, alloc, gate }, shared, cache, w) },
     );
     crew
 }
@@ -200,10 +197,9 @@ struct Reader<C: FlowCache> {
 /// Puts the reader's next batch into the queue. The reader meters it itself where the queue has no room, and the gate
 /// is told of it before.
 fn hand_over<C: FlowCache, G: Gate, R: Wait>(
-    rt: &R,
+    engine: &Engine<'_, R, G>,
     shared: &Shared,
     cache: &C,
-    gate: &G,
     reader: &mut Reader<C>,
     batch: Batch,
 ) -> Result<(), NoMemory>
@@ -218,13 +214,13 @@ fn hand_over<C: FlowCache, G: Gate, R: Wait>(
     ensures open { IsAtQueue shared.now.queue reader.new }
 {
     reader.next += 1;
-    match shared.queue.offer(rt, &mut reader.feed, batch) {
+    match shared.queue.offer(engine.rt, &mut reader.feed, batch) {
         Ok(()) => Ok(()),
         Err(back) => {
-            gate.reach(shared.workers, back.number);
+            engine.gate.reach(shared.workers, back.number);
             let part = back.part();
             meter_run(cache, &part, 0, part.index.count(), &mut reader.share)?;
-            shared.give_back(rt, back);
+            shared.give_back(engine.rt, back);
             Ok(())
         }
     }
@@ -232,11 +228,9 @@ fn hand_over<C: FlowCache, G: Gate, R: Wait>(
 
 /// Hands on the part that was read last, as one batch, where it has records.
 fn hand_part<C: FlowCache, G: Gate, R: Wait>(
-    rt: &R,
-    alloc: Global,
+    engine: &Engine<'_, R, G>,
     shared: &Shared,
     cache: &C,
-    gate: &G,
     reader: &mut Reader<C>,
     read: (Reading, RecordIndex),
 ) -> Result<(Reading, RecordIndex), NoMemory>
@@ -262,7 +256,7 @@ fn hand_part<C: FlowCache, G: Gate, R: Wait>(
     if index.count() == 0 {
         return Ok((reading, index));
     }
-    let memory = shared.memory(rt, alloc)?;
+    let memory = shared.memory(engine.rt, engine.alloc)?;
     let head = reading.head();
     let base = reading.base();
     let (bytes, reading) = reading.take_bytes(memory.bytes);
@@ -273,18 +267,16 @@ fn hand_part<C: FlowCache, G: Gate, R: Wait>(
         bytes,
         index,
     };
-    hand_over(rt, shared, cache, gate, reader, batch)?;
+    hand_over(engine, shared, cache, reader, batch)?;
     Ok((reading, memory.index))
 }
 
 /// Reads a capture to its end and hands on its records. How many bytes are left behind the last record.
 fn read_all<S: Source, C: FlowCache, G: Gate, R: Wait>(
-    rt: &R,
-    alloc: Global,
+    engine: &Engine<'_, R, G>,
     source: &mut S,
     shared: &Shared,
     cache: &C,
-    gate: &G,
     reader: &mut Reader<C>,
     limit: u64,
 ) -> Result<u64, MeterFault>
@@ -297,35 +289,25 @@ fn read_all<S: Source, C: FlowCache, G: Gate, R: Wait>(
     ensures faults { HasFaults (side S.left S.faults source.old source.new) result }
     ensures open { IsAtQueue shared.now.queue reader.new }
 {
-    let (mut reading, mut index) = Reading::begin(alloc, source, shared.size, limit)?;
+    let (mut reading, mut index) = Reading::begin(engine.alloc, source, shared.size, limit)?;
     loop {
-        (reading, index) = match hand_part(
-            rt,
-            alloc,
-            shared,
-            cache,
-            gate,
-            reader,
-            (reading, index),
-        ) {
+        (reading, index) = match hand_part(engine, shared, cache, reader, (reading, index)) {
             Ok(read) => read,
             Err(NoMemory) => return Err(MeterFault::NoMemory),
         };
         if reading.is_last() {
             return Ok(reading.tail());
         }
-        (reading, index) = reading.next(alloc, source, index)?;
+        (reading, index) = reading.next(engine.alloc, source, index)?;
     }
 }
 
 /// The same, and however it ends: it says then that no more batches come.
 fn read_and_end<S: Source, C: FlowCache, G: Gate, R: Wait>(
-    rt: &R,
-    alloc: Global,
+    engine: &Engine<'_, R, G>,
     source: &mut S,
     shared: &Shared,
     cache: &C,
-    gate: &G,
     reader: &mut Reader<C>,
     limit: u64,
 ) -> Result<u64, MeterFault>
@@ -338,19 +320,17 @@ fn read_and_end<S: Source, C: FlowCache, G: Gate, R: Wait>(
     ensures faults { HasFaults (side S.left S.faults source.old source.new) result }
     ensures said { WasTold (reader_of reader.new.feed) }
 {
-    let end = read_all(rt, alloc, source, shared, cache, gate, reader, limit);
+    let end = read_all(engine, source, shared, cache, reader, limit);
     shared.queue.end(&mut reader.feed);
     end
 }
 
 /// The reader and all workers at once. The workers, once they have worked, and how the reader ended.
 fn run_both<S: Source, C: FlowCache, G: Gate, R: Threads + Wait + Sync>(
-    rt: &R,
-    alloc: Global,
+    engine: &Engine<'_, R, G>,
     source: &mut S,
     shared: &Shared,
     cache: &C,
-    gate: &G,
     reader: &mut Reader<C>,
     mut workers: Vec<Worker<Share<C>, QueuePass>>,
     limit: u64,
@@ -368,6 +348,7 @@ fn run_both<S: Source, C: FlowCache, G: Gate, R: Threads + Wait + Sync>(
     ensures faults { HasFaults (side S.left S.faults source.old source.new) result.1 }
     ensures said { WasTold (reader_of reader.new.feed) }
 {
+    let Engine { rt, alloc, gate } = *engine;
     join_mut(
         rt,
         &mut move || -> Vec<Worker<Share<C>, QueuePass>>
@@ -376,7 +357,7 @@ fn run_both<S: Source, C: FlowCache, G: Gate, R: Threads + Wait + Sync>(
             requires ready { All (IsToTake C.FlowCache cache.now shared.now.queue) workers.items }
             ensures same { length result.items ≡ length workers.entry.items }
             ensures worked { All (HasTakenAll C.FlowCache cache.entry.now shared.entry.now.queue) result.items }
-        { run_workers(rt, alloc, shared, cache, gate, &mut workers) },
+        { run_workers(&Engine { rt, alloc, gate }, shared, cache, &mut workers) },
         &mut || -> Result<u64, MeterFault>
             requires limit { limit ≤ 2 ^ 30 }
             requires open { IsAtQueue shared.now.queue reader.now }
@@ -388,7 +369,16 @@ fn run_both<S: Source, C: FlowCache, G: Gate, R: Threads + Wait + Sync>(
                 (λ fault. IsRefused (side S.left S.faults source.entry.now source.exit.now) limit fault) }
             ensures faults { HasFaults (side S.left S.faults source.entry.now source.exit.now) result }
             ensures said { WasTold (reader_of reader.exit.now.feed) }
-        { read_and_end(rt, alloc, source, shared, cache, gate, reader, limit) },
+        {
+            read_and_end(
+                &Engine { rt, alloc, gate },
+                source,
+                shared,
+                cache,
+                reader,
+                limit,
+            )
+        },
     )
 }
 
@@ -447,12 +437,10 @@ fn open_crew<C: FlowCache>(
 /// What all did together, once the reader has read and the workers have worked. What is left in the queue is metered
 /// here. So many bytes are left behind the last record.
 fn close_crew<C: FlowCache, G: Gate, R: Wait>(
-    rt: &R,
-    alloc: Global,
+    engine: &Engine<'_, R, G>,
     cache: &C,
     crew: Crew<C>,
     tail: u64,
-    gate: &G,
 ) -> Result<CaptureMetered<C>, NoMemory>
     requires many { (crew.shared.workers ≡ length crew.workers.items) × (length crew.workers.items ≤ 62) }
     requires handed { (answers : List Answer)
@@ -472,10 +460,10 @@ fn close_crew<C: FlowCache, G: Gate, R: Wait>(
         workers,
         mut last,
     } = crew;
-    let (mut shares, seats) = unseat_workers(alloc, workers)?;
+    let (mut shares, seats) = unseat_workers(engine.alloc, workers)?;
     let mut seat = shared.queue.unite_all(reader.feed.into_pass(), seats);
     let drain = shared.workers + 1;
-    work_batches(rt, &shared, cache, gate, drain, &mut seat, &mut last)?;
+    work_batches(engine, &shared, cache, drain, &mut seat, &mut last)?;
     shares.push(reader.share)?;
     shares.push(last)?;
     unite_shares(cache, shares, tail)
@@ -495,13 +483,11 @@ fn close_crew<C: FlowCache, G: Gate, R: Wait>(
 /// read to its end first, so that `Failed` and `TooLarge` keep their place. `NoMemory` may come at any time. All
 /// workers have ended then.
 pub fn meter_batches<S: Source, C: FlowCache, G: Gate, R: Threads + Wait + Sync>(
-    rt: &R,
-    alloc: Global,
+    engine: &Engine<'_, R, G>,
     source: &mut S,
     cache: &C,
     passes: Vec<C::Pass>,
     batches: Batches,
-    gate: &G,
 ) -> Result<CaptureMetered<C>, MeterFault>
     requires front { IfSome batches.front (λ timeouts. timeouts ≡ (C.means cache.now).limits) }
     requires passes { (3 ≤ length passes.items) × (length passes.items ≤ 64)
@@ -515,7 +501,7 @@ pub fn meter_batches<S: Source, C: FlowCache, G: Gate, R: Threads + Wait + Sync>
         (λ fault. IsRefused (side S.left S.faults source.old source.new) batches.limit fault) }
     ensures faults { HasFaults (side S.left S.faults source.old source.new) result }
 {
-    let Ok(crew) = open_crew(alloc, cache, passes, batches) else {
+    let Ok(crew) = open_crew(engine.alloc, cache, passes, batches) else {
         return Err(MeterFault::NoMemory);
     };
     let Crew {
@@ -525,12 +511,10 @@ pub fn meter_batches<S: Source, C: FlowCache, G: Gate, R: Threads + Wait + Sync>
         last,
     } = crew;
     let (workers, end) = run_both(
-        rt,
-        alloc,
+        engine,
         source,
         &shared,
         cache,
-        gate,
         &mut reader,
         workers,
         batches.limit,
@@ -542,7 +526,7 @@ pub fn meter_batches<S: Source, C: FlowCache, G: Gate, R: Threads + Wait + Sync>
         workers,
         last,
     };
-    match close_crew(rt, alloc, cache, crew, tail, gate) {
+    match close_crew(engine, cache, crew, tail) {
         Ok(all) => Ok(all),
         Err(NoMemory) => Err(MeterFault::NoMemory),
     }

@@ -13,11 +13,12 @@
 //! known from the tally alone, and nothing is said of the order of the records.
 //!
 //! Nothing on the packet's path is shared but the cache and the word that pieces are drawn from. Everything is generic
-//! over the cache ([`FlowCache`](cache_face::FlowCache)). A [`Gate`] is told before each piece and batch: tests hold
+//! over the cache ([`FlowCache`](cache_face::FlowCache)). What workers run on is an [`Engine`]; its [`Gate`] is told before each piece and batch: tests hold
 //! workers there.
 #![tactic(auto)]
 
 mod batches;
+mod engine;
 mod gate;
 mod share;
 mod together;
@@ -25,6 +26,7 @@ mod windows;
 
 pub use batches::{Batches, meter_batches};
 pub use capture_input::{MeterFault, Part};
+pub use engine::Engine;
 pub use gate::{Gate, OpenGate};
 pub use no_memory::NoMemory;
 pub use together::CaptureMetered;

@@ -17,6 +17,7 @@ ghost use Rattle.meter_workers.specs.Shares.{IsShareOf};
 ghost use Rattle.meter_workers.specs.Working.{IsReady, IsToDraw};
 ghost use Rattle.meter_workers.specs.Whole.{IsMeteredWhole};
 
+use crate::engine::Engine;
 use crate::gate::Gate;
 use crate::share::{Share, meter_run, open_shares};
 use crate::together::{CaptureMetered, unite_shares};
@@ -25,7 +26,6 @@ use capture_input::{MeterFault, Part, Reading};
 use flow_parts::Timeouts;
 use meter_io::Source;
 use no_memory::NoMemory;
-use std::alloc::Global;
 use std::thread;
 use std::thread::Threads;
 use work_pieces::{DrawPass, Pieces, WorkState, Worker, seat_workers, unseat_workers};
@@ -99,11 +99,10 @@ fn work<C: FlowCache, G: Gate>(
 
 /// The workers, once they have worked, all at once.
 fn run_workers<C: FlowCache, G: Gate, R: Threads + Sync>(
-    rt: &R,
+    engine: &Engine<'_, R, G>,
     part: &Part<'_>,
     pieces: &Pieces,
     cache: &C,
-    gate: &G,
     mut workers: Vec<Worker<Share<C>, DrawPass>>,
 ) -> Vec<Worker<Share<C>, DrawPass>>
     requires some { 0 < length workers.items }
@@ -115,8 +114,9 @@ fn run_workers<C: FlowCache, G: Gate, R: Threads + Sync>(
         result.items }
 {
     let count = workers.len();
+    let gate = engine.gate;
     thread::for_each_mut(
-        rt,
+        engine.rt,
         workers.as_mut_slice(),
         count,
         &|_, w: &mut Worker<Share<C>, DrawPass>|
@@ -133,13 +133,11 @@ fn run_workers<C: FlowCache, G: Gate, R: Threads + Sync>(
 
 /// Meters a part by a worker for each share, all at once. The shares, once all pieces were metered.
 fn meter_part<C: FlowCache, G: Gate, R: Threads + Sync>(
-    rt: &R,
-    alloc: Global,
+    engine: &Engine<'_, R, G>,
     part: &Part<'_>,
     cache: &C,
     shares: Vec<Share<C>>,
     piece: u64,
-    gate: &G,
 ) -> Result<Vec<Share<C>>, NoMemory>
     requires piece { (0 < piece) × (piece ≤ 65536) }
     requires some { (0 < length shares.items) × (length shares.items ≤ 64) }
@@ -151,23 +149,21 @@ fn meter_part<C: FlowCache, G: Gate, R: Threads + Sync>(
         (λ r. HaveDone (IsShareOf C.FlowCache cache.now) (before ++ answers_by part.now) r.items) }
 {
     let seats = shares.len();
-    let (pieces, draws) = Pieces::open(alloc, part.index.count(), piece, seats)?;
-    let workers = seat_workers(alloc, shares, draws)?;
-    let workers = run_workers(rt, part, &pieces, cache, gate, workers);
-    let (shares, draws) = unseat_workers(alloc, workers)?;
+    let (pieces, draws) = Pieces::open(engine.alloc, part.index.count(), piece, seats)?;
+    let workers = seat_workers(engine.alloc, shares, draws)?;
+    let workers = run_workers(engine, part, &pieces, cache, workers);
+    let (shares, draws) = unseat_workers(engine.alloc, workers)?;
     pieces.complete_all(draws);
     Ok(shares)
 }
 
 /// Reads a capture in windows and meters each. The shares, and how many bytes are left behind the last record.
 fn meter_parts<S: Source, C: FlowCache, G: Gate, R: Threads + Sync>(
-    rt: &R,
-    alloc: Global,
+    engine: &Engine<'_, R, G>,
     source: &mut S,
     cache: &C,
     shares: Vec<Share<C>>,
     windows: Windows,
-    gate: &G,
 ) -> Result<(Vec<Share<C>>, u64), MeterFault>
     requires some { (0 < length shares.items) × (length shares.items ≤ 64) }
     requires shares { All (IsShareOf C.FlowCache cache.now []) shares.items }
@@ -179,18 +175,23 @@ fn meter_parts<S: Source, C: FlowCache, G: Gate, R: Threads + Sync>(
         windows.limit fault) }
     ensures faults { HasFaults (side S.left S.faults source.old source.new) result }
 {
-    let (mut reading, mut index) = Reading::begin(alloc, source, windows.size, windows.limit)?;
+    let (mut reading, mut index) = Reading::begin(
+        engine.alloc,
+        source,
+        windows.size,
+        windows.limit,
+    )?;
     let mut shares = shares;
     loop {
         let part = reading.part(&index);
-        shares = match meter_part(rt, alloc, &part, cache, shares, windows.piece, gate) {
+        shares = match meter_part(engine, &part, cache, shares, windows.piece) {
             Ok(shares) => shares,
             Err(NoMemory) => return Err(MeterFault::NoMemory),
         };
         if reading.is_last() {
             return Ok((shares, reading.tail()));
         }
-        (reading, index) = reading.next(alloc, source, index)?;
+        (reading, index) = reading.next(engine.alloc, source, index)?;
     }
 }
 
@@ -207,13 +208,11 @@ fn meter_parts<S: Source, C: FlowCache, G: Gate, R: Threads + Sync>(
 /// Refusals in the order of [`MeterFault`]: where the input is no capture, of an unknown link type or damaged, it is
 /// read to its end first, so that `Failed` and `TooLarge` keep their place. `NoMemory` may come at any time.
 pub fn meter_windows<S: Source, C: FlowCache, G: Gate, R: Threads + Sync>(
-    rt: &R,
-    alloc: Global,
+    engine: &Engine<'_, R, G>,
     source: &mut S,
     cache: &C,
     passes: Vec<C::Pass>,
     windows: Windows,
-    gate: &G,
 ) -> Result<CaptureMetered<C>, MeterFault>
     requires front { IfSome windows.front (λ timeouts. timeouts ≡ (C.means cache.now).limits) }
     requires passes { (0 < length passes.items) × (length passes.items ≤ 64)
@@ -227,10 +226,10 @@ pub fn meter_windows<S: Source, C: FlowCache, G: Gate, R: Threads + Sync>(
         (λ fault. IsRefused (side S.left S.faults source.old source.new) windows.limit fault) }
     ensures faults { HasFaults (side S.left S.faults source.old source.new) result }
 {
-    let Ok(shares) = open_shares(alloc, cache, passes, windows.front) else {
+    let Ok(shares) = open_shares(engine.alloc, cache, passes, windows.front) else {
         return Err(MeterFault::NoMemory);
     };
-    let (shares, tail) = meter_parts(rt, alloc, source, cache, shares, windows, gate)?;
+    let (shares, tail) = meter_parts(engine, source, cache, shares, windows)?;
     match unite_shares(cache, shares, tail) {
         Ok(all) => Ok(all),
         Err(NoMemory) => Err(MeterFault::NoMemory),
@@ -246,13 +245,11 @@ pub fn meter_windows<S: Source, C: FlowCache, G: Gate, R: Threads + Sync>(
 ///
 /// `NoMemory`: out of memory. Nothing of the capture is said then.
 pub fn meter_all<C: FlowCache, G: Gate, R: Threads + Sync>(
-    rt: &R,
-    alloc: Global,
+    engine: &Engine<'_, R, G>,
     part: &Part<'_>,
     cache: &C,
     passes: Vec<C::Pass>,
     piece: u64,
-    gate: &G,
 ) -> Result<CaptureMetered<C>, NoMemory>
     requires piece { (0 < piece) × (piece ≤ 65536) }
     requires passes { (0 < length passes.items) × (length passes.items ≤ 64)
@@ -263,7 +260,7 @@ pub fn meter_all<C: FlowCache, G: Gate, R: Threads + Sync>(
     ensures parts { IfOk result (λ r. r.parts ≡ (C.shown r.pass).note.handed) }
     ensures tally { IfOk result (λ r. IsTallyOf r.tally (answers_by part.now)) }
 {
-    let shares = open_shares(alloc, cache, passes, None)?;
-    let shares = meter_part(rt, alloc, part, cache, shares, piece, gate)?;
+    let shares = open_shares(engine.alloc, cache, passes, None)?;
+    let shares = meter_part(engine, part, cache, shares, piece)?;
     unite_shares(cache, shares, part.index.tail())
 }

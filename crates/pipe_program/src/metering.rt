@@ -12,9 +12,8 @@ use cache_face::Caches;
 use flow_parts::{PartList, Timeouts};
 use meter_io::{Sink, Source};
 use meter_program::{CaptureCount, Gathered, Status, gathered_of, write_stream};
-use meter_workers::{Batches, Gate, meter_batches};
+use meter_workers::{Batches, Engine, Gate, meter_batches};
 use pcap_reader::CAPTURE_LIMIT;
-use std::alloc::Global;
 use std::sync::Wait;
 use std::thread::Threads;
 
@@ -24,13 +23,11 @@ const OTHER_SEATS: usize = 2;
 /// Meters the capture that the input gives through a cache, by the reader and all workers at once, and closes the
 /// cache. The fragments that it gave, and what is known of the capture.
 fn meter_in_batches<R: Threads + Wait + Sync, S: Source, M: Caches, G: Gate>(
-    rt: &R,
-    alloc: Global,
+    engine: &Engine<'_, R, G>,
     settings: &PipeSettings,
     limits: Timeouts,
     input: &mut S,
     caches: &mut M,
-    gate: &G,
 ) -> Result<(PartList, CaptureCount), Status>
     ensures kept { IfOk result
         (λ r. IsReadAndKept (side S.left S.faults input.old input.new) limits (M.metered caches.new) r.1.tally
@@ -39,10 +36,9 @@ fn meter_in_batches<R: Threads + Wait + Sync, S: Source, M: Caches, G: Gate>(
     ensures refused { IfErr result (λ status. MeterRefuses (side S.left S.faults input.old input.new) status) }
 {
     let seats = settings.workers + OTHER_SEATS;
-    let (cache, passes) = caches.open(alloc, settings.sets, seats, limits)?;
+    let (cache, passes) = caches.open(engine.alloc, settings.sets, seats, limits)?;
     let done = meter_batches(
-        rt,
-        alloc,
+        engine,
         input,
         &cache,
         passes,
@@ -52,9 +48,8 @@ fn meter_in_batches<R: Threads + Wait + Sync, S: Source, M: Caches, G: Gate>(
             room: settings.queue,
             front: Some(limits),
         },
-        gate,
     )?;
-    let parts = caches.close(alloc, cache, done.pass, done.parts)?;
+    let parts = caches.close(engine.alloc, cache, done.pass, done.parts)?;
     let counted = CaptureCount {
         tally: done.tally,
         tail: done.tail,
@@ -64,12 +59,10 @@ fn meter_in_batches<R: Threads + Wait + Sync, S: Source, M: Caches, G: Gate>(
 
 /// The records of the capture that the input gives, metered through a cache of `caches`, or why there are none.
 fn gathered_in_batches<R: Threads + Wait + Sync, S: Source, M: Caches, G: Gate>(
-    rt: &R,
-    alloc: Global,
+    engine: &Engine<'_, R, G>,
     settings: &PipeSettings,
     input: &mut S,
     caches: &mut M,
-    gate: &G,
 ) -> Result<Gathered, Status>
     ensures records { IfOk result
         (λ g. IsReadAndGathered (side S.left S.faults input.old input.new) settings.now.idle settings.now.active
@@ -77,7 +70,8 @@ fn gathered_in_batches<R: Threads + Wait + Sync, S: Source, M: Caches, G: Gate>(
     ensures refused { IfErr result (λ status. MeterRefuses (side S.left S.faults input.old input.new) status) }
 {
     let limits = Timeouts::new(settings.idle, settings.active);
-    let (parts, counted) = meter_in_batches(rt, alloc, settings, limits, input, caches, gate)?;
+    let (parts, counted) = meter_in_batches(engine, settings, limits, input, caches)?;
+    let (rt, alloc) = (engine.rt, engine.alloc);
     let gathered = gathered_of(rt, alloc, parts, limits, counted, settings.workers)?;
     Ok(gathered)
 }
@@ -85,21 +79,19 @@ fn gathered_in_batches<R: Threads + Wait + Sync, S: Source, M: Caches, G: Gate>(
 /// Reads a capture from the input to its end, meters it through a cache of `caches`, writes the records of its flows to
 /// the output, and the summary to standard error.
 pub fn pipe_input<R: Threads + Wait + Sync, S: Source, K: Sink, E: Sink, M: Caches, G: Gate>(
-    rt: &R,
-    alloc: Global,
+    engine: &Engine<'_, R, G>,
     settings: &PipeSettings,
     input: &mut S,
     output: &mut K,
     stderr: &mut E,
     caches: &mut M,
-    gate: &G,
 ) -> Status
     ensures { let seen = seen_of (side S.left S.faults input.old input.new) (side K.held K.faults output.old output.new)
         (side E.held E.faults stderr.old stderr.new) (M.metered caches.new)
         in Ends (as_meter (piping_of settings.now)) seen (IsUntouched seen.stderr) result }
 {
-    match gathered_in_batches(rt, alloc, settings, input, caches, gate) {
-        Ok(gathered) => write_stream(alloc, &gathered, settings.size, output, stderr),
+    match gathered_in_batches(engine, settings, input, caches) {
+        Ok(gathered) => write_stream(engine.alloc, &gathered, settings.size, output, stderr),
         Err(status) => status,
     }
 }

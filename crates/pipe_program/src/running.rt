@@ -15,7 +15,7 @@ use cache_face::Caches;
 use command_words::OptionsError;
 use meter_io::{Sink, Source};
 use meter_program::Status;
-use meter_workers::Gate;
+use meter_workers::{Engine, Gate};
 use std::alloc::Global;
 use std::sync::Wait;
 use std::thread::Threads;
@@ -73,10 +73,11 @@ pub fn run_pipe<R: Threads + Wait + Sync, S: Source, K: Sink, E: Sink, M: Caches
     ensures write_fault { result ≡ Status.WriteFault
         → Rose (K.faults output.old) (K.faults output.new) ⊎ Rose (E.faults stderr.old) (E.faults stderr.new) }
 {
+    let engine = Engine { rt, alloc, gate };
     let status = match settings_of(alloc, words) {
         Err(OptionsError::NotOptions) => Status::Usage,
         Err(OptionsError::NoMemory) => Status::NoMemory,
-        Ok(settings) => pipe_input(rt, alloc, &settings, input, output, stderr, caches, gate),
+        Ok(settings) => pipe_input(&engine, &settings, input, output, stderr, caches),
     };
     if status.is_refusal() {
         // A refusal stays what it is where its line can't be written.

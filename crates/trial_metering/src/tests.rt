@@ -11,7 +11,7 @@ use cache_face::Caches;
 use capture_tally::Tally;
 use flow_parts::{Fragment, PartList, Timeouts};
 use meter_io::Source;
-use meter_workers::{Gate, MeterFault, Windows, meter_windows};
+use meter_workers::{Engine, Gate, MeterFault, Windows, meter_windows};
 use record_ledger::{RecordList, gather};
 use std::alloc::Global;
 use std::test::Fail;
@@ -89,7 +89,8 @@ fn meter_source<R: Threads + Sync, S: Source, G: Gate>(
         piece,
         front: Some(limits),
     };
-    let done = meter_windows(rt, alloc, source, &cache, passes, windows, gate);
+    let engine = Engine { rt, alloc, gate };
+    let done = meter_windows(&engine, source, &cache, passes, windows);
     let metered = match done {
         Ok(metered) => metered,
         Err(fault) => return Ok(Err(fault)),

@@ -90,15 +90,14 @@ fn run_by<R: Threads + Sync + AllocGlobal, G: Gate>(
     })
 }
 
-/// Runs a command line over an input, and compares status, output and standard error with what is wanted; `name` tells the run.
+/// Runs a command line over an input, and compares status, output and standard error with what is wanted; `name` tells
+/// the run.
 fn check_run<R: Threads + Sync + Abort + AllocGlobal>(
     rt: &R,
     name: &str,
     line: &str,
     input: &[u8],
-    status: Status,
-    output: &[u8],
-    stderr: &str,
+    (status, output, stderr): (Status, &[u8], &str),
 ) -> Result<(), Fail> {
     let ran = run_by(rt, line, input, &OpenGate)?;
     assert_eq!(rt; ran.status, status, "{name}");

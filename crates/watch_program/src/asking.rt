@@ -15,6 +15,13 @@ use meter_workers::Gate;
 use no_memory::NoMemory;
 use std::alloc::Global;
 
+/// What asking runs on: memory, the gate, and the number of a worker by which the gate is told of each ask.
+pub(crate) struct Asker<'a, G: Gate> {
+    pub(crate) alloc: Global,
+    pub(crate) gate: &'a G,
+    pub(crate) number: usize,
+}
+
 /// What came of asking, and the pass of who asked.
 #[derive(Drop)]
 pub(crate) struct Asking {
@@ -43,16 +50,14 @@ fn ask(cache: &PebrCache, watcher: &mut Watcher, key: &FlowKey) -> Answer
     }
 }
 
-/// Asks so often, for the keys in turn. Before each ask the gate is told, as if a worker of this number came to a
-/// piece.
+/// Asks so often, for the keys in turn. Before each ask the gate is told, as if a worker of the asker's number came to
+/// a piece.
 fn ask_in_turn<G: Gate>(
-    alloc: Global,
+    asker: &Asker<'_, G>,
     cache: &PebrCache,
     watcher: &mut Watcher,
     keys: &[FlowKey],
     asks: usize,
-    number: usize,
-    gate: &G,
 ) -> Result<Vec<Answer>, NoMemory>
     requires of { IsOf cache.now watcher.old }
     requires idle { held_by watcher.old ≡ None }
@@ -65,12 +70,12 @@ fn ask_in_turn<G: Gate>(
     ensures sound { IfOk result (λ answers. All IsSound answers.items) }
     ensures in_turn { IfOk result (λ answers. AreInTurn keys.now answers.items) }
 {
-    let mut answers = Vec::new(alloc);
+    let mut answers = Vec::new(asker.alloc);
     if keys.is_empty() {
         return Ok(answers);
     }
     for k in 0..asks {
-        gate.reach(number, k as u64);
+        asker.gate.reach(asker.number, k as u64);
         let answer = ask(cache, watcher, &keys[k % keys.len()]);
         answers.push(answer)?;
     }
@@ -80,15 +85,13 @@ fn ask_in_turn<G: Gate>(
 /// Asks so often, for the keys in turn, by a watcher at the seat of a pass that has done nothing, and closes the
 /// watcher. The pass has put nothing in then and was handed nothing; it saw the flows that were held.
 ///
-/// `number` is what the gate is told. The answers are `NoMemory` where there is no room for them.
+/// The answers are `NoMemory` where there is no room for them.
 pub(crate) fn ask_all<G: Gate>(
-    alloc: Global,
+    asker: &Asker<'_, G>,
     cache: &PebrCache,
     pass: PebrPass,
     keys: &[FlowKey],
     asks: usize,
-    number: usize,
-    gate: &G,
 ) -> Asking
     requires own { shown.IsOf cache.now pass }
     requires fresh { (shown_of pass).note ≡ first_note }
@@ -100,7 +103,7 @@ pub(crate) fn ask_all<G: Gate>(
     ensures in_turn { IfOk result.answers (λ answers. AreInTurn keys.now answers.items) }
 {
     let mut watcher = Watcher::open(pass);
-    let answers = ask_in_turn(alloc, cache, &mut watcher, keys, asks, number, gate);
+    let answers = ask_in_turn(asker, cache, &mut watcher, keys, asks);
     Asking {
         pass: watcher.close(),
         answers,

@@ -14,7 +14,7 @@ use crate::watching::watch_capture;
 use crate::words::settings_of;
 use command_words::OptionsError;
 use meter_io::{Failed, ReadError, Sink, Source, read_all, write_all};
-use meter_workers::Gate;
+use meter_workers::{Engine, Gate};
 use no_memory::NoMemory;
 use pcap_reader::{CAPTURE_LIMIT, Capture, CaptureError, IndexError};
 use std::alloc::Global;
@@ -22,11 +22,9 @@ use std::thread::Threads;
 
 /// The text of watching while the capture that these bytes are is metered, or why there is none.
 fn text_for<R: Threads + Sync, G: Gate>(
-    rt: &R,
-    alloc: Global,
+    engine: &Engine<'_, R, G>,
     settings: &WatchSettings,
     bytes: &[u8],
-    gate: &G,
 ) -> Result<Vec<u8>, WatchStatus>
     requires { length bytes.now ≤ 2 ^ 30 }
     ensures text { IfOk result (λ text. IsWatched settings.now.asks bytes.now text.items) }
@@ -37,17 +35,17 @@ fn text_for<R: Threads + Sync, G: Gate>(
         Err(CaptureError::NotCapture) => return Err(WatchStatus::NotCapture),
         Err(CaptureError::LinkUnknown(link)) => return Err(WatchStatus::LinkUnknown(link)),
     };
-    let index = match capture.index(alloc) {
+    let index = match capture.index(engine.alloc) {
         Ok(index) => index,
         Err(IndexError::Damaged(at)) => return Err(WatchStatus::Damaged(at)),
         Err(IndexError::NoMemory) => return Err(WatchStatus::NoMemory),
     };
-    let watched = match watch_capture(rt, alloc, settings, bytes, &capture, &index, gate) {
+    let watched = match watch_capture(engine, settings, bytes, &capture, &index) {
         Ok(watched) => watched,
         Err(NoMemory) => return Err(WatchStatus::NoMemory),
     };
     match text_of(
-        alloc,
+        engine.alloc,
         watched.answers.as_slice(),
         watched.packets,
         watched.octets,
@@ -59,23 +57,21 @@ fn text_for<R: Threads + Sync, G: Gate>(
 
 /// Reads a capture from the input to its end, meters it while open flows are asked for, and writes what came of that.
 fn watch_input<R: Threads + Sync, S: Source, K: Sink, G: Gate>(
-    rt: &R,
-    alloc: Global,
+    engine: &Engine<'_, R, G>,
     settings: &WatchSettings,
     input: &mut S,
     output: &mut K,
-    gate: &G,
 ) -> WatchStatus
     ensures { Ends (asked_of settings.now) (side S.left S.faults input.old input.new)
         (side K.held K.faults output.old output.new) result }
 {
-    let bytes = match read_all(alloc, input, CAPTURE_LIMIT) {
+    let bytes = match read_all(engine.alloc, input, CAPTURE_LIMIT) {
         Ok(bytes) => bytes,
         Err(ReadError::Failed) => return WatchStatus::ReadFault,
         Err(ReadError::TooLarge) => return WatchStatus::TooLarge,
         Err(ReadError::NoMemory) => return WatchStatus::NoMemory,
     };
-    let text = match text_for(rt, alloc, settings, bytes.as_slice(), gate) {
+    let text = match text_for(engine, settings, bytes.as_slice()) {
         Ok(text) => text,
         Err(status) => return status,
     };
@@ -129,8 +125,9 @@ pub fn run_watch<R: Threads + Sync, S: Source, K: Sink, G: Gate>(
     ensures read_fault { result ≡ WatchStatus.ReadFault → Rose (S.faults input.old) (S.faults input.new) }
     ensures write_fault { result ≡ WatchStatus.WriteFault → Rose (K.faults output.old) (K.faults output.new) }
 {
+    let engine = Engine { rt, alloc, gate };
     match settings_of(alloc, words) {
-        Ok(settings) => watch_input(rt, alloc, &settings, input, output, gate),
+        Ok(settings) => watch_input(&engine, &settings, input, output),
         Err(OptionsError::NotOptions) => WatchStatus::Usage,
         Err(OptionsError::NoMemory) => WatchStatus::NoMemory,
     }

@@ -13,7 +13,7 @@ ghost use Rattle.watch_program.specs.Answers.{IsSound, AreInTurn, AreAnswers, Is
 ghost use Rattle.watch_program.specs.Answers.{count_of};
 
 use crate::answer::Answer;
-use crate::asking::{Asking, ask_all};
+use crate::asking::{Asker, Asking, ask_all};
 use crate::keys::keys_of;
 use crate::settings::WatchSettings;
 use crate::total::total_of;
@@ -22,7 +22,7 @@ use flow_cache::{PebrCache, PebrCaches, PebrPass};
 use flow_key::FlowKey;
 use flow_parts::Timeouts;
 use flow_parts::laws::sharing_out_counts;
-use meter_workers::{CaptureMetered, Gate, Part, meter_all};
+use meter_workers::{CaptureMetered, Engine, Gate, Part, meter_all};
 use no_memory::NoMemory;
 use pcap_reader::{Capture, RecordIndex};
 use std::alloc::Global;
@@ -50,13 +50,11 @@ pub(crate) struct Watched {
 /// The capture is opened anew, which reads its header alone: of a closure that holds a struct with a lifetime a join
 /// tells nothing.
 fn meter_bytes<R: Threads + Sync, G: Gate>(
-    rt: &R,
-    alloc: Global,
+    engine: &Engine<'_, R, G>,
     bytes: &[u8],
     index: &RecordIndex,
     cache: &PebrCache,
     passes: Vec<PebrPass>,
-    gate: &G,
 ) -> Result<CaptureMetered<PebrCache>, NoMemory>
     requires capture { IsCaptureOf (λ file. IsKnownLink file.link × IsIndexOf index.now file) bytes.now }
     requires few { length index.now.offsets < 2 ^ 32 }
@@ -77,14 +75,13 @@ fn meter_bytes<R: Threads + Sync, G: Gate>(
         index,
         base: 0,
     };
-    meter_all(rt, alloc, &part, cache, passes, PIECE, gate)
+    meter_all(engine, &part, cache, passes, PIECE)
 }
 
 /// Meters the capture that these bytes are, and asks for open flows at the seat of one more pass, at once. Neither
 /// waits for the other, so both end in any order.
 fn at_once<R: Threads + Sync, G: Gate>(
-    rt: &R,
-    alloc: Global,
+    engine: &Engine<'_, R, G>,
     bytes: &[u8],
     index: &RecordIndex,
     cache: &PebrCache,
@@ -92,7 +89,6 @@ fn at_once<R: Threads + Sync, G: Gate>(
     own: PebrPass,
     keys: &[FlowKey],
     asks: usize,
-    gate: &G,
 ) -> (Asking, Result<CaptureMetered<PebrCache>, NoMemory>)
     requires capture { IsCaptureOf (λ file. IsKnownLink file.link × IsIndexOf index.now file) bytes.now }
     requires few { length index.now.offsets < 2 ^ 32 }
@@ -111,6 +107,7 @@ fn at_once<R: Threads + Sync, G: Gate>(
     ensures parts { IfOk result.1 (λ r. r.parts ≡ (shown_of r.pass).note.handed) }
     ensures tally { IfOk result.1 (λ r. IsCaptureOf (λ file. IsTallyOf r.tally (answers_of file)) bytes.now) }
 {
+    let Engine { rt, alloc, gate } = *engine;
     let number = passes.len();
     thread::join(
         rt,
@@ -121,7 +118,19 @@ fn at_once<R: Threads + Sync, G: Gate>(
             ensures many { IfOk result.answers (λ answers. length answers.items ≡ count_of asks keys.entry.now) }
             ensures sound { IfOk result.answers (λ answers. All IsSound answers.items) }
             ensures in_turn { IfOk result.answers (λ answers. AreInTurn keys.entry.now answers.items) }
-        { ask_all(alloc, cache, own, keys, asks, number, gate) },
+        {
+            ask_all(
+                &Asker {
+                    alloc,
+                    gate,
+                    number,
+                },
+                cache,
+                own,
+                keys,
+                asks,
+            )
+        },
         move || -> Result<CaptureMetered<PebrCache>, NoMemory>
             requires capture { IsCaptureOf (λ file. IsKnownLink file.link × IsIndexOf index.now file) bytes.now }
             requires few { length index.now.offsets < 2 ^ 32 }
@@ -135,7 +144,7 @@ fn at_once<R: Threads + Sync, G: Gate>(
             ensures parts { IfOk result (λ r. r.parts ≡ (shown_of r.pass).note.handed) }
             ensures tally { IfOk result
                 (λ r. IsCaptureOf (λ file. IsTallyOf r.tally (answers_of file)) bytes.entry.now) }
-        { meter_bytes(rt, alloc, bytes, index, cache, passes, gate) },
+        { meter_bytes(&Engine { rt, alloc, gate }, bytes, index, cache, passes) },
     )
 }
 
@@ -180,13 +189,11 @@ fn total_behind(
 ///
 /// `NoMemory`: out of memory.
 pub(crate) fn watch_capture<R: Threads + Sync, G: Gate>(
-    rt: &R,
-    alloc: Global,
+    engine: &Engine<'_, R, G>,
     settings: &WatchSettings,
     bytes: &[u8],
     capture: &Capture<'_>,
     index: &RecordIndex,
-    gate: &G,
 ) -> Result<Watched, NoMemory>
     requires capture { (capture_file bytes.now ≡ Some (file_of capture.now)) × IsKnownLink (file_of capture.now).link }
     requires index { IsIndexOf index.now (file_of capture.now) }
@@ -199,6 +206,7 @@ pub(crate) fn watch_capture<R: Threads + Sync, G: Gate>(
     ensures packets { IfOk result (λ w. w.packets ≡ length (packets_of (file_of capture.now))) }
     ensures octets { IfOk result (λ w. w.octets ≡ octets_of (packets_of (file_of capture.now))) }
 {
+    let alloc = engine.alloc;
     let keys = keys_of(alloc, capture, index, settings.asks)?;
     let limits = Timeouts::new(IDLE, ACTIVE);
     let mut caches = PebrCaches::new();
@@ -207,8 +215,7 @@ pub(crate) fn watch_capture<R: Threads + Sync, G: Gate>(
         unreachable!()
     };
     let (asking, metered) = at_once(
-        rt,
-        alloc,
+        engine,
         bytes,
         index,
         &cache,
@@ -216,7 +223,6 @@ pub(crate) fn watch_capture<R: Threads + Sync, G: Gate>(
         own,
         keys.as_slice(),
         settings.asks,
-        gate,
     );
     let metered = metered?;
     let Asking { pass, answers } = asking;

@@ -11,7 +11,7 @@ use capture_tally::Tally;
 use flow_parts::Timeouts;
 use meter_io::{MemSource, Source};
 use meter_workers::{
-    Batches, CaptureMetered, Gate, MeterFault, Windows, meter_batches, meter_windows,
+    Batches, CaptureMetered, Engine, Gate, MeterFault, Windows, meter_batches, meter_windows,
 };
 use std::alloc::Global;
 use std::sync::Wait;
@@ -48,14 +48,12 @@ struct Setting {
 
 /// Meters what a source gives, with a queue or without.
 fn run<S: Source, C: FlowCache, G: Gate, R: Threads + Wait + Sync>(
-    rt: &R,
-    alloc: Global,
+    engine: &Engine<'_, R, G>,
     source: &mut S,
     cache: &C,
     passes: Vec<C::Pass>,
     limits: Timeouts,
     setting: Setting,
-    gate: &G,
 ) -> Result<CaptureMetered<C>, MeterFault>
     requires front { limits ≡ (C.means cache.now).limits }
     requires room { setting.room ≤ 64 }
@@ -79,7 +77,7 @@ fn run<S: Source, C: FlowCache, G: Gate, R: Threads + Wait + Sync>(
             piece: 256,
             front: Some(limits),
         };
-        return meter_windows(rt, alloc, source, cache, passes, windows, gate);
+        return meter_windows(engine, source, cache, passes, windows);
     }
     let batches = Batches {
         size: window,
@@ -87,7 +85,7 @@ fn run<S: Source, C: FlowCache, G: Gate, R: Threads + Wait + Sync>(
         room,
         front: Some(limits),
     };
-    meter_batches(rt, alloc, source, cache, passes, batches, gate)
+    meter_batches(engine, source, cache, passes, batches)
 }
 
 /// Meters a capture, and adds up what the cache kept of it.
@@ -108,16 +106,8 @@ fn meter_capture<G: Gate, R: Threads + Wait + Sync>(
     let limits = Timeouts::new(300, 1800);
     let mut caches = TurnCaches::new();
     let (cache, passes) = caches.open(alloc, 4096, setting.passes, limits)?;
-    let metered = match run(
-        rt,
-        alloc,
-        &mut source,
-        &cache,
-        passes,
-        limits,
-        setting,
-        gate,
-    ) {
+    let engine = Engine { rt, alloc, gate };
+    let metered = match run(&engine, &mut source, &cache, passes, limits, setting) {
         Ok(metered) => metered,
         Err(fault) => return Ok(Err(fault)),
     };

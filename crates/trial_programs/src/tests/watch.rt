@@ -50,8 +50,7 @@ fn run_over<R: Threads + Sync, G: Gate>(
     alloc: Global,
     line: &str,
     capture: &[&str],
-    reads: &[u64],
-    writes: &[u64],
+    (reads, writes): (&[u64], &[u64]),
     gate: &G,
 ) -> Result<Ran, Fail> {
     let words = words_of(alloc, line)?;
@@ -131,7 +130,14 @@ impl Gate for Late {
 fn two_packets(rt: HostRuntime) -> Result<(), Fail> {
     let alloc = rt.alloc();
     let capture = [HEADER, AT_1000, FRAME, AT_1001, FRAME];
-    let ran = run_over(&rt, alloc, "watch --asks 2", &capture, &[], &[], &OpenGate)?;
+    let ran = run_over(
+        &rt,
+        alloc,
+        "watch --asks 2",
+        &capture,
+        (&[], &[]),
+        &OpenGate,
+    )?;
     assert!(rt; ran.status == WatchStatus::Done);
     let text = String::from_utf8(ran.output)?;
     assert!(rt; is_text(text.as_str(), 2, "total 2 56"), "{text}");
@@ -148,7 +154,7 @@ fn a_flow_is_held(rt: HostRuntime) -> Result<(), Fail> {
         let gate = Late {
             begun: AtomicU64::new(0),
         };
-        let ran = run_over(&rt, alloc, "watch --asks 2", &capture, &[], &[], &gate)?;
+        let ran = run_over(&rt, alloc, "watch --asks 2", &capture, (&[], &[]), &gate)?;
         let text = String::from_utf8(ran.output)?;
         assert!(rt; is_text(text.as_str(), 2, "total 2 56"), "{text}");
         if text.as_str().contains("held") {
@@ -285,8 +291,7 @@ fn runs(rt: HostRuntime) -> Result<(), Fail> {
             alloc,
             run.line,
             run.capture,
-            run.reads,
-            run.writes,
+            (run.reads, run.writes),
             &OpenGate,
         )?;
         assert!(rt; ran.status == run.status, "run {n}");
@@ -300,7 +305,14 @@ fn runs(rt: HostRuntime) -> Result<(), Fail> {
 fn a_failed_write_leaves_a_beginning(rt: HostRuntime) -> Result<(), Fail> {
     let alloc = rt.alloc();
     let capture = [HEADER, AT_1000, FRAME];
-    let ran = run_over(&rt, alloc, "watch --asks 9", &capture, &[], &[3], &OpenGate)?;
+    let ran = run_over(
+        &rt,
+        alloc,
+        "watch --asks 9",
+        &capture,
+        (&[], &[3]),
+        &OpenGate,
+    )?;
     assert!(rt; ran.status == WatchStatus::WriteFault);
     assert_eq!(rt; ran.output.len(), 20);
     Ok(())
@@ -334,7 +346,7 @@ fn command_lines(rt: HostRuntime) -> Result<(), Fail> {
         ("watch --idle 300", WatchStatus::Usage),
     ];
     for (line, wanted) in lines {
-        let ran = run_over(&rt, alloc, line, &[HEADER], &[], &[], &OpenGate)?;
+        let ran = run_over(&rt, alloc, line, &[HEADER], (&[], &[]), &OpenGate)?;
         assert!(rt; ran.status == wanted, "{line}");
     }
     Ok(())

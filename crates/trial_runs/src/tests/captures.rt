@@ -368,9 +368,7 @@ fn captures_end_with_these_bytes(rt: HostRuntime) -> Result<(), Fail> {
             name,
             "meter",
             input.as_slice(),
-            Status::Done,
-            wanted.as_slice(),
-            summary,
+            (Status::Done, wanted.as_slice(), summary),
         )?;
     }
     Ok(())
@@ -400,7 +398,13 @@ static REFUSED: [(&str, Status, &str); 4] = [
 fn other_inputs_are_refused(rt: HostRuntime) -> Result<(), Fail> {
     for (input, status, report) in REFUSED {
         let input = octets_of(rt.alloc(), &[input])?;
-        check_run(&rt, report, "meter", input.as_slice(), status, b"", report)?;
+        check_run(
+            &rt,
+            report,
+            "meter",
+            input.as_slice(),
+            (status, b"", report),
+        )?;
     }
     Ok(())
 }

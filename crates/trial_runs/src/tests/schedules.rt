@@ -75,9 +75,7 @@ fn schedules_are_replayed(rt: HostRuntime) -> Result<(), Fail> {
             name,
             "schedule",
             text.as_str().as_bytes(),
-            Status::Done,
-            wanted.as_str().as_bytes(),
-            report,
+            (Status::Done, wanted.as_str().as_bytes(), report),
         )?;
     }
     Ok(())
@@ -119,9 +117,7 @@ fn bad_schedules_are_refused(rt: HostRuntime) -> Result<(), Fail> {
             text,
             "schedule",
             text.as_bytes(),
-            status,
-            b"",
-            report.as_str(),
+            (status, b"", report.as_str()),
         )?;
     }
     Ok(())
@@ -144,8 +140,6 @@ fn captures_are_made(rt: HostRuntime) -> Result<(), Fail> {
         line,
         line,
         &[],
-        Status::Done,
-        wanted.as_slice(),
-        report,
+        (Status::Done, wanted.as_slice(), report),
     )
 }

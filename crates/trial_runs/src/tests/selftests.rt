@@ -36,9 +36,7 @@ fn a_made_capture_is_metered_in_memory(rt: HostRuntime) -> Result<(), Fail> {
                 line,
                 line,
                 b"not read",
-                Status::Done,
-                summary.as_bytes(),
-                "",
+                (Status::Done, summary.as_bytes(), ""),
             )?;
         }
     }

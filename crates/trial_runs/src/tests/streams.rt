@@ -41,9 +41,7 @@ fn streams_are_shown(rt: HostRuntime) -> Result<(), Fail> {
             report,
             "show",
             input.as_slice(),
-            Status::Done,
-            output.as_bytes(),
-            report,
+            (Status::Done, output.as_bytes(), report),
         )?;
     }
     Ok(())
@@ -167,9 +165,7 @@ fn a_value_is_written_by_its_element_and_length(rt: HostRuntime) -> Result<(), F
             line,
             "show",
             input.as_slice(),
-            Status::Done,
-            line.as_bytes(),
-            "records 1\n",
+            (Status::Done, line.as_bytes(), "records 1\n"),
         )?;
     }
     Ok(())
@@ -235,7 +231,7 @@ fn faults_of_streams_are_noted(rt: HostRuntime) -> Result<(), Fail> {
     for (pieces, fault, report) in FAULTS {
         let input = octets_of(rt.alloc(), pieces)?;
         let status = Status::NotStream(fault);
-        check_run(&rt, report, "show", input.as_slice(), status, b"", report)?;
+        check_run(&rt, report, "show", input.as_slice(), (status, b"", report))?;
     }
     Ok(())
 }

@@ -166,7 +166,7 @@ static OTHERS: [&str; 72] = [
 fn other_words_are_refused(rt: HostRuntime) -> Result<(), Fail> {
     let usage = "usage: meter, show, make, schedule or selftest\n";
     for line in OTHERS {
-        check_run(&rt, line, line, b"not read", Status::Usage, b"", usage)?;
+        check_run(&rt, line, line, b"not read", (Status::Usage, b"", usage))?;
     }
     Ok(())
 }

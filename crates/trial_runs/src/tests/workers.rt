@@ -84,9 +84,7 @@ fn an_exchange_is_the_same_by_all_settings(rt: HostRuntime) -> Result<(), Fail> 
                 line,
                 line,
                 capture.as_slice(),
-                Status::Done,
-                wanted.as_slice(),
-                SUMMARY,
+                (Status::Done, wanted.as_slice(), SUMMARY),
             )?;
         }
     }
