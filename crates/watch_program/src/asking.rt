@@ -16,6 +16,7 @@ use no_memory::NoMemory;
 use std::alloc::Global;
 
 /// What asking runs on: memory, the gate, and the number of a worker by which the gate is told of each ask.
+#[derive(Drop)]
 pub(crate) struct Asker<'a, G: Gate> {
     pub(crate) alloc: Global,
     pub(crate) gate: &'a G,
