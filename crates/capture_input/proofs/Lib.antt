@@ -1,3 +1,4 @@
+pub mod Filled
 pub mod Filling
 pub mod Walk
 pub mod Given

@@ -1,4 +1,5 @@
 -- The definitions that contracts cite, a file for each subject.
+pub mod Filling
 pub mod Refusals
 pub mod Inputs
 pub mod Places

@@ -1,6 +1,6 @@
 //! An input that is read in windows.
 
-use pcap_reader::Window;
+use crate::window::Window;
 
 /// An input that is read in windows: the bytes that were read last, and how far it was read.
 #[derive(Drop)]

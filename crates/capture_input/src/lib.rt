@@ -1,7 +1,8 @@
 //! A capture that comes from a source in windows, before anything is made of its records.
 //!
-//! A [`CaptureInput`] is a [`Window`](pcap_reader::Window) on a source, how many bytes were taken of it, and how many
-//! may come at most. [`CaptureInput::begin`] reads the first window and its file header, [`CaptureInput::fill`] reads
+//! A [`Window`] has some bytes of a source, in memory that is taken once; what is left in it moves to its front before
+//! it is filled again. A [`CaptureInput`] is a window, how many bytes were taken of its source, and how many may come at
+//! most. [`CaptureInput::begin`] reads the first window and its file header, [`CaptureInput::fill`] reads
 //! on behind what the window kept. Where a window is damaged, [`CaptureInput::refusal`] reads the source to its end
 //! first, so that each [`MeterFault`] is the first that applies.
 //!
@@ -10,13 +11,17 @@
 #![tactic(auto)]
 
 mod fault;
+mod fill_end;
 mod input;
 mod part;
 mod reading;
+mod window;
 mod windows;
 
 pub use fault::MeterFault;
+pub use fill_end::FillEnd;
 pub use input::CaptureInput;
 pub use no_memory::NoMemory;
 pub use part::Part;
 pub use reading::Reading;
+pub use window::Window;

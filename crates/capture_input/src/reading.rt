@@ -14,9 +14,10 @@ ghost use Rattle.capture_input.specs.Giving.{size_in, left_in};
 use crate::fault::MeterFault;
 use crate::input::CaptureInput;
 use crate::part::Part;
+use crate::window::Window;
 use meter_io::Source;
 use packet_accept::packets_law;
-use pcap_reader::{Capture, FILE_HEADER, Head, RecordIndex, Window, parts_law};
+use pcap_reader::{Capture, FILE_HEADER, Head, RecordIndex, parts_law};
 use std::alloc::Global;
 
 /// A capture that is read part by part: its input, what its file header tells, and how far it was read.

@@ -7,10 +7,12 @@ ghost use Rattle.capture_input.specs.Refusals.{IsRefused, HasFaults};
 ghost use Rattle.capture_input.specs.Inputs.{TookMore, ReadsOn, EndsFor, HasBegun, fault_for};
 
 use crate::fault::MeterFault;
+use crate::fill_end::FillEnd;
 use crate::input::CaptureInput;
+use crate::window::Window;
 use meter_io::{Failed, Source};
 use no_memory::NoMemory;
-use pcap_reader::{CaptureError, FillEnd, Head, IndexError, Window, parts_law};
+use pcap_reader::{CaptureError, Head, IndexError, parts_law};
 use std::alloc::Global;
 
 /// The fault of bytes that are no capture that can be read.

@@ -13,10 +13,10 @@ ghost use Rattle.join_program.specs.Pieces.{HasReadOn, HasReadRest, StopsReading
 
 use crate::file_error::FileError;
 use crate::status::FileFault;
+use capture_input::{FillEnd, Window};
 use ipfix_reader::{RecordTaker, StreamError, StreamWalk};
 use meter_io::{Failed, Source};
 use no_memory::NoMemory;
-use pcap_reader::{FillEnd, Window};
 use std::alloc::Global;
 
 /// The most bytes of a file.

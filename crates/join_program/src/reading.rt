@@ -18,9 +18,9 @@ use crate::settings::{JoinSettings, Share};
 use crate::status::{FileFault, JoinStatus};
 use crate::taken::Taken;
 use crate::taking::nothing_taken;
+use capture_input::Window;
 use ipfix_reader::laws::records_are_few;
 use meter_io::{Failed, Source};
-use pcap_reader::Window;
 use std::alloc::Global;
 use std::marker::{Brand, PhantomData};
 

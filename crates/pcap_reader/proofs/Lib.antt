@@ -3,7 +3,6 @@ pub mod Cutting
 pub mod Parts
 pub mod Place
 pub mod Search
-pub mod Filled
 pub mod Joined
 pub mod InParts
 pub mod Headed

@@ -6,5 +6,4 @@ pub mod Records
 pub mod Index
 pub mod Views
 pub mod Windows
-pub mod Filling
 pub mod Front

@@ -3,7 +3,7 @@
 ghost use Rattle.std.specs.Prelude.{◌≡◌, ◌<◌, [], length, slice_index, IfOk};
 
 use crate::front::RECORD_HEADER;
-use meter_io::NoMemory;
+use no_memory::NoMemory;
 use std::alloc::Global;
 use std::marker::Model;
 

@@ -3,9 +3,9 @@
 //! `Capture::open` reads the file header, `Capture::index` finds where each packet record begins, and
 //! `Capture::record` reads one of them. Nothing is copied: `Record::captured` is a part of the file.
 //!
-//! A capture that is too long for the memory is read in parts: a `Window` is filled from a source, `Head::of` reads the
-//! file header from its first bytes, and `Capture::part` reads the window's records. What is left behind them is kept
-//! for the next part. `parts_law` says that the records of the parts are those of the file.
+//! A capture that is too long for the memory is read in parts: `Head::of` reads the file header from its first bytes,
+//! and `Capture::part` reads the records of some bytes behind it. What is left behind them is the beginning of the next
+//! part. `parts_law` says that the records of the parts are those of the file.
 //!
 //! Contracts see a capture as a `CaptureFile` (its bytes, byte order, unit of the fraction, link type) and an
 //! index as the offsets of the records and the length of the tail. `specs/Records.antt` says which records a
@@ -13,23 +13,19 @@
 #![tactic(auto)]
 
 mod capture;
-mod fill_end;
 mod front;
 mod head;
 mod header;
 mod index;
 mod laws;
 mod record;
-mod window;
 
 pub use capture::{CAPTURE_LIMIT, Capture};
-pub use fill_end::FillEnd;
 pub use front::MOST_CAPTURED;
 pub use head::{CaptureError, Head};
 pub use header::FILE_HEADER;
 pub use index::{IndexError, RecordIndex};
 pub use laws::parts_law;
-pub use meter_io::NoMemory;
+pub use no_memory::NoMemory;
 pub use octets::Endianness;
 pub use record::Record;
-pub use window::Window;

@@ -2,8 +2,9 @@
 
 ghost use Rattle.std.specs.Prelude.{◌<◌};
 
+use capture_input::{FillEnd, Window};
 use meter_io::{Failed, MemSource};
-use pcap_reader::{Capture, CaptureError, FillEnd, Head, IndexError, RecordIndex, Window};
+use pcap_reader::{Capture, CaptureError, Head, IndexError, RecordIndex};
 use std::alloc::Global;
 use std::process::Abort;
 use std::test::Fail;

@@ -3,10 +3,11 @@
 ghost use Rattle.std.specs.Prelude.{◌<◌, ◌≤◌};
 
 use super::{LIMIT, ONE, SMALL, Setting, meter_source};
+use capture_input::{FillEnd, Window};
 use capture_maker::capture;
 use meter_io::MemSource;
 use meter_workers::OpenGate;
-use pcap_reader::{Capture, FillEnd, Head, Window};
+use pcap_reader::{Capture, Head};
 use record_ledger::RecordList;
 use std::alloc::Global;
 use std::process::Abort;

@@ -2,7 +2,7 @@ use Rattle.std.proofs.Common.{◌≡◌, ◌+◌, ◌++◌, ℕ, List, [], lengt
 use Rattle.std.specs.List.{enumerate_from}
 use Rattle.std.specs.Prelude.{IfOk}
 use Rattle.pcap_reader.specs.Records.{PacketRecord}
-use Rattle.pcap_reader.specs.Filling.{WindowState}
+use Rattle.capture_input.specs.Filling.{WindowState}
 use Rattle.pcap_reader.specs.Views.{headed_by}
 use Rattle.pcap_reader.specs.Windows.{front_of}
 use Rattle.packet_accept.specs.Packets.{answers_of, answer_to}

@@ -1,7 +1,7 @@
 use Rattle.std.proofs.Common.{◌≡◌, ◌+◌, ◌++◌, ℕ, length, refl, sym, subst, ap, ◌∙◌, arith}
 use Rattle.std.specs.Prelude.{Option, List}
 use Rattle.std.proofs.lemmas.List.{length-append}
-use Rattle.pcap_reader.specs.Filling.{WindowState}
+use Rattle.capture_input.specs.Filling.{WindowState}
 use Rattle.capture_input.specs.declared.reading.Reading.{Reading}
 use Rattle.capture_input.specs.Refusals.{IsRefused}
 use Rattle.capture_input.specs.Parts.{Answer}

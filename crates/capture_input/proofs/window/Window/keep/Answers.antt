@@ -1,8 +1,8 @@
 -- What is kept stands in front.
 use Rattle.std.proofs.Common.{◌≡◌, ◌≤◌, ◌-◌, length, drop, subst, sym}
-use Rattle.pcap_reader.specs.Filling.{WindowState, window_in}
-use Rattle.pcap_reader.proofs.Filled.{window-kept}
-use Rattle.pcap_reader.proofs.window.Window.keep.Goals as goal
+use Rattle.capture_input.specs.Filling.{WindowState, window_in}
+use Rattle.capture_input.proofs.Filled.{window-kept}
+use Rattle.capture_input.proofs.window.Window.keep.Goals as goal
 
 pub returns : goal.returns
 returns c =

@@ -1,7 +1,7 @@
 -- What was taken so far stands behind what was there.
 use Rattle.std.proofs.Common.{◌≡◌, ◌≤◌, ◌-◌, ◌++◌, ℕ, List, length, take}
 use Rattle.std.specs.Io.KnownBytes.{Consumes}
-use Rattle.pcap_reader.proofs.window.fill_behind.Given as goal
+use Rattle.capture_input.proofs.window.fill_behind.Given as goal
 
 abbrev pub invariant-loop-taken : goal.invariant-loop-taken
 invariant-loop-taken g l = record {

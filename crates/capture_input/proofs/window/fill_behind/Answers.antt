@@ -1,8 +1,8 @@
 -- One read more.
 use Rattle.std.proofs.Common.{rules, ◌++◌, take, drop, ◌∙◌, arith}
 use Rattle.std.proofs.KnownBytes.{Consumes-trans}
-use Rattle.pcap_reader.proofs.Filled.{grown-next, length-next}
-use Rattle.pcap_reader.proofs.window.fill_behind.Goals as goal
+use Rattle.capture_input.proofs.Filled.{grown-next, length-next}
+use Rattle.capture_input.proofs.window.fill_behind.Goals as goal
 
 pub loop-taken-preserved : goal.loop-taken-preserved
 loop-taken-preserved g c =

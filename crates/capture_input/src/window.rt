@@ -3,10 +3,11 @@
 ghost use Rattle.std.specs.Prelude.{◌≡◌, ◌+◌, ◌-◌, ◌<◌, ◌≤◌, ◌^◌, [], length, drop, take, IfOk, OnErr};
 ghost use Rattle.std.specs.Io.KnownBytes.{Consumes, Keeps, IsAtEnd};
 ghost use Rattle.meter_io.specs.Causes.{HasCause};
-ghost use Rattle.pcap_reader.specs.Filling.{WindowState, IsFilled, window_in};
+ghost use Rattle.capture_input.specs.Filling.{WindowState, IsFilled, window_in};
 
 use crate::fill_end::FillEnd;
-use meter_io::{Failed, NoMemory, Source};
+use meter_io::{Failed, Source};
+use no_memory::NoMemory;
 use std::alloc::Global;
 use std::marker::Model;
 

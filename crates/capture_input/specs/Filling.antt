@@ -3,8 +3,8 @@ use Rattle.std.specs.Prelude.{◌≡◌, ◌<◌, ◌≤◌, ℕ, List, ◌++◌
 use Rattle.std.specs.declared.option.Option.{Option}
 use Rattle.std.specs.Io.KnownBytes.{Consumes, IsAtEnd}
 use Rattle.meter_io.specs.declared.fault.Failed.{Failed}
-use Rattle.pcap_reader.specs.declared.fill_end.FillEnd.{FillEnd}
-use Rattle.pcap_reader.specs.declared.fill_end.FillEnd.TheVariants.{Spent, Full, Ended}
+use Rattle.capture_input.specs.declared.fill_end.FillEnd.{FillEnd}
+use Rattle.capture_input.specs.declared.fill_end.FillEnd.TheVariants.{Spent, Full, Ended}
 
 -- A window: the bytes that it has, and how many it can have.
 pub record WindowState : Type 0 where

@@ -2,7 +2,7 @@
 use Rattle.std.proofs.Common.{◌≡◌, ℕ, ◌+◌, ◌-◌, ◌≤◌, List, ◌++◌, length, take, drop, refl, sym, ap, ◌∙◌, append_assoc}
 use Rattle.std.proofs.Common.{arith}
 use Rattle.std.specs.List.{copy_within}
-use Rattle.pcap_reader.specs.Filling.{window_in}
+use Rattle.capture_input.specs.Filling.{window_in}
 use Rattle.std.proofs.Math.Seq.{take-add}
 use Rattle.std.proofs.lemmas.List.{length-append, length-take, length-drop, drop-take}
 use Rattle.std.proofs.lemmas.List.Edits.{take-paste, length-paste}
