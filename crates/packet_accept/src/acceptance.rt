@@ -1,7 +1,6 @@
 //! The acceptance of a record.
 
 ghost use Rattle.std.specs.Prelude.{◌≡◌, ◌*◌, ◌^◌, ◌<◌, ℕ, Ok, Some, IsOk, IfOk, drop};
-ghost use Rattle.link_types.specs.Links.{IsKnownLink};
 ghost use Rattle.flow_key.specs.KeyWith.{key_with};
 ghost use Rattle.packet_headers.specs.Link.{IsIpVersion, link_part};
 ghost use Rattle.packet_headers.specs.Shown.{link_shown};
@@ -29,6 +28,7 @@ use pcap_reader::{Capture, Record};
 ///
 /// Takes no memory, and copies no captured byte.
 #[inline]
+#[tactic(auto, unfolding(crate::specs::Acceptance::accepted_packet, crate::specs::Acceptance::headers_of))]
 pub fn accept(capture: &Capture<'_>, rec: &Record<'_>, n: u64) -> Result<Packet, Ignored>
     ensures answer { let file = file_of capture.now in
         result ≡ accepted_packet file.link file.nanos (record_read rec.now) n }
@@ -43,25 +43,8 @@ pub fn accept(capture: &Capture<'_>, rec: &Record<'_>, n: u64) -> Result<Packet,
     // In whole seconds the time has 32 bits.
     ensures seconds { IfOk result (λ packet. packet.time < 1000 * 2 ^ 32) }
 {
-    accept_linked(capture.link(), capture.nanos(), rec, n)
-}
-
-/// The same for a record of frames with this link type, 1, 101 or 113, whose fractions of a second are nanoseconds or
-/// microseconds.
-#[inline]
-#[tactic(auto, unfolding(crate::specs::Acceptance::accepted_packet, crate::specs::Acceptance::headers_of))]
-pub fn accept_linked(link: u32, nanos: bool, rec: &Record<'_>, n: u64) -> Result<Packet, Ignored>
-    requires { IsKnownLink link }
-    ensures answer { result ≡ accepted_packet link nanos (record_read rec.now) n }
-    ensures complete { let read = record_read rec.now in (time : ℕ) (headers : Headers)
-        → time_of nanos read.seconds read.fraction ≡ Ok time → headers_of link read ≡ Ok headers → IsOk result }
-    ensures number { IfOk result (λ packet. packet.number ≡ n) }
-    ensures octets { IfOk result (λ packet. packet.octets < 2 ^ 24) }
-    ensures time { IfOk result (λ packet. packet.time < 2 ^ 43) }
-    ensures seconds { IfOk result (λ packet. packet.time < 1000 * 2 ^ 32) }
-{
-    let time = time_of(nanos, rec.seconds, rec.fraction)?;
-    let frame = LinkView::of(link, rec.captured)?;
+    let time = time_of(capture.nanos(), rec.seconds, rec.fraction)?;
+    let frame = LinkView::of(capture.link(), rec.captured)?;
     let headers = headers_behind(&frame, rec)?;
     Ok(packet_of(headers, time, n))
 }

@@ -17,7 +17,7 @@ mod packet;
 mod tcp;
 mod transport;
 
-pub use acceptance::{accept, accept_behind, accept_linked};
+pub use acceptance::{accept, accept_behind};
 pub use ignored::Ignored;
 pub use laws::{clock_law, packets_law};
 pub use packet::Packet;

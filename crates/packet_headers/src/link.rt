@@ -1,7 +1,7 @@
 //! The link part of a captured frame.
 
 ghost use Rattle.std.specs.Prelude.{◌≡◌, ◌≢◌, ◌≤◌, IfOk, IfErr, length, drop};
-ghost use Rattle.link_types.specs.Links.{IsKnownLink};
+ghost use Rattle.link_types.specs.Links.{number_of};
 ghost use Rattle.packet_headers.specs.Link.{IsIpVersion, after_tag, ip_announced, typed_part, raw_part, link_part};
 ghost use Rattle.packet_headers.specs.Shown.{link_shown};
 
@@ -46,26 +46,24 @@ struct Announced {
 }
 
 impl<'a> LinkView<'a> {
-    /// The link part of the captured octets of a frame, by the capture's link type: Ethernet (1), raw
-    /// IP (101) or Linux cooked version 1 (113). At most two tags of IEEE 802.1Q are gone over.
+    /// The link part of the captured octets of a frame, by the capture's link type. At most two tags of IEEE 802.1Q are
+    /// gone over.
     ///
     /// `Short` comes where the link header, a tag or the first octet of raw IP isn't whole, `NotIp`
     /// where the last type, or the version of raw IP, is neither IPv4's nor IPv6's. A third tag is
     /// `NotIp`, whatever lies behind it.
-    pub fn of(link: u32, captured: &'a [u8]) -> Result<LinkView<'a>, HeaderFault>
-        requires known { IsKnownLink link }
-        ensures fields { IfOk result (λ view. link_part link captured.now ≡ Ok (link_shown view)) }
-        ensures fault { IfErr result (λ fault. link_part link captured.now ≡ Err fault) }
+    pub fn of(link: LinkType, captured: &'a [u8]) -> Result<LinkView<'a>, HeaderFault>
+        ensures fields { IfOk result (λ view. link_part (number_of link) captured.now ≡ Ok (link_shown view)) }
+        ensures fault { IfErr result (λ fault. link_part (number_of link) captured.now ≡ Err fault) }
         ensures version { IfOk result (λ view. IsIpVersion view.version) }
         ensures inside { IfOk result (λ view. view.offset ≤ length captured.now) }
         ensures rest { IfOk result (λ view. view.rest.now ≡ drop view.offset captured.now) }
         ensures never_bad_header { result ≢ Err HeaderFault.BadHeader }
     {
-        match LinkType::of(link) {
-            Some(LinkType::Ethernet) => typed_link(captured, ETHERNET_TYPE_OFFSET),
-            Some(LinkType::RawIp) => raw_link(captured),
-            Some(LinkType::LinuxCooked) => typed_link(captured, COOKED_TYPE_OFFSET),
-            None => unreachable!(),
+        match link {
+            LinkType::Ethernet => typed_link(captured, ETHERNET_TYPE_OFFSET),
+            LinkType::RawIp => raw_link(captured),
+            LinkType::LinuxCooked => typed_link(captured, COOKED_TYPE_OFFSET),
         }
     }
 }

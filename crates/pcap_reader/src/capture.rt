@@ -7,6 +7,7 @@ use crate::head::{CaptureError, Head};
 use crate::header::FILE_HEADER;
 use crate::index::{IndexError, RecordIndex};
 use crate::record::{Record, record_at};
+use link_types::LinkType;
 use std::alloc::Global;
 
 /// The most octets of a capture that a program takes: 1 GiB.
@@ -24,7 +25,7 @@ pub struct Capture<'a> {
 impl<'a> Capture<'a> {
     ghost use Rattle.std.specs.Prelude.{◌≡◌, ◌<◌, ◌≤◌, ◌^◌, ◌↔◌, ℕ, None, Some, Ok, Err, IfOk, OnOk, IsSomeAnd, ◌+◌};
     ghost use Rattle.std.specs.Prelude.{◌*◌, length, slice_get, slice_index, slice_range};
-    ghost use Rattle.link_types.specs.Links.{IsKnownLink};
+    ghost use Rattle.link_types.specs.Links.{IsKnownLink, number_of};
     ghost use Rattle.pcap_reader.specs.File.{capture_file};
     ghost use Rattle.pcap_reader.specs.Records.{IsOnlyCut, parts_of, rest_of, damage_of, records_of, most_captured};
     ghost use Rattle.pcap_reader.specs.Index.{IsIndexOf};
@@ -125,13 +126,12 @@ impl<'a> Capture<'a> {
         record_at(self.head.order, self.bytes, index.offset(n))
     }
 
-    /// The link type: 1, 101 or 113.
+    /// The link type of all its frames.
     #[inline]
-    pub fn link(&self) -> u32
-        ensures link { result ≡ (file_of self.now).link }
-        ensures known { IsKnownLink result }
+    pub fn link(&self) -> LinkType
+        ensures { number_of result ≡ (file_of self.now).link }
     {
-        self.head.link.number()
+        self.head.link
     }
 
     /// Whether fractions of a second are nanoseconds, and not microseconds.

@@ -38,10 +38,8 @@ fn raw_of<'a>(linked: &PngRecord<'a>) -> Option<Record<'a>>
     ensures value { option_map record_read result ≡ raw_of (linked_read linked.now) }
     ensures small { IfSome result (λ raw. length raw.captured.now ≤ most_captured) }
 {
-    if LinkType::of(linked.link).is_none() {
-        return None;
-    }
-    let Ok(frame) = LinkView::of(linked.link, linked.rec.captured) else {
+    let link = LinkType::of(linked.link)?;
+    let Ok(frame) = LinkView::of(link, linked.rec.captured) else {
         return None;
     };
     if accept_behind(&frame, true, &linked.rec, 0).is_err() {

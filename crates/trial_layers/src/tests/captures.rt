@@ -194,7 +194,7 @@ fn fields_in_either_order(rt: HostRuntime) -> Result<(), Fail> {
         )?;
         let capture = Capture::open(&file).ok().ok_or("a capture")?;
         assert!(rt;
-            capture.nanos() == nanos && capture.link() == link,
+            capture.nanos() == nanos && capture.link().number() == link,
             "{header}"
         );
         assert!(rt; file.len() < 1 << 32);

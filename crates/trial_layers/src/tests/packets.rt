@@ -4,7 +4,7 @@ use Ignored::{BadHeader, BadTime, NotIp, Short, ShortTransport};
 use Kind::{BigMicros, BigNanos, LittleMicros, LittleNanos};
 use Want::{Gives, No};
 use flow_key::FlowKey;
-use packet_accept::{Ignored, Packet, accept, accept_linked};
+use packet_accept::{Ignored, Packet, accept};
 use pcap_reader::Capture;
 use std::alloc::{AllocError, Global};
 use std::process::Abort;
@@ -230,8 +230,6 @@ fn check(rt: &impl Abort, alloc: Global, rows: &[Row]) -> Result<(), Fail> {
             let record = capture.record(&index, n);
             let answer = accept(&capture, &record, n);
             assert!(rt; answer == wanted_answer(row.want, n), "record {place}");
-            let linked = accept_linked(capture.link(), capture.nanos(), &record, n);
-            assert!(rt; linked == answer, "record {place}");
         }
     }
     Ok(())
