@@ -69,6 +69,7 @@ fn looked_of(
     ensures many { IfOk result (λ looked. length looked.items ≡ length passes.items) }
     ensures fresh { IfOk result (λ looked. All (λ p. IsOf cache.now p × IsFresh (shown_of p)) looked.items) }
 {
+    // It is there for the clauses alone.
     let _ = cache;
     let mut looked = Vec::new(alloc);
     let mut passes = passes;

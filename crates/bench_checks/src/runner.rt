@@ -37,6 +37,7 @@ pub(crate) fn runners_of<C: FlowCache>(
     ensures going { IfOk result
         (λ runners. All (λ r. C.is_of cache.now r.pass × IsGoing r.count (C.shown r.pass)) runners.items) }
 {
+    // It is there for the clauses alone.
     let _ = cache;
     let mut runners = Vec::new(alloc);
     let mut passes = passes;

@@ -71,13 +71,12 @@ impl Reading {
             count: 0,
             next: 0,
         };
-        reading.index_part(alloc, source, index)
+        reading.index_part(source, index)
     }
 
     /// The part that was filled in, and its index.
     fn index_part<S: Source>(
         self,
-        alloc: Global,
         source: &mut S,
         index: RecordIndex,
     ) -> Result<(Reading, RecordIndex), MeterFault>
@@ -108,7 +107,7 @@ impl Reading {
         let bytes = input.window.bytes();
         let length = bytes.len();
         let part = Capture::part(head, bytes);
-        let index = match part.index_into(alloc, index) {
+        let index = match part.index_into(index) {
             Ok(index) => index,
             Err(error) => return Err(input.refusal(source, length, error)),
         };
@@ -127,7 +126,6 @@ impl Reading {
     /// It refuses as [`Reading::begin`] does.
     pub fn next<S: Source>(
         self,
-        alloc: Global,
         source: &mut S,
         index: RecordIndex,
     ) -> Result<(Reading, RecordIndex), MeterFault>
@@ -154,7 +152,7 @@ impl Reading {
             Ok(()) => {}
             Err(broken) => return Err(broken),
         }
-        reading.index_part(alloc, source, index)
+        reading.index_part(source, index)
     }
 
     /// The part that was read, by its index.

@@ -298,7 +298,7 @@ fn read_all<S: Source, C: FlowCache, G: Gate, R: Wait>(
         if reading.is_last() {
             return Ok(reading.tail());
         }
-        (reading, index) = reading.next(engine.alloc, source, index)?;
+        (reading, index) = reading.next(source, index)?;
     }
 }
 

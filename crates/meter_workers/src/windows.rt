@@ -191,7 +191,7 @@ fn meter_parts<S: Source, C: FlowCache, G: Gate, R: Threads + Sync>(
         if reading.is_last() {
             return Ok((shares, reading.tail()));
         }
-        (reading, index) = reading.next(engine.alloc, source, index)?;
+        (reading, index) = reading.next(source, index)?;
     }
 }
 

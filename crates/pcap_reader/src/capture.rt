@@ -72,12 +72,12 @@ impl<'a> Capture<'a> {
         ensures undamaged { OnOk result (damage_of (file_of self.now) ≡ None) }
         ensures damaged { (at : ℕ) → result ≡ Err (IndexError.Damaged at) → damage_of (file_of self.now) ≡ Some at }
     {
-        self.index_into(alloc, RecordIndex::none(alloc))
+        self.index_into(RecordIndex::none(alloc))
     }
 
     /// The same, in the memory of an index that isn't needed any more. More is taken only where it has too little. How
     /// much room there is, is in no clause.
-    pub fn index_into(&self, _alloc: Global, index: RecordIndex) -> Result<RecordIndex, IndexError>
+    pub fn index_into(&self, index: RecordIndex) -> Result<RecordIndex, IndexError>
         requires { length (file_of self.now).bytes < 2 ^ 32 }
 
         // The records are the one way to cut the file into a file header, records and a rest.

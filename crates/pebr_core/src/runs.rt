@@ -47,6 +47,7 @@ impl Core {
         ensures state { self.new ≡ (next self.old step).1 }
         ensures sound { IsSound self.old }
     {
+        // Read for the proof alone, which so knows that the core is sound.
         let _ = &self.shape;
         match step {
             Step::Note(seat) => self.note(seat),
@@ -107,6 +108,7 @@ pub fn replay(alloc: Global, core: Core, steps: &[Step]) -> Result<Replayed, Rep
     // Each state on the way is sound, no step makes a used slot fresh, and none changes a word of one.
     ensures safe { IsOk result → IsSafeRun core steps.now }
 {
+    // Read for the proof alone, which so knows that the core is sound.
     let _ = &core.shape;
     let mut core = core;
     let mut answers = Vec::new(alloc);

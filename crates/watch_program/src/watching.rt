@@ -172,6 +172,7 @@ fn total_behind(
         (λ file. All (IsOfSome (means_of cache).limits (packets_of file)) (shown_of pass).note.seen) bytes.now) }
 {
     sharing_out_counts();
+    // It is there for the clauses alone.
     let _ = bytes;
     let CaptureMetered {
         pass: others,

@@ -269,7 +269,7 @@ fn two_parts_of_a_capture(rt: HostRuntime) -> Result<(), Fail> {
     for tail in [7, 4] {
         let part = Capture::part(head, window.bytes());
         assert!(rt; window.bytes().len() < 1 << 32);
-        index = part.index_into(alloc, index).ok().ok_or("an index")?;
+        index = part.index_into(index).ok().ok_or("an index")?;
         assert!(rt; index.count() == 1 && index.tail() == tail);
         assert!(rt; part.record(&index, 0).captured == [0; 42].as_slice());
         assert!(rt; window.bytes().len() == 58 + tail as usize);
