@@ -1,8 +1,8 @@
 //! A capture that comes from a source in windows, before anything is made of its records.
 //!
 //! A [`Window`] has some bytes of a source, in memory that is taken once; what is left in it moves to its front before
-//! it is filled again. A [`CaptureInput`] is a window, how many bytes were taken of its source, and how many may come at
-//! most. [`CaptureInput::begin`] reads the first window and its file header, [`CaptureInput::fill`] reads
+//! it is filled again. A [`CaptureInput`] is a window, how many bytes were taken of its source, and how many may come
+//! at most. [`CaptureInput::begin`] reads the first window and its file header, [`CaptureInput::fill`] reads
 //! on behind what the window kept. Where a window is damaged, [`CaptureInput::refusal`] reads the source to its end
 //! first, so that each [`MeterFault`] is the first that applies.
 //!

@@ -13,8 +13,8 @@
 //! known from the tally alone, and nothing is said of the order of the records.
 //!
 //! Nothing on the packet's path is shared but the cache and the word that pieces are drawn from. Everything is generic
-//! over the cache ([`FlowCache`](cache_face::FlowCache)). What workers run on is an [`Engine`]; its [`Gate`] is told before each piece and batch: tests hold
-//! workers there.
+//! over the cache ([`FlowCache`](cache_face::FlowCache)). What workers run on is an [`Engine`]; its [`Gate`] is told
+//! before each piece and batch: tests hold workers there.
 #![tactic(auto)]
 
 mod batches;

@@ -61,7 +61,8 @@ fn unite<C: FlowCache>(
     requires metered { (done rest : List Answer) × HaveMetered C.FlowCache cache.now done one
         × HaveMetered C.FlowCache cache.now rest other }
     ensures metered { (done rest : List Answer) → HaveMetered C.FlowCache cache.now done one
-        → HaveMetered C.FlowCache cache.now rest other → IfOk result (HaveMetered C.FlowCache cache.now (done ++ rest)) }
+        → HaveMetered C.FlowCache cache.now rest other
+        → IfOk result (HaveMetered C.FlowCache cache.now (done ++ rest)) }
     ensures seats { IfOk result (λ r. (C.shown r.pass).note.seats
         ≡ (C.shown one.pass).note.seats + (C.shown other.pass).note.seats) }
     ensures tail { IfOk result (λ r. r.tail ≡ one.tail) }

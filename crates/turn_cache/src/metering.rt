@@ -19,7 +19,7 @@ ghost use Rattle.turn_cache.specs.Shown.{means_of, shown_of, lost_of, IsOf, IsTr
 use crate::cache::{TurnCache, TurnPass};
 use crate::rule::Known;
 use atomic_table::Seat;
-use cache_choice::{choose_by_words, put_out};
+use cache_choice::{WordChoice, choose_by_words, put_out};
 use cache_face::{How, Metered};
 use flow_parts::Fragment;
 
@@ -108,30 +108,29 @@ impl TurnCache {
         &self,
         seat: &mut Seat<(), Known>,
         set: u64,
-        place: usize,
         old: &[u64; 10],
-        new: &[u64; 10],
         own: &Fragment,
-        how: How,
+        chosen: &WordChoice,
     )
         requires at { seat.old.table_id ≡ self.now.table.shared.table_id }
         requires reading { seat.old.me.0.turn ≡ reading set }
-        requires below { (set < self.now.sets) × (place < 4) }
+        requires below { (set < self.now.sets) × (chosen.now.place < 4) }
         requires read { (before after : List ℕ) × (seat.old.me.0.read ≡ before ++ (old.now ++ after))
-            × (length before ≡ 10 * place) }
+            × (length before ≡ 10 * chosen.now.place) }
         requires own { moves.IsOwn seat.old.me.0.note own.now }
         requires of_set { set_number own.now.key self.now.sets ≡ set }
-        requires kept { (kept : Fragment) × (part_words kept ≡ new.now)
-            × choice.Takes self.now.timeouts own.now (entry_of old.now) (out_of how (entry_of old.now)) kept }
+        requires kept { (kept : Fragment) × (part_words kept ≡ chosen.now.words)
+            × choice.Takes self.now.timeouts own.now (entry_of old.now)
+                (out_of chosen.now.how (entry_of old.now)) kept }
         ensures at { seat.new.table_id ≡ seat.old.table_id }
         ensures filled { seat.new.me
             ≡ (
-              moves.filled_hand seat.old.me.0.read place new.now own.now (out_of how (entry_of old.now)) seat.old.me.0,
+              moves.filled_hand seat.old.me.0.read chosen.now.place chosen.now.words own.now (out_of chosen.now.how (entry_of old.now)) seat.old.me.0,
               seat.old.me.1,
             ) }
     {
-        self.commit(seat, set, place, old, new, own, how);
-        self.write_rest(seat, set, place, old, new);
+        self.commit(seat, set, old, own, chosen);
+        self.write_rest(seat, set, chosen.place, old, &chosen.words);
         self.give(seat, set);
     }
 
@@ -166,7 +165,7 @@ impl TurnCache {
         self.read_entry(seat, set, 3, &mut contents[3]);
         let choice = choose_by_words(self.timeouts, contents, own);
         let old = &contents[choice.place];
-        self.write(seat, set, choice.place, old, &choice.words, own, choice.how);
+        self.write(seat, set, old, own, &choice);
         answer(choice.how, old, metered);
     }
 

@@ -14,7 +14,7 @@ ghost use Rattle.turn_cache.specs.Moves as moves;
 use crate::cache::TurnCache;
 use crate::rule::{Commits, Gives, IsMove, Known, Loads, Stores, Takes};
 use atomic_table::Seat;
-use cache_face::How;
+use cache_choice::WordChoice;
 use flow_parts::Fragment;
 use std::marker::Brand;
 
@@ -92,30 +92,32 @@ impl TurnCache {
         &self,
         seat: &mut Seat<(), Known>,
         set: u64,
-        place: usize,
         _old: &[u64; 10],
-        new: &[u64; 10],
         _own: &Fragment,
-        _how: How,
+        chosen: &WordChoice,
     )
-        requires about { M.about ≡ moves.writes_to set place _own.now
-            (out_of _how (entry_of _old.now)) _old.now new.now }
+        requires about { M.about ≡ moves.writes_to set chosen.now.place _own.now
+            (out_of chosen.now.how (entry_of _old.now)) _old.now chosen.now.words }
         requires at { seat.old.table_id ≡ self.now.table.shared.table_id }
         requires reading { seat.old.me.0.turn ≡ reading set }
-        requires below { (set < self.now.sets) × (place < 4) }
+        requires below { (set < self.now.sets) × (chosen.now.place < 4) }
         requires read { (before after : List ℕ) × (seat.old.me.0.read ≡ before ++ (_old.now ++ after))
-            × (length before ≡ 10 * place) }
+            × (length before ≡ 10 * chosen.now.place) }
         requires own { moves.IsOwn seat.old.me.0.note _own.now }
         requires of_set { set_number _own.now.key self.now.sets ≡ set }
-        requires kept { (kept : Fragment) × (part_words kept ≡ new.now)
-            × choice.Takes self.now.timeouts _own.now (entry_of _old.now) (out_of _how (entry_of _old.now)) kept }
+        requires kept { (kept : Fragment) × (part_words kept ≡ chosen.now.words)
+            × choice.Takes self.now.timeouts _own.now (entry_of _old.now)
+                (out_of chosen.now.how (entry_of _old.now)) kept }
         ensures at { seat.new.table_id ≡ seat.old.table_id }
         ensures commits { moves.Commits
-            (moves.writes_to set place _own.now (out_of _how (entry_of _old.now)) _old.now new.now) seat.old.me
+            (moves.writes_to set chosen.now.place _own.now (out_of chosen.now.how (entry_of _old.now)) _old.now
+                chosen.now.words) seat.old.me
             seat.new.me }
     {
-        let word = 64 * set as usize + 16 + (10 * place + 5);
-        self.table.shared.store::<Commits<M>>(seat, word, new[5]);
+        let word = 64 * set as usize + 16 + (10 * chosen.place + 5);
+        self.table
+            .shared
+            .store::<Commits<M>>(seat, word, chosen.words[5]);
     }
 
     /// Stores the first word of an entry, its number of packets. From here on the set has its new entry.
@@ -123,27 +125,27 @@ impl TurnCache {
         &self,
         seat: &mut Seat<(), Known>,
         set: u64,
-        place: usize,
         old: &[u64; 10],
-        new: &[u64; 10],
         own: &Fragment,
-        how: How,
+        chosen: &WordChoice,
     )
         requires at { seat.old.table_id ≡ self.now.table.shared.table_id }
         requires reading { seat.old.me.0.turn ≡ reading set }
-        requires below { (set < self.now.sets) × (place < 4) }
+        requires below { (set < self.now.sets) × (chosen.now.place < 4) }
         requires read { (before after : List ℕ) × (seat.old.me.0.read ≡ before ++ (old.now ++ after))
-            × (length before ≡ 10 * place) }
+            × (length before ≡ 10 * chosen.now.place) }
         requires own { moves.IsOwn seat.old.me.0.note own.now }
         requires of_set { set_number own.now.key self.now.sets ≡ set }
-        requires kept { (kept : Fragment) × (part_words kept ≡ new.now)
-            × choice.Takes self.now.timeouts own.now (entry_of old.now) (out_of how (entry_of old.now)) kept }
+        requires kept { (kept : Fragment) × (part_words kept ≡ chosen.now.words)
+            × choice.Takes self.now.timeouts own.now (entry_of old.now)
+                (out_of chosen.now.how (entry_of old.now)) kept }
         ensures at { seat.new.table_id ≡ seat.old.table_id }
         ensures commits { moves.Commits
-            (moves.writes_to set place own.now (out_of how (entry_of old.now)) old.now new.now) seat.old.me
+            (moves.writes_to set chosen.now.place own.now (out_of chosen.now.how (entry_of old.now)) old.now
+                chosen.now.words) seat.old.me
             seat.new.me }
     {
-        self.commit_as::<Brand>(seat, set, place, old, new, own, how);
+        self.commit_as::<Brand>(seat, set, old, own, chosen);
     }
 
     /// Stores a further word of the entry.

@@ -6,6 +6,6 @@ use Rattle.turn_cache.proofs.cache.TurnCache.commit.Given as goal
 abbrev pub ghosts-commit_as : goal.ghosts-commit_as
 ghosts-commit_as a =
     record {
-      about = writes_to a.set a.place a._own.now
-          (out_of a._how (entry_of a._old.now)) a._old.now a.new.now;
+      about = writes_to a.set a.chosen.now.place a._own.now
+          (out_of a.chosen.now.how (entry_of a._old.now)) a._old.now a.chosen.now.words;
     }

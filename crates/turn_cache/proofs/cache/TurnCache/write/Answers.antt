@@ -8,11 +8,12 @@ write_rest-requires-clause-writing c = ap (λ (m : Sat). m.0.turn) c.commit.ensu
 
 pub give-requires-clause-written : goal.give-requires-clause-written
 give-requires-clause-written c =
-    (c.args.place, c.args.new.now, ap (λ (m : Sat). m.0.turn) c.write_rest.ensures.written)
+    (c.args.chosen.now.place, c.args.chosen.now.words, ap (λ (m : Sat). m.0.turn) c.write_rest.ensures.written)
 
 pub returns-clause-filled : goal.returns-clause-filled
 returns-clause-filled c = c.give.ensures.gives
     ∙ (ap (λ (m : Sat). (at_turn idle m.0, m.1)) c.write_rest.ensures.written
     ∙ ap (λ (m : Sat).
-    (at_turn idle (at_turn (writing c.args.set c.args.place c.args.new.now c.args.new.now) m.0), m.1))
+    (at_turn idle (at_turn (writing c.args.set c.args.chosen.now.place c.args.chosen.now.words
+        c.args.chosen.now.words) m.0), m.1))
     c.commit.ensures.commits)
