@@ -89,6 +89,6 @@ impl<P: RootProtocol> Words<P> {
         let word = status_place(other);
         let was_in = 4 * seat.found[other] + 1;
         let step = Step::Eject(seat.number, other);
-        self.exchange(&mut seat.inner, word, was_in, was_in + 1, step, None) == was_in
+        self.exchange(&mut seat.inner, word, (was_in, was_in + 1), step, None) == was_in
     }
 }

@@ -87,6 +87,6 @@ impl<P: RootProtocol> Words<P> {
     {
         let noted = seat.noted;
         let step = Step::Advance(seat.number);
-        self.exchange(&mut seat.inner, 0, noted, noted + 1, step, None) == noted
+        self.exchange(&mut seat.inner, 0, (noted, noted + 1), step, None) == noted
     }
 }

@@ -80,7 +80,7 @@ impl<P: RootProtocol> Words<P> {
         root_slots_are_alone();
         let place = root_place(self.shape, root);
         let step = Step::Replace(seat.number, root, old, new);
-        let found = self.exchange(&mut seat.inner, place, old as u64, new as u64, step, act);
+        let found = self.exchange(&mut seat.inner, place, (old as u64, new as u64), step, act);
         let replaced = found == old as u64;
         take(&mut seat.slots, replaced, old, new);
         replaced

@@ -160,14 +160,13 @@ impl<P: RootProtocol> Words<P> {
         self.store_as::<Brand>(seat, word, new, step, act);
     }
 
-    /// Makes a step that exchanges a word where it has `old`, under the name of the step that `K` picks. It answers
-    /// what the word had.
+    /// Makes a step that exchanges a word where it has the first of two values for the second, under the name of the
+    /// step that `K` picks. It answers what the word had.
     fn exchange_as<K: IsStep<P::Act>>(
         &self,
         seat: &mut TableSeat<P::Note>,
         word: usize,
-        old: u64,
-        new: u64,
+        change: (u64, u64),
         _step: Step,
         _act: Option<P::Act>,
     ) -> u64
@@ -176,17 +175,17 @@ impl<P: RootProtocol> Words<P> {
             × (number_in (me_of seat.old).0 ≡ seat_of _step) }
         requires place { IsPlace self.now.shape (place_of _step) × (index self.now.shape (place_of _step) ≡ word) }
         requires own { IsOwn self.now.shape _step (known_in (me_of seat.old).0)
-            (op.exchange (index self.now.shape (place_of _step)) old new) }
+            (op.exchange (index self.now.shape (place_of _step)) change.0 change.1) }
         requires made { IsMadeBy self.now.shape _step (seat_of _step) (known_in (me_of seat.old).0)
-            (λ found. either (found == old) new found) }
+            (λ found. either (found == change.0) change.1 found) }
         requires kept { IsKeptBy (P.keeps (key_of self.now.table).fixed)
             (BackedWhole P.whole (P.backed (key_of self.now.table).fixed)) P.after self.now.shape _step _act
             (seat_of _step)
             (known_in (me_of seat.old).0) (past_in (me_of seat.old).0)
             (note_in P.first (me_of seat.old).0)
-            (λ found. either (found == old) new found) }
+            (λ found. either (found == change.0) change.1 found) }
         requires recalled { IsRecalledBy self.now.shape _step (seat_of _step) (known_in (me_of seat.old).0)
-            (past_in (me_of seat.old).0) (λ found. either (found == old) new found) }
+            (past_in (me_of seat.old).0) (λ found. either (found == change.0) change.1 found) }
         ensures at { table_at seat.new ≡ table_at seat.old }
         ensures told { IsTold P.after P.whole P.first self.now.shape _step _act result (me_of seat.old)
             (me_of seat.new) }
@@ -194,16 +193,17 @@ impl<P: RootProtocol> Words<P> {
             ≡ operation_of self.now.shape _step (known_in (me_of seat.old).0) result ∷ operations_of seat.old }
     {
         safe_steps();
-        self.table.exchange::<Makes<P, K>>(seat, word, old, new)
+        self.table
+            .exchange::<Makes<P, K>>(seat, word, change.0, change.1)
     }
 
-    /// A core step that is made by a compare and exchange. The word as it was comes back.
+    /// A core step that is made by a compare and exchange: of the first of two values for the second. The word as it
+    /// was comes back.
     pub(crate) fn exchange(
         &self,
         seat: &mut TableSeat<P::Note>,
         word: usize,
-        old: u64,
-        new: u64,
+        change: (u64, u64),
         step: Step,
         act: Option<P::Act>,
     ) -> u64
@@ -211,23 +211,23 @@ impl<P: RootProtocol> Words<P> {
             × (number_in (me_of seat.old).0 ≡ seat_of step) }
         requires place { IsPlace self.now.shape (place_of step) × (index self.now.shape (place_of step) ≡ word) }
         requires own { IsOwn self.now.shape step (known_in (me_of seat.old).0)
-            (op.exchange (index self.now.shape (place_of step)) old new) }
+            (op.exchange (index self.now.shape (place_of step)) change.0 change.1) }
         requires made { IsMadeBy self.now.shape step (seat_of step) (known_in (me_of seat.old).0)
-            (λ found. either (found == old) new found) }
+            (λ found. either (found == change.0) change.1 found) }
         requires kept { IsKeptBy (P.keeps (key_of self.now.table).fixed)
             (BackedWhole P.whole (P.backed (key_of self.now.table).fixed)) P.after self.now.shape step act
             (seat_of step)
             (known_in (me_of seat.old).0) (past_in (me_of seat.old).0)
             (note_in P.first (me_of seat.old).0)
-            (λ found. either (found == old) new found) }
+            (λ found. either (found == change.0) change.1 found) }
         requires recalled { IsRecalledBy self.now.shape step (seat_of step) (known_in (me_of seat.old).0)
-            (past_in (me_of seat.old).0) (λ found. either (found == old) new found) }
+            (past_in (me_of seat.old).0) (λ found. either (found == change.0) change.1 found) }
         ensures at { table_at seat.new ≡ table_at seat.old }
         ensures told { IsTold P.after P.whole P.first self.now.shape step act result (me_of seat.old)
             (me_of seat.new) }
         ensures recorded { operations_of seat.new
             ≡ operation_of self.now.shape step (known_in (me_of seat.old).0) result ∷ operations_of seat.old }
     {
-        self.exchange_as::<Brand>(seat, word, old, new, step, act)
+        self.exchange_as::<Brand>(seat, word, change, step, act)
     }
 }

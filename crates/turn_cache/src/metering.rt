@@ -121,11 +121,12 @@ impl TurnCache {
         requires of_set { set_number own.now.key self.now.sets ≡ set }
         requires kept { (kept : Fragment) × (part_words kept ≡ chosen.now.words)
             × choice.Takes self.now.timeouts own.now (entry_of old.now)
-                (out_of chosen.now.how (entry_of old.now)) kept }
+            (out_of chosen.now.how (entry_of old.now)) kept }
         ensures at { seat.new.table_id ≡ seat.old.table_id }
         ensures filled { seat.new.me
             ≡ (
-              moves.filled_hand seat.old.me.0.read chosen.now.place chosen.now.words own.now (out_of chosen.now.how (entry_of old.now)) seat.old.me.0,
+              moves.filled_hand seat.old.me.0.read chosen.now.place chosen.now.words own.now
+                  (out_of chosen.now.how (entry_of old.now)) seat.old.me.0,
               seat.old.me.1,
             ) }
     {

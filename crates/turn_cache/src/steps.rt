@@ -107,11 +107,11 @@ impl TurnCache {
         requires of_set { set_number _own.now.key self.now.sets ≡ set }
         requires kept { (kept : Fragment) × (part_words kept ≡ chosen.now.words)
             × choice.Takes self.now.timeouts _own.now (entry_of _old.now)
-                (out_of chosen.now.how (entry_of _old.now)) kept }
+            (out_of chosen.now.how (entry_of _old.now)) kept }
         ensures at { seat.new.table_id ≡ seat.old.table_id }
         ensures commits { moves.Commits
             (moves.writes_to set chosen.now.place _own.now (out_of chosen.now.how (entry_of _old.now)) _old.now
-                chosen.now.words) seat.old.me
+            chosen.now.words) seat.old.me
             seat.new.me }
     {
         let word = 64 * set as usize + 16 + (10 * chosen.place + 5);
@@ -138,11 +138,11 @@ impl TurnCache {
         requires of_set { set_number own.now.key self.now.sets ≡ set }
         requires kept { (kept : Fragment) × (part_words kept ≡ chosen.now.words)
             × choice.Takes self.now.timeouts own.now (entry_of old.now)
-                (out_of chosen.now.how (entry_of old.now)) kept }
+            (out_of chosen.now.how (entry_of old.now)) kept }
         ensures at { seat.new.table_id ≡ seat.old.table_id }
         ensures commits { moves.Commits
             (moves.writes_to set chosen.now.place own.now (out_of chosen.now.how (entry_of old.now)) old.now
-                chosen.now.words) seat.old.me
+            chosen.now.words) seat.old.me
             seat.new.me }
     {
         self.commit_as::<Brand>(seat, set, old, own, chosen);

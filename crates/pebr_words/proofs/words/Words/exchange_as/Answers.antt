@@ -30,5 +30,5 @@ pub returns-clause-recorded : goal.returns-clause-recorded
 returns-clause-recorded g c =
     c.exchange.ensures.recorded
     ∙ ap (λ o. o ∷ operations_of c.args.seat.now)
-    (sym (c.requires.own c.exchange.result ∙ ap (λ w. op.exchange w c.args.old c.args.new c.exchange.result)
+    (sym (c.requires.own c.exchange.result ∙ ap (λ w. op.exchange w c.args.change.0 c.args.change.1 c.exchange.result)
     c.requires.place.1))

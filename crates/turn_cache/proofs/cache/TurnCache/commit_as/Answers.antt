@@ -17,7 +17,7 @@ store-requires g c =
       (let w = cache.counted in let s = c.requires.below.0 in let p = c.requires.below.1 in omega (arith, w, s, p)),
       subst (λ (m : Move). Allows (Ruled cache.table.shared.key) cache.table.shared.table_id.slots c.args.seat.now.id me
           (64 * c.args.set + 16 + (10 * c.args.chosen.now.place + 5)) (λ _. slice_index c.args.chosen.now.words 5)
-              (λ _. Commits m me))
+          (λ _. Commits m me))
           (sym c.requires.about)
           (commits cache.table.shared.key _ _ c.args.set c.args.chosen.now.place
           (slice_index c.args.chosen.now.words 5) c.args._own.now c.requires.kept.0
@@ -30,5 +30,5 @@ store-requires g c =
           c.requires.kept.1
           (subst (λ limits. Takes limits c.args._own.now (entry_of c.args._old.now)
           (out_of c.args.chosen.now.how (entry_of c.args._old.now)) c.requires.kept.0) (sym cache.told.2)
-              c.requires.kept.2)),
+          c.requires.kept.2)),
     )

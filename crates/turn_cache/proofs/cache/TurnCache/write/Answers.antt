@@ -13,7 +13,9 @@ give-requires-clause-written c =
 pub returns-clause-filled : goal.returns-clause-filled
 returns-clause-filled c = c.give.ensures.gives
     ∙ (ap (λ (m : Sat). (at_turn idle m.0, m.1)) c.write_rest.ensures.written
-    ∙ ap (λ (m : Sat).
-    (at_turn idle (at_turn (writing c.args.set c.args.chosen.now.place c.args.chosen.now.words
-        c.args.chosen.now.words) m.0), m.1))
+    ∙ ap (λ (m : Sat). (
+      at_turn idle (at_turn (writing c.args.set c.args.chosen.now.place c.args.chosen.now.words
+          c.args.chosen.now.words) m.0),
+      m.1,
+    ))
     c.commit.ensures.commits)
