@@ -36,7 +36,7 @@ unfolding template_message message set
 template_message-is export_time =
     ap (λ n. message_header (16 + n) export_time 0 ++ set 2 template_records) length-template_set
     ∙ ap (λ n. message_header template_message_length export_time 0
-        ++ (octets_of 2 2 ++ (octets_of 2 (4 + n) ++ template_records)))
+    ++ (octets_of 2 2 ++ (octets_of 2 (4 + n) ++ template_records)))
     length-template_records
 
 -- the first message, written part by part

@@ -97,7 +97,7 @@ under_way-start size export_time waiting sequence held_before held bytes piece n
 -- a part of the template message begins every layout
 pub begins-template : (size export_time : ℕ) (flows : List FlowRecord) (held_before bytes left piece : List ℕ)
     → template_message_length ≤ size → held_before ≡ [] → bytes ++ left ≡ held_before ++ piece → piece
-        ≡ template_message export_time
+    ≡ template_message export_time
     → BeginsLayout size export_time flows bytes
 begins-template size export_time flows held_before bytes left piece room empty passed is =
     begins-start size export_time flows bytes left (omega arith)

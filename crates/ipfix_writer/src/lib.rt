@@ -21,5 +21,5 @@ pub use body::append_message_header;
 pub use emitter::{Emitter, Phase};
 pub use encode::{Encode, append_counts};
 pub use message::append_template;
-pub use messages::{append_messages, write_messages};
+pub use messages::{MessageForm, append_messages, write_messages};
 pub use stream::{emit_all, layout};

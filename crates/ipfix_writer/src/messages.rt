@@ -18,6 +18,15 @@ use no_memory::NoMemory;
 use sink_buffer::SinkBuffer;
 use std::alloc::Global;
 
+/// What all data messages of a stream have.
+#[derive(Clone, Copy, Debug)]
+pub struct MessageForm {
+    /// The most octets of each.
+    pub size: usize,
+    /// Their export time, in seconds since 1970-01-01T00:00:00Z.
+    pub export_time: u32,
+}
+
 /// The longest beginning of some records whose message is at most `size` octets long: how many records it has, and the
 /// length of the message.
 fn first_message<R: Encode>(records: &[R], size: usize) -> (usize, usize)
@@ -51,44 +60,48 @@ fn append_message<R: Encode>(
     stream: &mut Vec<u8>,
     buffer: &mut Vec<u8>,
     records: &[R],
-    size: usize,
-    export_time: u32,
+    form: MessageForm,
     sequence: u32,
 ) -> Result<usize, NoMemory>
     requires some { 0 < length records.now }
-    requires small { size < 2 ^ 16 }
-    requires room { size ≤ vec_capacity buffer.old }
-    requires alone { (one : R) → length_in R.encode (one ∷ []) ≤ size }
+    requires small { form.size < 2 ^ 16 }
+    requires room { form.size ≤ vec_capacity buffer.old }
+    requires alone { (one : R) → length_in R.encode (one ∷ []) ≤ form.size }
     ensures some { IfOk result (λ count. (0 < count) × (count ≤ length records.now)) }
     ensures fits { IfOk result (λ count. length_in R.encode (take count records.now) ≤ size) }
     ensures full { IfOk result (λ count. count < length records.now
-        → size < length_in R.encode (take (count + 1) records.now)) }
+        → form.size < length_in R.encode (take (count + 1) records.now)) }
     ensures items { IfOk result (λ count. stream.new.items ≡ stream.old.items
-        ++ message export_time sequence (body_in R.encode (take count records.now))) }
+        ++ message form.export_time sequence (body_in R.encode (take count records.now))) }
     ensures room { vec_capacity buffer.old ≤ vec_capacity buffer.new }
 {
-    let (count, filled) = first_message(records, size);
-    encode_message(buffer, &records[..count], filled, export_time, sequence);
+    let (count, filled) = first_message(records, form.size);
+    encode_message(
+        buffer,
+        &records[..count],
+        filled,
+        form.export_time,
+        sequence,
+    );
     stream.extend_from_slice(buffer.as_slice())?;
     Ok(count)
 }
 
-/// Appends the data messages of some records to a stream that has its first message: messages of at most `size` octets,
-/// with this export time in seconds. A message of any one record is no longer than that.
+/// Appends the data messages of some records to a stream that has its first message, each of this form. A message of
+/// any one record is no longer than that.
 ///
 /// `NoMemory` where the room for them can't be had; no clause says what the stream then is.
 pub fn append_messages<R: Encode>(
     alloc: Global,
     stream: &mut Vec<u8>,
     records: &[R],
-    size: usize,
-    export_time: u32,
+    form: MessageForm,
 ) -> Result<(), NoMemory>
-    requires small { size < 2 ^ 16 }
-    requires alone { (one : R) → length_in R.encode (one ∷ []) ≤ size }
-    ensures { OnOk result (IsStream R.encode size export_time stream.old.items records.now stream.new.items) }
+    requires small { form.size < 2 ^ 16 }
+    requires alone { (one : R) → length_in R.encode (one ∷ []) ≤ form.size }
+    ensures { OnOk result (IsStream R.encode form.size form.export_time stream.old.items records.now stream.new.items) }
 {
-    let mut buffer = Vec::with_capacity(alloc, size)?;
+    let mut buffer = Vec::with_capacity(alloc, form.size)?;
     let mut done = 0;
     while done < records.len() {
         let (_, rest) = records.split_at(done);
@@ -96,8 +109,7 @@ pub fn append_messages<R: Encode>(
             stream,
             &mut buffer,
             rest,
-            size,
-            export_time,
+            form,
             (done as u64 % (1 << 32)) as u32,
         )?;
     }
@@ -109,34 +121,33 @@ fn put_message<R: Encode, K: Sink>(
     room: &mut Vec<u8>,
     out: &mut SinkBuffer,
     records: &[R],
-    size: usize,
-    export_time: u32,
+    form: MessageForm,
     sequence: u32,
     sink: &mut K,
 ) -> Result<usize, Failed>
     requires some { 0 < length records.now }
-    requires small { size < 2 ^ 16 }
-    requires room { size ≤ vec_capacity room.old }
-    requires alone { (one : R) → length_in R.encode (one ∷ []) ≤ size }
-    ensures passed { IfOk result (λ count. FillsMessage R.encode size records.now count
+    requires small { form.size < 2 ^ 16 }
+    requires room { form.size ≤ vec_capacity room.old }
+    requires alone { (one : R) → length_in R.encode (one ∷ []) ≤ form.size }
+    ensures passed { IfOk result (λ count. FillsMessage R.encode form.size records.now count
         × IsPassed (K.held sink.old) (K.held sink.new) out.old out.new
-        (message export_time sequence (body_in R.encode (take count records.now)))) }
-    ensures cut { OnErr result ((count : ℕ) × (left : List ℕ) × FillsMessage R.encode size records.now count
+        (message form.export_time sequence (body_in R.encode (take count records.now)))) }
+    ensures cut { OnErr result ((count : ℕ) × (left : List ℕ) × FillsMessage R.encode form.size records.now count
         × IsPassed (K.held sink.old) (K.held sink.new) out.old left
-        (message export_time sequence (body_in R.encode (take count records.now)))) }
+        (message form.export_time sequence (body_in R.encode (take count records.now)))) }
     ensures room { vec_capacity room.old ≤ vec_capacity room.new }
     ensures cause { HasCause (K.faults sink.old) (K.faults sink.new) result }
 {
-    let (count, filled) = first_message(records, size);
-    encode_message(room, &records[..count], filled, export_time, sequence);
+    let (count, filled) = first_message(records, form.size);
+    encode_message(room, &records[..count], filled, form.export_time, sequence);
     match out.put(sink, room.as_slice()) {
         Ok(()) => Ok(count),
         Err(Failed) => Err(Failed),
     }
 }
 
-/// Writes a stream to a sink: its first message, and then the data messages of some records, of at most `size` octets
-/// and with this export time in seconds. A message of any one record is no longer than that. It goes out through `out`,
+/// Writes a stream to a sink: its first message, and then the data messages of some records, each of this form. A
+/// message of any one record is no longer than that. It goes out through `out`,
 /// which is empty, in whole messages; `room` has room for one.
 ///
 /// `Failed` comes only where the sink's count of faults rose; the sink then took a beginning of the stream.
@@ -145,20 +156,19 @@ pub fn write_messages<R: Encode, K: Sink>(
     out: SinkBuffer,
     first: &[u8],
     records: &[R],
-    size: usize,
-    export_time: u32,
+    form: MessageForm,
     sink: &mut K,
 ) -> Result<(), Failed>
     requires empty { out ≡ [] }
-    requires room { size ≤ vec_capacity room }
+    requires room { form.size ≤ vec_capacity room }
     requires short { length first.now < 2 ^ 16 }
-    requires small { size < 2 ^ 16 }
-    requires alone { (one : R) → length_in R.encode (one ∷ []) ≤ size }
+    requires small { form.size < 2 ^ 16 }
+    requires alone { (one : R) → length_in R.encode (one ∷ []) ≤ form.size }
     ensures written { OnOk result ((bytes : List ℕ) × Appends (K.held sink.old) (K.held sink.new) bytes
-        × IsStream R.encode size export_time first.now records.now bytes) }
+        × IsStream R.encode form.size form.export_time first.now records.now bytes) }
     ensures begun { OnErr result ((bytes : List ℕ) × (count : ℕ)
         × Appends (K.held sink.old) (K.held sink.new) (take count bytes)
-        × IsStream R.encode size export_time first.now records.now bytes) }
+        × IsStream R.encode form.size form.export_time first.now records.now bytes) }
     ensures cause { HasCause (K.faults sink.old) (K.faults sink.new) result }
 {
     let mut room = room;
@@ -171,7 +181,7 @@ pub fn write_messages<R: Encode, K: Sink>(
     while done < records.len() {
         let (_, rest) = records.split_at(done);
         let sequence = (done as u64 % (1 << 32)) as u32;
-        match put_message(&mut room, &mut out, rest, size, export_time, sequence, sink) {
+        match put_message(&mut room, &mut out, rest, form, sequence, sink) {
             Ok(count) => done += count,
             Err(Failed) => return Err(Failed),
         }

@@ -8,7 +8,7 @@ ghost use Rattle.ipfix_model.specs.Sizes.{template_message_length};
 
 use crate::emitter::{Emitter, Phase};
 use crate::message::encode_template_message;
-use crate::messages::append_messages;
+use crate::messages::{MessageForm, append_messages};
 use ipfix_model::TEMPLATE_MESSAGE_LENGTH;
 use meter_io::{Failed, Sink};
 use no_memory::NoMemory;
@@ -60,6 +60,11 @@ pub fn layout(
 {
     let mut stream = Vec::with_capacity(alloc, TEMPLATE_MESSAGE_LENGTH as usize)?;
     encode_template_message(&mut stream, export_time);
-    append_messages(alloc, &mut stream, records, size, export_time)?;
+    append_messages(
+        alloc,
+        &mut stream,
+        records,
+        MessageForm { size, export_time },
+    )?;
     Ok(stream)
 }

@@ -101,7 +101,7 @@ bi_template_message-is export_time =
     ap (λ n. message_header (16 + n) export_time 0 ++ set 2 bi_template_records)
     (length-set 2 bi_template_records ∙ ap (λ n. 4 + n) length-bi_template_records)
     ∙ ap (λ n. message_header bi_template_message_length export_time 0
-        ++ (octets_of 2 2 ++ (octets_of 2 (4 + n) ++ bi_template_records)))
+    ++ (octets_of 2 2 ++ (octets_of 2 (4 + n) ++ bi_template_records)))
     length-bi_template_records
 
 pub bi_template_message-written : (export_time : ℕ) (empty header number size one two three all : List ℕ) → empty ≡ []

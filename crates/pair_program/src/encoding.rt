@@ -11,7 +11,7 @@ use ipfix_model::{
     V4_BI_TEMPLATE, V4_FIELDS, V4_TEMPLATE, V6_BI_FIELDS, V6_BI_TEMPLATE, V6_FIELDS, V6_TEMPLATE,
 };
 use ipfix_writer::{
-    Encode, append_counts, append_message_header, append_messages, append_template,
+    Encode, MessageForm, append_counts, append_message_header, append_messages, append_template,
 };
 use no_memory::NoMemory;
 use octets::append_u16;
@@ -99,6 +99,6 @@ pub fn bi_layout(
     ensures { IfOk result (λ bytes. IsBiLayout size export_time pairs.now bytes.items) }
 {
     let mut stream = first_message(alloc, export_time)?;
-    append_messages(alloc, &mut stream, pairs, size, export_time)?;
+    append_messages(alloc, &mut stream, pairs, MessageForm { size, export_time })?;
     Ok(stream)
 }

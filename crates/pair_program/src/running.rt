@@ -14,7 +14,7 @@ use crate::stream::{PairError, pairs_of};
 use crate::words::settings_of;
 use command_words::OptionsError;
 use ipfix_reader::STREAM_LIMIT;
-use ipfix_writer::write_messages;
+use ipfix_writer::{MessageForm, write_messages};
 use meter_io::{Failed, ReadError, Sink, Source, read_all};
 use sink_buffer::SinkBuffer;
 use std::alloc::Global;
@@ -53,15 +53,11 @@ fn pair_input<S: Source, K: Sink>(
         return PairStatus::NoMemory;
     };
     let pairs = paired.pairs.as_slice();
-    match write_messages(
-        room,
-        out,
-        first.as_slice(),
-        pairs,
+    let form = MessageForm {
         size,
-        paired.seconds,
-        output,
-    ) {
+        export_time: paired.seconds,
+    };
+    match write_messages(room, out, first.as_slice(), pairs, form, output) {
         Ok(()) => PairStatus::Done,
         Err(Failed) => PairStatus::WriteFault,
     }

@@ -8,9 +8,9 @@ use Rattle.ipfix_writer.proofs.messages.append_messages.Given as goal
 abbrev pub invariant-loop-done : goal.invariant-loop-done
 invariant-loop-done g l = record {
   within : l.done ≤ length l.records;
-  room : l.size ≤ vec_capacity l.buffer;
-  goes_on : (bytes : List ℕ) → IsRest g.R.Encode.encode l.size l.export_time l.records l.done bytes
-      → IsStream g.R.Encode.encode l.size l.export_time l.fn.stream.items l.records (l.stream.items ++ bytes);
+  room : l.form.size ≤ vec_capacity l.buffer;
+  goes_on : (bytes : List ℕ) → IsRest g.R.Encode.encode l.form.size l.form.export_time l.records l.done bytes
+      → IsStream g.R.Encode.encode l.form.size l.form.export_time l.fn.stream.items l.records (l.stream.items ++ bytes);
 }
 
 abbrev pub decreases-loop-done : goal.decreases-loop-done

@@ -7,8 +7,8 @@ use Rattle.ipfix_writer.proofs.messages.write_messages.Given as goal
 abbrev pub invariant-loop-done : goal.invariant-loop-done
 invariant-loop-done g l = record {
   within : l.done ≤ length l.records;
-  room : l.size ≤ vec_capacity l.room;
-  way : GoesOn g.R.Encode.encode l.size l.export_time l.first l.records l.done (g.K.Sink.held l.fn.sink)
+  room : l.form.size ≤ vec_capacity l.room;
+  way : GoesOn g.R.Encode.encode l.form.size l.form.export_time l.first l.records l.done (g.K.Sink.held l.fn.sink)
       (g.K.Sink.held l.sink) l.out;
   quiet : g.K.Sink.faults l.sink ≡ g.K.Sink.faults l.fn.sink;
 }

@@ -11,11 +11,11 @@ returns-then-self-eq4 c =
     let flow = c.args.self.now in
     sym (length-data_record flow ∙ record_size-is flow
     ∙ ap (λ (v4 : Bool). if v4 then v4_record_length else v6_record_length)
-        (eq-eqb flow.part.key.version 4 c.if-self-eq4.true))
+    (eq-eqb flow.part.key.version 4 c.if-self-eq4.true))
 
 pub returns-else-self-eq4 : goal.returns-else-self-eq4
 returns-else-self-eq4 c =
     let flow = c.args.self.now in
     sym (length-data_record flow ∙ record_size-is flow
     ∙ ap (λ (v4 : Bool). if v4 then v4_record_length else v6_record_length)
-        (ne_eqb flow.part.key.version 4 c.if-self-eq4.false))
+    (ne_eqb flow.part.key.version 4 c.if-self-eq4.false))

@@ -12,5 +12,5 @@ overflow_add-result c = omega (arith, c.size-in-Some.ensures, record_size-bounds
 pub returns-in-Some : goal.returns-in-Some
 returns-in-Some c =
     ap (λ n. n + counts_length) c.size-in-Some.ensures
-        ∙ sym (length-bi_record c.args.self.now.forward c.in-Some.field-0)
+    ∙ sym (length-bi_record c.args.self.now.forward c.in-Some.field-0)
     ∙ ap (λ r. length (encode_both c.args.self.now.forward r).records) (sym c.in-Some.is)
