@@ -68,7 +68,7 @@ fn append_message<R: Encode>(
     requires room { form.size ≤ vec_capacity buffer.old }
     requires alone { (one : R) → length_in R.encode (one ∷ []) ≤ form.size }
     ensures some { IfOk result (λ count. (0 < count) × (count ≤ length records.now)) }
-    ensures fits { IfOk result (λ count. length_in R.encode (take count records.now) ≤ size) }
+    ensures fits { IfOk result (λ count. length_in R.encode (take count records.now) ≤ form.size) }
     ensures full { IfOk result (λ count. count < length records.now
         → form.size < length_in R.encode (take (count + 1) records.now)) }
     ensures items { IfOk result (λ count. stream.new.items ≡ stream.old.items

@@ -21,14 +21,14 @@ loop-done-preserved g c =
       room = omega (arith, c.in_ok-done.ensures.room, c.loop-done.invariant.room);
       goes_on = λ bytes left.
           subst (λ (all : List ℕ). IsStream encode c.args.form.size c.args.form.export_time
-              c.args.stream.now.items records
+          c.args.stream.now.items records
           (all ++ bytes)) (sym c.in_ok-done.ensures.items)
           (subst (λ (all : List ℕ). IsStream encode c.args.form.size c.args.form.export_time
-              c.args.stream.now.items records all)
+          c.args.stream.now.items records all)
           (sym (append_assoc stream next bytes))
           (c.loop-done.invariant.goes_on (next ++ bytes)
           (rest-more encode c.args.form.size c.args.form.export_time records rest done count bytes
-              c.split_at.ensures.back
+          c.split_at.ensures.back
           c.in_ok-done.ensures.some.0 c.in_ok-done.ensures.some.1
           c.in_ok-done.ensures.fits c.in_ok-done.ensures.full left)));
     }
