@@ -71,15 +71,11 @@ fn read_set<'a, T: RecordTaker>(
     }
     let size = usize::from(part.u16_at(2));
     let content = part.first_part(size).behind(SET_HEADER);
-    match read_content(
-        alloc,
-        domain,
-        part.u16_at(0),
-        part.at,
-        table,
-        taker,
-        content,
-    ) {
+    let head = SetHead {
+        number: part.u16_at(0),
+        at: part.at,
+    };
+    match read_content(alloc, domain, head, table, taker, content) {
         Ok(count) => Ok((count, part.behind(size))),
         Err(error) => Err(error),
     }
@@ -114,31 +110,41 @@ fn read_template_set(
     }
 }
 
-/// Reads what is in a set, by its number, and tells how many data records it has. `at` is the offset of the set.
+/// A set's number, and the offset at which it begins.
+#[derive(Clone, Copy)]
+struct SetHead {
+    number: u16,
+    at: u64,
+}
+
+/// Reads what is in a set, by its number, and tells how many data records it has.
 fn read_content<T: RecordTaker>(
     alloc: Global,
     domain: u32,
-    number: u16,
-    at: u64,
+    head: SetHead,
     table: &mut TemplateTable,
     taker: &mut T,
     content: Cursor<'_>,
 ) -> Result<usize, StreamError>
     ensures ok { IfOk result (λ count. (before : List DataRecord) → T.has_taken taker.old before
         → IsTaken (T.has_taken taker.new) before count
-        (set_contents domain number at (contents_of table.old before) (part_of content.entry))
+        (set_contents domain head.number head.at (contents_of table.old before) (part_of content.entry))
         (λ after. Ok (contents_of table.new after))) }
     ensures few { IfOk result (λ count. count ≤ length content.entry.bytes.now) }
     ensures fault { IfErr result (λ error. (before : List DataRecord) → T.has_taken taker.old before
-        → IsFaultOf (set_contents domain number at (contents_of table.old before) (part_of content.entry)) error) }
+        → IsFaultOf (set_contents domain head.number head.at (contents_of table.old before) (part_of content.entry))
+        error) }
 {
-    match number {
+    match head.number {
         TEMPLATE_SET => read_template_set(alloc, false, domain, table, content),
         OPTIONS_TEMPLATE_SET => read_template_set(alloc, true, domain, table, content),
         0..FIRST_TEMPLATE => Ok(0),
-        _ => match table.get(domain, number) {
-            Some(known) => read_data(alloc, domain, number, known, taker, content),
-            None => Err(StreamError::Fault(StreamFault::NoTemplate { at, id: number })),
+        _ => match table.get(domain, head.number) {
+            Some(known) => read_data(alloc, domain, head.number, known, taker, content),
+            None => Err(StreamError::Fault(StreamFault::NoTemplate {
+                at: head.at,
+                id: head.number,
+            })),
         },
     }
 }
