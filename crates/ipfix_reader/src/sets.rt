@@ -135,16 +135,14 @@ fn read_content<T: RecordTaker>(
         → IsFaultOf (set_contents domain head.number head.at (contents_of table.old before) (part_of content.entry))
         error) }
 {
-    match head.number {
+    let SetHead { number, at } = head;
+    match number {
         TEMPLATE_SET => read_template_set(alloc, false, domain, table, content),
         OPTIONS_TEMPLATE_SET => read_template_set(alloc, true, domain, table, content),
         0..FIRST_TEMPLATE => Ok(0),
-        _ => match table.get(domain, head.number) {
-            Some(known) => read_data(alloc, domain, head.number, known, taker, content),
-            None => Err(StreamError::Fault(StreamFault::NoTemplate {
-                at: head.at,
-                id: head.number,
-            })),
+        _ => match table.get(domain, number) {
+            Some(known) => read_data(alloc, domain, number, known, taker, content),
+            None => Err(StreamError::Fault(StreamFault::NoTemplate { at, id: number })),
         },
     }
 }
