@@ -72,12 +72,12 @@ impl TurnCache {
     {
         for k in 0..10 {
             if k != 5 {
-                self.write_word(seat, set, place, k, old[k], new[k]);
+                self.write_word(seat, set, place, k, (old[k], new[k]));
             }
         }
     }
 
-    /// Stores a word of an entry, where it changes.
+    /// Stores a word of an entry, where it changes: from the first of two values to the second.
     #[inline]
     fn write_word(
         &self,
@@ -85,19 +85,19 @@ impl TurnCache {
         set: u64,
         place: usize,
         k: usize,
-        stands: u64,
-        value: u64,
+        change: (u64, u64),
     )
         requires at { seat.old.table_id ≡ self.now.table.shared.table_id }
         requires writing { (new now : List ℕ) × (seat.old.me.0.turn ≡ writing set place new now)
-            × (slice_index now k ≡ stands) × (slice_index new k ≡ value) }
+            × (slice_index now k ≡ change.0) × (slice_index new k ≡ change.1) }
         requires below { (set < self.now.sets) × (place < 4) × (k < 10) }
         ensures at { seat.new.table_id ≡ seat.old.table_id }
         ensures written { (new now : List ℕ) → seat.old.me.0.turn ≡ writing set place new now
-            → slice_index now k ≡ stands
+            → slice_index now k ≡ change.0
             → seat.new.me
-            ≡ (moves.at_turn (writing set place new (slice_set now k value)) seat.old.me.0, seat.old.me.1) }
+            ≡ (moves.at_turn (writing set place new (slice_set now k change.1)) seat.old.me.0, seat.old.me.1) }
     {
+        let (stands, value) = change;
         if value != stands {
             self.store_word(seat, set, place, k, value);
         }
