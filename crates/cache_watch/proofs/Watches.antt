@@ -10,7 +10,7 @@ use Rattle.pebr_table.specs.Operations.{Op}
 use Rattle.pebr_words.specs.Pasts.{was_ejected}
 use Rattle.pebr_roots.specs.Orders.{HasMade}
 use Rattle.pebr_roots.proofs.Counts.{made_none, made_on, made_in}
-use Rattle.pebr_roots.specs.Passes.{known_by, IsSame}
+use Rattle.pebr_roots.specs.Passes.{known_by_pass, IsSame}
 use Rattle.flow_cache.specs.declared.cache.PebrCache.{PebrCache}
 use Rattle.flow_cache.specs.Shown.{roots_of}
 use Rattle.cache_watch.specs.declared.watcher.Watch.{Watch}
@@ -22,7 +22,8 @@ use Rattle.cache_watch.specs.Watching.{IsOf, IsWatched, note_of, past_of}
 -- it is a watcher of the same cache
 pub goes_on : (cache : PebrCache) (old new : Watcher) → IsOf cache old → IsSame (roots_of cache) old.seat new.seat
     → (note_of new).seats ≡ (note_of old).seats
-    → IfSome new.held (λ hold. IsHolding hold.place hold.fragment (known_by new.seat) (past_of new)) → IsOf cache new
+    → IfSome new.held (λ hold. IsHolding hold.place hold.fragment (known_by_pass new.seat) (past_of new))
+    → IsOf cache new
 goes_on cache old new o same seats holds = record {
   of = same.of;
   seats = seats ∙ o.seats ∙ sym same.still.3;

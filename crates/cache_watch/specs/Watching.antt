@@ -10,7 +10,8 @@ use Rattle.pebr_words.specs.Pasts.{History, was_ejected}
 use Rattle.pebr_words.specs.Pasts as pasts
 use Rattle.pebr_table.specs.Operations.{Op}
 use Rattle.pebr_roots.specs.Passes as roots
-use Rattle.pebr_roots.specs.Passes.{known_by, note_by, past_by, lost_by, operations_by, count_by_pass, IsUnitedPass}
+use Rattle.pebr_roots.specs.Passes.{known_by_pass, note_by, past_by, lost_by, operations_by, count_by_pass}
+use Rattle.pebr_roots.specs.Passes.{IsUnitedPass}
 use Rattle.pebr_roots.specs.Under.{slot_at}
 use Rattle.flow_cache.specs.declared.cache.PebrCache.{PebrCache}
 use Rattle.flow_cache.specs.Shown.{roots_of}
@@ -26,7 +27,7 @@ held_by watcher = option_map (λ hold. hold.fragment) watcher.held
 
 -- The slot that it holds.
 abbrev pub slot_held_by : Watcher → Option ℕ
-slot_held_by watcher = option_map (λ hold. slot_at (known_by watcher.seat) hold.place) watcher.held
+slot_held_by watcher = option_map (λ hold. slot_at (known_by_pass watcher.seat) hold.place) watcher.held
 
 -- What the watcher's seat has done as a pass of the cache, its steps, and the tries that it lost, the newest first.
 abbrev pub note_of : Watcher → Note
@@ -47,7 +48,8 @@ pub record IsOf (cache : PebrCache) (watcher : Watcher) : Type 0 where
   pub of : roots.IsOf (roots_of cache) watcher.seat
   pub seats : (note_of watcher).seats ≡ count_by_pass watcher.seat
   pub united : IsUnitedPass empty_note watcher.seat
-  pub holds : IfSome watcher.held (λ hold. IsHolding hold.place hold.fragment (known_by watcher.seat) (past_of watcher))
+  pub holds : IfSome watcher.held (λ hold. IsHolding hold.place hold.fragment (known_by_pass watcher.seat)
+      (past_of watcher))
 
 -- The reads of the watcher's seat grew by the ten words of the slot that it holds, and these are the fragment's.
 abbrev pub HasRead : Fragment → Watcher → Watcher → Type 0

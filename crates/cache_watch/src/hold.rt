@@ -7,7 +7,7 @@ ghost use Rattle.cache_face.specs.Keeping.{IsWhole};
 ghost use Rattle.cache_face.specs.Notes.{first_note};
 ghost use Rattle.pebr_core.specs.State.{is_out, is_down};
 ghost use Rattle.pebr_words.specs.Ruled.{IsSure};
-ghost use Rattle.pebr_roots.specs.Passes.{shape_at, known_by, note_by, past_by, operations_by, IsSame};
+ghost use Rattle.pebr_roots.specs.Passes.{shape_at, known_by_pass, note_by, past_by, operations_by, IsSame};
 ghost use Rattle.pebr_roots.specs.Orders.{HasMade};
 ghost use Rattle.pebr_roots.specs.Passes as roots;
 ghost use Rattle.flow_cache.specs.Shown.{means_of, roots_of};
@@ -41,19 +41,20 @@ fn lowest_of(entries: &[Option<Fragment>; 4], key: &FlowKey) -> Option<Hold>
 /// Leaves. Where an entry is held, the shields stay up, and the note lists it as seen; else they are taken down.
 fn leave(cache: &PebrCache, seat: &mut RootPass<CacheRule>, held: Option<Hold>)
     requires of { roots.IsOf (roots_of cache.now) seat.old }
-    requires entered { is_out (known_by seat.old).status ≡ false }
-    requires held { IfSome held (λ hold. IsHolding hold.place hold.fragment (known_by seat.old) (past_by seat.old)) }
+    requires entered { is_out (known_by_pass seat.old).status ≡ false }
+    requires held { IfSome held (λ hold. IsHolding hold.place hold.fragment (known_by_pass seat.old)
+        (past_by seat.old)) }
     ensures same { IsSame (roots_of cache.now) seat.old seat.new }
     ensures note { note_by first_note seat.new ≡ note_holding held (note_by first_note seat.old) }
-    ensures out { IsTrue (is_out (known_by seat.new).status) }
-    ensures held { IfSome held (λ _. (known_by seat.new).shields ≡ (known_by seat.old).shields) }
-    ensures down { held ≡ None → IsTrue (list_all is_down (known_by seat.new).shields) }
+    ensures out { IsTrue (is_out (known_by_pass seat.new).status) }
+    ensures held { IfSome held (λ _. (known_by_pass seat.new).shields ≡ (known_by_pass seat.old).shields) }
+    ensures down { held ≡ None → IsTrue (list_all is_down (known_by_pass seat.new).shields) }
     ensures past { past_by seat.new ≡ record (past_by seat.old) {
       last = (past_by seat.new).last;
       steps =
           (past_by seat.new).steps;
     } }
-    ensures sure { IsSure IsWhole (shape_at (roots_of cache.now)) (known_by seat.new) (past_by seat.new) }
+    ensures sure { IsSure IsWhole (shape_at (roots_of cache.now)) (known_by_pass seat.new) (past_by seat.new) }
     ensures few { HasMade 5 (operations_by seat.old) (operations_by seat.new) }
 {
     valid_shields_protect();
@@ -82,16 +83,16 @@ pub(crate) enum Tried {
 /// Reads the entries of a set whose roots are protected, holds the one of the key, and leaves.
 fn keep(cache: &PebrCache, seat: &mut RootPass<CacheRule>, set: u64, key: &FlowKey) -> Option<Hold>
     requires of { roots.IsOf (roots_of cache.now) seat.old }
-    requires entered { is_out (known_by seat.old).status ≡ false }
-    requires protected { AreProtected set (known_by seat.old) (past_by seat.old) }
+    requires entered { is_out (known_by_pass seat.old).status ≡ false }
+    requires protected { AreProtected set (known_by_pass seat.old) (past_by seat.old) }
     ensures same { IsSame (roots_of cache.now) seat.old seat.new }
     ensures note { note_by first_note seat.new ≡ note_holding result (note_by first_note seat.old) }
-    ensures out { IsTrue (is_out (known_by seat.new).status) }
+    ensures out { IsTrue (is_out (known_by_pass seat.new).status) }
     ensures pins { (past_by seat.new).pins ≡ (past_by seat.old).pins }
     ensures lost { (past_by seat.new).lost ≡ (past_by seat.old).lost }
-    ensures held { IfSome result (λ hold. IsHolding hold.place hold.fragment (known_by seat.new) (past_by seat.new)
+    ensures held { IfSome result (λ hold. IsHolding hold.place hold.fragment (known_by_pass seat.new) (past_by seat.new)
         × IsHeld set key.now (past_by seat.new) hold.fragment) }
-    ensures absent { IsNone result → IsTrue (list_all is_down (known_by seat.new).shields)
+    ensures absent { IsNone result → IsTrue (list_all is_down (known_by_pass seat.new).shields)
         × IsAbsent set key.now (past_by seat.new) }
     ensures few { HasMade 45 (operations_by seat.old) (operations_by seat.new) }
 {
@@ -110,11 +111,11 @@ pub(crate) fn attempt(
 ) -> Tried
     requires of { roots.IsOf (roots_of cache.now) seat.old }
     requires set { set < (means_of cache.now).sets }
-    requires out { IsTrue (is_out (known_by seat.old).status) }
+    requires out { IsTrue (is_out (known_by_pass seat.old).status) }
     ensures same { IsSame (roots_of cache.now) seat.old seat.new }
     ensures note { note_by first_note seat.new ≡ note_tried result (note_by first_note seat.old) }
-    ensures out { IsTrue (is_out (known_by seat.new).status) }
-    ensures tried { IsTried set key.now (means_of cache.now).seats result (known_by seat.new) (past_by seat.old)
+    ensures out { IsTrue (is_out (known_by_pass seat.new).status) }
+    ensures tried { IsTried set key.now (means_of cache.now).seats result (known_by_pass seat.new) (past_by seat.old)
         (past_by seat.new) }
     ensures few { HasMade 56 (operations_by seat.old) (operations_by seat.new) }
 {

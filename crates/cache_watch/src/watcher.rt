@@ -3,7 +3,7 @@
 ghost use Rattle.std.specs.Prelude.{◌≡◌, ◌^◌, ◌-◌, length, min, IsTrue, IsNone};
 ghost use Rattle.std.specs.List.{list_all};
 ghost use Rattle.pebr_core.specs.State.{is_out, is_down};
-ghost use Rattle.pebr_roots.specs.Passes.{known_by, lost_by};
+ghost use Rattle.pebr_roots.specs.Passes.{known_by_pass, lost_by};
 
 use flow_cache::CacheRule;
 use flow_parts::Fragment;
@@ -34,7 +34,7 @@ pub struct Watcher {
     /// The number of tries that it lost, as far as 64 bits count.
     pub(crate) lost: u64,
     pub(crate) held: Option<Hold>,
-    ghost out: { IsTrue (is_out (known_by seat).status) },
+    ghost out: { IsTrue (is_out (known_by_pass seat).status) },
     ghost counted: { lost ≡ min (length (lost_by seat)) (2 ^ 64 - 1) },
-    ghost idle: { IsNone held → IsTrue (list_all is_down (known_by seat).shields) },
+    ghost idle: { IsNone held → IsTrue (list_all is_down (known_by_pass seat).shields) },
 }

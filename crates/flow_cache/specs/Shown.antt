@@ -9,7 +9,7 @@ use Rattle.pebr_core.specs.declared.kinds.Shape.{Shape}
 use Rattle.pebr_table.specs.Operations.{Op}
 use Rattle.pebr_words.specs.Pasts.{Lost, was_ejected, found_other, Ejection, History}
 use Rattle.pebr_roots.specs.Passes as roots
-use Rattle.pebr_roots.specs.Passes.{shape_at, known_by, number_by, note_by, past_by, lost_by, operations_by}
+use Rattle.pebr_roots.specs.Passes.{shape_at, known_by_pass, number_by, note_by, past_by, lost_by, operations_by}
 use Rattle.pebr_roots.specs.Passes.{count_by_pass}
 use Rattle.pebr_roots.specs.Passes.{IsUnitedPass}
 use Rattle.pebr_roots.specs.declared.pass.RootPass.{RootPass}
@@ -68,14 +68,14 @@ abbrev pub number_of : PebrPass → ℕ
 number_of pass = number_by (seat_of pass)
 
 abbrev pub known_of : PebrPass → Seat
-known_of pass = known_by (seat_of pass)
+known_of pass = known_by_pass (seat_of pass)
 
 abbrev pub operations_of : PebrPass → List Op
 operations_of pass = operations_by (seat_of pass)
 
 -- How many slots it has retired, and the ejections that its seat made.
 abbrev pub retired_of : PebrPass → ℕ
-retired_of pass = retired_count (known_by (seat_of pass))
+retired_of pass = retired_count (known_by_pass (seat_of pass))
 
 abbrev pub ejections_of : PebrPass → List Ejection
 ejections_of pass = (past_by (seat_of pass)).ejections

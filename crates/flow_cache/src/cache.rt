@@ -3,7 +3,7 @@
 ghost use Rattle.std.specs.Prelude.{◌≡◌, ◌≤◌, ◌^◌, ◌-◌, length, min, IsTrue};
 ghost use Rattle.std.specs.List.{list_all};
 ghost use Rattle.pebr_core.specs.State.{is_out, is_down};
-ghost use Rattle.pebr_roots.specs.Passes.{shape_at, fixed_at, known_by, lost_by};
+ghost use Rattle.pebr_roots.specs.Passes.{shape_at, fixed_at, known_by_pass, lost_by};
 ghost use Rattle.flow_cache.specs.Places.{cache_shape};
 
 use crate::protocol::CacheRule;
@@ -30,7 +30,7 @@ pub struct PebrPass {
     /// The words of the four entries that it read last. They are used within a try alone, and kept so that no try
     /// has to zero them first.
     pub(crate) contents: [[u64; 10]; 4],
-    ghost out: { IsTrue (is_out (known_by inner).status) },
-    ghost down: { IsTrue (list_all is_down (known_by inner).shields) },
+    ghost out: { IsTrue (is_out (known_by_pass inner).status) },
+    ghost down: { IsTrue (list_all is_down (known_by_pass inner).shields) },
     ghost counted: { lost ≡ min (length (lost_by inner)) (2 ^ 64 - 1) },
 }

@@ -10,7 +10,8 @@ ghost use Rattle.cache_face.specs.Tries.{HasLost};
 ghost use Rattle.pebr_core.specs.State.{is_out, is_down};
 ghost use Rattle.pebr_core.specs.Frames.{fresh_count, retired_count};
 ghost use Rattle.pebr_roots.specs.Orders.{HasMade};
-ghost use Rattle.pebr_roots.specs.Passes.{shape_at, known_by, number_by, note_by, past_by, operations_by, IsOf, IsSame};
+ghost use Rattle.pebr_roots.specs.Passes.{shape_at, known_by_pass, number_by, note_by, past_by, operations_by, IsOf};
+ghost use Rattle.pebr_roots.specs.Passes.{IsSame};
 ghost use Rattle.flow_cache.specs.Collecting.{HasCollected, HasBegun, HasSpared, CollectsFrom};
 ghost use Rattle.flow_cache.specs.Outcome.{HaveLost, IsOutcome};
 ghost use Rattle.flow_cache.specs.Shown as shown;
@@ -35,23 +36,25 @@ impl PebrCache {
     /// Collects without force from 32 retired slots on.
     fn collect_batch(&self, pass: &mut RootPass<CacheRule>)
         requires of { IsOf self.now.roots pass.old }
-        requires out { IsTrue (is_out (known_by pass.old).status) }
-        requires down { IsTrue (list_all is_down (known_by pass.old).shields) }
+        requires out { IsTrue (is_out (known_by_pass pass.old).status) }
+        requires down { IsTrue (list_all is_down (known_by_pass pass.old).shields) }
         ensures same { IsSame self.now.roots pass.old pass.new }
-        ensures out { IsTrue (is_out (known_by pass.new).status) }
-        ensures down { IsTrue (list_all is_down (known_by pass.new).shields) }
+        ensures out { IsTrue (is_out (known_by_pass pass.new).status) }
+        ensures down { IsTrue (list_all is_down (known_by_pass pass.new).shields) }
         ensures note { note_by first_note pass.new ≡ note_by first_note pass.old }
         ensures lost { (past_by pass.new).lost ≡ (past_by pass.old).lost }
         ensures ejections { (past_by pass.new).ejections ≡ (past_by pass.old).ejections }
-        ensures many { 32 ≤ retired_count (known_by pass.old) → HasCollected 1 (past_by pass.old) (past_by pass.new) }
-        ensures none { retired_count (known_by pass.old) < 32 → HasCollected 0 (past_by pass.old) (past_by pass.new)
+        ensures many { 32 ≤ retired_count (known_by_pass pass.old)
+            → HasCollected 1 (past_by pass.old) (past_by pass.new) }
+        ensures none { retired_count (known_by_pass pass.old) < 32
+            → HasCollected 0 (past_by pass.old) (past_by pass.new)
             × (operations_by pass.new ≡ operations_by pass.old) }
-        ensures batch { 32 ≤ retired_count (known_by pass.old) → HasBegun (shape_at self.now.roots)
-            (number_by pass.old) (known_by pass.old) (past_by pass.old) (operations_by pass.old)
+        ensures batch { 32 ≤ retired_count (known_by_pass pass.old) → HasBegun (shape_at self.now.roots)
+            (number_by pass.old) (known_by_pass pass.old) (past_by pass.old) (operations_by pass.old)
             (operations_by pass.new) }
         ensures few { HasMade (6 * ((shape_at self.now.roots).seats - 1) + 4) (operations_by pass.old)
             (operations_by pass.new) }
-        ensures fresh { fresh_count (known_by pass.old) ≤ fresh_count (known_by pass.new) }
+        ensures fresh { fresh_count (known_by_pass pass.old) ≤ fresh_count (known_by_pass pass.new) }
     {
         if pass.retired() >= BATCH {
             self.roots.collect(pass, false);
@@ -61,21 +64,21 @@ impl PebrCache {
     /// Collects with force where no fresh slot is left.
     fn collect_if_none(&self, pass: &mut RootPass<CacheRule>)
         requires of { IsOf self.now.roots pass.old }
-        requires out { IsTrue (is_out (known_by pass.old).status) }
-        requires down { IsTrue (list_all is_down (known_by pass.old).shields) }
+        requires out { IsTrue (is_out (known_by_pass pass.old).status) }
+        requires down { IsTrue (list_all is_down (known_by_pass pass.old).shields) }
         ensures same { IsSame self.now.roots pass.old pass.new }
-        ensures out { IsTrue (is_out (known_by pass.new).status) }
-        ensures down { IsTrue (list_all is_down (known_by pass.new).shields) }
+        ensures out { IsTrue (is_out (known_by_pass pass.new).status) }
+        ensures down { IsTrue (list_all is_down (known_by_pass pass.new).shields) }
         ensures note { note_by first_note pass.new ≡ note_by first_note pass.old }
         ensures lost { (past_by pass.new).lost ≡ (past_by pass.old).lost }
-        ensures ejections { 0 < fresh_count (known_by pass.old)
+        ensures ejections { 0 < fresh_count (known_by_pass pass.old)
             → (past_by pass.new).ejections ≡ (past_by pass.old).ejections }
-        ensures none { fresh_count (known_by pass.old) ≡ 0 → HasCollected 1 (past_by pass.old) (past_by pass.new) }
-        ensures some { 0 < fresh_count (known_by pass.old) → HasCollected 0 (past_by pass.old) (past_by pass.new)
+        ensures none { fresh_count (known_by_pass pass.old) ≡ 0 → HasCollected 1 (past_by pass.old) (past_by pass.new) }
+        ensures some { 0 < fresh_count (known_by_pass pass.old) → HasCollected 0 (past_by pass.old) (past_by pass.new)
             × (operations_by pass.new ≡ operations_by pass.old) }
         ensures few { HasMade (6 * ((shape_at self.now.roots).seats - 1) + 4) (operations_by pass.old)
             (operations_by pass.new) }
-        ensures fresh { 0 < fresh_count (known_by pass.new) }
+        ensures fresh { 0 < fresh_count (known_by_pass pass.new) }
     {
         if pass.fresh() == 0 {
             self.roots.collect(pass, true);
@@ -85,20 +88,20 @@ impl PebrCache {
     /// Sees that a fresh slot is there.
     fn make_room(&self, pass: &mut RootPass<CacheRule>)
         requires of { IsOf self.now.roots pass.old }
-        requires out { IsTrue (is_out (known_by pass.old).status) }
-        requires down { IsTrue (list_all is_down (known_by pass.old).shields) }
+        requires out { IsTrue (is_out (known_by_pass pass.old).status) }
+        requires down { IsTrue (list_all is_down (known_by_pass pass.old).shields) }
         ensures same { IsSame self.now.roots pass.old pass.new }
-        ensures out { IsTrue (is_out (known_by pass.new).status) }
-        ensures down { IsTrue (list_all is_down (known_by pass.new).shields) }
+        ensures out { IsTrue (is_out (known_by_pass pass.new).status) }
+        ensures down { IsTrue (list_all is_down (known_by_pass pass.new).shields) }
         ensures note { note_by first_note pass.new ≡ note_by first_note pass.old }
         ensures lost { (past_by pass.new).lost ≡ (past_by pass.old).lost }
-        ensures ejections { retired_count (known_by pass.old) ≢ 32 + 4 * (shape_at self.now.roots).seats
+        ensures ejections { retired_count (known_by_pass pass.old) ≢ 32 + 4 * (shape_at self.now.roots).seats
             → (past_by pass.new).ejections ≡ (past_by pass.old).ejections }
-        ensures collects { CollectsFrom (shape_at self.now.roots) (number_by pass.old) (known_by pass.old)
+        ensures collects { CollectsFrom (shape_at self.now.roots) (number_by pass.old) (known_by_pass pass.old)
             (past_by pass.old) (past_by pass.new) (operations_by pass.old) (operations_by pass.new) }
         ensures few { HasMade (12 * ((shape_at self.now.roots).seats - 1) + 8) (operations_by pass.old)
             (operations_by pass.new) }
-        ensures fresh { 0 < fresh_count (known_by pass.new) }
+        ensures fresh { 0 < fresh_count (known_by_pass pass.new) }
     {
         self.collect_batch(pass);
         self.collect_if_none(pass);
@@ -117,14 +120,14 @@ impl PebrCache {
     ) -> u64
         requires of { IsOf self.now.roots pass.old }
         requires set { set < self.now.sets }
-        requires out { IsTrue (is_out (known_by pass.old).status) }
-        requires down { IsTrue (list_all is_down (known_by pass.old).shields) }
-        requires fresh { 0 < fresh_count (known_by pass.old) }
+        requires out { IsTrue (is_out (known_by_pass pass.old).status) }
+        requires down { IsTrue (list_all is_down (known_by_pass pass.old).shields) }
+        requires fresh { 0 < fresh_count (known_by_pass pass.old) }
         requires own { IsOwn self.now.sets set (note_by first_note pass.old) own.now }
         requires none { metered.old.out ≡ None }
         ensures same { IsSame self.now.roots pass.old pass.new }
-        ensures out { IsTrue (is_out (known_by pass.new).status) }
-        ensures down { IsTrue (list_all is_down (known_by pass.new).shields) }
+        ensures out { IsTrue (is_out (known_by_pass pass.new).status) }
+        ensures down { IsTrue (list_all is_down (known_by_pass pass.new).shields) }
         ensures ejections { (past_by pass.new).ejections ≡ (past_by pass.old).ejections }
         ensures note { note_by first_note pass.new
             ≡ note_with (note_by first_note pass.old) own.now metered.new.out }

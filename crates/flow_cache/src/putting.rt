@@ -11,7 +11,8 @@ ghost use Rattle.pebr_core.specs.Frames.{fresh_count};
 ghost use Rattle.pebr_slots.specs.Sets.{least_in};
 ghost use Rattle.pebr_words.specs.Pasts.{Lost, written_at};
 ghost use Rattle.pebr_words.specs.Ruled.{IsSure};
-ghost use Rattle.pebr_roots.specs.Passes.{shape_at, known_by, number_by, note_by, past_by, operations_by, IsOf, IsSame};
+ghost use Rattle.pebr_roots.specs.Passes.{shape_at, known_by_pass, number_by, note_by, past_by, operations_by, IsOf};
+ghost use Rattle.pebr_roots.specs.Passes.{IsSame};
 ghost use Rattle.cache_choice.specs.Chosen.{out_of};
 ghost use Rattle.flow_cache.specs.declared.act.CacheAct.TheVariants.{Puts};
 ghost use Rattle.flow_cache.specs.Collecting.{HasCollected, HasSpared};
@@ -67,10 +68,10 @@ impl PebrCache {
     /// Writes ten words into the fresh slot.
     fn fill(&self, pass: &mut RootPass<CacheRule>, words: &[u64; 10])
         requires of { IsOf self.now.roots pass.old }
-        requires fresh { 0 < fresh_count (known_by pass.old) }
+        requires fresh { 0 < fresh_count (known_by_pass pass.old) }
         ensures same { IsSame self.now.roots pass.old pass.new }
         ensures note { note_by first_note pass.new ≡ note_by first_note pass.old }
-        ensures known { known_by pass.new ≡ known_by pass.old }
+        ensures known { known_by_pass pass.new ≡ known_by_pass pass.old }
         ensures past { past_by pass.new ≡ record (past_by pass.old) {
           last = (past_by pass.new).last;
           steps =
@@ -78,7 +79,7 @@ impl PebrCache {
           written = (past_by pass.new).written;
         } }
         ensures written { (word : ℕ) → word < 10
-            → written_at (past_by pass.new).written (least_in (known_by pass.old).fresh) word
+            → written_at (past_by pass.new).written (least_in (known_by_pass pass.old).fresh) word
             ≡ Some (slice_index words.now word) }
         ensures few { HasSpared (shape_at self.now.roots) (number_by pass.old) 10 (operations_by pass.old)
             (operations_by pass.new) }
@@ -102,14 +103,14 @@ impl PebrCache {
     ) -> bool
         requires of { IsOf self.now.roots pass.old }
         requires set { set < self.now.sets }
-        requires entered { is_out (known_by pass.old).status ≡ false }
-        requires fresh { 0 < fresh_count (known_by pass.old) }
-        requires protected { AreProtected set (known_by pass.old) (past_by pass.old) }
+        requires entered { is_out (known_by_pass pass.old).status ≡ false }
+        requires fresh { 0 < fresh_count (known_by_pass pass.old) }
+        requires protected { AreProtected set (known_by_pass pass.old) (past_by pass.old) }
         requires unlost { (past_by pass.old).has_lost ≡ false }
         requires own { IsOwn self.now.sets set (note_by first_note pass.old) own.now }
         requires none { metered.old.out ≡ None }
         ensures same { IsSame self.now.roots pass.old pass.new }
-        ensures entered { is_out (known_by pass.new).status ≡ false }
+        ensures entered { is_out (known_by_pass pass.new).status ≡ false }
         ensures ejections { (past_by pass.new).ejections ≡ (past_by pass.old).ejections }
         ensures spared { HasCollected 0 (past_by pass.old) (past_by pass.new) }
         ensures done { IsTrue result
@@ -117,7 +118,7 @@ impl PebrCache {
             × ((past_by pass.new).lost ≡ (past_by pass.old).lost)
             × HasChosen self.now.timeouts set (past_by pass.new) own.now metered.new.how metered.new.out }
         ensures undone { result ≡ false → (note_by first_note pass.new ≡ note_by first_note pass.old)
-            × ((known_by pass.new).fresh ≡ (known_by pass.old).fresh)
+            × ((known_by_pass pass.new).fresh ≡ (known_by_pass pass.old).fresh)
             × ((try : Lost) × ((past_by pass.new).lost ≡ try ∷ (past_by pass.old).lost) × IsTryOf set try) }
         ensures untouched { result ≡ false → metered.new.out ≡ None }
         ensures few { HasSpared (shape_at self.now.roots) (number_by pass.old) 51 (operations_by pass.old)
@@ -153,12 +154,12 @@ impl PebrCache {
     ) -> bool
         requires of { IsOf self.now.roots pass.old }
         requires set { set < self.now.sets }
-        requires out { IsTrue (is_out (known_by pass.old).status) }
-        requires fresh { 0 < fresh_count (known_by pass.old) }
+        requires out { IsTrue (is_out (known_by_pass pass.old).status) }
+        requires fresh { 0 < fresh_count (known_by_pass pass.old) }
         requires own { IsOwn self.now.sets set (note_by first_note pass.old) own.now }
         requires none { metered.old.out ≡ None }
         ensures same { IsSame self.now.roots pass.old pass.new }
-        ensures entered { is_out (known_by pass.new).status ≡ false }
+        ensures entered { is_out (known_by_pass pass.new).status ≡ false }
         ensures ejections { (past_by pass.new).ejections ≡ (past_by pass.old).ejections }
         ensures spared { HasCollected 0 (past_by pass.old) (past_by pass.new) }
         ensures done { IsTrue result
@@ -166,7 +167,7 @@ impl PebrCache {
             × ((past_by pass.new).lost ≡ (past_by pass.old).lost)
             × HasChosen self.now.timeouts set (past_by pass.new) own.now metered.new.how metered.new.out }
         ensures undone { result ≡ false → (note_by first_note pass.new ≡ note_by first_note pass.old)
-            × ((known_by pass.new).fresh ≡ (known_by pass.old).fresh)
+            × ((known_by_pass pass.new).fresh ≡ (known_by_pass pass.old).fresh)
             × ((try : Lost) × ((past_by pass.new).lost ≡ try ∷ (past_by pass.old).lost) × IsTryOf set try) }
         ensures untouched { result ≡ false → metered.new.out ≡ None }
         ensures few { HasSpared (shape_at self.now.roots) (number_by pass.old) 62 (operations_by pass.old)
@@ -183,8 +184,9 @@ impl PebrCache {
         requires of { IsOf self.now.roots pass.old }
         ensures same { IsSame self.now.roots pass.old pass.new }
         ensures note { note_by first_note pass.new ≡ note_by first_note pass.old }
-        ensures known { known_by pass.new ≡ record (known_by pass.old) { shields = (known_by pass.new).shields } }
-        ensures down { IsTrue (list_all is_down (known_by pass.new).shields) }
+        ensures known { known_by_pass pass.new ≡ record (known_by_pass pass.old)
+            { shields = (known_by_pass pass.new).shields } }
+        ensures down { IsTrue (list_all is_down (known_by_pass pass.new).shields) }
         ensures past { past_by pass.new ≡ record (past_by pass.old) {
           last = (past_by pass.new).last;
           steps =
@@ -206,12 +208,12 @@ impl PebrCache {
         stop: &mut T,
     )
         requires of { IsOf self.now.roots pass.old }
-        requires entered { is_out (known_by pass.old).status ≡ false }
+        requires entered { is_out (known_by_pass pass.old).status ≡ false }
         requires own { IsTrue passes_by → CanTake (note_by first_note pass.old) own.now }
         ensures same { IsSame self.now.roots pass.old pass.new }
-        ensures out { IsTrue (is_out (known_by pass.new).status) }
-        ensures down { IsTrue (list_all is_down (known_by pass.new).shields) }
-        ensures fresh { (known_by pass.new).fresh ≡ (known_by pass.old).fresh }
+        ensures out { IsTrue (is_out (known_by_pass pass.new).status) }
+        ensures down { IsTrue (list_all is_down (known_by_pass pass.new).shields) }
+        ensures fresh { (known_by_pass pass.new).fresh ≡ (known_by_pass pass.old).fresh }
         ensures note { note_by first_note pass.new
             ≡ (if passes_by then note_with (note_by first_note pass.old) own.now (Some own.now)
             else note_by first_note pass.old) }
@@ -220,7 +222,7 @@ impl PebrCache {
           steps =
               (past_by pass.new).steps;
         } }
-        ensures sure { IsSure IsWhole (shape_at self.now.roots) (known_by pass.new) (past_by pass.new) }
+        ensures sure { IsSure IsWhole (shape_at self.now.roots) (known_by_pass pass.new) (past_by pass.new) }
         ensures few { HasSpared (shape_at self.now.roots) (number_by pass.old) 5 (operations_by pass.old)
             (operations_by pass.new) }
     {
@@ -246,13 +248,13 @@ impl PebrCache {
     ) -> bool
         requires of { IsOf self.now.roots pass.old }
         requires set { set < self.now.sets }
-        requires out { IsTrue (is_out (known_by pass.old).status) }
-        requires fresh { 0 < fresh_count (known_by pass.old) }
+        requires out { IsTrue (is_out (known_by_pass pass.old).status) }
+        requires fresh { 0 < fresh_count (known_by_pass pass.old) }
         requires own { IsOwn self.now.sets set (note_by first_note pass.old) own.now }
         requires none { metered.old.out ≡ None }
         ensures same { IsSame self.now.roots pass.old pass.new }
-        ensures out { IsTrue (is_out (known_by pass.new).status) }
-        ensures down { IsTrue (list_all is_down (known_by pass.new).shields) }
+        ensures out { IsTrue (is_out (known_by_pass pass.new).status) }
+        ensures down { IsTrue (list_all is_down (known_by_pass pass.new).shields) }
         ensures ejections { (past_by pass.new).ejections ≡ (past_by pass.old).ejections }
         ensures spared { HasCollected 0 (past_by pass.old) (past_by pass.new) }
         ensures done { IsTrue result
@@ -263,7 +265,7 @@ impl PebrCache {
             → (note_by first_note pass.new ≡ (if last
             then note_with (note_by first_note pass.old) own.now (Some own.now)
             else note_by first_note pass.old))
-            × ((known_by pass.new).fresh ≡ (known_by pass.old).fresh) × ((shape_at self.now.roots).seats ≢ 1)
+            × ((known_by_pass pass.new).fresh ≡ (known_by_pass pass.old).fresh) × ((shape_at self.now.roots).seats ≢ 1)
             × ((try : Lost) × ((past_by pass.new).lost ≡ try ∷ (past_by pass.old).lost) × IsTryOf set try) }
         ensures untouched { result ≡ false → metered.new.out ≡ None }
         ensures few { HasSpared (shape_at self.now.roots) (number_by pass.old) 67 (operations_by pass.old)

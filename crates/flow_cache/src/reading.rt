@@ -8,7 +8,8 @@ ghost use Rattle.pebr_core.specs.State.{is_out};
 ghost use Rattle.pebr_shields.specs.declared.checked.Checked.TheVariants as checked;
 ghost use Rattle.pebr_words.specs.Pasts.{was_ejected, written_at};
 ghost use Rattle.pebr_roots.specs.Under.{slot_at, is_valid_at};
-ghost use Rattle.pebr_roots.specs.Passes.{shape_at, known_by, number_by, note_by, past_by, operations_by, IsOf, IsSame};
+ghost use Rattle.pebr_roots.specs.Passes.{shape_at, known_by_pass, number_by, note_by, past_by, operations_by, IsOf};
+ghost use Rattle.pebr_roots.specs.Passes.{IsSame};
 ghost use Rattle.pebr_roots.specs.Orders.{HasMade};
 ghost use Rattle.flow_cache.specs.Collecting.{HasCollected, HasSpared};
 ghost use Rattle.flow_cache.specs.Reading.{words_read, entries_read, set_read};
@@ -36,13 +37,13 @@ impl PebrCache {
     fn load_set(&self, pass: &mut RootPass<CacheRule>, set: u64)
         requires of { IsOf self.now.roots pass.old }
         requires set { set < self.now.sets }
-        requires entered { is_out (known_by pass.old).status ≡ false }
+        requires entered { is_out (known_by_pass pass.old).status ≡ false }
         ensures same { IsSame self.now.roots pass.old pass.new }
         ensures note { note_by first_note pass.new ≡ note_by first_note pass.old }
-        ensures known { known_by pass.new ≡ record (known_by pass.old) {
-          seen = (known_by pass.new).seen;
+        ensures known { known_by_pass pass.new ≡ record (known_by_pass pass.old) {
+          seen = (known_by_pass pass.new).seen;
           shields =
-              (known_by pass.new).shields;
+              (known_by_pass pass.new).shields;
         } }
         ensures past { past_by pass.new ≡ record (past_by pass.old) {
           last = (past_by pass.new).last;
@@ -52,7 +53,7 @@ impl PebrCache {
           reads = (past_by pass.new).reads;
           shown = (past_by pass.new).shown;
         } }
-        ensures loaded { AreLoaded set 4 (known_by pass.new) (past_by pass.new) }
+        ensures loaded { AreLoaded set 4 (known_by_pass pass.new) (past_by pass.new) }
         ensures last { set_read (past_by pass.new).loads ≡ set }
         ensures few { HasSpared (shape_at self.now.roots) (number_by pass.old) 8 (operations_by pass.old)
             (operations_by pass.new) }
@@ -71,15 +72,15 @@ impl PebrCache {
     ) -> Checked
         requires of { IsOf self.now.roots pass.old }
         requires set { set < self.now.sets }
-        requires out { IsTrue (is_out (known_by pass.old).status) }
+        requires out { IsTrue (is_out (known_by_pass pass.old).status) }
         ensures same { IsSame self.now.roots pass.old pass.new }
         ensures note { note_by first_note pass.new ≡ note_by first_note pass.old }
-        ensures fresh { (known_by pass.new).fresh ≡ (known_by pass.old).fresh }
-        ensures entered { is_out (known_by pass.new).status ≡ false }
+        ensures fresh { (known_by_pass pass.new).fresh ≡ (known_by_pass pass.old).fresh }
+        ensures entered { is_out (known_by_pass pass.new).status ≡ false }
         ensures pins { (past_by pass.new).pins ≡ (past_by pass.old).pins + 1 }
         ensures spared { HasCollected 0 (past_by pass.old) (past_by pass.new) }
         ensures ejections { (past_by pass.new).ejections ≡ (past_by pass.old).ejections }
-        ensures valid { result ≡ checked.Valid → AreProtected set (known_by pass.new) (past_by pass.new)
+        ensures valid { result ≡ checked.Valid → AreProtected set (known_by_pass pass.new) (past_by pass.new)
             × IsUnlost (past_by pass.old) (past_by pass.new) }
         ensures ejected { result ≡ checked.Ejected → (past_by pass.new).lost ≡ was_ejected ∷ (past_by pass.old).lost }
         ensures few { HasSpared (shape_at self.now.roots) (number_by pass.old) 11 (operations_by pass.old)
@@ -98,21 +99,22 @@ impl PebrCache {
     pub fn read_entry(&self, pass: &mut RootPass<CacheRule>, place: usize) -> Option<Fragment>
         requires of { IsOf (roots_of self.now) pass.old }
         requires place { place < 4 }
-        requires valid { IsTrue (is_valid_at (known_by pass.old) place) }
+        requires valid { IsTrue (is_valid_at (known_by_pass pass.old) place) }
         ensures same { IsSame (roots_of self.now) pass.old pass.new }
         ensures note { note_by first_note pass.new ≡ note_by first_note pass.old }
-        ensures known { known_by pass.new ≡ known_by pass.old }
+        ensures known { known_by_pass pass.new ≡ known_by_pass pass.old }
         ensures past { past_by pass.new ≡ record (past_by pass.old) {
           last = (past_by pass.new).last;
           steps =
               (past_by pass.new).steps;
           reads = (past_by pass.new).reads;
         } }
-        ensures grown { HasReadTen (slot_at (known_by pass.old) place) result (past_by pass.old).reads
+        ensures grown { HasReadTen (slot_at (known_by_pass pass.old) place) result (past_by pass.old).reads
             (past_by pass.new).reads }
         ensures more { HasMore (past_by pass.old).reads (past_by pass.new).reads }
-        ensures ten { HasTen (past_by pass.new).reads (slot_at (known_by pass.old) place) }
-        ensures entry { result ≡ entry_of (words_read (past_by pass.new).reads (slot_at (known_by pass.old) place)) }
+        ensures ten { HasTen (past_by pass.new).reads (slot_at (known_by_pass pass.old) place) }
+        ensures entry { result ≡ entry_of (words_read (past_by pass.new).reads
+            (slot_at (known_by_pass pass.old) place)) }
         ensures small { IsSmallEntry result }
         ensures few { HasMade 10 (operations_by pass.old) (operations_by pass.new) }
     {
@@ -126,21 +128,22 @@ impl PebrCache {
     fn read_words(&self, pass: &mut RootPass<CacheRule>, place: usize, words: &mut [u64; 10])
         requires of { IsOf self.now.roots pass.old }
         requires place { place < 4 }
-        requires valid { IsTrue (is_valid_at (known_by pass.old) place) }
+        requires valid { IsTrue (is_valid_at (known_by_pass pass.old) place) }
         ensures same { IsSame self.now.roots pass.old pass.new }
         ensures note { note_by first_note pass.new ≡ note_by first_note pass.old }
-        ensures known { known_by pass.new ≡ known_by pass.old }
+        ensures known { known_by_pass pass.new ≡ known_by_pass pass.old }
         ensures past { past_by pass.new ≡ record (past_by pass.old) {
           last = (past_by pass.new).last;
           steps =
               (past_by pass.new).steps;
           reads = (past_by pass.new).reads;
         } }
-        ensures grown { HasReadTen (slot_at (known_by pass.old) place) (entry_of words.new) (past_by pass.old).reads
+        ensures grown { HasReadTen (slot_at (known_by_pass pass.old) place) (entry_of words.new)
+            (past_by pass.old).reads
             (past_by pass.new).reads }
         ensures more { HasMore (past_by pass.old).reads (past_by pass.new).reads }
         ensures read { (word : ℕ) → word < 10 → written_at (past_by pass.new).reads
-            (slot_at (known_by pass.old) place) word ≡ Some (slice_index words.new word) }
+            (slot_at (known_by_pass pass.old) place) word ≡ Some (slice_index words.new word) }
         ensures long { length words.new ≡ 10 }
         ensures whole { IsWhole words.new }
         ensures few { HasSpared (shape_at self.now.roots) (number_by pass.old) 10 (operations_by pass.old)
@@ -158,18 +161,19 @@ impl PebrCache {
         contents: &mut [[u64; 10]; 4],
     )
         requires of { IsOf self.now.roots pass.old }
-        requires valid { (place : ℕ) → place < 4 → IsTrue (is_valid_at (known_by pass.old) place) }
+        requires valid { (place : ℕ) → place < 4 → IsTrue (is_valid_at (known_by_pass pass.old) place) }
         ensures same { IsSame self.now.roots pass.old pass.new }
         ensures note { note_by first_note pass.new ≡ note_by first_note pass.old }
-        ensures known { known_by pass.new ≡ known_by pass.old }
+        ensures known { known_by_pass pass.new ≡ known_by_pass pass.old }
         ensures past { past_by pass.new ≡ record (past_by pass.old) {
           last = (past_by pass.new).last;
           steps =
               (past_by pass.new).steps;
           reads = (past_by pass.new).reads;
         } }
-        ensures ten { (place : ℕ) → place < 4 → HasTen (past_by pass.new).reads (slot_at (known_by pass.old) place) }
-        ensures entries { (set : ℕ) → AreProtected set (known_by pass.old) (past_by pass.old)
+        ensures ten { (place : ℕ) → place < 4 → HasTen (past_by pass.new).reads
+            (slot_at (known_by_pass pass.old) place) }
+        ensures entries { (set : ℕ) → AreProtected set (known_by_pass pass.old) (past_by pass.old)
             → map entry_of contents.new ≡ entries_read (past_by pass.new) set }
         ensures whole { All IsWhole contents.new }
         ensures few { HasSpared (shape_at self.now.roots) (number_by pass.old) 40 (operations_by pass.old)
@@ -184,18 +188,19 @@ impl PebrCache {
     /// Reads the four entries of the set whose roots are protected.
     pub fn read_set(&self, pass: &mut RootPass<CacheRule>) -> [Option<Fragment>; 4]
         requires of { IsOf (roots_of self.now) pass.old }
-        requires valid { (place : ℕ) → place < 4 → IsTrue (is_valid_at (known_by pass.old) place) }
+        requires valid { (place : ℕ) → place < 4 → IsTrue (is_valid_at (known_by_pass pass.old) place) }
         ensures same { IsSame (roots_of self.now) pass.old pass.new }
         ensures note { note_by first_note pass.new ≡ note_by first_note pass.old }
-        ensures known { known_by pass.new ≡ known_by pass.old }
+        ensures known { known_by_pass pass.new ≡ known_by_pass pass.old }
         ensures past { past_by pass.new ≡ record (past_by pass.old) {
           last = (past_by pass.new).last;
           steps =
               (past_by pass.new).steps;
           reads = (past_by pass.new).reads;
         } }
-        ensures ten { (place : ℕ) → place < 4 → HasTen (past_by pass.new).reads (slot_at (known_by pass.old) place) }
-        ensures entries { (set : ℕ) → AreProtected set (known_by pass.old) (past_by pass.old)
+        ensures ten { (place : ℕ) → place < 4 → HasTen (past_by pass.new).reads
+            (slot_at (known_by_pass pass.old) place) }
+        ensures entries { (set : ℕ) → AreProtected set (known_by_pass pass.old) (past_by pass.old)
             → result ≡ entries_read (past_by pass.new) set }
         ensures small { All IsSmallEntry result }
         ensures few { HasMade 40 (operations_by pass.old) (operations_by pass.new) }

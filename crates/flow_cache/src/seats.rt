@@ -6,7 +6,7 @@ ghost use Rattle.cache_face.specs.Notes.{first_note};
 ghost use Rattle.pebr_core.specs.State.{is_out, is_down};
 ghost use Rattle.pebr_shields.specs.declared.checked.Checked.TheVariants as checked;
 ghost use Rattle.pebr_words.specs.Pasts.{was_ejected};
-ghost use Rattle.pebr_roots.specs.Passes.{known_by, note_by, past_by, lost_by, operations_by, IsOf, IsSame};
+ghost use Rattle.pebr_roots.specs.Passes.{known_by_pass, note_by, past_by, lost_by, operations_by, IsOf, IsSame};
 ghost use Rattle.pebr_roots.specs.Orders.{HasMade};
 ghost use Rattle.flow_cache.specs.Shown.{means_of, roots_of, seat_of};
 ghost use Rattle.flow_cache.specs.Trying.{AreProtected, IsUnlost};
@@ -37,13 +37,13 @@ impl PebrCache {
     pub fn protect(&self, pass: &mut RootPass<CacheRule>, set: u64) -> Checked
         requires of { IsOf (roots_of self.now) pass.old }
         requires set { set < (means_of self.now).sets }
-        requires out { IsTrue (is_out (known_by pass.old).status) }
+        requires out { IsTrue (is_out (known_by_pass pass.old).status) }
         ensures same { IsSame (roots_of self.now) pass.old pass.new }
         ensures note { note_by first_note pass.new ≡ note_by first_note pass.old }
-        ensures entered { is_out (known_by pass.new).status ≡ false }
+        ensures entered { is_out (known_by_pass pass.new).status ≡ false }
         ensures pins { (past_by pass.new).pins ≡ (past_by pass.old).pins + 1 }
         ensures ejections { (past_by pass.new).ejections ≡ (past_by pass.old).ejections }
-        ensures valid { result ≡ checked.Valid → AreProtected set (known_by pass.new) (past_by pass.new)
+        ensures valid { result ≡ checked.Valid → AreProtected set (known_by_pass pass.new) (past_by pass.new)
             × IsUnlost (past_by pass.old) (past_by pass.new) }
         ensures ejected { result ≡ checked.Ejected → (past_by pass.new).lost ≡ was_ejected ∷ (past_by pass.old).lost }
         ensures few { HasMade 11 (operations_by pass.old) (operations_by pass.new) }
@@ -56,8 +56,8 @@ impl PebrPass {
     /// The seat of the pass.
     pub fn into_seat(self) -> RootPass<CacheRule>
         ensures seat { result ≡ seat_of self }
-        ensures out { IsTrue (is_out (known_by result).status) }
-        ensures down { IsTrue (list_all is_down (known_by result).shields) }
+        ensures out { IsTrue (is_out (known_by_pass result).status) }
+        ensures down { IsTrue (list_all is_down (known_by_pass result).shields) }
     {
         let PebrPass {
             inner,
@@ -69,8 +69,8 @@ impl PebrPass {
 
     /// The pass of a seat that is out and has no shield up. `lost` is how many tries it has lost, at most 2^64 - 1.
     pub fn from_seat(seat: RootPass<CacheRule>, lost: u64) -> PebrPass
-        requires out { IsTrue (is_out (known_by seat).status) }
-        requires down { IsTrue (list_all is_down (known_by seat).shields) }
+        requires out { IsTrue (is_out (known_by_pass seat).status) }
+        requires down { IsTrue (list_all is_down (known_by_pass seat).shields) }
         requires counted { lost ≡ min (length (lost_by seat)) (2 ^ 64 - 1) }
         ensures seat { seat_of result ≡ seat }
     {

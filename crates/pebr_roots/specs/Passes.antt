@@ -21,8 +21,8 @@ module _ {P N A F : Type 0} where
   fixed_at roots = fixed_of roots.words
 
   -- what the pass knows of its part of the core
-  abbrev pub known_by : {g : _} → RootPass P N A F g → core.Seat
-  known_by pass = known_of pass.seat
+  abbrev pub known_by_pass : {g : _} → RootPass P N A F g → core.Seat
+  known_by_pass pass = known_of pass.seat
 
   -- the number that it acts as, and all numbers that it stands for
   abbrev pub number_by : {g : _} → RootPass P N A F g → ℕ

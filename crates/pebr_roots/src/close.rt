@@ -3,7 +3,8 @@
 ghost use Rattle.std.specs.Prelude.{◌≡◌, ◌++◌, ◌+◌, ◌*◌, IsTrue, IfOk, length, replicate, slice_set};
 ghost use Rattle.pebr_core.specs.State.{is_out};
 ghost use Rattle.pebr_words.specs.Opening.{rows_of};
-ghost use Rattle.pebr_roots.specs.Passes.{shape_at, fixed_at, known_by, number_by, numbers_by, count_by_pass, note_by};
+ghost use Rattle.pebr_roots.specs.Passes.{shape_at, fixed_at, known_by_pass, number_by, numbers_by, count_by_pass};
+ghost use Rattle.pebr_roots.specs.Passes.{note_by};
 ghost use Rattle.pebr_roots.specs.Passes.{past_by, lost_by, ejections_by, operations_by, IsUnitedPass, IsOf};
 
 use crate::pass::{RootPass, Roots};
@@ -15,12 +16,12 @@ impl<P: RootProtocol> Roots<P> {
     /// and a shield of it that is up stays up.
     pub fn unite(&self, first: RootPass<P>, second: RootPass<P>) -> RootPass<P>
         requires of { IsOf self.now first × IsOf self.now second }
-        requires out { IsTrue (is_out (known_by first).status) × IsTrue (is_out (known_by second).status) }
+        requires out { IsTrue (is_out (known_by_pass first).status) × IsTrue (is_out (known_by_pass second).status) }
         ensures of { IsOf self.now result }
         ensures number { number_by result ≡ number_by first }
         ensures count { count_by_pass result ≡ count_by_pass first + count_by_pass second }
         ensures numbers { numbers_by result ≡ numbers_by first ++ numbers_by second }
-        ensures known { known_by result ≡ known_by first }
+        ensures known { known_by_pass result ≡ known_by_pass first }
         ensures note { note_by P.first result ≡ P.merged (note_by P.first first) (note_by P.first second) }
         ensures past { past_by result ≡ past_by first }
         ensures operations { operations_by result ≡ operations_by first }
@@ -45,7 +46,7 @@ impl<P: RootProtocol> Roots<P> {
     /// `NoMemory` where no memory was left; the contents are given up.
     pub fn close(self, alloc: Global, pass: RootPass<P>) -> Result<Vec<u64>, NoMemory>
         requires of { IsOf self pass }
-        requires out { IsTrue (is_out (known_by pass).status) }
+        requires out { IsTrue (is_out (known_by_pass pass).status) }
         requires whole { count_by_pass pass ≡ (shape_at self).seats }
         requires united { IsUnitedPass P.empty pass }
         ensures length { IfOk result (λ contents. length contents.items

@@ -8,7 +8,8 @@ ghost use Rattle.pebr_core.specs.Frames.{fresh_count};
 ghost use Rattle.pebr_words.specs.Ruled.{IsSure};
 ghost use Rattle.pebr_roots.specs.Collecting.{IsCollected, HasCollected};
 ghost use Rattle.pebr_roots.specs.Orders.{HasMade, HasMadeCollection};
-ghost use Rattle.pebr_roots.specs.Passes.{shape_at, known_by, number_by, note_by, past_by, operations_by, IsOf, IsSame};
+ghost use Rattle.pebr_roots.specs.Passes.{shape_at, known_by_pass, number_by, note_by, past_by, operations_by, IsOf};
+ghost use Rattle.pebr_roots.specs.Passes.{IsSame};
 
 use crate::ends::Collected;
 use crate::pass::{RootPass, Roots};
@@ -26,24 +27,24 @@ impl<P: RootProtocol> Roots<P> {
     /// other seats have shields.
     pub fn collect(&self, pass: &mut RootPass<P>, force: bool) -> Collected
         requires of { IsOf self.now pass.old }
-        requires out { IsTrue (is_out (known_by pass.old).status) }
-        requires down { IsTrue (list_all is_down (known_by pass.old).shields) }
+        requires out { IsTrue (is_out (known_by_pass pass.old).status) }
+        requires down { IsTrue (list_all is_down (known_by_pass pass.old).shields) }
         ensures same { IsSame self.now pass.old pass.new }
         ensures note { note_by P.first pass.new ≡ note_by P.first pass.old }
-        ensures slots { IsCollected (shape_at self.now) force result.given result.left (known_by pass.old)
-            (known_by pass.new) }
+        ensures slots { IsCollected (shape_at self.now) force result.given result.left (known_by_pass pass.old)
+            (known_by_pass pass.new) }
         ensures past { HasCollected (shape_at self.now) force (past_by pass.old) (past_by pass.new)
-            (known_by pass.new) }
-        ensures operations { HasMadeCollection (shape_at self.now) force (number_by pass.old) (known_by pass.old)
-            (not (is_scanning (known_by pass.new))) (past_by pass.old) (past_by pass.new) (operations_by pass.old)
+            (known_by_pass pass.new) }
+        ensures operations { HasMadeCollection (shape_at self.now) force (number_by pass.old) (known_by_pass pass.old)
+            (not (is_scanning (known_by_pass pass.new))) (past_by pass.old) (past_by pass.new) (operations_by pass.old)
             (operations_by pass.new) }
         ensures few { HasMade (2 * ((shape_at self.now).seats - 1)
             + ((shape_at self.now).seats - 1) * (shape_at self.now).shields + 4) (operations_by pass.old)
             (operations_by pass.new) }
-        ensures sure { IsSure P.whole (shape_at self.now) (known_by pass.new) (past_by pass.new) }
+        ensures sure { IsSure P.whole (shape_at self.now) (known_by_pass pass.new) (past_by pass.new) }
         ensures left { IsTrue force → result.left ≤ ((shape_at self.now).seats - 1) * (shape_at self.now).shields }
         ensures fresh { IsTrue force → (shape_at self.now).batch + (shape_at self.now).shields
-            ≤ fresh_count (known_by pass.new) }
+            ≤ fresh_count (known_by_pass pass.new) }
     {
         kept_slots_are_counted();
         steps_are_safe();

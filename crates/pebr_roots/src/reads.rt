@@ -13,7 +13,8 @@ ghost use Rattle.pebr_shields.specs.Found.{answer_to, checked_seat};
 ghost use Rattle.pebr_roots.specs.Under.{slot_at, is_valid_at};
 ghost use Rattle.pebr_roots.specs.Ends.{loaded_seat, loaded_past, cleared_seat, cleared_past};
 ghost use Rattle.pebr_roots.specs.Orders.{loaded_operations, HasCleared, HasMade};
-ghost use Rattle.pebr_roots.specs.Passes.{shape_at, known_by, number_by, note_by, past_by, IsOf, IsSame, IsOneStep};
+ghost use Rattle.pebr_roots.specs.Passes.{shape_at, known_by_pass, number_by, note_by, past_by, IsOf, IsSame};
+ghost use Rattle.pebr_roots.specs.Passes.{IsOneStep};
 ghost use Rattle.pebr_roots.specs.Passes.{operations_by};
 
 use crate::pass::{RootPass, Roots};
@@ -25,18 +26,18 @@ impl<P: RootProtocol> Roots<P> {
     pub fn load(&self, pass: &mut RootPass<P>, root: usize, place: usize) -> usize
         requires of { IsOf self.now pass.old }
         requires range { (root < (shape_at self.now).roots) × (place < (shape_at self.now).shields) }
-        requires entered { is_out (known_by pass.old).status ≡ false }
+        requires entered { is_out (known_by_pass pass.old).status ≡ false }
         ensures same { IsSame self.now pass.old pass.new }
         ensures note { note_by P.first pass.new ≡ note_by P.first pass.old }
-        ensures known { known_by pass.new ≡ loaded_seat place result (known_by pass.old) }
-        ensures past { past_by pass.new ≡ loaded_past (number_by pass.old) root place result (known_by pass.old)
+        ensures known { known_by_pass pass.new ≡ loaded_seat place result (known_by_pass pass.old) }
+        ensures past { past_by pass.new ≡ loaded_past (number_by pass.old) root place result (known_by_pass pass.old)
             (past_by pass.old) }
         ensures operations { operations_by pass.new ≡ loaded_operations (shape_at self.now) (number_by pass.old) root
             place result (operations_by pass.old) }
-        ensures sure { IsSure P.whole (shape_at self.now) (known_by pass.new) (past_by pass.new) }
+        ensures sure { IsSure P.whole (shape_at self.now) (known_by_pass pass.new) (past_by pass.new) }
         ensures slot { result < slot_count (shape_at self.now) }
-        ensures seen { has (known_by pass.new).seen result ≡ true }
-        ensures set { shield_at (known_by pass.new) place ≡ shield.Set result }
+        ensures seen { has (known_by_pass pass.new).seen result ≡ true }
+        ensures set { shield_at (known_by_pass pass.new) place ≡ shield.Set result }
     {
         let slot = self.words.load_root(&mut pass.seat, root);
         shield(&self.words, &mut pass.seat, place, slot);
@@ -47,15 +48,15 @@ impl<P: RootProtocol> Roots<P> {
     /// Whether the pass is still in, and so its shields on slots that it has loaded are valid.
     pub fn check(&self, pass: &mut RootPass<P>) -> Checked
         requires of { IsOf self.now pass.old }
-        requires entered { is_out (known_by pass.old).status ≡ false }
+        requires entered { is_out (known_by_pass pass.old).status ≡ false }
         ensures same { IsSame self.now pass.old pass.new }
         ensures note { note_by P.first pass.new ≡ note_by P.first pass.old }
-        ensures known { known_by pass.new ≡ checked_seat result (known_by pass.old) }
+        ensures known { known_by_pass pass.new ≡ checked_seat result (known_by_pass pass.old) }
         ensures step { IsOneStep P.whole self.now pass.old pass.new (step.Check (number_by pass.old))
             (answer_to result) }
         ensures valid { result ≡ checked.Valid → (place slot : ℕ)
-            → shield_at (known_by pass.old) place ≡ shield.Set slot → has (known_by pass.old).seen slot ≡ true
-            → shield_at (known_by pass.new) place ≡ shield.Valid slot }
+            → shield_at (known_by_pass pass.old) place ≡ shield.Set slot → has (known_by_pass pass.old).seen slot ≡ true
+            → shield_at (known_by_pass pass.new) place ≡ shield.Valid slot }
     {
         check(&self.words, &mut pass.seat)
     }
@@ -66,16 +67,16 @@ impl<P: RootProtocol> Roots<P> {
     pub fn read(&self, pass: &mut RootPass<P>, place: usize, word: usize) -> u64
         requires of { IsOf self.now pass.old }
         requires range { (place < (shape_at self.now).shields) × (word < (shape_at self.now).width) }
-        requires valid { IsTrue (is_valid_at (known_by pass.old) place) }
+        requires valid { IsTrue (is_valid_at (known_by_pass pass.old) place) }
         ensures same { IsSame self.now pass.old pass.new }
         ensures note { note_by P.first pass.new ≡ note_by P.first pass.old }
-        ensures known { known_by pass.new ≡ known_by pass.old }
+        ensures known { known_by_pass pass.new ≡ known_by_pass pass.old }
         ensures step { IsOneStep P.whole self.now pass.old pass.new
-            (step.Read (number_by pass.old) (slot_at (known_by pass.old) place) word) (answer.Word result) }
+            (step.Read (number_by pass.old) (slot_at (known_by_pass pass.old) place) word) (answer.Word result) }
         ensures again { (read : Read) → IsIn read (past_by pass.old).reads
-            → read.slot ≡ slot_at (known_by pass.old) place → read.word ≡ word → result ≡ read.value }
+            → read.slot ≡ slot_at (known_by_pass pass.old) place → read.word ≡ word → result ≡ read.value }
         ensures whole { (content : List ℕ) → HasReadWhole (shape_at self.now) (past_by pass.new)
-            (slot_at (known_by pass.old) place) content → P.whole content }
+            (slot_at (known_by_pass pass.old) place) content → P.whole content }
     {
         valid_shields_protect();
         let slot = pass.under[place];
@@ -87,13 +88,13 @@ impl<P: RootProtocol> Roots<P> {
         requires of { IsOf self.now pass.old }
         ensures same { IsSame self.now pass.old pass.new }
         ensures note { note_by P.first pass.new ≡ note_by P.first pass.old }
-        ensures known { known_by pass.new ≡ cleared_seat (shape_at self.now) (known_by pass.old) }
-        ensures down { IsTrue (list_all is_down (known_by pass.new).shields) }
+        ensures known { known_by_pass pass.new ≡ cleared_seat (shape_at self.now) (known_by_pass pass.old) }
+        ensures down { IsTrue (list_all is_down (known_by_pass pass.new).shields) }
         ensures past { past_by pass.new ≡ cleared_past (shape_at self.now) (past_by pass.old) }
         ensures operations { HasCleared (shape_at self.now) (number_by pass.old) (operations_by pass.old)
             (operations_by pass.new) }
         ensures few { HasMade (shape_at self.now).shields (operations_by pass.old) (operations_by pass.new) }
-        ensures sure { IsSure P.whole (shape_at self.now) (known_by pass.new) (past_by pass.new) }
+        ensures sure { IsSure P.whole (shape_at self.now) (known_by_pass pass.new) (past_by pass.new) }
     {
         let shields = self.words.shape().shields;
         for place in 0..shields {

@@ -10,7 +10,7 @@ ghost use Rattle.pebr_words.specs.Making.{act_on};
 ghost use Rattle.pebr_words.specs.Ruled.{CanReplace};
 ghost use Rattle.pebr_roots.specs.Under.{slot_at, is_valid_at};
 ghost use Rattle.pebr_roots.specs.Ends.{answer_to, replaced_seat, replaced_note};
-ghost use Rattle.pebr_roots.specs.Passes.{shape_at, fixed_at, known_by, number_by, note_by, past_by, IsOf, IsSame};
+ghost use Rattle.pebr_roots.specs.Passes.{shape_at, fixed_at, known_by_pass, number_by, note_by, past_by, IsOf, IsSame};
 ghost use Rattle.pebr_roots.specs.Passes.{IsOneStep};
 
 use crate::ends::ReplaceEnd;
@@ -23,12 +23,12 @@ impl<P: RootProtocol> Roots<P> {
     pub fn write_fresh(&self, pass: &mut RootPass<P>, word: usize, value: u64)
         requires of { IsOf self.now pass.old }
         requires word { word < (shape_at self.now).width }
-        requires fresh { 0 < fresh_count (known_by pass.old) }
+        requires fresh { 0 < fresh_count (known_by_pass pass.old) }
         ensures same { IsSame self.now pass.old pass.new }
         ensures note { note_by P.first pass.new ≡ note_by P.first pass.old }
-        ensures known { known_by pass.new ≡ known_by pass.old }
+        ensures known { known_by_pass pass.new ≡ known_by_pass pass.old }
         ensures step { IsOneStep P.whole self.now pass.old pass.new
-            (step.Write (number_by pass.old) (least_in (known_by pass.old).fresh) word value) answer.Written }
+            (step.Write (number_by pass.old) (least_in (known_by_pass pass.old).fresh) word value) answer.Written }
     {
         let slot = pass.seat.least_fresh();
         self.words.write_word(&mut pass.seat, slot, word, value);
@@ -49,21 +49,21 @@ impl<P: RootProtocol> Roots<P> {
     ) -> ReplaceEnd
         requires of { IsOf self.now pass.old }
         requires range { (root < (shape_at self.now).roots) × (place < (shape_at self.now).shields) }
-        requires entered { is_out (known_by pass.old).status ≡ false }
-        requires valid { IsTrue (is_valid_at (known_by pass.old) place) }
-        requires fresh { 0 < fresh_count (known_by pass.old) }
+        requires entered { is_out (known_by_pass pass.old).status ≡ false }
+        requires valid { IsTrue (is_valid_at (known_by_pass pass.old) place) }
+        requires fresh { 0 < fresh_count (known_by_pass pass.old) }
         requires keeps { CanReplace (P.keeps (fixed_at self.now)) P.whole (P.backed (fixed_at self.now))
-            (shape_at self.now) (past_by pass.old) (number_by pass.old) root (slot_at (known_by pass.old) place)
-            (least_in (known_by pass.old).fresh) (note_by P.first pass.old)
+            (shape_at self.now) (past_by pass.old) (number_by pass.old) root (slot_at (known_by_pass pass.old) place)
+            (least_in (known_by_pass pass.old).fresh) (note_by P.first pass.old)
             (act_on P.after act (note_by P.first pass.old)) }
         ensures same { IsSame self.now pass.old pass.new }
         ensures note { note_by P.first pass.new ≡ replaced_note result (act_on P.after act (note_by P.first pass.old))
             (note_by P.first pass.old) }
-        ensures known { known_by pass.new ≡ replaced_seat result (slot_at (known_by pass.old) place)
-            (least_in (known_by pass.old).fresh) (known_by pass.old) }
+        ensures known { known_by_pass pass.new ≡ replaced_seat result (slot_at (known_by_pass pass.old) place)
+            (least_in (known_by_pass pass.old).fresh) (known_by_pass pass.old) }
         ensures step { IsOneStep P.whole self.now pass.old pass.new
-            (step.Replace (number_by pass.old) root (slot_at (known_by pass.old) place)
-            (least_in (known_by pass.old).fresh)) (answer_to result) }
+            (step.Replace (number_by pass.old) root (slot_at (known_by_pass pass.old) place)
+            (least_in (known_by_pass pass.old).fresh)) (answer_to result) }
     {
         valid_shields_protect();
         steps_are_safe();

@@ -17,7 +17,7 @@ use Rattle.pebr_core.specs.declared.kinds.Step.TheVariants as step
 use Rattle.pebr_core.specs.declared.kinds.Answer.TheVariants as answer
 use Rattle.pebr_core.specs.declared.kinds.ShieldAt.TheVariants as shield
 use Rattle.pebr_words.proofs.Signs.{seat_here, seat_signs}
-use Rattle.pebr_words.proofs.StepLemmas.{and_true, in_list, is_one, in_known, own_made, known_by}
+use Rattle.pebr_words.proofs.StepLemmas.{and_true, in_list, is_one, in_known, own_made, stays_known}
 use Rattle.pebr_words.proofs.Makes.{kept_same}
 use Rattle.pebr_words.proofs.Recalling.{fresh_known, seen_known, shielded_uses, seen_either}
 use Rattle.pebr_core.specs.Steps.{after_load}
@@ -39,7 +39,7 @@ load_by shape number root known in_roots in' core found is_shape sound inside as
           told
           (λ q _. seat_signs core number new list q (λ _. refl) (λ k _. refl))
           (subst (λ n. IsAsKnown (after_load n known) new) (sym told)
-          (known_by (after_load (root_at core root)) (λ s status. refl) (λ s. refl) known seat as_known))
+          (stays_known (after_load (root_at core root)) (λ s status. refl) (λ s. refl) known seat as_known))
           (λ epoch h. h)
           (ap answer.Slot told),
     )

@@ -20,7 +20,7 @@ use Rattle.pebr_words.specs.declared.views.Held.{Held}
 use Rattle.pebr_words.specs.Places.{IsPlace, index}
 use Rattle.pebr_words.specs.Shown.{sign_at, Tells, Show}
 use Rattle.pebr_words.specs.Making.{place_of, known_after, note_after, answer_found, held_after, on_first, IsAsKnown}
-use Rattle.pebr_words.specs.Making.{number_in, known_in, note_in, past_in}
+use Rattle.pebr_words.specs.Making.{number_in, known_in_view, note_in, past_in}
 use Rattle.pebr_words.specs.Ruled.{BackedWhole, IsIn, IsEjectionOf, IsFreshNowhere, contents, Ruled, Made, IsPicked}
 use Rattle.pebr_words.specs.Ruled.{IsTold}
 use Rattle.pebr_words.specs.Ruled.{view_left}
@@ -267,10 +267,10 @@ pub makes_at : {N A : Type 0} (keeps : List (List ℕ) → List N → Type 0) (p
     → (id : ℕ) → StepsAreSafe → key ≡ shape → IsWithinLimits shape → IsPicked shape' s' act' shape s act
     → (me : table.Me (Unit {0}) (List (Held N))) → 0 < length me.0 → number_in me.0 ≡ seat_of s
     → IsPlace shape (place_of s) → index shape (place_of s) ≡ word
-    → IsMadeBy shape s (seat_of s) (known_in me.0) written
-    → IsKeptBy keeps (BackedWhole plain backed) after_act shape s act (seat_of s) (known_in me.0) (past_in me.0)
+    → IsMadeBy shape s (seat_of s) (known_in_view me.0) written
+    → IsKeptBy keeps (BackedWhole plain backed) after_act shape s act (seat_of s) (known_in_view me.0) (past_in me.0)
     (note_in blank me.0) written
-    → IsRecalledBy shape s (seat_of s) (known_in me.0) (past_in me.0) written
+    → IsRecalledBy shape s (seat_of s) (known_in_view me.0) (past_in me.0) written
     → table.Allows (Ruled keeps (BackedWhole plain backed) key) slots id me word written
     (Made after_act plain shape' s' act' me)
 makes_at keeps plain backed after_act blank id law is_key limits picked
@@ -296,7 +296,8 @@ makes_at {N} {A} keeps plain backed after_act blank {key} {shape} {shape'} {s} {
 -- what is told of the view is told of its first part
 pub known_first : {N A : Type 0} (after_act : N → A → N) (shape : Shape) (s : Step) (act : Option A) (found : ℕ)
     (view : List (Held N)) → 0 < length view
-    → known_in (on_first (held_after after_act shape s act found) view) ≡ known_after shape s found (known_in view)
+    → known_in_view (on_first (held_after after_act shape s act found) view)
+    ≡ known_after shape s found (known_in_view view)
 known_first after_act shape s act found [] live = absurd (omega (arith, live))
 known_first after_act shape s act found (held ∷ others) live = refl
 
@@ -322,7 +323,7 @@ length_first after_act shape s act found (held ∷ others) = refl
 past_first : {N A : Type 0} (after_act : N → A → N) (shape : Shape) (s : Step) (act : Option A) (found : ℕ)
     (view : List (Held N)) → 0 < length view
     → past_in (on_first (held_after after_act shape s act found) view)
-    ≡ past_after s (answer_found s (known_in view) found) (known_in view) (past_in view)
+    ≡ past_after s (answer_found s (known_in_view view) found) (known_in_view view) (past_in view)
 past_first after_act shape s act found [] live = absurd (omega (arith, live))
 past_first after_act shape s act found (held ∷ others) live = refl
 
@@ -353,7 +354,7 @@ told_of after_act whole blank shape s act found me me' live made =
       numbers = ap (map (λ held. held.number)) is ∙ numbers_first after_act shape s act found me.0;
       count = ap length is ∙ length_first after_act shape s act found me.0;
       rest = ap view_left is ∙ rest_first after_act shape s act found me.0;
-      known = ap known_in is ∙ known_first after_act shape s act found me.0 live;
+      known = ap known_in_view is ∙ known_first after_act shape s act found me.0 live;
       note = ap (note_in blank) is ∙ note_first after_act shape s act found blank me.0 live;
       past = ap past_in is ∙ past_first after_act shape s act found me.0 live;
       made = made.1;

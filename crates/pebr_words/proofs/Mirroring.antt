@@ -41,7 +41,7 @@ use Rattle.pebr_words.specs.Mirrors.{looked_from, found_after, IsLow}
 use Rattle.atomic_table.specs.Table as table
 use Rattle.pebr_core.specs.declared.kinds.Step.TheVariants as step
 use Rattle.pebr_words.specs.declared.views.Held.{Held}
-use Rattle.pebr_words.specs.Making.{answer_found, known_in, stance_from, IsStepOf}
+use Rattle.pebr_words.specs.Making.{answer_found, known_in_view, stance_from, IsStepOf}
 use Rattle.pebr_words.specs.Ruled.{IsTold}
 use Rattle.pebr_words.proofs.StepLemmas.{scans_known}
 use Rattle.pebr_words.specs.declared.looked.Looked.{Looked}
@@ -274,17 +274,17 @@ looked_mirrors noted slots found known m scanning other (looked.In epoch) inside
 pub look_told : {N A : Type 0} (after_act : N → A → N) (whole : List ℕ → Type 0) (blank : N) (shape : Shape) (noted : ℕ)
     (slots : Sets) (newest : Option ℕ) (kept : List ℕ) (number other found : ℕ) (result : Looked)
     (me me' : table.Me (Unit {0}) (List (Held N)))
-    → Mirrors noted slots kept (known_in me.0)
+    → Mirrors noted slots kept (known_in_view me.0)
     → ((epoch : ℕ) → is_above_tags (map is_retired slots.retired) slots.retired epoch ≡ is_above newest epoch)
-    → is_scanning (known_in me.0) ≡ true → number < shape.seats
+    → is_scanning (known_in_view me.0) ≡ true → number < shape.seats
     → IsTold after_act whole blank shape (step.Look number other) None found me me'
     → answer_as result ≡ look_answer newest (stance_from found)
-    → (known_in me'.0 ≡ looked_from other result (known_in me.0))
-    × IsStepOf shape (step.Look number other) (answer_as result) (known_in me.0) (known_in me'.0)
-    × (answer_found (step.Look number other) (known_in me.0) found ≡ answer_as result)
+    → (known_in_view me'.0 ≡ looked_from other result (known_in_view me.0))
+    × IsStepOf shape (step.Look number other) (answer_as result) (known_in_view me.0) (known_in_view me'.0)
+    × (answer_found (step.Look number other) (known_in_view me.0) found ≡ answer_as result)
 look_told after_act whole blank shape noted slots newest kept number other found result me me' m above scanning inside
     told is =
-    let known : Seat = known_in me.0 in
+    let known : Seat = known_in_view me.0 in
     let made = told.made in
     let scans = has_scan known scanning in
     let same = scans_known made.core number known (scan_of known) made.sound scans made.before in
@@ -293,7 +293,7 @@ look_told after_act whole blank shape noted slots newest kept number other found
     let both = judged_is newest known (stance_from found) other result
     (passes_is noted slots kept known m newest above are (stance_from found)) is in (
       told.known ∙ both.0,
-      subst (λ a. IsStepOf shape (step.Look number other) a known (known_in me'.0)) both.1 made,
+      subst (λ a. IsStepOf shape (step.Look number other) a known (known_in_view me'.0)) both.1 made,
       both.1,
     )
 

@@ -13,7 +13,7 @@ use Rattle.pebr_words.specs.Pasts.{History}
 use Rattle.pebr_core.specs.declared.kinds.Step.TheVariants as step
 use Rattle.pebr_core.specs.declared.kinds.ShieldAt.TheVariants as shield
 use Rattle.pebr_words.proofs.Signs.{seat_here, seat_signs}
-use Rattle.pebr_words.proofs.StepLemmas.{and_true, in_list, is_one, in_known, own_made, known_by}
+use Rattle.pebr_words.proofs.StepLemmas.{and_true, in_list, is_one, in_known, own_made, stays_known}
 use Rattle.pebr_words.proofs.Makes.{kept_same}
 use Rattle.pebr_words.proofs.Recalling.{recalls_same, seen_known}
 use Rattle.pebr_core.specs.Steps.{after_shield, is_place}
@@ -48,7 +48,7 @@ shield_by shape number place slot known in_place in_slots in' seen core found is
           (λ k is. ap shield_number
           (get_or-set_other seat.shields place k (shield.Set slot) shield.Down
           (λ same. apart (is ∙ ap (shield_word number) same)))))
-          (known_by (after_shield place (shield.Set slot)) (λ s status. refl) (λ s. refl) known seat as_known)
+          (stays_known (after_shield place (shield.Set slot)) (λ s status. refl) (λ s. refl) known seat as_known)
           (λ epoch h. h)
           refl,
     )

@@ -92,12 +92,12 @@ own_made core s found left known new inside told signs own ejected answered = re
 }
 
 -- a change that doesn't look at the status
-pub known_by : (f : Seat → Seat)
+pub stays_known : (f : Seat → Seat)
     → ((seat : Seat) (status : Stance) → f (record seat { status = status }) ≡ record (f seat) { status = status })
     → ((seat : Seat) → (f seat).status ≡ seat.status)
     → (known actual : Seat) → IsAsKnown known actual → IsAsKnown (f known) (f actual)
-known_by f apart same known actual (inl e) = inl (ap f e)
-known_by f apart same known actual (inr (epoch, was_in, now)) =
+stays_known f apart same known actual (inl e) = inl (ap f e)
+stays_known f apart same known actual (inr (epoch, was_in, now)) =
     inr (epoch, same known ∙ was_in, ap f now ∙ apart known (stance.Ejected epoch))
 
 -- but for its status, a seat is as it is known

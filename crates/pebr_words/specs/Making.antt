@@ -113,9 +113,9 @@ module _ {N : Type 0} where
   number_in [] = 0
   number_in (held ∷ others) = held.number
 
-  abbrev pub known_in : List (Held N) → Seat
-  known_in [] = nobody
-  known_in (held ∷ others) = held.known
+  abbrev pub known_in_view : List (Held N) → Seat
+  known_in_view [] = nobody
+  known_in_view (held ∷ others) = held.known
 
   abbrev pub past_in : List (Held N) → History
   past_in [] = no_history

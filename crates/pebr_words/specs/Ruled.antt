@@ -14,7 +14,8 @@ use Rattle.atomic_table.specs.Table as table
 use Rattle.pebr_words.specs.declared.views.Held.{Held}
 use Rattle.pebr_words.specs.Pasts.{Ejection, Read, History, no_history, past_after, shown_at, written_at}
 use Rattle.pebr_words.specs.Shown.{Show}
-use Rattle.pebr_words.specs.Making.{IsAsKnown, held_after, on_first, number_in, known_in, note_in, known_after, past_in}
+use Rattle.pebr_words.specs.Making.{IsAsKnown, held_after, on_first, number_in, known_in_view, note_in, known_after}
+use Rattle.pebr_words.specs.Making.{past_in}
 use Rattle.pebr_words.specs.Making.{note_after, answer_found, IsStepOf}
 
 -- the words of the slot in each root
@@ -178,8 +179,8 @@ module _ {N : Type 0} where
       → table.Me (Unit {0}) (List (Held N)) → ℕ → table.Me (Unit {0}) (List (Held N)) → Type 0
   Made after whole shape step act m found m' =
       (m' ≡ (on_first (held_after after shape step act found) m.0, m.1))
-      × IsStepOf shape step (answer_found step (known_in m.0) found) (known_in m.0) (known_in m'.0)
-      × IsSure whole shape (known_in m'.0) (past_in m'.0)
+      × IsStepOf shape step (answer_found step (known_in_view m.0) found) (known_in_view m.0) (known_in_view m'.0)
+      × IsSure whole shape (known_in_view m'.0) (past_in m'.0)
 
   -- The new notes back all that the old ones back.
   abbrev pub StillBack : (List N → List ℕ → Type 0) → List N → List N → Type 0
@@ -221,8 +222,10 @@ pub record IsTold {N A : Type 0} (after_act : N → A → N) (whole : List ℕ �
   pub numbers : map (λ held. held.number) me'.0 ≡ map (λ held. held.number) me.0
   pub count : length me'.0 ≡ length me.0
   pub rest : view_left me'.0 ≡ view_left me.0
-  pub known : known_in me'.0 ≡ known_after shape step found (known_in me.0)
+  pub known : known_in_view me'.0 ≡ known_after shape step found (known_in_view me.0)
   pub note : note_in blank me'.0 ≡ note_after after_act step act found (note_in blank me.0)
-  pub past : past_in me'.0 ≡ past_after step (answer_found step (known_in me.0) found) (known_in me.0) (past_in me.0)
-  pub made : IsStepOf shape step (answer_found step (known_in me.0) found) (known_in me.0) (known_in me'.0)
-  pub sure : IsSure whole shape (known_in me'.0) (past_in me'.0)
+  pub past : past_in me'.0 ≡ past_after step (answer_found step (known_in_view me.0) found) (known_in_view me.0)
+      (past_in me.0)
+  pub made : IsStepOf shape step (answer_found step (known_in_view me.0) found) (known_in_view me.0)
+      (known_in_view me'.0)
+  pub sure : IsSure whole shape (known_in_view me'.0) (past_in me'.0)

@@ -16,7 +16,7 @@ use Rattle.pebr_words.specs.declared.views.Held.{Held}
 use Rattle.pebr_words.specs.Ruled.{view_left, IsSure}
 use Rattle.pebr_core.specs.declared.kinds.Step.{Step}
 use Rattle.pebr_core.specs.declared.kinds.Answer.{Answer}
-use Rattle.pebr_words.specs.Making.{IsStepOf, known_in, note_in, past_in, answer_found}
+use Rattle.pebr_words.specs.Making.{IsStepOf, known_in_view, note_in, past_in, answer_found}
 use Rattle.pebr_words.specs.Operating.{operation_of}
 use Rattle.pebr_words.specs.Pasts.{History, Lost, Ejection, no_history, past_after}
 
@@ -29,7 +29,7 @@ module _ {P N A F : Type 0} where
 
   -- what the seat knows of its part of the core
   abbrev pub known_of : {g : _} → Seat P N A F g → core.Seat
-  known_of seat = known_in (me_of seat.inner).0
+  known_of seat = known_in_view (me_of seat.inner).0
 
   abbrev pub number_of : {g : _} → Seat P N A F g → ℕ
   number_of seat = seat.number

@@ -9,7 +9,7 @@ ghost use Rattle.pebr_table.specs.Operations as op;
 ghost use Rattle.pebr_table.specs.Tables.{table_at, table_of, key_of, me_of, operations_of};
 ghost use Rattle.pebr_words.specs.Places.{IsPlace, index, word_count};
 ghost use Rattle.pebr_core.specs.Frames.{seat_of};
-ghost use Rattle.pebr_words.specs.Making.{place_of, number_in, known_in, note_in, past_in};
+ghost use Rattle.pebr_words.specs.Making.{place_of, number_in, known_in_view, note_in, past_in};
 ghost use Rattle.pebr_words.specs.Operating.{operation_of, IsOwn};
 ghost use Rattle.pebr_words.specs.Ruled.{BackedWhole, IsPicked, IsTold};
 ghost use Rattle.pebr_words.specs.Facts.{IsMadeBy, IsKeptBy, IsRecalledBy, StepsAreSafe};
@@ -46,21 +46,22 @@ impl<P: RootProtocol> Words<P> {
         requires at { (table_at seat.old ≡ table_of self.now.table) × (0 < length (me_of seat.old).0)
             × (number_in (me_of seat.old).0 ≡ seat_of _step) }
         requires place { IsPlace self.now.shape (place_of _step) × (index self.now.shape (place_of _step) ≡ word) }
-        requires own { IsOwn self.now.shape _step (known_in (me_of seat.old).0)
+        requires own { IsOwn self.now.shape _step (known_in_view (me_of seat.old).0)
             (op.load (index self.now.shape (place_of _step))) }
-        requires made { IsMadeBy self.now.shape _step (seat_of _step) (known_in (me_of seat.old).0) (λ found. found) }
+        requires made { IsMadeBy self.now.shape _step (seat_of _step) (known_in_view (me_of seat.old).0)
+            (λ found. found) }
         requires kept { IsKeptBy (P.keeps (key_of self.now.table).fixed)
             (BackedWhole P.whole (P.backed (key_of self.now.table).fixed)) P.after self.now.shape _step _act
             (seat_of _step)
-            (known_in (me_of seat.old).0) (past_in (me_of seat.old).0)
+            (known_in_view (me_of seat.old).0) (past_in (me_of seat.old).0)
             (note_in P.first (me_of seat.old).0) (λ found. found) }
-        requires recalled { IsRecalledBy self.now.shape _step (seat_of _step) (known_in (me_of seat.old).0)
+        requires recalled { IsRecalledBy self.now.shape _step (seat_of _step) (known_in_view (me_of seat.old).0)
             (past_in (me_of seat.old).0) (λ found. found) }
         ensures at { table_at seat.new ≡ table_at seat.old }
         ensures told { IsTold P.after P.whole P.first self.now.shape _step _act result (me_of seat.old)
             (me_of seat.new) }
         ensures recorded { operations_of seat.new
-            ≡ operation_of self.now.shape _step (known_in (me_of seat.old).0) result ∷ operations_of seat.old }
+            ≡ operation_of self.now.shape _step (known_in_view (me_of seat.old).0) result ∷ operations_of seat.old }
     {
         safe_steps();
         self.table.load::<Makes<P, K>>(seat, word)
@@ -77,21 +78,22 @@ impl<P: RootProtocol> Words<P> {
         requires at { (table_at seat.old ≡ table_of self.now.table) × (0 < length (me_of seat.old).0)
             × (number_in (me_of seat.old).0 ≡ seat_of step) }
         requires place { IsPlace self.now.shape (place_of step) × (index self.now.shape (place_of step) ≡ word) }
-        requires own { IsOwn self.now.shape step (known_in (me_of seat.old).0)
+        requires own { IsOwn self.now.shape step (known_in_view (me_of seat.old).0)
             (op.load (index self.now.shape (place_of step))) }
-        requires made { IsMadeBy self.now.shape step (seat_of step) (known_in (me_of seat.old).0) (λ found. found) }
+        requires made { IsMadeBy self.now.shape step (seat_of step) (known_in_view (me_of seat.old).0)
+            (λ found. found) }
         requires kept { IsKeptBy (P.keeps (key_of self.now.table).fixed)
             (BackedWhole P.whole (P.backed (key_of self.now.table).fixed)) P.after self.now.shape step act
             (seat_of step)
-            (known_in (me_of seat.old).0) (past_in (me_of seat.old).0)
+            (known_in_view (me_of seat.old).0) (past_in (me_of seat.old).0)
             (note_in P.first (me_of seat.old).0) (λ found. found) }
-        requires recalled { IsRecalledBy self.now.shape step (seat_of step) (known_in (me_of seat.old).0)
+        requires recalled { IsRecalledBy self.now.shape step (seat_of step) (known_in_view (me_of seat.old).0)
             (past_in (me_of seat.old).0) (λ found. found) }
         ensures at { table_at seat.new ≡ table_at seat.old }
         ensures told { IsTold P.after P.whole P.first self.now.shape step act result (me_of seat.old)
             (me_of seat.new) }
         ensures recorded { operations_of seat.new
-            ≡ operation_of self.now.shape step (known_in (me_of seat.old).0) result ∷ operations_of seat.old }
+            ≡ operation_of self.now.shape step (known_in_view (me_of seat.old).0) result ∷ operations_of seat.old }
     {
         self.load_as::<Brand>(seat, word, step, act)
     }
@@ -109,21 +111,21 @@ impl<P: RootProtocol> Words<P> {
         requires at { (table_at seat.old ≡ table_of self.now.table) × (0 < length (me_of seat.old).0)
             × (number_in (me_of seat.old).0 ≡ seat_of _step) }
         requires place { IsPlace self.now.shape (place_of _step) × (index self.now.shape (place_of _step) ≡ word) }
-        requires own { IsOwn self.now.shape _step (known_in (me_of seat.old).0)
+        requires own { IsOwn self.now.shape _step (known_in_view (me_of seat.old).0)
             (λ _. op.store (index self.now.shape (place_of _step)) new) }
-        requires made { IsMadeBy self.now.shape _step (seat_of _step) (known_in (me_of seat.old).0) (λ _. new) }
+        requires made { IsMadeBy self.now.shape _step (seat_of _step) (known_in_view (me_of seat.old).0) (λ _. new) }
         requires kept { IsKeptBy (P.keeps (key_of self.now.table).fixed)
             (BackedWhole P.whole (P.backed (key_of self.now.table).fixed)) P.after self.now.shape _step _act
             (seat_of _step)
-            (known_in (me_of seat.old).0) (past_in (me_of seat.old).0)
+            (known_in_view (me_of seat.old).0) (past_in (me_of seat.old).0)
             (note_in P.first (me_of seat.old).0) (λ _. new) }
-        requires recalled { IsRecalledBy self.now.shape _step (seat_of _step) (known_in (me_of seat.old).0)
+        requires recalled { IsRecalledBy self.now.shape _step (seat_of _step) (known_in_view (me_of seat.old).0)
             (past_in (me_of seat.old).0) (λ _. new) }
         ensures at { table_at seat.new ≡ table_at seat.old }
         ensures told { (found : ℕ) × IsTold P.after P.whole P.first self.now.shape _step _act found (me_of seat.old)
             (me_of seat.new) }
         ensures recorded { operations_of seat.new
-            ≡ operation_of self.now.shape _step (known_in (me_of seat.old).0) 0 ∷ operations_of seat.old }
+            ≡ operation_of self.now.shape _step (known_in_view (me_of seat.old).0) 0 ∷ operations_of seat.old }
     {
         safe_steps();
         self.table.store::<Stores<P, K>>(seat, word, new);
@@ -141,21 +143,21 @@ impl<P: RootProtocol> Words<P> {
         requires at { (table_at seat.old ≡ table_of self.now.table) × (0 < length (me_of seat.old).0)
             × (number_in (me_of seat.old).0 ≡ seat_of step) }
         requires place { IsPlace self.now.shape (place_of step) × (index self.now.shape (place_of step) ≡ word) }
-        requires own { IsOwn self.now.shape step (known_in (me_of seat.old).0)
+        requires own { IsOwn self.now.shape step (known_in_view (me_of seat.old).0)
             (λ _. op.store (index self.now.shape (place_of step)) new) }
-        requires made { IsMadeBy self.now.shape step (seat_of step) (known_in (me_of seat.old).0) (λ _. new) }
+        requires made { IsMadeBy self.now.shape step (seat_of step) (known_in_view (me_of seat.old).0) (λ _. new) }
         requires kept { IsKeptBy (P.keeps (key_of self.now.table).fixed)
             (BackedWhole P.whole (P.backed (key_of self.now.table).fixed)) P.after self.now.shape step act
             (seat_of step)
-            (known_in (me_of seat.old).0) (past_in (me_of seat.old).0)
+            (known_in_view (me_of seat.old).0) (past_in (me_of seat.old).0)
             (note_in P.first (me_of seat.old).0) (λ _. new) }
-        requires recalled { IsRecalledBy self.now.shape step (seat_of step) (known_in (me_of seat.old).0)
+        requires recalled { IsRecalledBy self.now.shape step (seat_of step) (known_in_view (me_of seat.old).0)
             (past_in (me_of seat.old).0) (λ _. new) }
         ensures at { table_at seat.new ≡ table_at seat.old }
         ensures told { (found : ℕ) × IsTold P.after P.whole P.first self.now.shape step act found (me_of seat.old)
             (me_of seat.new) }
         ensures recorded { operations_of seat.new
-            ≡ operation_of self.now.shape step (known_in (me_of seat.old).0) 0 ∷ operations_of seat.old }
+            ≡ operation_of self.now.shape step (known_in_view (me_of seat.old).0) 0 ∷ operations_of seat.old }
     {
         self.store_as::<Brand>(seat, word, new, step, act);
     }
@@ -174,23 +176,23 @@ impl<P: RootProtocol> Words<P> {
         requires at { (table_at seat.old ≡ table_of self.now.table) × (0 < length (me_of seat.old).0)
             × (number_in (me_of seat.old).0 ≡ seat_of _step) }
         requires place { IsPlace self.now.shape (place_of _step) × (index self.now.shape (place_of _step) ≡ word) }
-        requires own { IsOwn self.now.shape _step (known_in (me_of seat.old).0)
+        requires own { IsOwn self.now.shape _step (known_in_view (me_of seat.old).0)
             (op.exchange (index self.now.shape (place_of _step)) change.0 change.1) }
-        requires made { IsMadeBy self.now.shape _step (seat_of _step) (known_in (me_of seat.old).0)
+        requires made { IsMadeBy self.now.shape _step (seat_of _step) (known_in_view (me_of seat.old).0)
             (λ found. either (found == change.0) change.1 found) }
         requires kept { IsKeptBy (P.keeps (key_of self.now.table).fixed)
             (BackedWhole P.whole (P.backed (key_of self.now.table).fixed)) P.after self.now.shape _step _act
             (seat_of _step)
-            (known_in (me_of seat.old).0) (past_in (me_of seat.old).0)
+            (known_in_view (me_of seat.old).0) (past_in (me_of seat.old).0)
             (note_in P.first (me_of seat.old).0)
             (λ found. either (found == change.0) change.1 found) }
-        requires recalled { IsRecalledBy self.now.shape _step (seat_of _step) (known_in (me_of seat.old).0)
+        requires recalled { IsRecalledBy self.now.shape _step (seat_of _step) (known_in_view (me_of seat.old).0)
             (past_in (me_of seat.old).0) (λ found. either (found == change.0) change.1 found) }
         ensures at { table_at seat.new ≡ table_at seat.old }
         ensures told { IsTold P.after P.whole P.first self.now.shape _step _act result (me_of seat.old)
             (me_of seat.new) }
         ensures recorded { operations_of seat.new
-            ≡ operation_of self.now.shape _step (known_in (me_of seat.old).0) result ∷ operations_of seat.old }
+            ≡ operation_of self.now.shape _step (known_in_view (me_of seat.old).0) result ∷ operations_of seat.old }
     {
         safe_steps();
         self.table
@@ -210,23 +212,23 @@ impl<P: RootProtocol> Words<P> {
         requires at { (table_at seat.old ≡ table_of self.now.table) × (0 < length (me_of seat.old).0)
             × (number_in (me_of seat.old).0 ≡ seat_of step) }
         requires place { IsPlace self.now.shape (place_of step) × (index self.now.shape (place_of step) ≡ word) }
-        requires own { IsOwn self.now.shape step (known_in (me_of seat.old).0)
+        requires own { IsOwn self.now.shape step (known_in_view (me_of seat.old).0)
             (op.exchange (index self.now.shape (place_of step)) change.0 change.1) }
-        requires made { IsMadeBy self.now.shape step (seat_of step) (known_in (me_of seat.old).0)
+        requires made { IsMadeBy self.now.shape step (seat_of step) (known_in_view (me_of seat.old).0)
             (λ found. either (found == change.0) change.1 found) }
         requires kept { IsKeptBy (P.keeps (key_of self.now.table).fixed)
             (BackedWhole P.whole (P.backed (key_of self.now.table).fixed)) P.after self.now.shape step act
             (seat_of step)
-            (known_in (me_of seat.old).0) (past_in (me_of seat.old).0)
+            (known_in_view (me_of seat.old).0) (past_in (me_of seat.old).0)
             (note_in P.first (me_of seat.old).0)
             (λ found. either (found == change.0) change.1 found) }
-        requires recalled { IsRecalledBy self.now.shape step (seat_of step) (known_in (me_of seat.old).0)
+        requires recalled { IsRecalledBy self.now.shape step (seat_of step) (known_in_view (me_of seat.old).0)
             (past_in (me_of seat.old).0) (λ found. either (found == change.0) change.1 found) }
         ensures at { table_at seat.new ≡ table_at seat.old }
         ensures told { IsTold P.after P.whole P.first self.now.shape step act result (me_of seat.old)
             (me_of seat.new) }
         ensures recorded { operations_of seat.new
-            ≡ operation_of self.now.shape step (known_in (me_of seat.old).0) result ∷ operations_of seat.old }
+            ≡ operation_of self.now.shape step (known_in_view (me_of seat.old).0) result ∷ operations_of seat.old }
     {
         self.exchange_as::<Brand>(seat, word, change, step, act)
     }

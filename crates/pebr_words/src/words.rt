@@ -3,7 +3,7 @@
 ghost use Rattle.std.specs.Prelude.{◌≡◌};
 ghost use Rattle.pebr_table.specs.Tables.{table_of, key_of, me_of};
 ghost use Rattle.pebr_words.specs.Places.{word_count, slots_from};
-ghost use Rattle.pebr_words.specs.Making.{number_in, known_in};
+ghost use Rattle.pebr_words.specs.Making.{number_in, known_in_view};
 ghost use Rattle.pebr_core.specs.Kept.{IsWithinLimits};
 ghost use Rattle.pebr_words.specs.Mirrors.{Mirrors};
 
@@ -39,5 +39,5 @@ pub struct Seat<P: RootProtocol> {
     /// For each seat, the epoch that its scan found it in with.
     pub(crate) found: Vec<u64>,
     ghost acts: { number_in (me_of inner).0 ≡ number },
-    ghost mirrors: { Mirrors noted slots found.items (known_in (me_of inner).0) },
+    ghost mirrors: { Mirrors noted slots found.items (known_in_view (me_of inner).0) },
 }

@@ -5,7 +5,7 @@ ghost use Rattle.std.specs.List.{list_all};
 ghost use Rattle.pebr_core.specs.State.{is_out, is_down};
 ghost use Rattle.pebr_shields.specs.declared.checked.Checked.TheVariants as checked;
 ghost use Rattle.pebr_roots.specs.Under.{is_valid_at};
-ghost use Rattle.pebr_roots.specs.Passes.{shape_at, known_by, count_by_pass, IsOf, IsSame};
+ghost use Rattle.pebr_roots.specs.Passes.{shape_at, known_by_pass, count_by_pass, IsOf, IsSame};
 ghost use Rattle.pebr_roots.specs.Passes.{IsUnitedPass, IsOpenedPass};
 
 use crate::tests::free::Free;
@@ -15,11 +15,11 @@ use std::alloc::Global;
 /// Enters, loads a root and checks.
 fn protect(roots: &Roots<Free>, pass: &mut RootPass<Free>, root: usize) -> Checked
     requires of { IsOf roots.now pass.old }
-    requires out { IsTrue (is_out (known_by pass.old).status) }
+    requires out { IsTrue (is_out (known_by_pass pass.old).status) }
     requires root { (root < (shape_at roots.now).roots) × ((shape_at roots.now).shields ≡ 1) }
     ensures same { IsSame roots.now pass.old pass.new }
-    ensures entered { is_out (known_by pass.new).status ≡ false }
-    ensures valid { result ≡ checked.Valid → IsTrue (is_valid_at (known_by pass.new) 0) }
+    ensures entered { is_out (known_by_pass pass.new).status ≡ false }
+    ensures valid { result ≡ checked.Valid → IsTrue (is_valid_at (known_by_pass pass.new) 0) }
 {
     roots.enter(pass);
     roots.load(pass, root, 0);
@@ -34,12 +34,12 @@ fn swap_if(
     found: Checked,
 ) -> Option<ReplaceEnd>
     requires of { IsOf roots.now pass.old }
-    requires entered { is_out (known_by pass.old).status ≡ false }
+    requires entered { is_out (known_by_pass pass.old).status ≡ false }
     requires root { (root < (shape_at roots.now).roots) × ((shape_at roots.now).shields ≡ 1)
         × ((shape_at roots.now).width ≡ 1) }
-    requires valid { found ≡ checked.Valid → IsTrue (is_valid_at (known_by pass.old) 0) }
+    requires valid { found ≡ checked.Valid → IsTrue (is_valid_at (known_by_pass pass.old) 0) }
     ensures same { IsSame roots.now pass.old pass.new }
-    ensures entered { is_out (known_by pass.new).status ≡ false }
+    ensures entered { is_out (known_by_pass pass.new).status ≡ false }
 {
     if pass.fresh() == 0 {
         return None;
@@ -56,10 +56,10 @@ fn swap_if(
 /// Takes the shield down and leaves.
 fn end(roots: &Roots<Free>, pass: &mut RootPass<Free>)
     requires of { IsOf roots.now pass.old }
-    requires entered { is_out (known_by pass.old).status ≡ false }
+    requires entered { is_out (known_by_pass pass.old).status ≡ false }
     ensures same { IsSame roots.now pass.old pass.new }
-    ensures out { IsTrue (is_out (known_by pass.new).status) }
-    ensures down { IsTrue (list_all is_down (known_by pass.new).shields) }
+    ensures out { IsTrue (is_out (known_by_pass pass.new).status) }
+    ensures down { IsTrue (list_all is_down (known_by_pass pass.new).shields) }
 {
     roots.clear(pass);
     roots.leave(pass, None);
@@ -75,11 +75,11 @@ fn replaced_under(
     replaced: usize,
 ) -> (Option<ReplaceEnd>, usize, usize)
     requires of { IsOf roots.now first.old × IsOf roots.now second.old }
-    requires out { IsTrue (is_out (known_by first.old).status) × IsTrue (is_out (known_by second.old).status) }
+    requires out { IsTrue (is_out (known_by_pass first.old).status) × IsTrue (is_out (known_by_pass second.old).status) }
     requires roots { (read < (shape_at roots.now).roots) × (replaced < (shape_at roots.now).roots) }
     requires one { ((shape_at roots.now).shields ≡ 1) × ((shape_at roots.now).width ≡ 1) }
     ensures same { IsSame roots.now first.old first.new × IsSame roots.now second.old second.new }
-    ensures out { IsTrue (is_out (known_by first.new).status) × IsTrue (is_out (known_by second.new).status) }
+    ensures out { IsTrue (is_out (known_by_pass first.new).status) × IsTrue (is_out (known_by_pass second.new).status) }
 {
     protect(roots, second, read);
     let found = protect(roots, first, replaced);
@@ -128,7 +128,7 @@ fn contents_at_end(
 ) -> Result<(u64, u64), NoMemory>
     requires of { IsOf roots first × IsOf roots second }
     requires shape { shape_at roots ≡ record { roots = 2; seats = 2; shields = 1; batch = 1; width = 1 } }
-    requires out { IsTrue (is_out (known_by first).status) × IsTrue (is_out (known_by second).status) }
+    requires out { IsTrue (is_out (known_by_pass first).status) × IsTrue (is_out (known_by_pass second).status) }
     requires count { (count_by_pass first ≡ 1) × (count_by_pass second ≡ 1) }
     requires united { IsUnitedPass tt first × IsUnitedPass tt second }
 {

@@ -7,7 +7,7 @@ ghost use Rattle.pebr_core.specs.declared.kinds.ShieldAt.TheVariants as shield;
 ghost use Rattle.pebr_shields.specs.declared.checked.Checked.TheVariants as checked;
 ghost use Rattle.pebr_roots.specs.Under.{is_valid_at};
 ghost use Rattle.pebr_roots.specs.Orders.{HasMade};
-ghost use Rattle.pebr_roots.specs.Passes.{shape_at, known_by, operations_by, count_by_pass, IsOf, IsSame};
+ghost use Rattle.pebr_roots.specs.Passes.{shape_at, known_by_pass, operations_by, count_by_pass, IsOf, IsSame};
 ghost use Rattle.pebr_roots.specs.Passes.{IsUnitedPass, IsOpenedPass};
 
 use crate::tests::free::Free;
@@ -18,11 +18,11 @@ use std::alloc::Global;
 /// Enters, loads the root and checks.
 fn protect(roots: &Roots<Free>, pass: &mut RootPass<Free>) -> (usize, Checked)
     requires of { IsOf roots.now pass.old }
-    requires out { IsTrue (is_out (known_by pass.old).status) }
+    requires out { IsTrue (is_out (known_by_pass pass.old).status) }
     requires one { ((shape_at roots.now).roots ≡ 1) × ((shape_at roots.now).shields ≡ 1) }
     ensures same { IsSame roots.now pass.old pass.new }
-    ensures entered { is_out (known_by pass.new).status ≡ false }
-    ensures valid { result.1 ≡ checked.Valid → IsTrue (is_valid_at (known_by pass.new) 0) }
+    ensures entered { is_out (known_by_pass pass.new).status ≡ false }
+    ensures valid { result.1 ≡ checked.Valid → IsTrue (is_valid_at (known_by_pass pass.new) 0) }
 {
     roots.enter(pass);
     let slot = roots.load(pass, 0, 0);
@@ -33,12 +33,12 @@ fn protect(roots: &Roots<Free>, pass: &mut RootPass<Free>) -> (usize, Checked)
 /// Writes a word into the least fresh slot, if there is one, and puts it into the root.
 fn swap(roots: &Roots<Free>, pass: &mut RootPass<Free>, value: u64) -> Option<ReplaceEnd>
     requires of { IsOf roots.now pass.old }
-    requires entered { is_out (known_by pass.old).status ≡ false }
+    requires entered { is_out (known_by_pass pass.old).status ≡ false }
     requires one { ((shape_at roots.now).roots ≡ 1) × ((shape_at roots.now).shields ≡ 1)
         × ((shape_at roots.now).width ≡ 1) }
-    requires valid { IsTrue (is_valid_at (known_by pass.old) 0) }
+    requires valid { IsTrue (is_valid_at (known_by_pass pass.old) 0) }
     ensures same { IsSame roots.now pass.old pass.new }
-    ensures entered { is_out (known_by pass.new).status ≡ false }
+    ensures entered { is_out (known_by_pass pass.new).status ≡ false }
 {
     if pass.fresh() == 0 {
         return None;
@@ -50,10 +50,10 @@ fn swap(roots: &Roots<Free>, pass: &mut RootPass<Free>, value: u64) -> Option<Re
 /// Takes the shield down and leaves.
 fn end(roots: &Roots<Free>, pass: &mut RootPass<Free>)
     requires of { IsOf roots.now pass.old }
-    requires entered { is_out (known_by pass.old).status ≡ false }
+    requires entered { is_out (known_by_pass pass.old).status ≡ false }
     ensures same { IsSame roots.now pass.old pass.new }
-    ensures out { IsTrue (is_out (known_by pass.new).status) }
-    ensures down { IsTrue (list_all is_down (known_by pass.new).shields) }
+    ensures out { IsTrue (is_out (known_by_pass pass.new).status) }
+    ensures down { IsTrue (list_all is_down (known_by_pass pass.new).shields) }
 {
     roots.clear(pass);
     roots.leave(pass, None);
@@ -66,12 +66,12 @@ fn attempt(
     value: u64,
 ) -> (usize, Checked, Option<ReplaceEnd>)
     requires of { IsOf roots.now pass.old }
-    requires out { IsTrue (is_out (known_by pass.old).status) }
+    requires out { IsTrue (is_out (known_by_pass pass.old).status) }
     requires one { ((shape_at roots.now).roots ≡ 1) × ((shape_at roots.now).shields ≡ 1)
         × ((shape_at roots.now).width ≡ 1) }
     ensures same { IsSame roots.now pass.old pass.new }
-    ensures out { IsTrue (is_out (known_by pass.new).status) }
-    ensures down { IsTrue (list_all is_down (known_by pass.new).shields) }
+    ensures out { IsTrue (is_out (known_by_pass pass.new).status) }
+    ensures down { IsTrue (list_all is_down (known_by_pass pass.new).shields) }
 {
     let (slot, found) = protect(roots, pass);
     let replaced = swap_if(roots, pass, value, found);
@@ -87,12 +87,12 @@ fn swap_if(
     found: Checked,
 ) -> Option<ReplaceEnd>
     requires of { IsOf roots.now pass.old }
-    requires entered { is_out (known_by pass.old).status ≡ false }
+    requires entered { is_out (known_by_pass pass.old).status ≡ false }
     requires one { ((shape_at roots.now).roots ≡ 1) × ((shape_at roots.now).shields ≡ 1)
         × ((shape_at roots.now).width ≡ 1) }
-    requires valid { found ≡ checked.Valid → IsTrue (is_valid_at (known_by pass.old) 0) }
+    requires valid { found ≡ checked.Valid → IsTrue (is_valid_at (known_by_pass pass.old) 0) }
     ensures same { IsSame roots.now pass.old pass.new }
-    ensures entered { is_out (known_by pass.new).status ≡ false }
+    ensures entered { is_out (known_by_pass pass.new).status ≡ false }
 {
     match found {
         Checked::Valid => swap(roots, pass, value),
@@ -103,11 +103,11 @@ fn swap_if(
 /// Reads the word under the shield, where the check found it valid.
 fn read_if(roots: &Roots<Free>, pass: &mut RootPass<Free>, found: Checked) -> u64
     requires of { IsOf roots.now pass.old }
-    requires entered { is_out (known_by pass.old).status ≡ false }
+    requires entered { is_out (known_by_pass pass.old).status ≡ false }
     requires one { ((shape_at roots.now).shields ≡ 1) × ((shape_at roots.now).width ≡ 1) }
-    requires valid { found ≡ checked.Valid → IsTrue (is_valid_at (known_by pass.old) 0) }
+    requires valid { found ≡ checked.Valid → IsTrue (is_valid_at (known_by_pass pass.old) 0) }
     ensures same { IsSame roots.now pass.old pass.new }
-    ensures entered { is_out (known_by pass.new).status ≡ false }
+    ensures entered { is_out (known_by_pass pass.new).status ≡ false }
 {
     match found {
         Checked::Valid => roots.read(pass, 0, 0),
@@ -126,7 +126,7 @@ fn ejected_after_its_check(
     requires one { ((shape_at roots.now).roots ≡ 1) × ((shape_at roots.now).shields ≡ 1)
         × ((shape_at roots.now).width ≡ 1) }
     ensures same { IsSame roots.now first.old first.new × IsSame roots.now second.old second.new }
-    ensures out { IsTrue (is_out (known_by first.new).status) × IsTrue (is_out (known_by second.new).status) }
+    ensures out { IsTrue (is_out (known_by_pass first.new).status) × IsTrue (is_out (known_by_pass second.new).status) }
 {
     let (slot, found) = protect(roots, second);
     let tried = attempt(roots, first, 7);
@@ -161,7 +161,7 @@ fn all_but_one_are_given(
     requires one { ((shape_at roots.now).roots ≡ 1) × ((shape_at roots.now).shields ≡ 1)
         × ((shape_at roots.now).width ≡ 1) }
     ensures same { IsSame roots.now first.old first.new × IsSame roots.now second.old second.new }
-    ensures out { IsTrue (is_out (known_by first.new).status) × IsTrue (is_out (known_by second.new).status) }
+    ensures out { IsTrue (is_out (known_by_pass first.new).status) × IsTrue (is_out (known_by_pass second.new).status) }
 {
     let (slot, found) = protect(roots, second);
     let one = attempt(roots, first, 7);
@@ -182,7 +182,7 @@ fn all_but_one_are_given(
 /// Makes so many of the calls of a try, from `enter` on, and stops there.
 fn stop_behind(roots: &Roots<Free>, pass: &mut RootPass<Free>, calls: usize)
     requires of { IsOf roots.now pass.old }
-    requires out { IsTrue (is_out (known_by pass.old).status) }
+    requires out { IsTrue (is_out (known_by_pass pass.old).status) }
     requires one { ((shape_at roots.now).roots ≡ 1) × ((shape_at roots.now).shields ≡ 1)
         × ((shape_at roots.now).width ≡ 1) }
     ensures { IsOf roots.now pass.new }
@@ -200,11 +200,11 @@ fn stop_behind(roots: &Roots<Free>, pass: &mut RootPass<Free>, calls: usize)
 /// The calls behind the load.
 fn stop_behind_load(roots: &Roots<Free>, pass: &mut RootPass<Free>, calls: usize)
     requires of { IsOf roots.now pass.old }
-    requires entered { is_out (known_by pass.old).status ≡ false }
+    requires entered { is_out (known_by_pass pass.old).status ≡ false }
     requires one { ((shape_at roots.now).roots ≡ 1) × ((shape_at roots.now).shields ≡ 1)
         × ((shape_at roots.now).width ≡ 1) }
-    requires set { (slot : ℕ) × (shield_at (known_by pass.old) 0 ≡ shield.Set slot)
-        × (has (known_by pass.old).seen slot ≡ true) }
+    requires set { (slot : ℕ) × (shield_at (known_by_pass pass.old) 0 ≡ shield.Set slot)
+        × (has (known_by_pass pass.old).seen slot ≡ true) }
     ensures { IsOf roots.now pass.new }
 {
     if calls == 2 {
@@ -219,10 +219,10 @@ fn stop_behind_load(roots: &Roots<Free>, pass: &mut RootPass<Free>, calls: usize
 /// The calls behind the check.
 fn stop_behind_check(roots: &Roots<Free>, pass: &mut RootPass<Free>, calls: usize)
     requires of { IsOf roots.now pass.old }
-    requires entered { is_out (known_by pass.old).status ≡ false }
+    requires entered { is_out (known_by_pass pass.old).status ≡ false }
     requires one { ((shape_at roots.now).roots ≡ 1) × ((shape_at roots.now).shields ≡ 1)
         × ((shape_at roots.now).width ≡ 1) }
-    requires valid { IsTrue (is_valid_at (known_by pass.old) 0) }
+    requires valid { IsTrue (is_valid_at (known_by_pass pass.old) 0) }
     ensures { IsOf roots.now pass.new }
 {
     if calls > 3 {
@@ -247,8 +247,8 @@ fn stop_behind_check(roots: &Roots<Free>, pass: &mut RootPass<Free>, calls: usiz
 /// 7.
 fn collect_by_force(roots: &Roots<Free>, pass: &mut RootPass<Free>) -> Collected
     requires of { IsOf roots.now pass.old }
-    requires out { IsTrue (is_out (known_by pass.old).status) }
-    requires down { IsTrue (list_all is_down (known_by pass.old).shields) }
+    requires out { IsTrue (is_out (known_by_pass pass.old).status) }
+    requires down { IsTrue (list_all is_down (known_by_pass pass.old).shields) }
     requires two { ((shape_at roots.now).seats ≡ 2) × ((shape_at roots.now).shields ≡ 1) }
     ensures same { IsSame roots.now pass.old pass.new }
     ensures operations { HasMade 7 (operations_by pass.old) (operations_by pass.new) }
@@ -318,7 +318,7 @@ fn content_at_end(
 ) -> Result<u64, NoMemory>
     requires of { IsOf roots first × IsOf roots second }
     requires shape { shape_at roots ≡ record { roots = 1; seats = 2; shields = 1; batch = 1; width = 1 } }
-    requires out { IsTrue (is_out (known_by first).status) × IsTrue (is_out (known_by second).status) }
+    requires out { IsTrue (is_out (known_by_pass first).status) × IsTrue (is_out (known_by_pass second).status) }
     requires count { (count_by_pass first ≡ 1) × (count_by_pass second ≡ 1) }
     requires united { IsUnitedPass tt first × IsUnitedPass tt second }
 {

@@ -5,7 +5,7 @@ use Rattle.flow_parts.specs.declared.fragment.Fragment.{Fragment}
 use Rattle.cache_face.specs.Choice.{HasKey, HasNone, IsLowest, entry_at}
 use Rattle.pebr_core.specs.State.{Seat}
 use Rattle.pebr_words.specs.Pasts.{History}
-use Rattle.pebr_roots.specs.Passes.{known_by, past_by, operations_by}
+use Rattle.pebr_roots.specs.Passes.{known_by_pass, past_by, operations_by}
 use Rattle.pebr_roots.proofs.Counts.{made_on}
 use Rattle.flow_cache.specs.Reading.{entries_read}
 use Rattle.cache_watch.specs.Holding.{IsHolding, IsHeld}
@@ -38,10 +38,11 @@ leave-requires-clause-held c =
     let four : length entries ≡ 4 = search rules in
     with_some
     (λ (hold : Hold). IsLowest (HasKey key) entries hold.place × (entry_at entries hold.place ≡ Some hold.fragment))
-    (λ (hold : Hold). IsHolding hold.place hold.fragment (known_by mid) (past_by mid))
+    (λ (hold : Hold). IsHolding hold.place hold.fragment (known_by_pass mid) (past_by mid))
     c.lowest_of-hold.result c.lowest_of-hold.ensures.some
     (λ hold some h. (let low : hold.place < 4 = (let b = h.0.below in omega (arith, b, four)) in
-    holds set hold.place hold.fragment (known_by start) (known_by mid) (past_by mid) (past_by start) (past_by mid)
+    holds set hold.place hold.fragment (known_by_pass start) (known_by_pass mid) (past_by mid)
+    (past_by start) (past_by mid)
     entries low c.requires.protected is h.1 (ap (λ (p : History). p.loads) c.read_set-entries.ensures.past)
     c.read_set-entries.ensures.ten (ap (λ (k : Seat). k.shields) c.read_set-entries.ensures.known) refl))
 
@@ -59,12 +60,12 @@ returns-clause-held c =
     let four : length entries ≡ 4 = search rules in
     with_some
     (λ (hold : Hold). IsLowest (HasKey key) entries hold.place × (entry_at entries hold.place ≡ Some hold.fragment))
-    (λ (hold : Hold). IsHolding hold.place hold.fragment (known_by end) (past_by end)
+    (λ (hold : Hold). IsHolding hold.place hold.fragment (known_by_pass end) (past_by end)
     × IsHeld set key (past_by end) hold.fragment)
     c.lowest_of-hold.result c.lowest_of-hold.ensures.some
     (λ hold some h. (let low : hold.place < 4 =
     (let b = h.0.below in omega (arith, b, four)) in (
-      holds set hold.place hold.fragment (known_by start) (known_by end) (past_by mid) (past_by start)
+      holds set hold.place hold.fragment (known_by_pass start) (known_by_pass end) (past_by mid) (past_by start)
           (past_by end) entries low c.requires.protected is h.1
           (ap (λ (p : History). p.loads) c.read_set-entries.ensures.past)
           c.read_set-entries.ensures.ten

@@ -4,7 +4,7 @@ use Rattle.cache_face.specs.Keeping.{Keeps, AreBacking}
 use Rattle.cache_face.specs.Notes.{first_note}
 use Rattle.pebr_core.specs.declared.kinds.Shape.{Shape}
 use Rattle.pebr_roots.specs.Orders.{HasMade}
-use Rattle.pebr_roots.specs.Passes.{shape_at, fixed_at, known_by, number_by, note_by, past_by, operations_by}
+use Rattle.pebr_roots.specs.Passes.{shape_at, fixed_at, known_by_pass, number_by, note_by, past_by, operations_by}
 use Rattle.pebr_roots.specs.Under.{slot_at}
 use Rattle.pebr_roots.proofs.Counts.{made_one, made_on, made_in}
 use Rattle.pebr_roots.proofs.Passing.{valid_at}
@@ -19,7 +19,7 @@ pub leave-requires-clause-keeps : goal.leave-requires-clause-keeps
 leave-requires-clause-keeps c =
     let roots = c.roots.result.now in
     let pass = c.args.seat.now in
-    let known = known_by pass in
+    let known = known_by_pass pass in
     let hold : Hold = c.in-Some.hold in
     let held : IsHolding hold.place hold.fragment known (past_by pass) =
     subst (λ o. IfSome o (λ (h : Hold). IsHolding h.place h.fragment known (past_by pass))) c.in-Some.is
@@ -36,7 +36,7 @@ leave-requires-in-None-clause-keeps c =
     let roots = c.roots-in-None-2.result.now in
     let pass = c.clear.new.pass in
     can_stay (Keeps (fixed_at roots).timeouts (fixed_at roots).sets) (AreBacking (fixed_at roots).timeouts)
-    (shape_at roots) (known_by pass) (past_by pass) (number_by pass) (note_by first_note pass)
+    (shape_at roots) (known_by_pass pass) (past_by pass) (number_by pass) (note_by first_note pass)
 
 pub returns-in-Some-clause-few : goal.returns-in-Some-clause-few
 returns-in-Some-clause-few c =

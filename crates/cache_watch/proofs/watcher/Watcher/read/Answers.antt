@@ -4,7 +4,7 @@ use Rattle.flow_parts.specs.declared.fragment.Fragment.{Fragment}
 use Rattle.cache_face.specs.Notes.{Note}
 use Rattle.pebr_core.specs.State.{Seat}
 use Rattle.pebr_words.specs.Pasts.{Read}
-use Rattle.pebr_roots.specs.Passes.{known_by, past_by}
+use Rattle.pebr_roots.specs.Passes.{known_by_pass, past_by}
 use Rattle.pebr_roots.specs.Under.{slot_at}
 use Rattle.flow_cache.specs.Trying.{HasReadTen}
 use Rattle.cache_watch.specs.declared.watcher.Hold.{Hold}
@@ -17,9 +17,10 @@ pub unreachable-requires-in-None : goal.unreachable-requires-in-None
 unreachable-requires-in-None c =
     let seat = c.args.self.now.seat in
     let hold : Hold = c.in-Some.hold in
-    let h = subst (λ o. IfSome o (λ (hold : Hold). IsHolding hold.place hold.fragment (known_by seat) (past_by seat)))
+    let h = subst (λ o. IfSome o (λ (hold : Hold). IsHolding hold.place hold.fragment (known_by_pass seat)
+    (past_by seat)))
     c.in-Some.is c.requires.of.holds in
-    let e = again hold.place hold.fragment (known_by seat) (past_by seat)
+    let e = again hold.place hold.fragment (known_by_pass seat) (past_by seat)
     (past_by c.read_entry.new.pass) c.read_entry.result h c.read_entry.ensures.more c.read_entry.ensures.entry in
     let none : None ≡ Some hold.fragment = sym c.in-None.is ∙ e in
     absurd cc
@@ -27,26 +28,27 @@ unreachable-requires-in-None c =
 pub returns-clause-of : goal.returns-clause-of
 returns-clause-of c =
     let seat = c.args.self.now.seat in
-    let holding : Hold → Type 0 = λ hold. IsHolding hold.place hold.fragment (known_by seat) (past_by seat) in
+    let holding : Hold → Type 0 = λ hold. IsHolding hold.place hold.fragment (known_by_pass seat) (past_by seat) in
     let end = c.read_entry.new.pass in
     let hold : Hold = c.in-Some.hold in
-    let h : IsHolding hold.place hold.fragment (known_by seat) (past_by seat) =
+    let h : IsHolding hold.place hold.fragment (known_by_pass seat) (past_by seat) =
     subst (λ o. IfSome o holding) c.in-Some.is c.requires.of.holds in
     goes_on c.args.cache.now c.args.self.now _ c.requires.of c.read_entry.ensures.same
     (ap (λ (n : Note). n.seats) c.read_entry.ensures.note)
-    (subst (λ o. IfSome o (λ (hold : Hold). IsHolding hold.place hold.fragment (known_by end) (past_by end)))
+    (subst (λ o. IfSome o (λ (hold : Hold). IsHolding hold.place hold.fragment (known_by_pass end) (past_by end)))
     (sym c.in-Some.is)
-    (still_holding hold.place hold.fragment (known_by seat) (known_by end) (past_by seat)
+    (still_holding hold.place hold.fragment (known_by_pass seat) (known_by_pass end) (past_by seat)
     (past_by end) h c.read_entry.ensures.known c.read_entry.ensures.more))
 
 pub returns-clause-read : goal.returns-clause-read
 returns-clause-read c =
     let seat = c.args.self.now.seat in
     let hold : Hold = c.in-Some.hold in
-    let h = subst (λ o. IfSome o (λ (hold : Hold). IsHolding hold.place hold.fragment (known_by seat) (past_by seat)))
+    let h = subst (λ o. IfSome o (λ (hold : Hold). IsHolding hold.place hold.fragment (known_by_pass seat)
+    (past_by seat)))
     c.in-Some.is c.requires.of.holds in
     sym c.in-Some-read_entry.is
-    ∙ again hold.place hold.fragment (known_by seat) (past_by seat)
+    ∙ again hold.place hold.fragment (known_by_pass seat) (past_by seat)
     (past_by c.read_entry.new.pass) c.read_entry.result h c.read_entry.ensures.more c.read_entry.ensures.entry
     ∙ ap (λ o. option_map (λ (hold : Hold). hold.fragment) o) (sym c.in-Some.is)
 
@@ -62,7 +64,7 @@ returns-clause-ten c =
     let new : List Read = (past_by c.read_entry.new.pass).reads in
     let hold : Hold = c.in-Some.hold in
     let entry : Option Fragment = c.read_entry.result in
-    let grown : HasReadTen (slot_at (known_by seat) hold.place) entry old new = c.read_entry.ensures.grown in
-    subst (λ (o : Option Hold). MatchOption (option_map (λ (hold : Hold). slot_at (known_by seat) hold.place) o) ⊥
+    let grown : HasReadTen (slot_at (known_by_pass seat) hold.place) entry old new = c.read_entry.ensures.grown in
+    subst (λ (o : Option Hold). MatchOption (option_map (λ (hold : Hold). slot_at (known_by_pass seat) hold.place) o) ⊥
     (λ slot. HasReadTen slot (Some c.in-Some-read_entry.fragment) old new)) (sym c.in-Some.is)
-    (subst (λ e. HasReadTen (slot_at (known_by seat) hold.place) e old new) c.in-Some-read_entry.is grown)
+    (subst (λ e. HasReadTen (slot_at (known_by_pass seat) hold.place) e old new) c.in-Some-read_entry.is grown)

@@ -6,7 +6,7 @@ use Rattle.pebr_core.specs.State.{Seat}
 use Rattle.pebr_core.specs.declared.kinds.Shape.{Shape}
 use Rattle.pebr_slots.specs.Sets.{least_in}
 use Rattle.pebr_words.specs.Pasts.{Read, History, written_at}
-use Rattle.pebr_roots.specs.Passes.{shape_at, known_by, number_by, past_by, operations_by}
+use Rattle.pebr_roots.specs.Passes.{shape_at, known_by_pass, number_by, past_by, operations_by}
 use Rattle.flow_cache.proofs.Sparing.{spared_none, spared_in, spared_on, written_spares}
 use Rattle.flow_cache.proofs.Histories.{word_here, word_else}
 use Rattle.flow_cache.proofs.Tries.{go_on}
@@ -44,8 +44,8 @@ loop-word-preserved c =
     let shape = shape_at c.args.self.now.roots in
     let word : ℕ = c.loop-word.word in
     let words : List ℕ = c.args.words.now in
-    let fresh : ℕ = least_in (known_by start).fresh in
-    let fresh_is : least_in (known_by old).fresh ≡ fresh = ap (λ (s : Seat). least_in s.fresh) before.known in
+    let fresh : ℕ = least_in (known_by_pass start).fresh in
+    let fresh_is : least_in (known_by_pass old).fresh ≡ fresh = ap (λ (s : Seat). least_in s.fresh) before.known in
     let is = c.write_fresh.ensures.step.past in
     let rest : History → History =
     λ p. record p { last = (past_by new).last; steps = (past_by new).steps; written = (past_by new).written } in
@@ -64,7 +64,7 @@ loop-word-preserved c =
       few = spared_on shape (number_by start) word 1 (number_by old) (operations_by start) (operations_by old)
           (operations_by new) before.same.still.1 before.few
           (written_spares shape (number_by old) (ap (λ (s : Shape). s.shields) c.args.self.now.shaped)
-          (least_in (known_by old).fresh) word (slice_index words word) (operations_by old) (operations_by new)
+          (least_in (known_by_pass old).fresh) word (slice_index words word) (operations_by old) (operations_by new)
           c.write_fresh.ensures.step.made.2);
     }
 

@@ -3,7 +3,7 @@ use Rattle.pebr_core.specs.declared.kinds.ShieldAt.TheVariants as shield
 use Rattle.pebr_core.specs.State.{Seat, has, is_out, shield_at}
 use Rattle.pebr_core.specs.declared.kinds.Shape.{Shape}
 use Rattle.pebr_words.specs.Pasts.{History}
-use Rattle.pebr_roots.specs.Passes.{shape_at, known_by, number_by, past_by, operations_by}
+use Rattle.pebr_roots.specs.Passes.{shape_at, known_by_pass, number_by, past_by, operations_by}
 use Rattle.pebr_roots.specs.Ends.{loaded_seat}
 use Rattle.flow_cache.specs.Places.{root_of}
 use Rattle.flow_cache.specs.Reading.{set_read}
@@ -33,7 +33,7 @@ loop-place-preserved c =
     let old = c.loop-place.pass in
     let new = c.load.new.pass in
     let place : ℕ = c.loop-place.place in
-    let k = known_by new in
+    let k = known_by_pass new in
     let p = past_by new in
     let shape = shape_at c.args.self.now.roots in
     let four = ap (λ (s : Shape). s.shields) c.args.self.now.shaped in
@@ -43,7 +43,7 @@ loop-place-preserved c =
       note = c.load.ensures.note ∙ before.note;
       entered = ap (λ (s : Seat). is_out s.status) c.load.ensures.known ∙ before.entered;
       known =
-          subst (λ (y : Seat). y ≡ record (known_by old) { seen = y.seen; shields = y.shields })
+          subst (λ (y : Seat). y ≡ record (known_by_pass old) { seen = y.seen; shields = y.shields })
           (sym c.load.ensures.known) refl
           ∙ ap (λ (s : Seat). record s { seen = k.seen; shields = k.shields }) before.known;
       past =
@@ -63,9 +63,10 @@ loop-place-preserved c =
             shown = p.shown;
           }) before.past;
       loaded = subst (λ (s : Seat). AreLoaded c.args.set (place + 1) s p) (sym c.load.ensures.known)
-          (subst (λ (y : History). AreLoaded c.args.set (place + 1) (loaded_seat place c.load.result (known_by old)) y)
+          (subst (λ (y : History). AreLoaded c.args.set (place + 1)
+          (loaded_seat place c.load.result (known_by_pass old)) y)
           (sym c.load.ensures.past)
-          (loaded_more c.args.set place c.load.result (number_by old) (known_by old) (past_by old)
+          (loaded_more c.args.set place c.load.result (number_by old) (known_by_pass old) (past_by old)
           (subst (λ (s : Seat). shield_at s place ≡ shield.Set c.load.result) c.load.ensures.known c.load.ensures.set)
           (subst (λ (s : Seat). has s.seen c.load.result ≡ true) c.load.ensures.known c.load.ensures.seen)
           before.loaded));

@@ -1,7 +1,7 @@
 use Rattle.std.proofs.Common.{◌*◌, ◌≡◌, ◌<◌, ◌≤◌, false}
 use Rattle.cache_face.specs.Notes.{first_note}
 use Rattle.pebr_core.specs.State.{is_out}
-use Rattle.pebr_roots.specs.Passes.{shape_at, known_by, number_by, note_by, past_by, operations_by, IsSame}
+use Rattle.pebr_roots.specs.Passes.{shape_at, known_by_pass, number_by, note_by, past_by, operations_by, IsSame}
 use Rattle.flow_cache.specs.Collecting.{HasSpared}
 use Rattle.flow_cache.specs.Reading.{set_read}
 use Rattle.flow_cache.specs.Trying.{AreLoaded}
@@ -12,11 +12,11 @@ invariant-loop-place l = record {
   low : l.place ≤ 4;
   same : IsSame l.self.roots l.initial.pass l.pass;
   note : note_by first_note l.pass ≡ note_by first_note l.initial.pass;
-  entered : is_out (known_by l.pass).status ≡ false;
-  known : known_by l.pass ≡ record (known_by l.initial.pass) {
-    seen = (known_by l.pass).seen;
+  entered : is_out (known_by_pass l.pass).status ≡ false;
+  known : known_by_pass l.pass ≡ record (known_by_pass l.initial.pass) {
+    seen = (known_by_pass l.pass).seen;
     shields =
-        (known_by l.pass).shields;
+        (known_by_pass l.pass).shields;
   };
   past : past_by l.pass ≡ record (past_by l.initial.pass) {
     last = (past_by l.pass).last;
@@ -26,7 +26,7 @@ invariant-loop-place l = record {
     reads = (past_by l.pass).reads;
     shown = (past_by l.pass).shown;
   };
-  loaded : AreLoaded l.set l.place (known_by l.pass) (past_by l.pass);
+  loaded : AreLoaded l.set l.place (known_by_pass l.pass) (past_by l.pass);
   last : 0 < l.place → set_read (past_by l.pass).loads ≡ l.set;
   few : HasSpared (shape_at l.self.roots) (number_by l.initial.pass) (2 * l.place) (operations_by l.initial.pass)
       (operations_by l.pass);

@@ -1,7 +1,7 @@
 use Rattle.std.proofs.Common.{ap, arith}
 use Rattle.pebr_core.specs.Frames.{fresh_count}
 use Rattle.pebr_core.specs.State.{slots_per_seat}
-use Rattle.pebr_roots.specs.Passes.{shape_at, known_by, number_by, past_by}
+use Rattle.pebr_roots.specs.Passes.{shape_at, known_by_pass, number_by, past_by}
 use Rattle.flow_cache.proofs.Spared.{collects_from}
 use Rattle.pebr_roots.specs.Passes.{operations_by}
 use Rattle.pebr_roots.proofs.Counts.{made_on, made_in}
@@ -14,7 +14,7 @@ returns-clause-collects c =
     let slots = ap slots_per_seat c.args.self.now.shaped in
     let held = c.requires.of.held in
     let more = c.collect_batch.ensures.fresh in
-    collects_from (shape_at c.args.self.now.roots) (number_by old) (known_by old) (fresh_count (known_by mid))
+    collects_from (shape_at c.args.self.now.roots) (number_by old) (known_by_pass old) (fresh_count (known_by_pass mid))
     (past_by old) (past_by mid) (past_by c.collect_if_none.new.pass) (operations_by old) (operations_by mid)
     (operations_by c.collect_if_none.new.pass) _ c.collect_batch.ensures.many c.collect_batch.ensures.batch
     c.collect_batch.ensures.none c.collect_if_none.ensures.none c.collect_if_none.ensures.some

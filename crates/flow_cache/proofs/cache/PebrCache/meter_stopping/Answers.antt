@@ -6,7 +6,7 @@ use Rattle.cache_face.proofs.Keeping.{taken_is_small}
 use Rattle.cache_face.specs.Meaning.{PassMeans}
 use Rattle.cache_face.specs.Notes.{Note, first_note}
 use Rattle.pebr_words.specs.Pasts.{Lost}
-use Rattle.pebr_roots.specs.Passes.{shape_at, known_by, number_by, note_by, past_by, lost_by}
+use Rattle.pebr_roots.specs.Passes.{shape_at, known_by_pass, number_by, note_by, past_by, lost_by}
 use Rattle.flow_cache.specs.Reading.{entries_read, set_read, written_in}
 use Rattle.flow_cache.specs.Shown.{means_of}
 use Rattle.flow_cache.specs.Trying.{IsOwn}
@@ -75,7 +75,7 @@ pub returns-clause-collects : goal.returns-clause-collects
 returns-clause-collects g c =
     let old = c.args.pass.now.inner in
     let room = c.make_room.new.pass in
-    collects_on (shape_at c.args.self.now.roots) (number_by old) (number_by room) (known_by old) (past_by old)
+    collects_on (shape_at c.args.self.now.roots) (number_by old) (number_by room) (known_by_pass old) (past_by old)
     (past_by room) (past_by c.put_in-lost.new.pass) (operations_by old) (operations_by room)
     (operations_by c.put_in-lost.new.pass) 201 c.make_room.ensures.same.still.1 c.make_room.ensures.collects
     c.put_in-lost.ensures.spared c.put_in-lost.ensures.few

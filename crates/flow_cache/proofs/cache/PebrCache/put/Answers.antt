@@ -20,7 +20,7 @@ use Rattle.pebr_words.specs.Pasts.{Load, Read, History, found_other, past_after,
 use Rattle.pebr_words.specs.Ruled.{CanReplace}
 use Rattle.pebr_roots.specs.Ends.{answer_to, replaced_note, replaced_seat}
 use Rattle.pebr_roots.specs.Under.{slot_at}
-use Rattle.pebr_roots.specs.Passes.{shape_at, fixed_at, number_by, known_by, note_by, past_by}
+use Rattle.pebr_roots.specs.Passes.{shape_at, fixed_at, number_by, known_by_pass, note_by, past_by}
 use Rattle.flow_cache.specs.Places.{root_of}
 use Rattle.flow_cache.specs.Reading.{words_read, set_read, written_in}
 use Rattle.flow_cache.specs.Trying.{HasTen, HasChosen}
@@ -49,26 +49,26 @@ replace-requires-clause-keeps g c =
     let choice : IsChoice cache.timeouts (map entry_of contents) c.args.own.now how place out kept
     = choice_is cache.timeouts contents c.args.own.now how place c.choose_by_words-choice.result.words out
     (search rules) c.put_out-out.ensures chosen in
-    let slot : ℕ = slot_at (known_by start) place in
+    let slot : ℕ = slot_at (known_by_pass start) place in
     let root : ℕ = root_of c.args.set place in
     let note : Note = note_by first_note start in
-    let known_is : known_by end ≡ known_by start = c.fill.ensures.known ∙ c.read_contents.ensures.known in
+    let known_is : known_by_pass end ≡ known_by_pass start = c.fill.ensures.known ∙ c.read_contents.ensures.known in
     let note_is : note_by first_note end ≡ note = c.fill.ensures.note ∙ c.read_contents.ensures.note in
     let reads : (past_by end).reads ≡ (past_by mid).reads = ap (λ (p : History). p.reads) c.fill.ensures.past in
     let loads : (past_by mid).loads ≡ (past_by start).loads =
     ap (λ (p : History). p.loads) c.read_contents.ensures.past in
     let loaded : (p : ℕ) → p < 4
-    → shown_at (past_by mid).loads (root_of c.args.set p) ≡ Some (slot_at (known_by start) p)
+    → shown_at (past_by mid).loads (root_of c.args.set p) ≡ Some (slot_at (known_by_pass start) p)
     = λ p lt. ap (λ (ls : List Load). shown_at ls (root_of c.args.set p)) loads
     ∙ (c.requires.protected.each p lt).1.0 in
     let entry : entry_at (map entry_of contents) place ≡ entry_of (words_read (past_by end).reads slot)
     = ap (λ es. entry_at es place) (c.read_contents.ensures.entries c.args.set c.requires.protected)
-    ∙ at_place (past_by mid) c.args.set (slot_at (known_by start)) loaded c.read_contents.ensures.ten place low
+    ∙ at_place (past_by mid) c.args.set (slot_at (known_by_pass start)) loaded c.read_contents.ensures.ten place low
     ∙ ap (λ (rs : List Read). entry_of (words_read rs slot)) (sym reads) in
     let takes : Takes cache.timeouts c.args.own.now (entry_of (words_read (past_by end).reads slot)) out kept
     = subst (λ e. Takes cache.timeouts c.args.own.now e out kept) entry
     (choice_takes cache.timeouts (map entry_of contents) c.args.own.now kept how place out choice) in
-    let filled : (word : ℕ) → word < 10 → written_at (past_by end).written (least_in (known_by start).fresh) word
+    let filled : (word : ℕ) → word < 10 → written_at (past_by end).written (least_in (known_by_pass start).fresh) word
     ≡ Some (slice_index (part_words kept) word)
     = λ word lt. ap (λ (s : Seat). written_at (past_by end).written (least_in s.fresh) word)
     (sym c.read_contents.ensures.known) ∙ c.fill.ensures.written word lt
@@ -78,14 +78,15 @@ replace-requires-clause-keeps g c =
     (number_by end) root
     (slot_at known place) (least_in known.fresh) note (note_with note c.args.own.now out) in
     subst (λ (sets : ℕ). CanReplace (Keeps (fixed_at cache.roots).timeouts sets) IsWhole
-    (AreBacking (fixed_at cache.roots).timeouts) shape (past_by end) (number_by end) root (slot_at (known_by end) place)
-    (least_in (known_by end).fresh) (note_by first_note end)
+    (AreBacking (fixed_at cache.roots).timeouts) shape (past_by end) (number_by end) root
+    (slot_at (known_by_pass end) place)
+    (least_in (known_by_pass end).fresh) (note_by first_note end)
     (note_with (note_by first_note end) c.args.own.now out)) (sym cache.fixed.1)
-    (subst (λ limits. can limits (known_by end) (note_by first_note end)) (sym cache.fixed.0)
+    (subst (λ limits. can limits (known_by_pass end) (note_by first_note end)) (sym cache.fixed.0)
     (subst (λ known. can cache.timeouts known (note_by first_note end)) (sym known_is)
-    (subst (λ n. can cache.timeouts (known_by start) n) (sym note_is)
+    (subst (λ n. can cache.timeouts (known_by_pass start) n) (sym note_is)
     (can_replace cache.timeouts cache.sets c.args.set place shape (past_by end) (number_by end) slot
-    (least_in (known_by start).fresh) note c.args.own.now kept out low
+    (least_in (known_by_pass start).fresh) note c.args.own.now kept out low
     (ap (λ (s : Shape). s.width) cache.shaped)
     (subst (λ rs. HasTen rs slot) (sym reads) (c.read_contents.ensures.ten place low)) filled c.requires.own takes))))
 
@@ -96,8 +97,8 @@ returns-in-Replaced-clause-done g c done =
     let end = c.fill.new.pass in
     let new = c.replace.new.pass in
     let place : ℕ = c.choose_by_words-choice.result.place in
-    let slot : ℕ = slot_at (known_by end) place in
-    let fresh : ℕ = least_in (known_by end).fresh in
+    let slot : ℕ = slot_at (known_by_pass end) place in
+    let fresh : ℕ = least_in (known_by_pass end).fresh in
     let how : How = c.choose_by_words-choice.result.how in
     let chosen = c.choose_by_words-choice.ensures.chosen in
     let out : Option Fragment = c.put_out-out.result in
@@ -110,9 +111,9 @@ returns-in-Replaced-clause-done g c done =
     c.fill.ensures.note ∙ c.read_contents.ensures.note in
     let packets : Note → Note = λ n. note_with n c.args.own.now out in
     let past : past_by new ≡ past_after (step.Replace (number_by end) (root_of c.args.set place) slot fresh)
-    answer.Replaced (known_by end) (past_by end)
+    answer.Replaced (known_by_pass end) (past_by end)
     = subst (λ r. past_by new ≡ past_after (step.Replace (number_by end) (root_of c.args.set place) slot fresh)
-    (answer_to r) (known_by end) (past_by end)) c.in-Replaced.is c.replace.ensures.step.past in
+    (answer_to r) (known_by_pass end) (past_by end)) c.in-Replaced.is c.replace.ensures.step.past in
     let loads : (past_by new).loads ≡ (past_by mid).loads =
     ap (λ (p : History). p.loads) past ∙ ap (λ (p : History). p.loads) c.fill.ensures.past in
     let reads : (past_by new).reads ≡ (past_by mid).reads =
@@ -151,15 +152,16 @@ returns-in-Other-clause-undone g c undone =
     let place : ℕ = c.choose_by_words-choice.result.place in
     let low : place < 4 = c.choose_by_words-choice.ensures.place in
     let root : ℕ = root_of c.args.set place in
-    let slot : ℕ = slot_at (known_by end) place in
-    let fresh : ℕ = least_in (known_by end).fresh in
+    let slot : ℕ = slot_at (known_by_pass end) place in
+    let fresh : ℕ = least_in (known_by_pass end).fresh in
     let packets : Note → Note = λ n. note_with n c.args.own.now c.put_out-out.result in
     let note_is : note_by first_note end ≡ note_by first_note start =
     c.fill.ensures.note ∙ c.read_contents.ensures.note in
-    let known_is : known_by end ≡ known_by start = c.fill.ensures.known ∙ c.read_contents.ensures.known in
-    let past : past_by new ≡ past_after (step.Replace (number_by end) root slot fresh) answer.Other (known_by end)
+    let known_is : known_by_pass end ≡ known_by_pass start = c.fill.ensures.known ∙ c.read_contents.ensures.known in
+    let past : past_by new ≡ past_after (step.Replace (number_by end) root slot fresh) answer.Other (known_by_pass end)
     (past_by end)
-    = subst (λ r. past_by new ≡ past_after (step.Replace (number_by end) root slot fresh) (answer_to r) (known_by end)
+    = subst (λ r. past_by new ≡ past_after (step.Replace (number_by end) root slot fresh) (answer_to r)
+    (known_by_pass end)
     (past_by end)) c.in-Other.is c.replace.ensures.step.past in
     let shown_is : (past_by end).shown ≡ (past_by start).shown =
     ap (λ (p : History). p.shown) c.fill.ensures.past ∙ ap (λ (p : History). p.shown) c.read_contents.ensures.past in
@@ -172,11 +174,12 @@ returns-in-Other-clause-undone g c undone =
       subst (λ r. note_by first_note new ≡ replaced_note r (packets (note_by first_note end)) (note_by first_note end))
           c.in-Other.is c.replace.ensures.note ∙ note_is,
       ap (λ (s : Seat). s.fresh)
-          (subst (λ r. known_by new ≡ replaced_seat r slot fresh (known_by end)) c.in-Other.is c.replace.ensures.known
+          (subst (λ r. known_by_pass new ≡ replaced_seat r slot fresh (known_by_pass end)) c.in-Other.is
+          c.replace.ensures.known
           ∙ known_is),
       (
         found_other root,
-        ap (λ (p : History). p.lost) past ∙ lost_here (number_by end) root slot fresh (known_by end)
+        ap (λ (p : History). p.lost) past ∙ lost_here (number_by end) root slot fresh (known_by_pass end)
             (past_by end) shown unlost
             ∙ ap (λ (p : History). found_other root ∷ p.lost) c.fill.ensures.past
             ∙ ap (λ (p : History). found_other root ∷ p.lost) c.read_contents.ensures.past,
@@ -189,8 +192,8 @@ returns-in-Replaced-clause-spared g c =
     spared_put (past_by c.args.pass.now) (past_by c.read_contents.new.pass) (past_by c.fill.new.pass)
     (past_by c.replace.new.pass) (number_by c.fill.new.pass)
     (root_of c.args.set c.choose_by_words-choice.result.place)
-    (slot_at (known_by c.fill.new.pass) c.choose_by_words-choice.result.place)
-    (least_in (known_by c.fill.new.pass).fresh) (answer_to c.replace.result) (known_by c.fill.new.pass)
+    (slot_at (known_by_pass c.fill.new.pass) c.choose_by_words-choice.result.place)
+    (least_in (known_by_pass c.fill.new.pass).fresh) (answer_to c.replace.result) (known_by_pass c.fill.new.pass)
     (ap (λ (p : History). p.notes) c.read_contents.ensures.past)
     (ap (λ (p : History). p.pins) c.read_contents.ensures.past)
     (ap (λ (p : History). p.notes) c.fill.ensures.past) (ap (λ (p : History). p.pins) c.fill.ensures.past)
@@ -201,8 +204,8 @@ returns-in-Other-clause-spared g c =
     spared_put (past_by c.args.pass.now) (past_by c.read_contents.new.pass) (past_by c.fill.new.pass)
     (past_by c.replace.new.pass) (number_by c.fill.new.pass)
     (root_of c.args.set c.choose_by_words-choice.result.place)
-    (slot_at (known_by c.fill.new.pass) c.choose_by_words-choice.result.place)
-    (least_in (known_by c.fill.new.pass).fresh) (answer_to c.replace.result) (known_by c.fill.new.pass)
+    (slot_at (known_by_pass c.fill.new.pass) c.choose_by_words-choice.result.place)
+    (least_in (known_by_pass c.fill.new.pass).fresh) (answer_to c.replace.result) (known_by_pass c.fill.new.pass)
     (ap (λ (p : History). p.notes) c.read_contents.ensures.past)
     (ap (λ (p : History). p.pins) c.read_contents.ensures.past)
     (ap (λ (p : History). p.notes) c.fill.ensures.past) (ap (λ (p : History). p.pins) c.fill.ensures.past)
@@ -224,7 +227,7 @@ returns-in-Replaced-clause-few g c =
     (spared_on shape me 40 10 (number_by c.read_contents.new.pass) x a b at_a c.read_contents.ensures.few
     c.fill.ensures.few)
     (replaced_spares shape (number_by end) (ap (λ (s : Shape). s.shields) c.args.self.now.shaped)
-    (root_of c.args.set place) (slot_at (known_by end) place) (least_in (known_by end).fresh)
+    (root_of c.args.set place) (slot_at (known_by_pass end) place) (least_in (known_by_pass end).fresh)
     c.replace.ensures.step.made.0 b z c.replace.ensures.step.made.2)
 
 pub returns-in-Other-clause-few : goal.returns-in-Other-clause-few
@@ -243,5 +246,5 @@ returns-in-Other-clause-few g c =
     (spared_on shape me 40 10 (number_by c.read_contents.new.pass) x a b at_a c.read_contents.ensures.few
     c.fill.ensures.few)
     (replaced_spares shape (number_by end) (ap (λ (s : Shape). s.shields) c.args.self.now.shaped)
-    (root_of c.args.set place) (slot_at (known_by end) place) (least_in (known_by end).fresh)
+    (root_of c.args.set place) (slot_at (known_by_pass end) place) (least_in (known_by_pass end).fresh)
     c.replace.ensures.step.made.0 b z c.replace.ensures.step.made.2)

@@ -7,7 +7,7 @@ use Rattle.cache_face.proofs.Four.{all_four}
 use Rattle.pebr_core.specs.State.{Seat}
 use Rattle.pebr_words.specs.Pasts.{Load, Read, History, shown_at, written_at}
 use Rattle.pebr_roots.specs.Under.{slot_at}
-use Rattle.pebr_roots.specs.Passes.{known_by, past_by}
+use Rattle.pebr_roots.specs.Passes.{known_by_pass, past_by}
 use Rattle.flow_cache.specs.Places.{root_of}
 use Rattle.flow_cache.specs.Reading.{words_read}
 use Rattle.flow_cache.specs.Trying.{HasMore, HasTen}
@@ -49,37 +49,41 @@ four_set (x ∷ y ∷ z ∷ w ∷ v ∷ vs) a b c d long = absurd (omega (arith,
 pub returns-clause-ten : goal.returns-clause-ten
 returns-clause-ten c =
     let a = c.read_words in let b = c.read_words-2 in let d = c.read_words-3 in let e = c.read_words-4 in
-    let known = known_by c.args.pass.now in
+    let known = known_by_pass c.args.pass.now in
     let r : List Read = (past_by e.new.pass).reads in
-    let at_b : slot_at (known_by a.new.pass) 1 ≡ slot_at known 1 = ap (λ (s : Seat). slot_at s 1) a.ensures.known in
-    let at_d : slot_at (known_by b.new.pass) 2 ≡ slot_at known 2 =
+    let at_b : slot_at (known_by_pass a.new.pass) 1 ≡ slot_at known 1 =
+    ap (λ (s : Seat). slot_at s 1) a.ensures.known in
+    let at_d : slot_at (known_by_pass b.new.pass) 2 ≡ slot_at known 2 =
     ap (λ (s : Seat). slot_at s 2) (b.ensures.known ∙ a.ensures.known) in
-    let at_e : slot_at (known_by d.new.pass) 3 ≡ slot_at known 3 =
+    let at_e : slot_at (known_by_pass d.new.pass) 3 ≡ slot_at known 3 =
     ap (λ (s : Seat). slot_at s 3) (d.ensures.known ∙ b.ensures.known ∙ a.ensures.known) in
     let from_b = more_more (past_by b.new.pass).reads (past_by d.new.pass).reads r d.ensures.more e.ensures.more in
     let from_a = more_more (past_by a.new.pass).reads (past_by b.new.pass).reads r b.ensures.more from_b in
     each_of_four (λ place. HasTen r (slot_at known place))
     (ten_stay (past_by a.new.pass).reads r (slot_at known 0) from_a
     (has_ten (past_by a.new.pass).reads (slot_at known 0) a.new.words a.ensures.long a.ensures.read))
-    (subst (HasTen r) at_b (ten_stay (past_by b.new.pass).reads r (slot_at (known_by a.new.pass) 1) from_b
-    (has_ten (past_by b.new.pass).reads (slot_at (known_by a.new.pass) 1) b.new.words b.ensures.long b.ensures.read)))
-    (subst (HasTen r) at_d (ten_stay (past_by d.new.pass).reads r (slot_at (known_by b.new.pass) 2) e.ensures.more
-    (has_ten (past_by d.new.pass).reads (slot_at (known_by b.new.pass) 2) d.new.words d.ensures.long d.ensures.read)))
+    (subst (HasTen r) at_b (ten_stay (past_by b.new.pass).reads r (slot_at (known_by_pass a.new.pass) 1) from_b
+    (has_ten (past_by b.new.pass).reads (slot_at (known_by_pass a.new.pass) 1) b.new.words b.ensures.long
+    b.ensures.read)))
+    (subst (HasTen r) at_d (ten_stay (past_by d.new.pass).reads r (slot_at (known_by_pass b.new.pass) 2) e.ensures.more
+    (has_ten (past_by d.new.pass).reads (slot_at (known_by_pass b.new.pass) 2) d.new.words d.ensures.long
+    d.ensures.read)))
     (subst (HasTen r) at_e
-    (has_ten r (slot_at (known_by d.new.pass) 3) e.new.words e.ensures.long e.ensures.read))
+    (has_ten r (slot_at (known_by_pass d.new.pass) 3) e.new.words e.ensures.long e.ensures.read))
 
 pub returns-clause-entries : goal.returns-clause-entries
 returns-clause-entries c set protected =
     let a = c.read_words in let b = c.read_words-2 in let d = c.read_words-3 in let e = c.read_words-4 in
-    let known = known_by c.args.pass.now in
+    let known = known_by_pass c.args.pass.now in
     let past : History = past_by e.new.pass in
     let loads : past.loads ≡ (past_by c.args.pass.now).loads =
     ap (λ (p : History). p.loads) e.ensures.past ∙ ap (λ (p : History). p.loads) d.ensures.past
     ∙ ap (λ (p : History). p.loads) b.ensures.past ∙ ap (λ (p : History). p.loads) a.ensures.past in
-    let at_b : slot_at (known_by a.new.pass) 1 ≡ slot_at known 1 = ap (λ (s : Seat). slot_at s 1) a.ensures.known in
-    let at_d : slot_at (known_by b.new.pass) 2 ≡ slot_at known 2 =
+    let at_b : slot_at (known_by_pass a.new.pass) 1 ≡ slot_at known 1 =
+    ap (λ (s : Seat). slot_at s 1) a.ensures.known in
+    let at_d : slot_at (known_by_pass b.new.pass) 2 ≡ slot_at known 2 =
     ap (λ (s : Seat). slot_at s 2) (b.ensures.known ∙ a.ensures.known) in
-    let at_e : slot_at (known_by d.new.pass) 3 ≡ slot_at known 3 =
+    let at_e : slot_at (known_by_pass d.new.pass) 3 ≡ slot_at known 3 =
     ap (λ (s : Seat). slot_at s 3) (d.ensures.known ∙ b.ensures.known ∙ a.ensures.known) in
     let from_b = more_more (past_by b.new.pass).reads
     (past_by d.new.pass).reads past.reads d.ensures.more e.ensures.more in
@@ -92,11 +96,11 @@ returns-clause-entries c set protected =
     (entry 0) (entry 1) (entry 2) (entry 3)
     (read_so a.new.words (past_by a.new.pass).reads past.reads (slot_at known 0) (slot_at known 0)
     a.ensures.long a.ensures.read from_a refl)
-    (read_so b.new.words (past_by b.new.pass).reads past.reads (slot_at (known_by a.new.pass) 1) (slot_at known 1)
+    (read_so b.new.words (past_by b.new.pass).reads past.reads (slot_at (known_by_pass a.new.pass) 1) (slot_at known 1)
     b.ensures.long b.ensures.read from_b at_b)
-    (read_so d.new.words (past_by d.new.pass).reads past.reads (slot_at (known_by b.new.pass) 2) (slot_at known 2)
+    (read_so d.new.words (past_by d.new.pass).reads past.reads (slot_at (known_by_pass b.new.pass) 2) (slot_at known 2)
     d.ensures.long d.ensures.read e.ensures.more at_d)
-    (read_so e.new.words past.reads past.reads (slot_at (known_by d.new.pass) 3) (slot_at known 3)
+    (read_so e.new.words past.reads past.reads (slot_at (known_by_pass d.new.pass) 3) (slot_at known 3)
     e.ensures.long e.ensures.read (λ slot word value is. is) at_e)
     ∙ sym (four_read past set (slot_at known) at (returns-clause-ten c))
 

@@ -4,7 +4,7 @@ use Rattle.cache_face.specs.Choice.{IsSmallEntry}
 use Rattle.cache_face.specs.Keeping.{IsWhole, entry_of}
 use Rattle.cache_face.proofs.Contents.{whole_is_small}
 use Rattle.pebr_roots.specs.Under.{slot_at}
-use Rattle.pebr_roots.specs.Passes.{known_by, past_by}
+use Rattle.pebr_roots.specs.Passes.{known_by_pass, past_by}
 use Rattle.pebr_roots.specs.Passes.{operations_by}
 use Rattle.flow_cache.proofs.Sparing.{made_of}
 use Rattle.flow_cache.proofs.Sets.{words_are, has_ten}
@@ -16,7 +16,8 @@ small_entry content None whole is = tt
 small_entry content (Some old) whole is = whole_is_small content old whole (sym is)
 
 pub returns-clause-ten : goal.returns-clause-ten
-returns-clause-ten c = has_ten (past_by c.read_words.new.pass).reads (slot_at (known_by c.args.pass.now) c.args.place)
+returns-clause-ten c = has_ten (past_by c.read_words.new.pass).reads
+    (slot_at (known_by_pass c.args.pass.now) c.args.place)
     c.read_words.new.words c.read_words.ensures.long c.read_words.ensures.read
 
 pub returns-clause-entry : goal.returns-clause-entry
@@ -24,7 +25,7 @@ returns-clause-entry c =
     c.entry.ensures
     ∙ ap entry_of
     (words_are (past_by c.read_words.new.pass).reads
-    (slot_at (known_by c.args.pass.now) c.args.place) c.read_words.new.words c.read_words.ensures.long
+    (slot_at (known_by_pass c.args.pass.now) c.args.place) c.read_words.new.words c.read_words.ensures.long
     c.read_words.ensures.read)
 
 pub returns-clause-grown : goal.returns-clause-grown

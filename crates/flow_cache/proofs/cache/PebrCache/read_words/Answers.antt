@@ -10,7 +10,7 @@ use Rattle.pebr_core.specs.declared.kinds.Shape.{Shape}
 use Rattle.pebr_words.specs.Pasts.{Read, History, written_at}
 use Rattle.pebr_words.specs.Ruled.{HasReadWhole}
 use Rattle.pebr_roots.specs.Under.{slot_at}
-use Rattle.pebr_roots.specs.Passes.{shape_at, known_by, past_by}
+use Rattle.pebr_roots.specs.Passes.{shape_at, known_by_pass, past_by}
 use Rattle.flow_cache.specs.Reading.{words_read}
 use Rattle.flow_cache.specs.Trying.{HasMore}
 use Rattle.flow_cache.proofs.Histories.{word_here, word_else, read_more, more_more, found_read}
@@ -56,8 +56,8 @@ loop-word-preserved c =
     let place = c.args.place in
     let word : ℕ = c.loop-word.word in
     let value : ℕ = c.read.result in
-    let slot : ℕ = slot_at (known_by c.args.pass.now) place in
-    let slot_is : slot_at (known_by old) place ≡ slot = ap (λ (s : Seat). slot_at s place) before.known in
+    let slot : ℕ = slot_at (known_by_pass c.args.pass.now) place in
+    let slot_is : slot_at (known_by_pass old) place ≡ slot = ap (λ (s : Seat). slot_at s place) before.known in
     let reads : (past_by new).reads ≡ record { slot = slot; word = word; value = value } ∷ (past_by old).reads
     = ap (λ (p : History). p.reads) c.read.ensures.step.past
     ∙ ap (λ n. record { slot = n; word = word; value = value } ∷ (past_by old).reads) slot_is in
@@ -89,7 +89,7 @@ loop-word-preserved c =
           (operations_by c.args.pass.now)
           (operations_by old) (operations_by new) before.same.still.1 before.few
           (read_spares (shape_at roots) (number_by old) (ap (λ (s : Shape). s.shields) c.args.self.now.shaped)
-          (slot_at (known_by old) place) word c.read.ensures.step.made.0 (operations_by old) (operations_by new)
+          (slot_at (known_by_pass old) place) word c.read.ensures.step.made.0 (operations_by old) (operations_by new)
           c.read.ensures.step.made.2);
     }
 
@@ -97,7 +97,7 @@ pub returns-clause-grown : goal.returns-clause-grown
 returns-clause-grown c =
     let g = c.loop-word.invariant.grown in
     let words : List ℕ = c.loop-word.words in
-    let slot : ℕ = slot_at (known_by c.args.pass.now) c.args.place in
+    let slot : ℕ = slot_at (known_by_pass c.args.pass.now) c.args.place in
     let whole : c.loop-word.word ≡ 10 = (let t = c.loop-word-test.false in let l = c.loop-word.invariant.low in
     omega (arith, t, l)) in
     let each : (k : ℕ) → k < 10 → written_at g.0 slot k ≡ Some (slice_index words k) =
@@ -114,7 +114,7 @@ pub returns-clause-whole : goal.returns-clause-whole
 returns-clause-whole c =
     let before = c.loop-word.invariant in
     let end = c.loop-word.pass in
-    let slot : ℕ = slot_at (known_by c.args.pass.now) c.args.place in
+    let slot : ℕ = slot_at (known_by_pass c.args.pass.now) c.args.place in
     let wide : (shape_at c.args.self.now.roots).width ≡ 10 = ap (λ (s : Shape). s.width) c.args.self.now.shaped in
     before.whole (let t = c.loop-word-test.false in omega (arith, t)) c.loop-word.words (
       before.long ∙ sym wide,

@@ -5,7 +5,7 @@ use Rattle.cache_face.specs.Notes.{first_note}
 use Rattle.pebr_words.specs.Pasts.{Read, written_at}
 use Rattle.pebr_words.specs.Ruled.{HasReadWhole}
 use Rattle.pebr_roots.specs.Under.{slot_at}
-use Rattle.pebr_roots.specs.Passes.{shape_at, known_by, number_by, note_by, past_by, operations_by, IsSame}
+use Rattle.pebr_roots.specs.Passes.{shape_at, known_by_pass, number_by, note_by, past_by, operations_by, IsSame}
 use Rattle.flow_cache.specs.Collecting.{HasSpared}
 use Rattle.flow_cache.specs.Trying.{HasMore}
 use Rattle.flow_cache.proofs.cache.PebrCache.read_words.Given as goal
@@ -16,7 +16,7 @@ invariant-loop-word l = record {
   long : length l.words ≡ 10;
   same : IsSame l.self.roots l.initial.pass l.pass;
   note : note_by first_note l.pass ≡ note_by first_note l.initial.pass;
-  known : known_by l.pass ≡ known_by l.initial.pass;
+  known : known_by_pass l.pass ≡ known_by_pass l.initial.pass;
   past : past_by l.pass ≡ record (past_by l.initial.pass) {
     last = (past_by l.pass).last;
     steps =
@@ -25,12 +25,12 @@ invariant-loop-word l = record {
   };
   grown : (reads : List Read) × ((past_by l.pass).reads ≡ reads ++ (past_by l.initial.pass).reads)
       × (length reads ≡ l.word) × ((k : ℕ) → k < l.word
-      → written_at reads (slot_at (known_by l.initial.pass) l.place) k ≡ Some (slice_index l.words k));
+      → written_at reads (slot_at (known_by_pass l.initial.pass) l.place) k ≡ Some (slice_index l.words k));
   more : HasMore (past_by l.initial.pass).reads (past_by l.pass).reads;
-  read : (k : ℕ) → k < l.word → written_at (past_by l.pass).reads (slot_at (known_by l.initial.pass) l.place) k
+  read : (k : ℕ) → k < l.word → written_at (past_by l.pass).reads (slot_at (known_by_pass l.initial.pass) l.place) k
       ≡ Some (slice_index l.words k);
   whole : 0 < l.word → (content : List ℕ) → HasReadWhole (shape_at l.self.roots) (past_by l.pass)
-      (slot_at (known_by l.initial.pass) l.place) content → IsWhole content;
+      (slot_at (known_by_pass l.initial.pass) l.place) content → IsWhole content;
   few : HasSpared (shape_at l.self.roots) (number_by l.initial.pass) l.word (operations_by l.initial.pass)
       (operations_by l.pass);
 }

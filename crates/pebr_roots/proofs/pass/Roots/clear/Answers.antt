@@ -10,7 +10,7 @@ use Rattle.pebr_core.specs.Kept.{held_count}
 use Rattle.pebr_words.specs.Pasts.{History}
 use Rattle.pebr_words.specs.Seats.{known_of, operations_of}
 use Rattle.pebr_roots.specs.Orders.{AreMade, HasClearedOne}
-use Rattle.pebr_roots.specs.Passes.{known_by, past_by, number_by, operations_by, shape_at}
+use Rattle.pebr_roots.specs.Passes.{known_by_pass, past_by, number_by, operations_by, shape_at}
 use Rattle.pebr_roots.proofs.Passing.{all_down, down_all}
 use Rattle.pebr_roots.proofs.Orders.{below_more}
 use Rattle.pebr_roots.proofs.Counts.{cleared_few}
@@ -21,10 +21,10 @@ returns-clause-known g c =
     let before = c.loop-place.invariant in
     let pass = c.loop-place.pass in
     let shields = (shape_at c.args.self.now).shields in
-    let all : (place : ℕ) → place < shields → shield_at (known_by pass) place ≡ shield.Down =
+    let all : (place : ℕ) → place < shields → shield_at (known_by_pass pass) place ≡ shield.Down =
     λ place lt. before.down place (let a = before.all in let e = c.loop-place-test.false in omega (arith, a, e, lt)) in
-    before.known ∙ ap (λ l. record (known_by c.args.pass.now) { shields = l })
-    (all_down (known_by pass).shields shields before.same.of.at.6.shields all)
+    before.known ∙ ap (λ l. record (known_by_pass c.args.pass.now) { shields = l })
+    (all_down (known_by_pass pass).shields shields before.same.of.at.6.shields all)
 
 pub returns-clause-down : goal.returns-clause-down
 returns-clause-down g c = ap (λ (s : Seat). list_all is_down s.shields) (returns-clause-known g c)
@@ -57,12 +57,12 @@ loop-place-preserved g c =
       };
       note = told.note ∙ before.note;
       known =
-          subst (λ (y : Seat). y ≡ record (known_by cur) { shields = y.shields }) (sym told.known) refl
+          subst (λ (y : Seat). y ≡ record (known_by_pass cur) { shields = y.shields }) (sym told.known) refl
           ∙ ap (λ (s : Seat). record s { shields = (known_of new).shields }) before.known;
       down = λ k lt. dite (ℕ_discrete k place)
           (λ (here : k ≡ place). subst (λ n. shield_at (known_of new) n ≡ shield.Down) (sym here) told.down)
           (λ (apart : k ≢ place). ap (λ (s : Seat). shield_at s k) told.known
-          ∙ (get_or-set_other (known_by cur).shields place k shield.Down shield.Down apart
+          ∙ (get_or-set_other (known_by_pass cur).shields place k shield.Down shield.Down apart
           ∙ before.down k (omega (arith, lt, apart))));
       past =
           is

@@ -3,7 +3,7 @@ use Rattle.pebr_core.specs.declared.kinds.ShieldAt.TheVariants as shield
 use Rattle.pebr_core.specs.declared.kinds.Answer.TheVariants as answer
 use Rattle.pebr_core.specs.State.{shield_at}
 use Rattle.pebr_words.specs.Ruled.{IsSure}
-use Rattle.pebr_roots.specs.Passes.{shape_at, known_by, number_by, note_by, past_by, operations_by, IsSame}
+use Rattle.pebr_roots.specs.Passes.{shape_at, known_by_pass, number_by, note_by, past_by, operations_by, IsSame}
 use Rattle.std.specs.List.{range_with_len}
 use Rattle.pebr_roots.specs.Orders.{AreMade, HasClearedOne}
 use Rattle.pebr_roots.proofs.pass.Roots.clear.Given as goal
@@ -14,8 +14,8 @@ invariant-loop-place g l = record {
   low : l.place ≤ l.shields;
   same : IsSame l.self l.initial.pass l.pass;
   note : note_by g.P.RootProtocol.first l.pass ≡ note_by g.P.RootProtocol.first l.initial.pass;
-  known : known_by l.pass ≡ record (known_by l.initial.pass) { shields = (known_by l.pass).shields };
-  down : (k : ℕ) → k < l.place → shield_at (known_by l.pass) k ≡ shield.Down;
+  known : known_by_pass l.pass ≡ record (known_by_pass l.initial.pass) { shields = (known_by_pass l.pass).shields };
+  down : (k : ℕ) → k < l.place → shield_at (known_by_pass l.pass) k ≡ shield.Down;
   past : past_by l.pass ≡ record (past_by l.initial.pass) {
     last = (past_by l.pass).last;
     steps =
@@ -24,5 +24,5 @@ invariant-loop-place g l = record {
   operations : AreMade (HasClearedOne (shape_at l.self) (number_by l.initial.pass)) (range_with_len 0 l.place)
       (operations_by l.initial.pass) (operations_by l.pass);
   last : 0 < l.place → (past_by l.pass).last ≡ answer.Cleared;
-  sure : 0 < l.place → IsSure g.P.RootProtocol.whole (shape_at l.self) (known_by l.pass) (past_by l.pass);
+  sure : 0 < l.place → IsSure g.P.RootProtocol.whole (shape_at l.self) (known_by_pass l.pass) (past_by l.pass);
 }

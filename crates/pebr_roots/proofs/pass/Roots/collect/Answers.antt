@@ -3,7 +3,7 @@ use Rattle.std.specs.Prelude.{IsTrue, not}
 use Rattle.pebr_core.specs.State.{Seat, scan_of, is_out}
 use Rattle.pebr_core.specs.Steps.{is_complete, is_scanning}
 use Rattle.pebr_core.specs.Frames.{kept_count}
-use Rattle.pebr_roots.specs.Passes.{known_by, past_by, number_by, operations_by, shape_at}
+use Rattle.pebr_roots.specs.Passes.{known_by_pass, past_by, number_by, operations_by, shape_at}
 use Rattle.pebr_words.specs.Seats.{known_of, number_of, past_of, operations_of}
 use Rattle.pebr_words.specs.Pasts.{History}
 use Rattle.pebr_core.specs.declared.kinds.Step.TheVariants as step
@@ -18,7 +18,7 @@ use Rattle.pebr_roots.proofs.pass.Roots.collect.Goals as goal
 pub returns-then-not-pass_all-clause-same : goal.returns-then-not-pass_all-clause-same
 returns-then-not-pass_all-clause-same g c =
     let shape = shape_at c.args.self.now in
-    let old = known_by c.args.pass.now in
+    let old = known_by_pass c.args.pass.now in
     let opened = known_of c.open_scan.new.seat in
     let a = c.open_scan.ensures.still in
     let b = c.pass_all.ensures.still in
@@ -35,7 +35,7 @@ pub scan_all-requires-clause-unread : goal.scan_all-requires-clause-unread
 scan_all-requires-clause-unread g c j place =
     let opened = known_of c.open_scan.new.seat in
     c.pass_all.ensures.known.unread j place ∙ unread_at (shape_at c.args.self.now) opened.noted
-    (known_by c.args.pass.now) opened c.open_scan.ensures.known j place
+    (known_by_pass c.args.pass.now) opened c.open_scan.ensures.known j place
 
 pub give-given-requires-clause-complete : goal.give-given-requires-clause-complete
 give-given-requires-clause-complete g c =
@@ -76,7 +76,7 @@ returns-clause-same g c =
 pub returns-clause-slots : goal.returns-clause-slots
 returns-clause-slots g c =
     let shape = shape_at c.args.self.now in
-    let old = known_by c.args.pass.now in
+    let old = known_by_pass c.args.pass.now in
     let opened = known_of c.open_scan.new.seat in
     let passed = known_of c.pass_all.new.seat in
     let scanned = known_of c.scan_all.new.seat in
@@ -103,7 +103,7 @@ returns-clause-slots g c =
 pub returns-clause-left : goal.returns-clause-left
 returns-clause-left g c force =
     let shape = shape_at c.args.self.now in
-    let old = known_by c.args.pass.now in
+    let old = known_by_pass c.args.pass.now in
     let opened = known_of c.open_scan.new.seat in
     let passed = known_of c.pass_all.new.seat in
     let scanned = known_of c.scan_all.new.seat in
@@ -131,7 +131,7 @@ returns-clause-left g c force =
 pub returns-clause-fresh : goal.returns-clause-fresh
 returns-clause-fresh g c force =
     let shape = shape_at c.args.self.now in
-    let old = known_by c.args.pass.now in
+    let old = known_by_pass c.args.pass.now in
     let opened = known_of c.open_scan.new.seat in
     let passed = known_of c.pass_all.new.seat in
     let scanned = known_of c.scan_all.new.seat in
@@ -180,7 +180,8 @@ returns-clause-operations g c =
     ∙ (ap (λ (p : History). p.advances) c.scan_all.ensures.past.rest
     ∙ (ap (λ (p : History). p.advances) c.pass_all.ensures.past.rest ∙ c.open_scan.ensures.past.advances)) in
     whole_made shape c.args.force (number_by c.args.pass.now) (number_of c.open_scan.new.seat) opened.noted begun.0
-    (known_by c.args.pass.now) opened (not (is_scanning (known_of c.give-given.new.seat))) (past_by c.args.pass.now)
+    (known_by_pass c.args.pass.now) opened (not (is_scanning (known_of c.give-given.new.seat)))
+    (past_by c.args.pass.now)
     (past_of c.give-given.new.seat) (operations_by c.args.pass.now) (operations_of c.open_scan.new.seat) a.1
     c.open_scan.ensures.known begun.1 advances (operations_of c.pass_all.new.seat) (operations_of c.scan_all.new.seat)
     (operations_of c.give-given.new.seat) (number_of c.pass_all.new.seat) c.give-given.ensures.step.made.0
@@ -196,7 +197,7 @@ returns-then-not-pass_all-clause-operations g c =
     let advances =
     ap (λ (p : History). p.advances) c.pass_all.ensures.past.rest ∙ c.open_scan.ensures.past.advances in
     held_made shape c.args.force (number_by c.args.pass.now) (number_of c.open_scan.new.seat) opened.noted begun.0
-    (known_by c.args.pass.now) opened (not (is_scanning (known_of c.pass_all.new.seat))) (past_by c.args.pass.now)
+    (known_by_pass c.args.pass.now) opened (not (is_scanning (known_of c.pass_all.new.seat))) (past_by c.args.pass.now)
     (past_of c.pass_all.new.seat) (operations_by c.args.pass.now) (operations_of c.open_scan.new.seat)
     c.open_scan.ensures.still.1 c.open_scan.ensures.known begun.1 advances (operations_of c.pass_all.new.seat)
     (ap (λ b. not b) c.pass_all.ensures.known.scan.scanning) (c.pass_all.ensures.ended c.if-not-pass_all.true)
@@ -211,7 +212,7 @@ returns-clause-few g c =
     (operations_of scanned) (operations_of given) c.give-given.ensures.step.past c.give-given.ensures.step.made.2 in
     let few = (returns-clause-past g c).few in
     let more = collection_more (shape_at c.args.self.now) c.args.force (number_by c.args.pass.now)
-    (known_by c.args.pass.now) _ (past_by c.args.pass.now) (past_of given) (operations_by c.args.pass.now)
+    (known_by_pass c.args.pass.now) _ (past_by c.args.pass.now) (past_of given) (operations_by c.args.pass.now)
     (operations_of given) (returns-clause-operations g c) in
     made_by more.0 _ (operations_by c.args.pass.now) (operations_of given) more.1
     (counted_few _ (past_by c.args.pass.now) (past_of given) (operations_by c.args.pass.now) (operations_of given)
@@ -226,6 +227,6 @@ returns-then-not-pass_all-clause-few g c =
     let b = c.pass_all.ensures.past.few in
     let passed = c.pass_all.new.seat in
     let more = collection_more (shape_at c.args.self.now) c.args.force (number_by c.args.pass.now)
-    (known_by c.args.pass.now) _ (past_by c.args.pass.now) (past_of passed) (operations_by c.args.pass.now)
+    (known_by_pass c.args.pass.now) _ (past_by c.args.pass.now) (past_of passed) (operations_by c.args.pass.now)
     (operations_of passed) (returns-then-not-pass_all-clause-operations g c) in
     made_by more.0 _ (operations_by c.args.pass.now) (operations_of passed) more.1 (omega (arith, x, y, a, b))

@@ -3,7 +3,7 @@ use Rattle.std.specs.Prelude.{slice_set}
 use Rattle.pebr_core.specs.declared.kinds.ShieldAt.TheVariants as shield
 use Rattle.pebr_core.specs.Steps.{after_load, after_shield}
 use Rattle.pebr_roots.specs.Under.{AreUnder}
-use Rattle.pebr_roots.specs.Passes.{known_by}
+use Rattle.pebr_roots.specs.Passes.{known_by_pass}
 use Rattle.pebr_roots.proofs.Passing.{under_set}
 use Rattle.pebr_roots.proofs.pass.Roots.load.Goals as goal
 
@@ -12,7 +12,7 @@ invariant_of-pass g c =
     let pass = c.args.pass.now in
     let place = c.args.place in
     let slot = c.load_root-slot.result in
-    let known = after_load slot (known_by pass) in
+    let known = after_load slot (known_by_pass pass) in
     let wide : length pass.under ≡ 8 = search rules in
     let inside : place < length pass.under =
     (let few = c.args.self.now.words.limits.shields in let low = c.requires.range.1 in omega (arith, wide, few, low)) in

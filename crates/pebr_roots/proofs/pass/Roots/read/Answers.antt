@@ -6,14 +6,14 @@ use Rattle.pebr_core.specs.declared.kinds.Step.TheVariants as step
 use Rattle.pebr_core.specs.declared.kinds.Answer.TheVariants as answer
 use Rattle.pebr_words.specs.Seats.{IsStep}
 use Rattle.pebr_roots.specs.Under.{slot_at}
-use Rattle.pebr_roots.specs.Passes.{known_by, past_by, number_by, shape_at}
+use Rattle.pebr_roots.specs.Passes.{known_by_pass, past_by, number_by, shape_at}
 use Rattle.pebr_roots.proofs.Passing.{valid_at, under_valid, read_again}
 use Rattle.pebr_roots.proofs.pass.Roots.read.Goals as goal
 
 pub read_word-requires-clause-range : goal.read_word-requires-clause-range
 read_word-requires-clause-range g c =
     let pass = c.args.pass.now in
-    let known = known_by pass in
+    let known = known_by_pass pass in
     let is = under_valid pass.under known c.args.place pass.slots c.requires.valid in (
       subst (λ n. n < slot_count (shape_at c.args.self.now)) (sym is)
           (c.requires.of.at.6.valid c.args.place (slot_at known c.args.place)
@@ -24,7 +24,7 @@ read_word-requires-clause-range g c =
 pub read_word-requires-clause-shielded : goal.read_word-requires-clause-shielded
 read_word-requires-clause-shielded g c =
     let pass = c.args.pass.now in
-    let known = known_by pass in
+    let known = known_by_pass pass in
     let is = under_valid pass.under known c.args.place pass.slots c.requires.valid in
     ap (is_shielded known) is ∙ c.valid_shields_protect.ensures known c.args.place (slot_at known c.args.place)
     (valid_at known c.args.place c.requires.valid)
@@ -32,7 +32,7 @@ read_word-requires-clause-shielded g c =
 pub returns-clause-step : goal.returns-clause-step
 returns-clause-step g c =
     let pass = c.args.pass.now in
-    let known = known_by pass in
+    let known = known_by_pass pass in
     let is = under_valid pass.under known c.args.place pass.slots c.requires.valid in
     subst (λ n. IsStep g.P.RootProtocol.whole c.args.self.now.words pass.seat c.read_word.new.seat
     (step.Read (number_by pass) n c.args.word) (answer.Word c.read_word.result)) is c.read_word.ensures.step
@@ -40,7 +40,7 @@ returns-clause-step g c =
 pub returns-clause-again : goal.returns-clause-again
 returns-clause-again g c read at slot_is word_is =
     let pass = c.args.pass.now in
-    let known = known_by pass in
+    let known = known_by_pass pass in
     let is = under_valid pass.under known c.args.place pass.slots c.requires.valid in
     let protected = c.valid_shields_protect.ensures known c.args.place (slot_at known c.args.place)
     (valid_at known c.args.place c.requires.valid) in
@@ -51,7 +51,7 @@ returns-clause-again g c read at slot_is word_is =
 pub returns-clause-whole : goal.returns-clause-whole
 returns-clause-whole g c content has_read =
     let pass = c.args.pass.now in
-    let known = known_by pass in
+    let known = known_by_pass pass in
     let protected = c.valid_shields_protect.ensures known c.args.place (slot_at known c.args.place)
     (valid_at known c.args.place c.requires.valid) in
     c.read_word.ensures.step.sure.whole_is (slot_at known c.args.place) content

@@ -1,6 +1,6 @@
 use Rattle.std.proofs.Common.{◌+◌, ap, refl, sym, ◌∙◌, subst}
 use Rattle.pebr_table.specs.Tables.{key_of, me_of}
-use Rattle.pebr_words.specs.Making.{known_in, past_in, IsStepOf}
+use Rattle.pebr_words.specs.Making.{known_in_view, past_in, IsStepOf}
 use Rattle.pebr_words.specs.Mirrors.{Mirrors}
 use Rattle.pebr_words.proofs.AdvanceStep.{advance_by, advance_kept, advance_recalled}
 use Rattle.pebr_words.proofs.Mirroring.{same_mirrors}
@@ -29,7 +29,7 @@ exchange-requires-clause-recalled g c = advance_recalled c.args.seat.now.number 
 pub invariant_of-seat : goal.invariant_of-seat
 invariant_of-seat g c =
     let seat = c.args.seat.now in
-    let known = known_in (me_of seat.inner).0 in
+    let known = known_in_view (me_of seat.inner).0 in
     let told = c.exchange.ensures.told in
     record {
       acts = told.number ∙ seat.acts;
@@ -40,14 +40,14 @@ invariant_of-seat g c =
 pub returns-clause-step : goal.returns-clause-step
 returns-clause-step g c =
     let seat = c.args.seat.now in
-    let known = known_in (me_of seat.inner).0 in
+    let known = known_in_view (me_of seat.inner).0 in
     let told = c.exchange.ensures.told in
     let s = step.Advance seat.number in
     let is = ap (λ n. if c.exchange.result == n then answer.Epoch (known.noted + 1) else answer.Lost)
     seat.mirrors.noted_is in
     record {
       core = subst (λ a. IsStepOf c.args.self.now.shape s a known
-          (known_in (me_of c.exchange.new.seat).0)) is told.made;
+          (known_in_view (me_of c.exchange.new.seat).0)) is told.made;
       past = told.past ∙ ap (λ a. past_after s a known (past_in (me_of seat.inner).0)) is;
       made = (c.exchange.result, sym is, c.exchange.ensures.recorded);
       sure = told.sure;

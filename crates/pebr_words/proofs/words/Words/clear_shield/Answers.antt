@@ -1,6 +1,6 @@
 use Rattle.std.proofs.Common.{refl, sym, ◌∙◌, subst}
 use Rattle.pebr_table.specs.Tables.{key_of, me_of}
-use Rattle.pebr_words.specs.Making.{known_in}
+use Rattle.pebr_words.specs.Making.{known_in_view}
 use Rattle.pebr_words.specs.Mirrors.{Mirrors}
 use Rattle.pebr_words.proofs.UnshieldStep.{unshield_by, unshield_kept, unshield_recalled}
 use Rattle.pebr_words.proofs.Mirroring.{same_mirrors}
@@ -24,7 +24,7 @@ store-requires-clause-recalled g c = unshield_recalled c.args.seat.now.number c.
 pub invariant_of-seat : goal.invariant_of-seat
 invariant_of-seat g c =
     let seat = c.args.seat.now in
-    let known = known_in (me_of seat.inner).0 in
+    let known = known_in_view (me_of seat.inner).0 in
     let told = c.store.ensures.told.1 in
     record {
       acts = told.number ∙ seat.acts;

@@ -3,7 +3,7 @@ use Rattle.std.specs.Prelude.{unwrap_or, if◌then◌else◌, ◌==◌, length}
 use Rattle.pebr_core.specs.declared.kinds.Answer.TheVariants as answer
 use Rattle.pebr_core.specs.State.{Seat, has, scan_of}
 use Rattle.pebr_table.specs.Tables.{key_of, me_of}
-use Rattle.pebr_words.specs.Making.{known_in, past_in, IsStepOf}
+use Rattle.pebr_words.specs.Making.{known_in_view, past_in, IsStepOf}
 use Rattle.pebr_core.specs.declared.kinds.Step.TheVariants as step
 use Rattle.pebr_words.specs.Pasts.{past_after}
 use Rattle.pebr_words.specs.Mirrors.{Mirrors}
@@ -39,7 +39,7 @@ overflow_add-was_in-2 g c =
 pub exchange-requires-clause-made : goal.exchange-requires-clause-made
 exchange-requires-clause-made g c =
     let seat = c.args.seat.now in
-    let known = known_in (me_of seat.inner).0 in
+    let known = known_in_view (me_of seat.inner).0 in
     let near : c.args.other < length seat.found.items =
     (let long = c.requires.at.4 in omega (arith, long, c.requires.other)) in
     let looked = found_here seat.noted seat.slots seat.found.items known seat.mirrors c.args.other c.index.result.now
@@ -70,7 +70,7 @@ invariant_of-seat g c =
 pub returns-clause-step : goal.returns-clause-step
 returns-clause-step g c =
     let seat = c.args.seat.now in
-    let known = known_in (me_of seat.inner).0 in
+    let known = known_in_view (me_of seat.inner).0 in
     let near : c.args.other < length seat.found.items =
     (let long = c.requires.at.4 in omega (arith, long, c.requires.other)) in
     let looked = found_here seat.noted seat.slots seat.found.items known seat.mirrors c.args.other c.index.result.now
@@ -81,7 +81,7 @@ returns-clause-step g c =
       core = subst
           (λ n. IsStepOf c.args.self.now.shape (step.Eject seat.number c.args.other)
           (if c.exchange.result == 4 * n + 1 then answer.Ejected else answer.Lost) known
-          (known_in (me_of c.exchange.new.seat).0))
+          (known_in_view (me_of c.exchange.new.seat).0))
           (ap (λ o. unwrap_or o 0) looked) c.exchange.ensures.told.made;
       past = told.past ∙ ap (λ a. past_after (step.Eject seat.number c.args.other) a known
           (past_in (me_of seat.inner).0)) is;
@@ -91,7 +91,7 @@ returns-clause-step g c =
 
 pub returns-clause-passed : goal.returns-clause-passed
 returns-clause-passed g c =
-    let known = known_in (me_of c.args.seat.now.inner).0 in
+    let known = known_in_view (me_of c.args.seat.now.inner).0 in
     ap (λ (s : Seat). has (scan_of s).passed c.args.other) c.exchange.ensures.told.known
     ∙ passed_here c.args.self.now.shape known c.requires.at.6 c.requires.scanning c.args.other c.requires.other
 
@@ -100,7 +100,7 @@ exchange-requires-clause-own g c found =
     let seat = c.args.seat.now in
     let near : c.args.other < length seat.found.items =
     (let long = c.requires.at.4 in omega (arith, long, c.requires.other)) in
-    let looked = found_here seat.noted seat.slots seat.found.items (known_in (me_of seat.inner).0) seat.mirrors
+    let looked = found_here seat.noted seat.slots seat.found.items (known_in_view (me_of seat.inner).0) seat.mirrors
     c.args.other c.index.result.now c.requires.looked near c.index.ensures in
     let n = c.index.result.now in
     ap (λ o. op.exchange (index c.args.self.now.shape (status_word c.args.other)) (4 * unwrap_or o 0 + 1)

@@ -1,6 +1,6 @@
 use Rattle.std.proofs.Common.{◌∙◌, count_by, sym, ap, subst}
 use Rattle.pebr_table.specs.Tables.{key_of, me_of}
-use Rattle.pebr_words.specs.Making.{known_in, past_in, answer_found, IsStepOf}
+use Rattle.pebr_words.specs.Making.{known_in_view, past_in, answer_found, IsStepOf}
 use Rattle.pebr_words.specs.Mirrors.{Mirrors}
 use Rattle.pebr_core.specs.declared.kinds.Step.TheVariants as step
 use Rattle.pebr_core.specs.State.{Seat, scan_of, is_retired}
@@ -14,7 +14,7 @@ use Rattle.pebr_words.proofs.words.Words.give.Goals as goal
 
 pub load-epoch-requires-clause-made : goal.load-epoch-requires-clause-made
 load-epoch-requires-clause-made g c =
-    let known = known_in (me_of c.args.seat.now.inner).0 in
+    let known = known_in_view (me_of c.args.seat.now.inner).0 in
     give_by c.args.self.now.shape c.args.seat.now.number known (scan_of known)
     (has_scan known c.requires.scanning) c.requires.complete c.requires.down
 
@@ -31,7 +31,7 @@ load-epoch-requires-clause-recalled g c = give_recalled c.args.seat.now.number _
 pub invariant_of-seat : goal.invariant_of-seat
 invariant_of-seat g c =
     let seat = c.args.seat.now in
-    let known = known_in (me_of seat.inner).0 in
+    let known = known_in_view (me_of seat.inner).0 in
     let told = c.load-epoch.ensures.told in
     let epoch = c.load-epoch.result in
     let made =
@@ -46,14 +46,14 @@ invariant_of-seat g c =
 
 pub returns-clause-known : goal.returns-clause-known
 returns-clause-known g c =
-    let known = known_in (me_of c.args.seat.now.inner).0 in
+    let known = known_in_view (me_of c.args.seat.now.inner).0 in
     let is = c.load-epoch.ensures.told.known in
     is ∙ ap (λ n. after_give n known) (sym (ap (λ (s : Seat). s.noted) is))
 
 pub returns-clause-step : goal.returns-clause-step
 returns-clause-step g c =
     let seat = c.args.seat.now in
-    let known = known_in (me_of seat.inner).0 in
+    let known = known_in_view (me_of seat.inner).0 in
     let told = c.load-epoch.ensures.told in
     let epoch = c.load-epoch.result in
     let s = step.Give seat.number in
@@ -68,7 +68,7 @@ returns-clause-step g c =
     (sym (c.give.ensures.left ∙ counts.1)) in
     record {
       core = subst (λ a. IsStepOf c.args.self.now.shape s a known
-          (known_in (me_of c.load-epoch.new.seat).0)) is told.made;
+          (known_in_view (me_of c.load-epoch.new.seat).0)) is told.made;
       past = told.past ∙ ap (λ a. past_after s a known (past_in (me_of seat.inner).0)) is;
       made = (epoch, sym is, c.load-epoch.ensures.recorded);
       sure = told.sure;

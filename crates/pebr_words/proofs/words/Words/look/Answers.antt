@@ -2,7 +2,7 @@ use Rattle.std.proofs.Common.{◌<◌, length, sym, ap, ◌∙◌, subst, arith}
 use Rattle.pebr_core.specs.declared.kinds.Step.TheVariants as step
 use Rattle.pebr_core.specs.State.{Seat, has, scan_of, found_at}
 use Rattle.pebr_table.specs.Tables.{key_of, me_of}
-use Rattle.pebr_words.specs.Making.{known_in, past_in}
+use Rattle.pebr_words.specs.Making.{known_in_view, past_in}
 use Rattle.pebr_words.specs.Pasts.{past_after}
 use Rattle.pebr_words.specs.Mirrors.{Mirrors, found_after}
 use Rattle.pebr_words.proofs.LookStep.{look_by, look_kept, look_recalled}
@@ -13,7 +13,7 @@ use Rattle.pebr_words.proofs.words.Words.look.Goals as goal
 
 pub load-found-requires-clause-made : goal.load-found-requires-clause-made
 load-found-requires-clause-made g c =
-    let known = known_in (me_of c.args.seat.now.inner).0 in
+    let known = known_in_view (me_of c.args.seat.now.inner).0 in
     look_by c.args.self.now.shape c.args.seat.now.number c.args.other known
     (scan_of known) c.requires.other.0 c.requires.other.1 (has_scan known c.requires.scanning) c.requires.unpassed
 
@@ -31,7 +31,7 @@ pub invariant_of-seat : goal.invariant_of-seat
 invariant_of-seat g c =
     let seat = c.args.seat.now in
     let told = c.load-found.ensures.told in
-    let known = known_in (me_of seat.inner).0 in
+    let known = known_in_view (me_of seat.inner).0 in
     let near : c.args.other < length seat.found.items =
     (let long = c.requires.at.4 in omega (arith, long, c.requires.other.0)) in
     let both = look_told g.P.RootProtocol.after g.P.RootProtocol.whole g.P.RootProtocol.first c.args.self.now.shape
@@ -41,7 +41,7 @@ invariant_of-seat g c =
     c.judge-looked.ensures.answer in
     record {
       acts = told.number ∙ seat.acts;
-      mirrors = subst (λ l. Mirrors seat.noted seat.slots l (known_in (me_of c.load-found.new.seat).0))
+      mirrors = subst (λ l. Mirrors seat.noted seat.slots l (known_in_view (me_of c.load-found.new.seat).0))
           (sym c.keep.ensures)
           (subst (Mirrors seat.noted seat.slots (found_after seat.found.items c.args.other c.judge-looked.result))
           (sym both.0)
@@ -70,7 +70,7 @@ returns-clause-step g c =
     record {
       core = both.1;
       past = c.load-found.ensures.told.past ∙ ap
-          (λ a. past_after (step.Look seat.number c.args.other) a (known_in (me_of seat.inner).0)
+          (λ a. past_after (step.Look seat.number c.args.other) a (known_in_view (me_of seat.inner).0)
           (past_in (me_of seat.inner).0))
           both.2;
       made = (c.load-found.result, sym both.2, c.load-found.ensures.recorded);
@@ -80,7 +80,7 @@ returns-clause-step g c =
 pub returns-clause-passed : goal.returns-clause-passed
 returns-clause-passed g c is =
     let seat = c.args.seat.now in
-    let known = known_in (me_of seat.inner).0 in
+    let known = known_in_view (me_of seat.inner).0 in
     let both = look_told g.P.RootProtocol.after g.P.RootProtocol.whole g.P.RootProtocol.first c.args.self.now.shape
     seat.noted seat.slots c.newest_tag.result seat.found.items seat.number c.args.other c.load-found.result
     c.judge-looked.result
@@ -93,7 +93,7 @@ returns-clause-passed g c is =
 pub returns-clause-found : goal.returns-clause-found
 returns-clause-found g c epoch is =
     let seat = c.args.seat.now in
-    let known = known_in (me_of seat.inner).0 in
+    let known = known_in_view (me_of seat.inner).0 in
     let both = look_told g.P.RootProtocol.after g.P.RootProtocol.whole g.P.RootProtocol.first c.args.self.now.shape
     seat.noted seat.slots c.newest_tag.result seat.found.items seat.number c.args.other c.load-found.result
     c.judge-looked.result

@@ -1,6 +1,6 @@
 use Rattle.std.proofs.Common.{refl, sym, ◌∙◌, subst}
 use Rattle.pebr_table.specs.Tables.{key_of, me_of}
-use Rattle.pebr_words.specs.Making.{known_in}
+use Rattle.pebr_words.specs.Making.{known_in_view}
 use Rattle.pebr_words.specs.Mirrors.{Mirrors}
 use Rattle.pebr_words.proofs.NoteStep.{note_by, noted_low, retired_long, note_kept, note_recalled}
 use Rattle.pebr_words.proofs.Mirroring.{note_mirrors}
@@ -23,7 +23,7 @@ load-epoch-requires-clause-recalled g c = note_recalled c.args.seat.now.number _
 pub invariant_of-seat : goal.invariant_of-seat
 invariant_of-seat g c =
     let seat = c.args.seat.now in
-    let known = known_in (me_of seat.inner).0 in
+    let known = known_in_view (me_of seat.inner).0 in
     let told = c.load-epoch.ensures.told in
     let epoch = c.load-epoch.result in
     let slots = c.note.ensures in

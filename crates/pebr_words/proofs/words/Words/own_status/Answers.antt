@@ -1,6 +1,6 @@
 use Rattle.std.proofs.Common.{refl, ap, sym, ◌∙◌, subst}
 use Rattle.pebr_table.specs.Tables.{key_of, me_of}
-use Rattle.pebr_words.specs.Making.{known_in, past_in, stance_from, IsStepOf}
+use Rattle.pebr_words.specs.Making.{known_in_view, past_in, stance_from, IsStepOf}
 use Rattle.pebr_words.specs.Mirrors.{Mirrors}
 use Rattle.pebr_words.proofs.CheckStep.{check_by, check_kept, check_recalled}
 use Rattle.pebr_words.proofs.Mirroring.{same_mirrors}
@@ -29,7 +29,7 @@ load-requires-clause-recalled g c = check_recalled c.args.seat.now.number _ c.re
 pub invariant_of-seat : goal.invariant_of-seat
 invariant_of-seat g c =
     let seat = c.args.seat.now in
-    let known = known_in (me_of seat.inner).0 in
+    let known = known_in_view (me_of seat.inner).0 in
     let told = c.load.ensures.told in
     record {
       acts = told.number ∙ seat.acts;
@@ -51,12 +51,13 @@ check_as word = pick (word % 4 == 1) (word % 4 == 2)
 pub returns-clause-step : goal.returns-clause-step
 returns-clause-step g c =
     let seat = c.args.seat.now in
-    let known = known_in (me_of seat.inner).0 in
+    let known = known_in_view (me_of seat.inner).0 in
     let told = c.load.ensures.told in
     let s = step.Check seat.number in
     let is = check_as c.load.result in
     record {
-      core = subst (λ a. IsStepOf c.args.self.now.shape s a known (known_in (me_of c.load.new.seat).0)) is told.made;
+      core = subst (λ a. IsStepOf c.args.self.now.shape s a known
+          (known_in_view (me_of c.load.new.seat).0)) is told.made;
       past = told.past ∙ ap (λ a. past_after s a known (past_in (me_of seat.inner).0)) is;
       made = (c.load.result, sym is, c.load.ensures.recorded);
       sure = told.sure;

@@ -1,7 +1,7 @@
 use Rattle.std.proofs.Common.{refl, ◌∙◌, sym, subst}
 use Rattle.std.specs.Prelude.{◌==◌}
 use Rattle.pebr_table.specs.Tables.{key_of, me_of}
-use Rattle.pebr_words.specs.Making.{known_in}
+use Rattle.pebr_words.specs.Making.{known_in_view}
 use Rattle.pebr_words.specs.Mirrors.{Mirrors}
 use Rattle.pebr_words.proofs.Mirroring.{can_take, replace_mirrors}
 use Rattle.pebr_words.proofs.ReplaceStep.{replace_by, replace_kept, replace_recalled}
@@ -34,7 +34,7 @@ take-requires g c hit =
 pub invariant_of-seat : goal.invariant_of-seat
 invariant_of-seat g c =
     let seat = c.args.seat.now in
-    let known = known_in (me_of seat.inner).0 in
+    let known = known_in_view (me_of seat.inner).0 in
     let told = c.exchange-found.ensures.told in
     let slots = c.take.ensures in
     record {
