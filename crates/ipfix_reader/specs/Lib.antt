@@ -1,6 +1,7 @@
 pub mod Part
 pub mod Cursors
 pub mod Outcome
+pub mod FaultTexts
 pub mod Walk
 pub mod Values
 pub mod Specifiers

@@ -16,6 +16,7 @@
 
 mod cursor;
 mod fault;
+mod fault_text;
 mod flow;
 mod flows;
 mod known;
@@ -29,6 +30,7 @@ mod values;
 mod walk;
 
 pub use fault::{StreamError, StreamFault};
+pub use fault_text::FaultText;
 pub use flow::flow_of;
 pub use flows::{FlowsError, read_flows};
 pub use messages::{STREAM_LIMIT, read_into, read_stream};

@@ -1,8 +1,6 @@
 -- The exit status and the line of each way in which a run ends.
 use Rattle.std.specs.Prelude.{ℕ, List, ◌++◌, codes, decimal}
-use Rattle.ipfix_reader.specs.declared.fault.StreamFault.{StreamFault}
-use Rattle.ipfix_reader.specs.declared.fault.StreamFault.TheVariants.{Cut, BadVersion, BadLength, NoTemplate}
-use Rattle.ipfix_reader.specs.declared.fault.StreamFault.TheVariants.{BadTemplate, BadPadding, BadSequence, Withdrawal}
+use Rattle.ipfix_reader.specs.FaultTexts.{stream_fault_text}
 use Rattle.join_program.specs.declared.status.FileFault.{FileFault}
 use Rattle.join_program.specs.declared.status.FileFault.TheVariants.{ReadFault, TooLarge, NotStream, NotFlows, TooMany}
 use Rattle.join_program.specs.declared.status.JoinStatus.{JoinStatus}
@@ -21,17 +19,6 @@ exit_status Usage = 2
 exit_status WriteFault = 3
 exit_status NoMemory = 8
 exit_status (Refused file fault) = fault_status fault
-
--- A fault of a stream: its kind and its offset.
-abbrev pub stream_fault_text : StreamFault → List ℕ
-stream_fault_text (Cut at) = codes "cut at " ++ decimal at
-stream_fault_text (BadVersion at) = codes "version at " ++ decimal at
-stream_fault_text (BadLength at) = codes "length at " ++ decimal at
-stream_fault_text (NoTemplate at id) = codes "template " ++ decimal id ++ codes " at " ++ decimal at
-stream_fault_text (BadTemplate at) = codes "bad template at " ++ decimal at
-stream_fault_text (BadPadding at) = codes "padding at " ++ decimal at
-stream_fault_text (BadSequence at) = codes "sequence at " ++ decimal at
-stream_fault_text (Withdrawal at) = codes "withdrawal at " ++ decimal at
 
 -- What is wrong with a file.
 abbrev pub fault_text : FileFault → List ℕ

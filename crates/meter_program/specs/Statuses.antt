@@ -1,8 +1,6 @@
 -- The exit status and the line of each way in which a run ends.
 use Rattle.std.specs.Prelude.{ℕ, Bool, true, false, List, [], ◌++◌, codes, decimal}
-use Rattle.ipfix_reader.specs.declared.fault.StreamFault.{StreamFault}
-use Rattle.ipfix_reader.specs.declared.fault.StreamFault.TheVariants.{Cut, BadVersion, BadLength, NoTemplate}
-use Rattle.ipfix_reader.specs.declared.fault.StreamFault.TheVariants.{BadTemplate, BadPadding, BadSequence, Withdrawal}
+use Rattle.ipfix_reader.specs.FaultTexts.{stream_fault_text}
 use Rattle.meter_program.specs.declared.status.Status.{Status}
 use Rattle.meter_program.specs.declared.status.Status.TheVariants.{Done, ReadFault, Usage, WriteFault, NotCapture}
 use Rattle.meter_program.specs.declared.status.Status.TheVariants.{LinkUnknown, Damaged, TooLarge, NoMemory, NotStream}
@@ -35,17 +33,6 @@ is_refusal TooLarge = true
 is_refusal NoMemory = true
 is_refusal (NotStream fault) = true
 is_refusal (BadSchedule line) = true
-
--- A fault of a stream: its kind and its offset.
-abbrev pub stream_fault_text : StreamFault → List ℕ
-stream_fault_text (Cut at) = codes "cut at " ++ decimal at
-stream_fault_text (BadVersion at) = codes "version at " ++ decimal at
-stream_fault_text (BadLength at) = codes "length at " ++ decimal at
-stream_fault_text (NoTemplate at id) = codes "template " ++ decimal id ++ codes " at " ++ decimal at
-stream_fault_text (BadTemplate at) = codes "bad template at " ++ decimal at
-stream_fault_text (BadPadding at) = codes "padding at " ++ decimal at
-stream_fault_text (BadSequence at) = codes "sequence at " ++ decimal at
-stream_fault_text (Withdrawal at) = codes "withdrawal at " ++ decimal at
 
 -- What is said of a status, without the end of the line; nothing where all was done or a write failed.
 abbrev pub fault_text : Status → List ℕ

@@ -5,14 +5,13 @@
 ghost use Rattle.std.specs.Prelude.{◌≡◌, ◌+◌, ◌≤◌, ◌++◌, length, take, codes, decimal, OnOk, OnErr};
 ghost use Rattle.arrayvec.specs.ArrayString.{array_string_len};
 ghost use Rattle.meter_io.specs.Causes.{HasCause};
-ghost use Rattle.meter_program.specs.Statuses.{fault_text, fault_line, stream_fault_text};
+ghost use Rattle.meter_program.specs.Statuses.{fault_text, fault_line};
 ghost use Rattle.meter_program.specs.Summary.{count_line, ignored_lines, summary};
 ghost use Rattle.meter_io.specs.Sides.{HasTaken, HasBegun, side};
 
 use crate::status::Status;
 use arrayvec::ArrayString;
 use capture_tally::Tally;
-use ipfix_reader::StreamFault;
 use itoa::Buffer;
 use meter_io::{Failed, Sink, write_all};
 
@@ -112,27 +111,6 @@ fn append_numbered(text: &mut Text, words: &str, number: u64)
     append_number(text, number);
 }
 
-/// Appends a fault of a stream: its kind and its offset.
-fn append_stream_fault(text: &mut Text, fault: &StreamFault)
-    requires { array_string_len text.old + 60 ≤ 512 }
-    ensures bytes { text.new.bytes ≡ text.old.bytes ++ stream_fault_text fault.now }
-    ensures room { array_string_len text.new ≤ array_string_len text.old + 60 }
-{
-    match fault {
-        StreamFault::Cut { at } => append_numbered(text, "cut at ", *at),
-        StreamFault::BadVersion { at } => append_numbered(text, "version at ", *at),
-        StreamFault::BadLength { at } => append_numbered(text, "length at ", *at),
-        StreamFault::NoTemplate { at, id } => {
-            append_numbered(text, "template ", *id as u64);
-            append_numbered(text, " at ", *at);
-        }
-        StreamFault::BadTemplate { at } => append_numbered(text, "bad template at ", *at),
-        StreamFault::BadPadding { at } => append_numbered(text, "padding at ", *at),
-        StreamFault::BadSequence { at } => append_numbered(text, "sequence at ", *at),
-        StreamFault::Withdrawal { at } => append_numbered(text, "withdrawal at ", *at),
-    }
-}
-
 /// Appends what is said of a status; nothing where all was done or a write failed.
 fn append_fault(text: &mut Text, status: &Status)
     requires { array_string_len text.old + 80 ≤ 512 }
@@ -150,7 +128,7 @@ fn append_fault(text: &mut Text, status: &Status)
         Status::NoMemory => text.push_str("no memory"),
         Status::NotStream(fault) => {
             text.push_str("not a stream: ");
-            append_stream_fault(text, fault);
+            text.push_str(fault.text().as_str());
         }
         Status::BadSchedule(line) => append_numbered(text, "bad schedule line ", *line),
     }
