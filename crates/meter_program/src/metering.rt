@@ -1,10 +1,9 @@
 //! Metering a capture through one cache, and gathering what the cache gave.
 
-ghost use Rattle.std.specs.Prelude.{◌≡◌, ◌<◌, ◌*◌, List, ℕ, IfOk, IfErr, sum_by};
+ghost use Rattle.std.specs.Prelude.{◌≡◌, ◌<◌, ◌*◌, List, ℕ, IfOk, IfErr};
 ghost use Rattle.flow_parts.specs.declared.timeouts.Timeouts.{Timeouts};
 ghost use Rattle.meter_io.specs.Sides.{Side, side};
-ghost use Rattle.flow_parts.specs.declared.fragment.Fragment.{Fragment};
-ghost use Rattle.meter_program.specs.Metering.{AreGathered, IsKept, IsReadAndKept, IsGathered, IsReadAndGathered};
+ghost use Rattle.meter_program.specs.Metering.{IsKept, IsReadAndKept, IsGathered, IsReadAndGathered};
 ghost use Rattle.meter_program.specs.Outcome.{MeterRefuses};
 
 use crate::settings::Settings;
@@ -76,26 +75,6 @@ fn meter_input<R: Threads + Sync, S: Source, M: Caches, G: Gate>(
     Ok((parts, counted))
 }
 
-/// Gathers fragments, which have so many packets and octets, into records, by so many threads.
-fn records_of<R: Threads + Sync>(
-    rt: &R,
-    alloc: Global,
-    parts: PartList,
-    limits: Timeouts,
-    clock: Option<u64>,
-    packets: u64,
-    octets: u64,
-    threads: usize,
-) -> Result<RecordList, NoMemory>
-    requires threads { 0 < threads }
-    requires packets { sum_by (λ (f : Fragment). f.packets) parts ≡ packets }
-    requires octets { sum_by (λ (f : Fragment). f.octets) parts ≡ octets }
-    ensures { IfOk result (λ records. AreGathered limits parts clock records) }
-{
-    let records = gather(rt, alloc, parts, limits, clock, threads)?;
-    Ok(records)
-}
-
 /// Gathers the fragments that a cache gave of a capture that was metered into the capture's records, by so many
 /// threads.
 ///
@@ -116,16 +95,8 @@ pub fn gathered_of<R: Threads + Sync>(
 {
     sharing_out_counts();
     let CaptureCount { tally, tail } = counted;
-    let records = records_of(
-        rt,
-        alloc,
-        parts,
-        limits,
-        tally.clock,
-        tally.accepted,
-        tally.octets,
-        threads,
-    )?;
+    let clock = tally.clock;
+    let records = gather(rt, alloc, parts, limits, clock, threads)?;
     Ok(Gathered {
         records,
         tally,
