@@ -3,9 +3,10 @@
 #
 #     checks/edits.sh [--further] [CRATE]..
 #
-# Without crates: the edits of all of them. With --further those of more-edits/ alone, since the gate tries the others. What is
-# committed is cloned into a temporary folder, where the edits of crates/NAME/more-edits/ are laid beside those of
-# crates/NAME/must-fail/; so nothing changes here. Crates are tried one after another, with a line for each, and one that the
+# Without crates: the edits of all of them, several at a time, by the gate itself in a copy; so it proves and tests all besides,
+# where no earlier run on this machine did. With crates: theirs alone, one crate after another, with a line for each. With
+# --further those of more-edits/ alone, since the gate tries the others. What is committed is cloned into a temporary folder, where
+# the edits of crates/NAME/more-edits/ are laid beside those of crates/NAME/must-fail/; so nothing changes here. An edit that the
 # checker doesn't refuse, or that can't be tried, is told. The last line counts; the status is not 0 where an edit isn't refused.
 # It takes hours where nothing is proved yet; this is no part of the gate.
 set -u
@@ -22,14 +23,13 @@ if [ "${1:-}" = --further ]; then
     shift
 fi
 git clone -q "$top" "$work/copy" && cd "$work/copy" || exit 2
+whole=
 if [ $# -eq 0 ]; then
+    whole=1
     # shellcheck disable=SC2046 # names of crates, in the order of crates.txt
     set -- $(sed -n 's/^\([a-z0-9_][a-z0-9_]*\).*:.*/\1/p' crates.txt)
 fi
 
-crates=0
-edits=0
-refused=0
 failed=0
 for name in "$@"; do
     folder=crates/$name
@@ -47,18 +47,24 @@ for name in "$@"; do
         fi
         cp "$edit" "$folder/must-fail/"
     done
+done
+[ -z "$whole" ] || rt ci >"$work/told" 2>&1 || failed=$((failed + 1))
+
+crates=0
+edits=0
+refused=0
+for name in "$@"; do
+    folder=crates/$name
     [ -d "$folder/must-fail" ] || continue
-    rt must-fail "$name" >"$work/told" 2>&1 || failed=$((failed + 1))
-    grep -E 'NOT REFUSED|NOT TRIED|BAD EDIT' "$work/told"
+    [ -n "$whole" ] || rt must-fail "$name" >"$work/told" 2>&1 || failed=$((failed + 1))
+    grep "must-fail $name/" "$work/told" | grep -E 'NOT REFUSED|NOT TRIED|BAD EDIT'
     own=$(find "$folder/must-fail" -name '*.edit' | wc -l)
-    own_refused=$(grep -c ': refused, as it must be' "$work/told")
-    if [ "$own_refused" -eq 0 ]; then
-        tail -n 5 "$work/told"
-    fi
+    own_refused=$(grep "must-fail $name/" "$work/told" | grep -c ': refused, as it must be')
     echo "$name: $own_refused of $own refused"
     crates=$((crates + 1))
     edits=$((edits + own))
     refused=$((refused + own_refused))
 done
+[ "$edits" -eq "$refused" ] || tail -n 5 "$work/told"
 echo "$crates crates, $edits edits: $refused refused, $((edits - refused)) not"
 [ "$edits" -eq "$refused" ] && [ "$failed" -eq 0 ]
