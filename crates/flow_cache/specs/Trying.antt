@@ -1,5 +1,6 @@
 -- How far a try is.
-use Rattle.std.specs.Prelude.{◌≡◌, ℕ, ◌<◌, true, false, List, ◌++◌, length, Option, Some, MatchOption}
+use Rattle.std.specs.Prelude.{◌≡◌, ℕ, ◌<◌, true, false, List, ◌++◌, ◌∷◌, length, Option, Some, MatchOption, IsTrue}
+use Rattle.std.specs.List.{list_all}
 use Rattle.flow_key.specs.Key.{set_number}
 use Rattle.flow_parts.specs.declared.fragment.Fragment.{Fragment}
 use Rattle.flow_parts.specs.declared.timeouts.Timeouts.{Timeouts}
@@ -7,13 +8,18 @@ use Rattle.cache_face.specs.declared.metered.How.{How}
 use Rattle.cache_face.specs.Choice.{IsChoice}
 use Rattle.cache_face.specs.Keeping.{IsSmall, entry_of}
 use Rattle.cache_face.specs.Laws.{CanTake}
-use Rattle.cache_face.specs.Notes.{Note}
+use Rattle.cache_face.specs.Notes.{Note, note_with}
 use Rattle.pebr_core.specs.declared.kinds.ShieldAt.TheVariants as shield
-use Rattle.pebr_core.specs.State.{Seat, has, shield_at}
-use Rattle.pebr_words.specs.Pasts.{Read, History, shown_at, written_at}
+use Rattle.pebr_core.specs.State.{Seat, has, shield_at, is_out, is_down}
+use Rattle.pebr_words.specs.Pasts.{Lost, Read, History, shown_at, written_at}
 use Rattle.pebr_roots.specs.Under.{slot_at}
 use Rattle.flow_cache.specs.Places.{root_of}
 use Rattle.flow_cache.specs.Reading.{words_read, entries_read, set_read, written_in}
+use Rattle.flow_cache.specs.Shown.{IsTryOf}
+
+-- Between its calls a seat is out, and has no shield up.
+abbrev pub IsResting : Seat → Type 0
+IsResting known = IsTrue (is_out known.status) × IsTrue (list_all is_down known.shields)
 
 -- A fragment of this set, which a pass of this note can take.
 pub record IsOwn (sets set : ℕ) (note : Note) (own : Fragment) : Type 0 where
@@ -66,3 +72,12 @@ pub record HasChosen (limits : Timeouts) (set : ℕ) (past : History) (own : Fra
   pub four : length (entries_read past set) ≡ 4
   pub chosen : MatchOption (written_in past.put) ⊥
       (λ wrote. IsChoice limits (entries_read past set) own how wrote.place out wrote.kept)
+
+-- A try put the fragment in: the note has it with what was put out, and no try was lost.
+abbrev pub HasPut : Timeouts → ℕ → Note → Note → History → History → Fragment → How → Option Fragment → Type 0
+HasPut limits set note note' old new own how out =
+    (note' ≡ note_with note own out) × (new.lost ≡ old.lost) × HasChosen limits set new own how out
+
+-- One more try was lost, at a set.
+abbrev pub HasLostTry : ℕ → History → History → Type 0
+HasLostTry set old new = (try : Lost) × (new.lost ≡ try ∷ old.lost) × IsTryOf set try

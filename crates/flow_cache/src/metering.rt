@@ -1,13 +1,11 @@
 //! A packet is metered.
 
-ghost use Rattle.std.specs.Prelude.{◌≡◌, ◌≢◌, ◌+◌, ◌-◌, ◌*◌, ◌<◌, ◌≤◌, ◌^◌, None, IsTrue};
-ghost use Rattle.std.specs.List.{list_all};
+ghost use Rattle.std.specs.Prelude.{◌≡◌, ◌≢◌, ◌+◌, ◌-◌, ◌*◌, ◌<◌, ◌≤◌, ◌^◌, None};
 ghost use Rattle.flow_key.specs.Key.{set_number};
 ghost use Rattle.cache_face.specs.Keeping.{packet_count};
 ghost use Rattle.cache_face.specs.Meaning.{IsAnswer};
 ghost use Rattle.cache_face.specs.Notes.{first_note, note_with};
 ghost use Rattle.cache_face.specs.Tries.{HasLost};
-ghost use Rattle.pebr_core.specs.State.{is_out, is_down};
 ghost use Rattle.pebr_core.specs.Frames.{fresh_count, retired_count};
 ghost use Rattle.pebr_roots.specs.Orders.{HasMade};
 ghost use Rattle.pebr_roots.specs.Passes.{shape_at, known_by_pass, number_by, note_by, past_by, operations_by, IsOf};
@@ -17,7 +15,7 @@ ghost use Rattle.flow_cache.specs.Outcome.{HaveLost, IsOutcome};
 ghost use Rattle.flow_cache.specs.Shown as shown;
 ghost use Rattle.flow_cache.specs.Shown.{means_of, shown_of, past_of, tries_of, retired_of, ejections_of, slots_of};
 ghost use Rattle.flow_cache.specs.Shown.{IsTryOf, shape_of_roots, number_of, known_of, operations_of};
-ghost use Rattle.flow_cache.specs.Trying.{IsOwn};
+ghost use Rattle.flow_cache.specs.Trying.{IsOwn, IsResting};
 
 use crate::cache::{PebrCache, PebrPass};
 use crate::protocol::CacheRule;
@@ -36,11 +34,9 @@ impl PebrCache {
     /// Collects without force from 32 retired slots on.
     fn collect_batch(&self, pass: &mut RootPass<CacheRule>)
         requires of { IsOf self.now.roots pass.old }
-        requires out { IsTrue (is_out (known_by_pass pass.old).status) }
-        requires down { IsTrue (list_all is_down (known_by_pass pass.old).shields) }
+        requires resting { IsResting (known_by_pass pass.old) }
         ensures same { IsSame self.now.roots pass.old pass.new }
-        ensures out { IsTrue (is_out (known_by_pass pass.new).status) }
-        ensures down { IsTrue (list_all is_down (known_by_pass pass.new).shields) }
+        ensures resting { IsResting (known_by_pass pass.new) }
         ensures note { note_by first_note pass.new ≡ note_by first_note pass.old }
         ensures lost { (past_by pass.new).lost ≡ (past_by pass.old).lost }
         ensures ejections { (past_by pass.new).ejections ≡ (past_by pass.old).ejections }
@@ -64,11 +60,9 @@ impl PebrCache {
     /// Collects with force where no fresh slot is left.
     fn collect_if_none(&self, pass: &mut RootPass<CacheRule>)
         requires of { IsOf self.now.roots pass.old }
-        requires out { IsTrue (is_out (known_by_pass pass.old).status) }
-        requires down { IsTrue (list_all is_down (known_by_pass pass.old).shields) }
+        requires resting { IsResting (known_by_pass pass.old) }
         ensures same { IsSame self.now.roots pass.old pass.new }
-        ensures out { IsTrue (is_out (known_by_pass pass.new).status) }
-        ensures down { IsTrue (list_all is_down (known_by_pass pass.new).shields) }
+        ensures resting { IsResting (known_by_pass pass.new) }
         ensures note { note_by first_note pass.new ≡ note_by first_note pass.old }
         ensures lost { (past_by pass.new).lost ≡ (past_by pass.old).lost }
         ensures ejections { 0 < fresh_count (known_by_pass pass.old)
@@ -88,11 +82,9 @@ impl PebrCache {
     /// Sees that a fresh slot is there.
     fn make_room(&self, pass: &mut RootPass<CacheRule>)
         requires of { IsOf self.now.roots pass.old }
-        requires out { IsTrue (is_out (known_by_pass pass.old).status) }
-        requires down { IsTrue (list_all is_down (known_by_pass pass.old).shields) }
+        requires resting { IsResting (known_by_pass pass.old) }
         ensures same { IsSame self.now.roots pass.old pass.new }
-        ensures out { IsTrue (is_out (known_by_pass pass.new).status) }
-        ensures down { IsTrue (list_all is_down (known_by_pass pass.new).shields) }
+        ensures resting { IsResting (known_by_pass pass.new) }
         ensures note { note_by first_note pass.new ≡ note_by first_note pass.old }
         ensures lost { (past_by pass.new).lost ≡ (past_by pass.old).lost }
         ensures ejections { retired_count (known_by_pass pass.old) ≢ 32 + 4 * (shape_at self.now.roots).seats
@@ -120,14 +112,12 @@ impl PebrCache {
     ) -> u64
         requires of { IsOf self.now.roots pass.old }
         requires set { set < self.now.sets }
-        requires out { IsTrue (is_out (known_by_pass pass.old).status) }
-        requires down { IsTrue (list_all is_down (known_by_pass pass.old).shields) }
+        requires resting { IsResting (known_by_pass pass.old) }
         requires fresh { 0 < fresh_count (known_by_pass pass.old) }
         requires own { IsOwn self.now.sets set (note_by first_note pass.old) own.now }
         requires none { metered.old.out ≡ None }
         ensures same { IsSame self.now.roots pass.old pass.new }
-        ensures out { IsTrue (is_out (known_by_pass pass.new).status) }
-        ensures down { IsTrue (list_all is_down (known_by_pass pass.new).shields) }
+        ensures resting { IsResting (known_by_pass pass.new) }
         ensures ejections { (past_by pass.new).ejections ≡ (past_by pass.old).ejections }
         ensures note { note_by first_note pass.new
             ≡ note_with (note_by first_note pass.old) own.now metered.new.out }

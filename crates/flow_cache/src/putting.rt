@@ -9,15 +9,14 @@ ghost use Rattle.cache_face.specs.Laws.{CanTake};
 ghost use Rattle.pebr_core.specs.State.{is_out, is_down};
 ghost use Rattle.pebr_core.specs.Frames.{fresh_count};
 ghost use Rattle.pebr_slots.specs.Sets.{least_in};
-ghost use Rattle.pebr_words.specs.Pasts.{Lost, written_at};
+ghost use Rattle.pebr_words.specs.Pasts.{written_at};
 ghost use Rattle.pebr_words.specs.Ruled.{IsSure};
 ghost use Rattle.pebr_roots.specs.Passes.{shape_at, known_by_pass, number_by, note_by, past_by, operations_by, IsOf};
 ghost use Rattle.pebr_roots.specs.Passes.{IsSame};
 ghost use Rattle.cache_choice.specs.Chosen.{out_of};
 ghost use Rattle.flow_cache.specs.declared.act.CacheAct.TheVariants.{Puts};
 ghost use Rattle.flow_cache.specs.Collecting.{HasCollected, HasSpared};
-ghost use Rattle.flow_cache.specs.Shown.{IsTryOf};
-ghost use Rattle.flow_cache.specs.Trying.{IsOwn, AreProtected, IsUnlost, HasChosen};
+ghost use Rattle.flow_cache.specs.Trying.{IsOwn, IsResting, AreProtected, HasPut, HasLostTry};
 
 use crate::act::CacheAct;
 use crate::cache::PebrCache;
@@ -113,13 +112,12 @@ impl PebrCache {
         ensures entered { is_out (known_by_pass pass.new).status ≡ false }
         ensures ejections { (past_by pass.new).ejections ≡ (past_by pass.old).ejections }
         ensures spared { HasCollected 0 (past_by pass.old) (past_by pass.new) }
-        ensures done { IsTrue result
-            → (note_by first_note pass.new ≡ note_with (note_by first_note pass.old) own.now metered.new.out)
-            × ((past_by pass.new).lost ≡ (past_by pass.old).lost)
-            × HasChosen self.now.timeouts set (past_by pass.new) own.now metered.new.how metered.new.out }
+        ensures done { IsTrue result → HasPut self.now.timeouts set (note_by first_note pass.old)
+            (note_by first_note pass.new) (past_by pass.old) (past_by pass.new) own.now metered.new.how
+            metered.new.out }
         ensures undone { result ≡ false → (note_by first_note pass.new ≡ note_by first_note pass.old)
             × ((known_by_pass pass.new).fresh ≡ (known_by_pass pass.old).fresh)
-            × ((try : Lost) × ((past_by pass.new).lost ≡ try ∷ (past_by pass.old).lost) × IsTryOf set try) }
+            × HasLostTry set (past_by pass.old) (past_by pass.new) }
         ensures untouched { result ≡ false → metered.new.out ≡ None }
         ensures few { HasSpared (shape_at self.now.roots) (number_by pass.old) 51 (operations_by pass.old)
             (operations_by pass.new) }
@@ -162,13 +160,12 @@ impl PebrCache {
         ensures entered { is_out (known_by_pass pass.new).status ≡ false }
         ensures ejections { (past_by pass.new).ejections ≡ (past_by pass.old).ejections }
         ensures spared { HasCollected 0 (past_by pass.old) (past_by pass.new) }
-        ensures done { IsTrue result
-            → (note_by first_note pass.new ≡ note_with (note_by first_note pass.old) own.now metered.new.out)
-            × ((past_by pass.new).lost ≡ (past_by pass.old).lost)
-            × HasChosen self.now.timeouts set (past_by pass.new) own.now metered.new.how metered.new.out }
+        ensures done { IsTrue result → HasPut self.now.timeouts set (note_by first_note pass.old)
+            (note_by first_note pass.new) (past_by pass.old) (past_by pass.new) own.now metered.new.how
+            metered.new.out }
         ensures undone { result ≡ false → (note_by first_note pass.new ≡ note_by first_note pass.old)
             × ((known_by_pass pass.new).fresh ≡ (known_by_pass pass.old).fresh)
-            × ((try : Lost) × ((past_by pass.new).lost ≡ try ∷ (past_by pass.old).lost) × IsTryOf set try) }
+            × HasLostTry set (past_by pass.old) (past_by pass.new) }
         ensures untouched { result ≡ false → metered.new.out ≡ None }
         ensures few { HasSpared (shape_at self.now.roots) (number_by pass.old) 62 (operations_by pass.old)
             (operations_by pass.new) }
@@ -211,8 +208,7 @@ impl PebrCache {
         requires entered { is_out (known_by_pass pass.old).status ≡ false }
         requires own { IsTrue passes_by → CanTake (note_by first_note pass.old) own.now }
         ensures same { IsSame self.now.roots pass.old pass.new }
-        ensures out { IsTrue (is_out (known_by_pass pass.new).status) }
-        ensures down { IsTrue (list_all is_down (known_by_pass pass.new).shields) }
+        ensures resting { IsResting (known_by_pass pass.new) }
         ensures fresh { (known_by_pass pass.new).fresh ≡ (known_by_pass pass.old).fresh }
         ensures note { note_by first_note pass.new
             ≡ (if passes_by then note_with (note_by first_note pass.old) own.now (Some own.now)
@@ -253,20 +249,18 @@ impl PebrCache {
         requires own { IsOwn self.now.sets set (note_by first_note pass.old) own.now }
         requires none { metered.old.out ≡ None }
         ensures same { IsSame self.now.roots pass.old pass.new }
-        ensures out { IsTrue (is_out (known_by_pass pass.new).status) }
-        ensures down { IsTrue (list_all is_down (known_by_pass pass.new).shields) }
+        ensures resting { IsResting (known_by_pass pass.new) }
         ensures ejections { (past_by pass.new).ejections ≡ (past_by pass.old).ejections }
         ensures spared { HasCollected 0 (past_by pass.old) (past_by pass.new) }
-        ensures done { IsTrue result
-            → (note_by first_note pass.new ≡ note_with (note_by first_note pass.old) own.now metered.new.out)
-            × ((past_by pass.new).lost ≡ (past_by pass.old).lost)
-            × HasChosen self.now.timeouts set (past_by pass.new) own.now metered.new.how metered.new.out }
+        ensures done { IsTrue result → HasPut self.now.timeouts set (note_by first_note pass.old)
+            (note_by first_note pass.new) (past_by pass.old) (past_by pass.new) own.now metered.new.how
+            metered.new.out }
         ensures undone { result ≡ false
             → (note_by first_note pass.new ≡ (if last
             then note_with (note_by first_note pass.old) own.now (Some own.now)
             else note_by first_note pass.old))
             × ((known_by_pass pass.new).fresh ≡ (known_by_pass pass.old).fresh) × ((shape_at self.now.roots).seats ≢ 1)
-            × ((try : Lost) × ((past_by pass.new).lost ≡ try ∷ (past_by pass.old).lost) × IsTryOf set try) }
+            × HasLostTry set (past_by pass.old) (past_by pass.new) }
         ensures untouched { result ≡ false → metered.new.out ≡ None }
         ensures few { HasSpared (shape_at self.now.roots) (number_by pass.old) 67 (operations_by pass.old)
             (operations_by pass.new) }

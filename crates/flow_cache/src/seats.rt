@@ -1,15 +1,14 @@
 //! What a watcher needs of the cache: its roots, and the seat of a pass.
 
 ghost use Rattle.std.specs.Prelude.{◌≡◌, ◌+◌, ◌≤◌, ◌<◌, ◌∷◌, ◌^◌, ◌-◌, length, min, IsTrue, false};
-ghost use Rattle.std.specs.List.{list_all};
 ghost use Rattle.cache_face.specs.Notes.{first_note};
-ghost use Rattle.pebr_core.specs.State.{is_out, is_down};
+ghost use Rattle.pebr_core.specs.State.{is_out};
 ghost use Rattle.pebr_shields.specs.declared.checked.Checked.TheVariants as checked;
 ghost use Rattle.pebr_words.specs.Pasts.{was_ejected};
 ghost use Rattle.pebr_roots.specs.Passes.{known_by_pass, note_by, past_by, lost_by, operations_by, IsOf, IsSame};
 ghost use Rattle.pebr_roots.specs.Orders.{HasMade};
 ghost use Rattle.flow_cache.specs.Shown.{means_of, roots_of, seat_of};
-ghost use Rattle.flow_cache.specs.Trying.{AreProtected, IsUnlost};
+ghost use Rattle.flow_cache.specs.Trying.{AreProtected, IsResting, IsUnlost};
 
 use crate::cache::{PebrCache, PebrPass};
 use crate::protocol::CacheRule;
@@ -56,8 +55,7 @@ impl PebrPass {
     /// The seat of the pass.
     pub fn into_seat(self) -> RootPass<CacheRule>
         ensures seat { result ≡ seat_of self }
-        ensures out { IsTrue (is_out (known_by_pass result).status) }
-        ensures down { IsTrue (list_all is_down (known_by_pass result).shields) }
+        ensures resting { IsResting (known_by_pass result) }
     {
         let PebrPass {
             inner,
@@ -69,8 +67,7 @@ impl PebrPass {
 
     /// The pass of a seat that is out and has no shield up. `lost` is how many tries it has lost, at most 2^64 - 1.
     pub fn from_seat(seat: RootPass<CacheRule>, lost: u64) -> PebrPass
-        requires out { IsTrue (is_out (known_by_pass seat).status) }
-        requires down { IsTrue (list_all is_down (known_by_pass seat).shields) }
+        requires resting { IsResting (known_by_pass seat) }
         requires counted { lost ≡ min (length (lost_by seat)) (2 ^ 64 - 1) }
         ensures seat { seat_of result ≡ seat }
     {

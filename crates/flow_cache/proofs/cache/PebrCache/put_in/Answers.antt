@@ -23,8 +23,8 @@ pub loop-lost-init : goal.loop-lost-init
 loop-lost-init g c = record {
   low = omega arith;
   same = search rules;
-  out = c.requires.out;
-  down = c.requires.down;
+  out = c.requires.resting.0;
+  down = c.requires.resting.1;
   fresh = refl;
   ejections = refl;
   none = c.requires.none;
@@ -52,8 +52,8 @@ loop-lost-preserved g c =
     record {
       low = omega (arith, low);
       same = go_on c.args.self.now.roots start old new before.same c.attempt.ensures.same;
-      out = c.attempt.ensures.out;
-      down = c.attempt.ensures.down;
+      out = c.attempt.ensures.resting.0;
+      down = c.attempt.ensures.resting.1;
       fresh = h.1 ∙ before.fresh;
       ejections = c.attempt.ensures.ejections ∙ before.ejections;
       none = c.attempt.ensures.untouched c.if-attempt.false;
