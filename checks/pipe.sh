@@ -5,7 +5,7 @@
 #
 # Each run has a capture of its own, 60,000 packets of 64 keys in eleven batches, which `make` writes by the seed and the run's
 # number (100 runs and seed 1 unless given). Nothing cuts the sessions of such a capture, so only one list of records is
-# lawful, whatever reader and workers do: `romtyalig-pipe` must write the very bytes of `meter`, and note the same. The last line
+# lawful, whatever reader and workers do: `romtyalig-pipe` must write the very bytes of `meter`, and report the same. The last line
 # counts; the status is not 0 where a run differs.
 #
 # ROMTYALIG and ROMTYALIG_PIPE are the programs' paths (bin/romtyalig and bin/romtyalig-pipe unless set).
@@ -41,5 +41,5 @@ for run in $(seq "$runs"); do
         differ=$((differ + 1))
     fi
 done
-echo "$same runs write and note what meter does, $differ differ"
+echo "$same runs write and report what meter does, $differ differ"
 [ "$differ" -eq 0 ]

@@ -3,7 +3,7 @@
 
     python3 checks/second_maker.py
 
-For some seeds, numbers of packets and numbers of keys, `make` must write the very bytes of this program and note how many
+For some seeds, numbers of packets and numbers of keys, `make` must write the very bytes of this program and report how many
 packets they have. ROMTYALIG is the program's path (bin/romtyalig unless set).
 """
 import os
