@@ -24,7 +24,7 @@ batch-answers part count batch base file all =
     let long = answers-count batch.base (part_of batch.head batch.bytes.items) in
     range-all (answers_by part) count (omega (arith, ap length same, long, all, batch.indexed.count)) ∙ same
 
--- who took a batch more and tallied it is ready for those behind it
+-- a worker that took a batch more and tallied it is ready for those behind it
 pub ready-more : (taken taken' : List Batch) (batch : Batch) (captured : ℕ)
     → taken' ≡ taken ++ batch ∷ [] → captured ≤ batch.base + count_of batch → IsReadyFor taken' captured
 ready-more taken taken' batch captured more few = λ next all.

@@ -17,7 +17,7 @@ use Rattle.batch_queue.proofs.Lists.{sum-set, sum-at}
 abbrev right : Heard → ℕ
 right v = v.right
 
--- who was told nothing needs no word
+-- a pass that was told nothing needs no word
 told-none : (u : Heard) (m : ℕ) → other_heard ≡ u → 0 < u.told → m ≡ 1
 told-none u m is told = absurd (let none = ap (λ (x : Heard). x.told) is in omega (arith, none, told))
 

@@ -25,7 +25,7 @@ answers_of_batch batch = answers_from batch.base (part_of batch.head batch.bytes
 abbrev pub answers_in : List Batch → List Answer
 answers_in batches = flat_map answers_of_batch batches
 
--- Who took these batches is ready for each that stands behind them: it tallied no more records than stand before that
--- one.
+-- A worker that took these batches is ready for each that stands behind them: it tallied no more records than stand
+-- before that one.
 abbrev pub IsReadyFor : List Batch → ℕ → Type 0
 IsReadyFor taken captured = (next : Batch) → All (λ batch. IsBefore batch next) taken → captured ≤ next.base

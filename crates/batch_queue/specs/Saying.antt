@@ -13,8 +13,8 @@ word_of s = slice_index s.words 0
 abbrev pub all_rights : List Heard → ℕ
 all_rights views = sum_by (λ (v : Heard). v.right) views
 
--- The rule: until it is said that no more batches come, one pass has the right to say so, and then none; and who was
--- told so was told the truth.
+-- The rule: until it is said that no more batches come, one pass has the right to say so, and then none; and a pass
+-- that was told so was told the truth.
 pub record Ends (s : State (Unit {0}) Heard) : Type 0 where
   pub single : length s.words ≡ 1
   pub once : word_of s + all_rights s.views ≡ 1
@@ -39,7 +39,8 @@ both_heard v w = record { right = v.right + w.right; told = v.told + w.told }
 abbrev pub HasSaid : Step (Unit {0}) → Listener → ℕ → Listener → Type 0
 HasSaid st m n m' = m' ≡ (record { right = 0; told = 1 }, m.1)
 
--- The word was found to be n: 1 where who looks was told that it was said, and then who looks has no right to say it.
+-- A pass found the word to be n, 0 or 1: where n is 1 it was told, and has no right to say it; and it finds 1 where it
+-- was told before.
 abbrev pub HasHeard : Step (Unit {0}) → Listener → ℕ → Listener → Type 0
 HasHeard st m n m' =
     (m' ≡ (record { right = m.0.right; told = n }, m.1)) × (n + m.0.right ≤ 1) × (0 < m.0.told → n ≡ 1)

@@ -15,7 +15,7 @@ pub struct Batch {
     pub base: u64,
     /// What the file header of the capture tells.
     pub head: Head,
-    /// Its bytes. What stands behind its last record is of no account.
+    /// Its bytes. Those behind its last record don't matter.
     pub bytes: Vec<u8>,
     /// Where its records begin.
     pub index: RecordIndex,

@@ -1,4 +1,4 @@
-//! Who asks for open flows while workers meter.
+//! A watcher that asks for open flows while workers meter.
 
 ghost use Rattle.std.specs.Prelude.{◌≡◌, ◌≢◌, None};
 ghost use Rattle.flow_cache.specs.Shown.{shown_of};
@@ -9,13 +9,13 @@ use cache_watch::{Watch, Watcher};
 use flow_cache::{PebrCache, PebrPass};
 use flow_key::FlowKey;
 
-/// How often an ask tries at most to hold its flow, which may come into the set meanwhile.
+/// How many times at most an ask tries to hold its flow, which may come into the set meanwhile.
 const TRIES: u32 = 1000;
 
-/// How often a flow that is held is read, so that workers put it out meanwhile.
+/// How many times a flow that is held is read, so that workers put it out meanwhile.
 const READS: u32 = 100;
 
-/// The pass of who asked, how many asks held a flow, and the most slots that the pass had retired behind any of them.
+/// The watcher's pass, how many asks held a flow, and the most slots that the pass had retired after any of them.
 #[derive(Drop)]
 pub(crate) struct Asked {
     pub(crate) pass: PebrPass,
@@ -23,7 +23,7 @@ pub(crate) struct Asked {
     pub(crate) most: usize,
 }
 
-/// Reads the flow that is held some times.
+/// Reads the flow that is held `READS` times.
 fn read_some(cache: &PebrCache, watcher: &mut Watcher)
     requires of { IsOf cache.now watcher.old }
     requires holding { held_by watcher.old ≢ None }
@@ -36,7 +36,7 @@ fn read_some(cache: &PebrCache, watcher: &mut Watcher)
     }
 }
 
-/// Tries to hold the flow of a key, reads it and releases it. Whether it was held.
+/// Tries to hold the flow of a key, reads it and releases it. Tells whether it was held.
 fn try_once(cache: &PebrCache, watcher: &mut Watcher, key: &FlowKey) -> bool
     requires of { IsOf cache.now watcher.old }
     requires idle { held_by watcher.old ≡ None }
@@ -55,7 +55,7 @@ fn try_once(cache: &PebrCache, watcher: &mut Watcher, key: &FlowKey) -> bool
     }
 }
 
-/// Asks for the flow of a key. Whether it was held.
+/// Asks for the flow of a key. Tells whether it was held.
 fn ask(cache: &PebrCache, watcher: &mut Watcher, key: &FlowKey) -> bool
     requires of { IsOf cache.now watcher.old }
     requires idle { held_by watcher.old ≡ None }
@@ -71,7 +71,8 @@ fn ask(cache: &PebrCache, watcher: &mut Watcher, key: &FlowKey) -> bool
     false
 }
 
-/// Asks for the flow of a key by a watcher at the seat of a pass, and looks at the pass behind it.
+/// Asks for the flow of a key by a watcher at the seat of a pass, and then looks at how many slots the pass has
+/// retired.
 fn ask_by(cache: &PebrCache, asked: Asked, key: &FlowKey) -> Asked
     requires own { shown.IsOf cache.now asked.pass }
     requires single { (shown_of asked.pass).note.seats ≡ 1 }

@@ -9,7 +9,7 @@ pub(crate) struct Counts {
     pub octets: u64,
 }
 
-/// Those of some fragments, added to those of others.
+/// The counts of some fragments, added to others.
 fn add_counts(parts: &[Fragment], others: Counts) -> Counts {
     let mut counts = others;
     for part in parts {
@@ -19,7 +19,7 @@ fn add_counts(parts: &[Fragment], others: Counts) -> Counts {
     counts
 }
 
-/// Those of all fragments of a list.
+/// The counts of all fragments of a list.
 pub(crate) fn counts_of(parts: PartList) -> Option<Counts> {
     let pieces = parts.into_pieces().ok()?;
     let mut counts = Counts {

@@ -8,7 +8,7 @@ use packet_accept::accept;
 use pcap_reader::{Capture, RecordIndex};
 use std::alloc::Global;
 
-/// The keys of the first accepted packets of a capture, at most so many.
+/// The keys of the first accepted packets of a capture, at most `most` of them.
 pub(crate) fn keys_of(
     alloc: Global,
     capture: &Capture<'_>,

@@ -1,7 +1,7 @@
 //! For `checks/watch.sh`, which looks at lists of retired slots. Workers meter the capture through one set of a cache
 //! without turns; beside them a watcher asks for the flows of the first packets, one for each ask: it holds the flow,
-//! reads it and releases it. Behind each call of `meter`, and behind each ask, the pass is asked how many slots it has
-//! retired. The one line says the packets and the octets of all fragments that the cache handed out and kept, the most
+//! reads it and releases it. After each call of `meter`, and after each ask, the pass is asked how many slots it has
+//! retired. The one line tells the packets and the octets of all fragments that the cache handed out and kept, the most
 //! slots that any pass ever had retired, how many a pass has at all, and how many asks held a flow.
 
 ghost use Rattle.std.specs.Prelude.{◌≡◌, ◌+◌, ◌^◌, ◌<◌, ◌≤◌, length, All, IfOk, IfSome};
@@ -59,7 +59,7 @@ struct Came {
     held: u64,
 }
 
-/// The passes as they are looked at.
+/// The passes, each with the most slots that it had retired so far.
 fn looked_of(
     alloc: Global,
     cache: &LookedCache,
@@ -82,7 +82,7 @@ fn looked_of(
     Ok(looked)
 }
 
-/// A cache of one set and so many seats, the passes of who meters, and the one of who asks.
+/// A cache of one set and so many seats, the passes of the workers, and that of the watcher.
 fn open_cache(
     alloc: Global,
     seats: usize,
@@ -169,7 +169,7 @@ fn at_once<R: Threads + Sync>(
     )
 }
 
-/// Closes the cache with the passes of who metered and of who asked, and adds up what it handed out and kept.
+/// Closes the cache with the passes of the workers and of the watcher, and adds up what it handed out and kept.
 fn close_cache(
     alloc: Global,
     cache: LookedCache,
@@ -260,7 +260,7 @@ fn tell(host: &HostRuntime, came: &Came) -> ExitCode {
     }
 }
 
-/// Looks at lists over the capture of standard input as the words say.
+/// Meters the capture of standard input as the words say, and writes the line of what came of it.
 pub(crate) fn tell_lists<R: Threads + Sync>(
     rt: &R,
     host: &HostRuntime,

@@ -1,4 +1,4 @@
-//! A cache whose passes are looked at behind each call.
+//! A cache that looks at the retired slots of a pass after each call.
 
 ghost use Rattle.pebr_words.specs.Pasts.{Lost};
 ghost use Rattle.bench_checks.specs.Looked.{means_of, shown_of, tries_of, IsOf};
@@ -15,7 +15,7 @@ pub(crate) struct LookedCache {
     pub(crate) inner: PebrCache,
 }
 
-/// A pass of it, and the most slots that it had retired behind any call so far.
+/// A pass of it, and the most slots that it had retired after any call so far.
 #[derive(Drop)]
 pub(crate) struct LookedPass {
     pub(crate) inner: PebrPass,

@@ -37,7 +37,7 @@ fn kind_of(word: &str) -> Option<Kind> {
     }
 }
 
-/// Through which cache of how many sets how many threads meter.
+/// Which cache is measured, how many threads meter through it, and how many sets it has.
 #[derive(Clone, Copy, Debug)]
 struct Setting {
     kind: Kind,
@@ -62,8 +62,8 @@ fn setting_of(words: &[String]) -> Option<Setting> {
     })
 }
 
-/// Meters the packets through a cache of `caches`, and tells the nanoseconds that it took. `None` where it has no clock
-/// or no memory, or more packets are handed out than there are.
+/// Meters the packets through a cache of `caches`, and tells the nanoseconds that it took. `None` where there is no
+/// clock or no memory, or more packets are handed out than there are.
 fn pace<R: Threads + Clock + Sync, M: Caches>(
     rt: &R,
     alloc: Global,
@@ -85,7 +85,7 @@ fn pace<R: Threads + Clock + Sync, M: Caches>(
     u64::try_from(took.as_nanos()).ok()
 }
 
-/// The nanoseconds a packet of the capture of a source.
+/// The nanoseconds for each packet of a source's capture.
 fn pace_of<R: Threads + Clock + Sync, S: Source>(
     rt: &R,
     alloc: Global,

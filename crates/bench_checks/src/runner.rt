@@ -98,7 +98,7 @@ fn run_share<C: FlowCache>(packets: &[Packet], count: usize, cache: &C, runner: 
     }
 }
 
-/// How many packets the fragments have that all runners were handed.
+/// How many packets are in the fragments that all runners were handed.
 pub(crate) fn handed_to<C: FlowCache>(runners: &[Runner<C>]) -> u64 {
     let mut sum = 0u64;
     for runner in runners {

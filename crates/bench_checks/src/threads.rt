@@ -1,4 +1,4 @@
-//! For `checks/two_threads.sh`: two threads meter the capture into one cache of four sets. Written is `whole` where the
+//! For `checks/two_threads.sh`: two threads meter the capture into one cache of four sets. It writes `whole` where the
 //! fragments have just the packets and octets of the tally, `differs` where they don't, and `not metered` where the
 //! capture isn't metered.
 
@@ -15,7 +15,7 @@ use std::process::ExitCode;
 use std::thread::Threads;
 use turn_cache::TurnCaches;
 
-/// Whether the fragments have the packets and the octets of the tally, and none where the capture isn't metered.
+/// Whether the fragments have the packets and the octets of the tally; `None` where the capture isn't metered.
 fn is_whole<R: Threads + Sync>(rt: &R, alloc: Global, bytes: &[u8]) -> Option<bool>
     requires { length bytes.now ≤ 2 ^ 30 }
 {

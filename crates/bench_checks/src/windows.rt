@@ -18,7 +18,7 @@ use turn_cache::TurnCaches;
 /// How many records a worker draws at a time.
 const PIECE: u64 = 256;
 
-/// By how many workers a capture is metered, in windows of how many bytes, through how many sets.
+/// How many workers meter, how many bytes a window has, and how many sets the cache has.
 #[derive(Clone, Copy, Debug)]
 struct Setting {
     workers: usize,

@@ -8,7 +8,7 @@ use Rattle.flow_parts.specs.declared.fragment.Fragment.{Fragment}
 abbrev pub Ends : Packet → Type 0
 Ends packet = IsTrue (ends_flow packet)
 
--- The fragment is closed: its protocol and its flags are those of a packet that ends its flow. The flags are the union
--- of its packets', so that one of them does.
+-- The fragment is closed: its protocol and its flags are those of a packet that ends its flow. Its flags are the union
+-- of its packets' flags, so one of these packets ends the flow.
 abbrev pub IsClosed : Fragment → Type 0
 IsClosed fragment = IsTrue (is_tcp_end fragment.key.protocol fragment.flags)

@@ -108,7 +108,7 @@ ReachesJoined = (limits : Timeouts) (parts others wholes rest : List Fragment) (
     → IsJoinable limits one other → IsJoined one other whole → Reaches limits parts others
     → IsPermutation others (one ∷ other ∷ rest) → IsPermutation wholes (whole ∷ rest) → Reaches limits parts wholes
 
--- From no fragments none are reached, and none from some.
+-- Where one list of fragments is reached from another, both are empty or neither is.
 abbrev pub ReachesNone : Type 0
 ReachesNone = (limits : Timeouts) (parts others : List Fragment) → Reaches limits parts others
     → (parts ≡ []) ↔ (others ≡ [])
@@ -149,7 +149,7 @@ FieldsTell = (one other : Fragment) → part_fields one ≡ part_fields other �
 abbrev pub PartsFit : Type 0
 PartsFit = (f : Fragment) → AreFit (part_fields f).key × AreCounts (part_fields f)
 
--- Such numbers have one answer, a fragment or none, and `part_with` gives it.
+-- Any numbers in these places have exactly one answer, a fragment or none, and `part_with` gives it.
 abbrev pub AnswersOnce : Type 0
 AnswersOnce = (fields : PartFields) → IsPartOf fields (part_with fields)
     × ((answer : Option Fragment) → IsPartOf fields answer → answer ≡ part_with fields)
@@ -158,6 +158,6 @@ AnswersOnce = (fields : PartFields) → IsPartOf fields (part_with fields)
 abbrev pub PartOfItsFields : Type 0
 PartOfItsFields = (f : Fragment) → part_with (part_fields f) ≡ Some f
 
--- And where such numbers don't fit there is none.
+-- And where the numbers don't fit there is none.
 abbrev pub NoneWhereUnfit : Type 0
 NoneWhereUnfit = (fields : PartFields) → ¬ (AreFit fields.key × AreCounts fields) → part_with fields ≡ None

@@ -23,7 +23,7 @@ pub struct Fragment {
     pub flags: u16,
     pub ghost counted: { 1 ≤ packets },
     pub ghost spanned: { first ≤ last },
-    // The widths of the fields, for a reader of clauses, where a number has none.
+    // The widths of the fields: a number in a clause has none of its own.
     pub ghost sized: { (packets < 2 ^ 64) × (octets < 2 ^ 64) × (last < 2 ^ 64) × (flags < 2 ^ 16) },
 }
 
@@ -79,8 +79,8 @@ impl Fragment {
         ]
     }
 
-    /// The fragment that has these words, as [`Fragment::to_words`] gives them; `None` where no fragment has
-    /// them, so wherever the word of packets is 0.
+    /// The fragment that has these words, as [`Fragment::to_words`] gives them; `None` where no fragment has them: for
+    /// example where the count of packets is 0.
     pub fn of_words(words: &[u64; 10]) -> Option<Fragment>
         ensures fields { IsPartOf (part_fields_in words.now) result }
         ensures some { IfSome result (λ fragment. part_words fragment ≡ words.now) }

@@ -7,8 +7,8 @@ ghost use Rattle.flow_parts.specs.Laws.{FieldsTell, PartsFit, AnswersOnce, PartO
 ghost use Rattle.flow_parts.specs.Laws.{StandsReached, ReachesCounts, ReachesOnward, ReachesPermuted, ReachesTogether};
 ghost use Rattle.flow_parts.specs.Laws.{ReachesJoined, ReachesNone};
 
-/// Sharing out stands when two lists are put together, and when the packets or the fragments are permuted.
-/// No fragments share out no packets, and nothing else; one fragment shares out its heaps.
+/// Sharing out still holds when two lists are put together, and when the packets or the fragments are permuted. Where
+/// there are no fragments there are no packets, and the other way round; one fragment shares out its heaps.
 pub fn sharing_out_stands()
     ensures nothing { NothingIsShared }
     ensures together { StandsTogether }

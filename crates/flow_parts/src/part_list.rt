@@ -9,8 +9,8 @@ use std::alloc::Global;
 use std::marker::Model;
 use std::mem::replace;
 
-/// How many fragments a piece has room for. That is over 32 MiB, which the C library maps by itself: what of the room
-/// isn't filled takes no memory, and what is let go of it is given back to the system.
+/// How many fragments a piece has room for. That is over 32 MiB, which the C library maps by itself: room that isn't
+/// filled takes no memory, and room that is freed goes back to the system.
 const PIECE: usize = 350_000;
 
 /// A list of fragments, in pieces: those before the last, and the last, which grows. Contracts see it as the list.
@@ -41,12 +41,12 @@ impl PartList {
         }
     }
 
-    /// Where the list takes its memory.
+    /// The allocator that the list takes its memory from.
     pub fn allocator(&self) -> &Global {
         self.last.allocator()
     }
 
-    /// Adds a fragment at the end. Nothing is copied; one call in 350,000 allocates.
+    /// Adds a fragment at the end. No fragment is copied; one call in 350,000 allocates. `NoMemory`: out of memory.
     pub fn push(&mut self, alloc: Global, part: Fragment) -> Result<(), NoMemory>
         ensures { OnOk result (self.new ≡ self.old ++ (part ∷ [])) }
     {
@@ -59,7 +59,7 @@ impl PartList {
         Ok(())
     }
 
-    /// Adds the fragments of another list behind those of this one. None is copied.
+    /// Adds the fragments of another list behind those of this one. None is copied. `NoMemory`: out of memory.
     pub fn append(&mut self, other: PartList) -> Result<(), NoMemory>
         ensures { OnOk result (self.new ≡ self.old ++ other) }
     {
@@ -71,7 +71,7 @@ impl PartList {
         Ok(())
     }
 
-    /// Adds fragments in a piece of their own. None is copied.
+    /// Adds fragments in a piece of their own. None is copied. `NoMemory`: out of memory.
     pub fn add_piece(&mut self, piece: Vec<Fragment>) -> Result<(), NoMemory>
         ensures { OnOk result (self.new ≡ self.old ++ piece.items) }
     {
@@ -80,7 +80,7 @@ impl PartList {
         Ok(())
     }
 
-    /// The pieces of the list, in its order; each is let go by whoever is done with it.
+    /// The pieces of the list, in its order, so that a caller can drop one by one. `NoMemory`: out of memory.
     pub fn into_pieces(self) -> Result<Vec<Vec<Fragment>>, NoMemory>
         ensures { IfOk result (λ pieces. items_of pieces.items ≡ self) }
     {

@@ -16,8 +16,8 @@ pub record Progress : Type 0 where
   pub contents : Contents
   pub sequences : Sequences
 
--- The header's fields: version, length of the message, sequence number and observation domain. The export time, at
--- byte 4, isn't looked at.
+-- The header's fields: version, length of the message, sequence number and observation domain. The export time, at byte
+-- 4, isn't used.
 abbrev pub message_version : Part → ℕ
 message_version part = number_at 0 2 part.bytes
 

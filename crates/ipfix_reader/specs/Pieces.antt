@@ -29,7 +29,8 @@ pub record HasRead (bytes : List ℕ) (records : List DataRecord) (walk : WalkSt
   pub place : walk.at ≡ length bytes
   pub onward : (more : List ℕ) → decode (bytes ++ more) ≡ read_behind walk records more
 
--- So many bytes at the front are a message by its length; or they are a header that claims less than a header.
+-- The first `size` bytes are a message by its length field; or they are a header whose length field claims less than a
+-- header.
 pub record IsFront (size : ℕ) (bytes : List ℕ) : Type 0 where
   pub inside : size ≤ length bytes
   pub claimed : size ≡ max (number_at 2 2 bytes) 16

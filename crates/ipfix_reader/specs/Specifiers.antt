@@ -42,8 +42,8 @@ fields_of beyond (suc count) before part =
 abbrev pub record_header : Bool → ℕ
 record_header options = if options then 6 else 4
 
--- The header isn't one of a template: it isn't whole, its number is one of those for other sets, or the scope isn't
--- one to all of the fields.
+-- The header isn't one of a template: it isn't whole, its number is one of those for other sets, or the number of scope
+-- fields isn't from 1 to the number of all fields.
 abbrev pub is_bad_header : Bool → List ℕ → Bool
 is_bad_header options bytes =
     nat_lt (length bytes) (record_header options) || nat_lt (number_at 0 2 bytes) 256

@@ -8,8 +8,8 @@ use Rattle.ipfix_reader.specs.declared.fault.StreamFault.{StreamFault}
 use Rattle.ipfix_reader.specs.Part.{Part, behind}
 use Rattle.octets.specs.Numbers.{octet_at, number_at}
 
--- The bytes in front of a value that give its length: none where the template gives it; else one below 255, or 255
--- and two more (section 7).
+-- The bytes in front of a value that give its length: none where the template gives it; else one byte below 255, or the
+-- byte 255 and two more (section 7).
 abbrev pub prefix_length : FieldSpec → List ℕ → ℕ
 prefix_length field bytes = if is_variable field then (if octet_at 0 bytes == 255 then 3 else 1) else 0
 

@@ -8,9 +8,9 @@ use Rattle.ipfix_reader.specs.Part.{Part}
 abbrev pub Reading : Type 0 → Type 0
 Reading S = S → Part → Result S StreamFault
 
--- At most so many items. `item` reads one of them, behind which the reading that it is given goes on; or it finds
--- the end. The bound is there because each reading ends; `all_items` never meets it, so what stands at `zero` is never
--- an answer.
+-- At most so many items. `item` reads one of them, behind which the reading that it is given goes on; or it finds the
+-- end. The bound is there because each definition must end; `all_items` never meets it, so what stands at `zero` is
+-- never an answer.
 unfoldable pub at_most : {S : Type 0} → ℕ → (Reading S → Reading S) → Reading S
 at_most zero item = λ before part. Err (Cut part.at)
 at_most (suc more) item = item (at_most more item)

@@ -46,7 +46,7 @@ impl<'a> Cursor<'a> {
         Cursor { at: self.at, bytes }
     }
 
-    /// The number in the two bytes from `place` on.
+    /// The big-endian number in the two bytes from `place` on.
     #[inline]
     pub fn u16_at(self, place: usize) -> u16
         requires { place + 2 ≤ length self.bytes.now }
@@ -55,7 +55,7 @@ impl<'a> Cursor<'a> {
         octets::u16_at(self.bytes, place)
     }
 
-    /// The number in the four bytes from `place` on.
+    /// The big-endian number in the four bytes from `place` on.
     #[inline]
     pub fn u32_at(self, place: usize) -> u32
         requires { place + 4 ≤ length self.bytes.now }

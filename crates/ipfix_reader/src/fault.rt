@@ -12,20 +12,21 @@ use std::alloc::{AllocError, AllocFailed};
 pub enum StreamFault {
     /// The message's header or the message goes beyond the stream's end.
     Cut { at: u64 },
-    /// The message's version isn't 10.
+    /// The message's version isn't 10 (RFC 7011, section 3.1).
     BadVersion { at: u64 },
     /// The length of the message or of the set isn't possible, or the data record goes beyond its set's end.
     BadLength { at: u64 },
     /// The data set's template isn't known in its observation domain; `id` is its number.
     NoTemplate { at: u64, id: u16 },
-    /// The template record is none: it goes beyond its set's end, its number is below 256, no byte is taken by a
-    /// record of it, or its scope isn't one to all of its fields.
+    /// The template record isn't valid: it goes beyond its set's end, its number is below 256, a data record of it
+    /// would take no byte, or its number of scope fields isn't from 1 to the number of all its fields.
     BadTemplate { at: u64 },
-    /// The padding at the end of a set has a byte that isn't 0.
+    /// The padding at the end of a set has a byte that isn't 0 (RFC 7011, section 3.3.1).
     BadPadding { at: u64 },
-    /// The message's sequence number isn't the one expected in its observation domain.
+    /// The message's sequence number isn't the one expected in its observation domain (RFC 7011, section 3.1).
     BadSequence { at: u64 },
-    /// The template record has no fields, so it withdraws a template (RFC 7011, section 8.1). That isn't taken here.
+    /// The template record has no fields, so it withdraws a template (RFC 7011, section 8.1). This reader takes no
+    /// withdrawals.
     Withdrawal { at: u64 },
 }
 

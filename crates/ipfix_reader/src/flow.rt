@@ -34,7 +34,7 @@ struct Numbers {
 /// over IPv6, in order and without enterprise numbers, each as long as its field; there is a packet or more, and the
 /// first isn't later than the last. Else `None`.
 ///
-/// The number of the record's template and its domain don't count.
+/// The number of the record's template and its domain don't matter.
 #[tactic(auto, unfolding(crate::specs::Flows::flow))]
 pub fn flow_of(rec: &DataRecord) -> Option<FlowRecord>
     ensures { result ≡ flow rec.now }

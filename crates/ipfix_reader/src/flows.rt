@@ -15,17 +15,17 @@ use std::alloc::Global;
 pub enum FlowsError {
     /// The stream has this fault.
     NotStream(StreamFault),
-    /// The data record at this place, counted from 0, is the first that is no flow record.
+    /// The data record at this place, counted from 0, is the first that isn't a flow record.
     NotFlows(u64),
     /// Out of memory.
     NoMemory,
 }
 
-/// The flow records that the data records of a stream are, in their order. Of each data record its values are kept only
+/// The flow records that the data records of a stream are, in their order. The values of a data record are kept only
 /// until its flow record is made.
 ///
-/// `NotStream` has the stream's first fault. `NotFlows` has the place of the first data record that is no flow record,
-/// where the stream has no fault.
+/// `NotStream` has the stream's first fault. `NotFlows` has the place of the first data record that isn't a flow
+/// record, where the stream has no fault.
 pub fn read_flows(alloc: Global, bytes: &[u8]) -> Result<Vec<FlowRecord>, FlowsError>
     ensures flows { IfOk result (λ flows. flows_of bytes.now ≡ Some flows.items) }
     ensures cause { IfErr result (FlowsFail bytes.now) }

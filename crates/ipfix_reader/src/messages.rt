@@ -44,7 +44,7 @@ pub fn read_stream(alloc: Global, bytes: &[u8]) -> Result<Vec<DataRecord>, Strea
 }
 
 /// Reads a stream as [`read_stream`] does, but keeps none of its data records: each is taken as soon as it is read,
-/// also where a fault is met behind it.
+/// even where a fault follows it.
 ///
 /// The errors are those of [`read_stream`]; no clause says what the taker then has.
 pub fn read_into<T: RecordTaker>(
@@ -121,7 +121,7 @@ fn read_message<'a, T: RecordTaker>(
     }
 }
 
-/// The sequence number behind so many data records, modulo 2^32.
+/// The sequence number behind `count` more data records, modulo 2^32.
 fn next_number(sequence: u32, count: usize) -> u32
     requires { count < 2 ^ 63 }
     ensures { result ≡ (sequence + count) % 2 ^ 32 }

@@ -124,7 +124,7 @@ fn read_record<'a, T: RecordTaker>(
     Ok(rest)
 }
 
-/// What is left at the end of a set is to be zeros.
+/// Checks that all bytes left at the end of a set are 0.
 fn check_padding(rest: Cursor<'_>) -> Result<(), StreamError>
     ensures { IsPaddingChecked (part_of rest.entry) result }
 {

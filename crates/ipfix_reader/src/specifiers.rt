@@ -63,7 +63,7 @@ fn is_bad_header(options: bool, part: Cursor<'_>) -> bool
     part.u16_at(0) < FIRST_TEMPLATE || scope == 0 || part.u16_at(2) < scope
 }
 
-/// So many fields, and what lies behind their specifiers; `beyond` where one goes beyond the end.
+/// `count` fields, and what lies behind their specifiers; `beyond` where one goes beyond the end.
 fn fields_of<'a>(
     alloc: Global,
     count: u16,

@@ -10,7 +10,7 @@ use std::alloc::Global;
 
 /// What takes the data records of a stream, in their order.
 ///
-/// `has_taken` is for it to say: what it is to be once it has taken these records.
+/// Each taker says what `has_taken` is: what it holds once it has taken these records.
 pub trait RecordTaker {
     ghost use Rattle.ipfix_model.specs.declared.values.DataRecord.{DataRecord};
 
@@ -19,7 +19,7 @@ pub trait RecordTaker {
 
     /// Takes one record more.
     ///
-    /// `NoMemory` where the room for what it keeps of it can't be had.
+    /// `NoMemory` where there is no room for what it keeps of the record.
     fn take(&mut self, rec: DataRecord) -> Result<(), NoMemory>
         ensures { OnOk result ((before : List DataRecord) → has_taken self.old before
             → has_taken self.new (before ++ rec ∷ [])) };
@@ -40,7 +40,7 @@ impl RecordTaker for RecordList {
     }
 }
 
-/// The flow records that the records are which were taken, up to the first that is none.
+/// The flow records among the records that were taken, up to the first record that isn't one.
 #[derive(Drop)]
 pub(crate) struct FlowList {
     pub(crate) flows: Vec<FlowRecord>,

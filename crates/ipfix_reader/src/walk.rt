@@ -35,8 +35,8 @@ impl Model for StreamWalk {
     ghost view = { λ walk. record { templates = walk.table; sequences = walk.sequences; at = walk.at } };
 }
 
-/// The size of the message at the front of some bytes, where it is whole, and that of a header where it claims less
-/// than a header; 0 where neither is there.
+/// The size of the whole message at the front of some bytes, or of its header where its length field claims less than a
+/// header; 0 where there is neither.
 fn front_size(bytes: &[u8]) -> usize
     ensures front { 0 < result → IsFront result bytes.now }
     ensures none { result ≡ 0 → length bytes.now < 65535 }
@@ -97,7 +97,7 @@ impl StreamWalk {
     /// Reads the whole messages at the front of some bytes, which follow those that were read, and gives how many bytes
     /// these messages have. What is left is less than the longest message.
     ///
-    /// A fault is the stream's first one, whatever follows; then the walk is at no known place.
+    /// A fault is the stream's first one, whatever follows; no clause says where the walk then stands.
     pub fn read_whole<T: RecordTaker>(
         &mut self,
         alloc: Global,
@@ -131,7 +131,7 @@ impl StreamWalk {
         Ok(bytes.len() - rest.len())
     }
 
-    /// Reads the last bytes of the stream, which follow those that were read: whatever is no whole message there is a
+    /// Reads the last bytes of the stream, which follow those that were read: bytes that aren't whole messages are a
     /// fault.
     pub fn read_last<T: RecordTaker>(
         &mut self,

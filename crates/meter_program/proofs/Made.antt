@@ -123,7 +123,7 @@ made-valid seed packets keys =
     (sym (made-is_file seed packets keys))
     (inr (inl refl), made-undamaged seed packets keys)
 
--- a source that gives it and doesn't fail is refused for want of memory alone
+-- a source that gives it and doesn't fail is refused only where memory is out
 pub refused-for-memory : (seed packets keys : ℕ) (input : Side) (all : List ℕ) (status : Status)
     → input.before ≡ Some all
     → all ≡ capture_of seed packets keys → length all ≤ 2 ^ 30 → (HasFailed input → ⊥) → MeterRefuses input status

@@ -184,7 +184,7 @@ ShowRefuses input (LinkUnknown link) = ⊥
 ShowRefuses input (Damaged at) = ⊥
 ShowRefuses input (BadSchedule line) = ⊥
 
--- Why `make` and `selftest` refuse with a status: only for want of memory. They read nothing then either.
+-- Why `make` and `selftest` refuse with a status: only because memory is out. They read nothing then either.
 abbrev pub MakeRefuses : Side → Status → Type 0
 MakeRefuses input NoMemory = IsUntouched input
 MakeRefuses input Done = ⊥
@@ -241,8 +241,8 @@ Ends asked seen told (BadSchedule line) = IsRefused asked seen told (BadSchedule
 
 -- ---- a run
 
--- The words ask for nothing, or memory was out before they were read: nothing is read, nothing is written, and the
--- standard error took this line.
+-- The words ask for nothing, or memory was out before they were read: nothing is read, nothing is written, and standard
+-- error took this line.
 pub record IsUsage (seen : Seen) (line : List ℕ) (status : Status) : Type 0 where
   pub usage : (status ≡ Usage) ⊎ (status ≡ NoMemory)
   pub input : IsUntouched seen.input

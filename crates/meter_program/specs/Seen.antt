@@ -3,7 +3,7 @@ use Rattle.std.specs.Prelude.{List}
 use Rattle.meter_io.specs.Sides.{Side}
 use Rattle.flow_parts.specs.declared.fragment.Fragment.{Fragment}
 
--- The input, the output and standard error, and behind the run the fragments of the last cache that was closed.
+-- The input, the output and standard error, and after the run the fragments of the last cache that was closed.
 pub record Seen : Type 0 where
   pub input : Side
   pub output : Side

@@ -27,10 +27,9 @@ make_options =
     ∷ (option (codes "keys") 1 4096 (Some 64)
     ∷ []))
 
--- What a command line asks for: to meter with an idle time-out and an active time-out in seconds, by so many workers,
--- with so many sets of the cache and so many records a piece, and a message size in octets; to show a stream; to make a
--- capture of so many packets of so many keys by a seed; to replay a schedule; to meter such a capture without reading
--- it.
+-- What a command line asks for: to meter with an idle time-out and an active time-out in seconds, a number of workers,
+-- of sets of the cache and of records a piece, and a message size in octets; to show a stream; to make a capture by a
+-- seed, a number of packets and a number of keys; to replay a schedule; to meter such a capture without reading it.
 pub data Asked : Type 0 where
   meter : (idle active workers sets piece size : ℕ) → Asked
   show : Asked

@@ -7,7 +7,7 @@ ghost use Rattle.meter_program.specs.Summary.{count_line};
 use crate::reports::count;
 use meter_io::{Failed, Sink, write_all};
 
-/// Writes a text to the output, and the line of a name and a number to standard error behind it.
+/// Writes a text to the output, and then a line with a name and a number to standard error.
 ///
 /// `Failed` comes only where the count of faults of the output or of standard error rose; both then took a beginning of
 /// what they were to take, the output all of it where none of its own writes failed.

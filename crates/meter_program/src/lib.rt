@@ -26,7 +26,7 @@
 //! to read first. `Seen` there is what is seen of input, output and standard error before and after; `Words` the
 //! command lines; `Shows`, `Summary` and `Replays` the texts; `Statuses` exit statuses and lines; `Gathering` the
 //! export time; `Metering` what metering, gathering and writing say of one another, for every program that meters.
-//! `Replaying` is the code's own.
+//! `Showing` and `Replaying` are the code's own.
 #![tactic(auto)]
 
 mod ending;

@@ -142,7 +142,7 @@ impl RecordTaker for Lines {
 /// numbers joined by points for IPv4 addresses of four bytes. Any other value, and each value of an enterprise's
 /// element, is in lower-case hexadecimal, two digits for each byte.
 ///
-/// `Fault` has the stream's first fault; the one other error is want of memory.
+/// `Fault` has the stream's first fault; the one other error is `NoMemory`: out of memory.
 pub fn lines_of(alloc: Global, stream: &[u8]) -> Result<Lines, StreamError>
     ensures lines { IfOk result (λ lines. IsShown stream.now lines.text.items
         (count_line (codes "records") lines.count)) }

@@ -39,8 +39,8 @@ pub struct Gathered {
     pub tail: u64,
 }
 
-/// Meters the capture that the input gives through a cache, by all workers at once, and closes the cache. The fragments
-/// that it gave, and what is known of the capture.
+/// Meters the capture that the input gives through a cache, by all workers at once, and closes the cache. Gives the
+/// fragments that the cache gave, and what is known of the capture.
 fn meter_input<R: Threads + Sync, S: Source, M: Caches, G: Gate>(
     engine: &Engine<'_, R, G>,
     settings: &Settings,
@@ -75,10 +75,10 @@ fn meter_input<R: Threads + Sync, S: Source, M: Caches, G: Gate>(
     Ok((parts, counted))
 }
 
-/// Gathers the fragments that a cache gave of a capture that was metered into the capture's records, by so many
+/// Gathers the fragments that a cache gave of a metered capture into the capture's records, by at most `threads`
 /// threads.
 ///
-/// `NoMemory` where there is no room for them.
+/// `NoMemory`: out of memory.
 pub fn gathered_of<R: Threads + Sync>(
     rt: &R,
     alloc: Global,

@@ -61,7 +61,7 @@ fn append_ignored(text: &mut Text, ignored: &[u64; 5])
 /// Writes the summary of a metered capture, eleven lines: the numbers of its tally, how many records of flows were
 /// written, in how many messages, and how many bytes are left behind the last record of the capture.
 ///
-/// `Failed` comes only where the count of faults of standard error rose; it then took a beginning of the line.
+/// `Failed` comes only where the count of faults of standard error rose; it then took a beginning of the summary.
 #[tactic(auto, unfolding(crate::specs::Summary::summary))]
 pub fn summary<E: Sink>(
     stderr: &mut E,
@@ -134,7 +134,7 @@ fn append_fault(text: &mut Text, status: &Status)
     }
 }
 
-/// Writes the line of a status. `Done` and `WriteFault` have none: of them nothing is written.
+/// Writes the line of a status. `Done` and `WriteFault` have none: for them nothing is written.
 ///
 /// `Failed` comes only where the count of faults of standard error rose; it then took a beginning of the line.
 pub fn fault_line<E: Sink>(stderr: &mut E, status: &Status) -> Result<(), Failed>

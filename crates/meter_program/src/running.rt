@@ -65,14 +65,14 @@ fn command<R: Threads + Sync, S: Source, K: Sink, E: Sink, M: Caches, G: Gate>(
 ///
 /// - `Done`: all was read and written.
 /// - `ReadFault`: only where a read failed and the input counted it.
-/// - `Usage`: exactly where the words are no command line. Nothing is read.
+/// - `Usage`: exactly where the words aren't a command line. Nothing is read.
 /// - `WriteFault`: only where a write failed and the output or standard error counted it; in `selftest`, which leaves
 ///   standard error as it was, the output. Both took a beginning of what they were to take, the output all of it where
 ///   none of its own writes failed.
-/// - `NotCapture`, `LinkUnknown`, `Damaged`: `meter`, exactly where the bytes read are no capture, have another link
+/// - `NotCapture`, `LinkUnknown`, `Damaged`: `meter`, exactly where the bytes read aren't a capture, have another link
 ///   type than 1, 101 and 113, or a record that claims too much.
 /// - `NotStream`: `show`, exactly where the bytes read have that fault.
-/// - `BadSchedule`: `schedule`, exactly where the text read is out of the grammar, with the first such line, or is in
+/// - `BadSchedule`: `schedule`, exactly where the text read isn't in the grammar, with the first such line, or is in
 ///   it and a step isn't enabled, with the line of the first.
 /// - `TooLarge`: exactly where more bytes came than the command's limit.
 /// - `NoMemory`: out of memory, at any point before the first write.

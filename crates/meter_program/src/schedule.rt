@@ -26,7 +26,7 @@ struct Replay {
     steps: u64,
 }
 
-/// The replay of the schedule that these bytes are, or why they are none.
+/// The replay of the schedule that these bytes are, or why they can't be replayed.
 fn replay_of(alloc: Global, bytes: &[u8]) -> Result<Replay, Status>
     ensures replayed { IfOk result
         (λ replay. IsReplayed bytes.now replay.text.items (count_line (codes "steps") replay.steps)) }

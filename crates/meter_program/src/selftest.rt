@@ -68,8 +68,8 @@ fn four_workers() -> Settings
     }
 }
 
-/// Meters the capture of a seed in memory, through a cache of `caches`, and writes the summary to the output. It reads
-/// nothing and tells nothing; the stream goes nowhere, and its messages are counted.
+/// Meters the capture of a seed in memory, through a cache of `caches`, and writes the summary to the output. It has
+/// neither input nor standard error; the stream goes nowhere, and its messages are counted.
 pub fn selftest<R: Threads + Sync, K: Sink, M: Caches, G: Gate>(
     engine: &Engine<'_, R, G>,
     settings: &Making,
@@ -90,7 +90,7 @@ pub fn selftest<R: Threads + Sync, K: Sink, M: Caches, G: Gate>(
     };
     let gathered = match gathered_from(engine, &settings, &mut source, caches) {
         Ok(gathered) => gathered,
-        // Want of memory: a made capture is refused for nothing else.
+        // Out of memory: a made capture is refused for nothing else.
         Err(status) => return status,
     };
     let Ok(emitter) = emitter_for(engine.alloc, &gathered, settings.size) else {

@@ -33,7 +33,7 @@ pub struct Making {
     pub seed: u64,
     /// How many packets it has, from 1 to 1,000,000.
     pub packets: u32,
-    /// How many keys they may have, from 1 to 4096.
+    /// How many keys its packets may have, from 1 to 4096.
     pub keys: u16,
     pub ghost packets_bounds: { (1 ≤ packets) × (packets ≤ 1000000) },
     pub ghost keys_bounds: { (1 ≤ keys) × (keys ≤ 4096) },

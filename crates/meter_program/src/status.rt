@@ -16,11 +16,11 @@ pub enum Status {
     Done,
     /// The input failed.
     ReadFault,
-    /// The words are no command.
+    /// The words aren't a command line.
     Usage,
     /// A write failed.
     WriteFault,
-    /// The input is no classic capture.
+    /// The input isn't a classic capture.
     NotCapture,
     /// The capture has this link type, which isn't read.
     LinkUnknown(u32),
@@ -29,7 +29,7 @@ pub enum Status {
     Damaged(u64),
     /// The input is larger than the command's limit.
     TooLarge,
-    /// Want of memory.
+    /// Out of memory.
     NoMemory,
     /// The stream has this fault.
     NotStream(StreamFault),

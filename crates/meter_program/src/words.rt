@@ -168,7 +168,7 @@ fn making_command(alloc: Global, name: &str, options: &[String]) -> Result<Comma
 /// | `make`, `selftest` | `seed` 0 to 2^64 - 1, must be given; `packets` 1 to 1,000,000, must be given; `keys` 1 to 4096, 64 |
 /// | `show`, `schedule` | none |
 ///
-/// - `NotOptions`: exactly where the words are no such command line.
+/// - `NotOptions`: exactly where the words aren't such a command line.
 /// - `NoMemory`: out of memory.
 pub fn command_of(alloc: Global, words: &[String]) -> Result<Command, OptionsError>
     ensures command { IfOk result (λ command. asked_by (map string_bytes words.now) ≡ Some (asked_of command)) }

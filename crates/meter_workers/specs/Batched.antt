@@ -44,7 +44,7 @@ HasTakenAll the cache queue worker =
 abbrev pub IsAtQueue : {X P : Type 0} → BatchQueue → Reader X P → Type 0
 IsAtQueue queue reader = IsPassOf queue (reader_of reader.feed) × IsOpen reader.feed
 
--- A batch stands before the one of this number, behind so many records.
+-- The batch stands before the one with this number, whose first record has `base` records of the capture before it.
 abbrev pub StandsBefore : ℕ → ℕ → Batch → Type 0
 StandsBefore number base batch = (batch.number < number) × (batch.base + count_of batch ≤ base)
 

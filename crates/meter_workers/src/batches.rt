@@ -40,7 +40,7 @@ use work_pieces::{WorkState, Worker, seat_workers, unseat_workers};
 pub struct Batches {
     /// The most bytes of a batch, from 262,184 to 2^27.
     pub size: usize,
-    /// How many bytes may come at most, and at most 2^30.
+    /// The most bytes that the input may have; at most 2^30.
     pub limit: u64,
     /// How many batches the queue has room for, from 1 to 64.
     pub room: usize,
@@ -97,7 +97,7 @@ impl Shared {
 }
 
 /// Takes batches and meters each, until it is told that no more come and none is left. The gate is told of each batch
-/// before. A seat that stands for all took all batches that were put then.
+/// before it is metered. A seat that stands for all seats has then taken all batches that were put.
 fn work_batches<C: FlowCache, G: Gate, R: Wait>(
     engine: &Engine<'_, R, G>,
     shared: &Shared,
@@ -135,7 +135,7 @@ fn work_batches<C: FlowCache, G: Gate, R: Wait>(
     unreachable!()
 }
 
-/// The same by a worker.
+/// The same for a worker, whose state tells how it ended.
 fn work<C: FlowCache, G: Gate, R: Wait>(
     engine: &Engine<'_, R, G>,
     shared: &Shared,
@@ -159,7 +159,7 @@ fn work<C: FlowCache, G: Gate, R: Wait>(
     };
 }
 
-/// All workers work at once. The workers, once they have worked; none are left where they stood.
+/// Runs all workers at once, and gives them back once they have worked; the list that they came in is left empty.
 fn run_workers<C: FlowCache, G: Gate, R: Threads + Wait + Sync>(
     engine: &Engine<'_, R, G>,
     shared: &Shared,
@@ -271,7 +271,7 @@ fn hand_part<C: FlowCache, G: Gate, R: Wait>(
     Ok((reading, memory.index))
 }
 
-/// Reads a capture to its end and hands on its records. How many bytes are left behind the last record.
+/// Reads a capture to its end and hands on its records. Tells how many bytes are left behind the last record.
 fn read_all<S: Source, C: FlowCache, G: Gate, R: Wait>(
     engine: &Engine<'_, R, G>,
     source: &mut S,
@@ -302,7 +302,7 @@ fn read_all<S: Source, C: FlowCache, G: Gate, R: Wait>(
     }
 }
 
-/// The same, and however it ends: it says then that no more batches come.
+/// The same; and however it ends, the reader then says that no more batches come.
 fn read_and_end<S: Source, C: FlowCache, G: Gate, R: Wait>(
     engine: &Engine<'_, R, G>,
     source: &mut S,
@@ -325,7 +325,7 @@ fn read_and_end<S: Source, C: FlowCache, G: Gate, R: Wait>(
     end
 }
 
-/// The reader and all workers at once. The workers, once they have worked, and how the reader ended.
+/// Runs the reader and all workers at once. Gives the workers back once they have worked, and how the reader ended.
 fn run_both<S: Source, C: FlowCache, G: Gate, R: Threads + Wait + Sync>(
     engine: &Engine<'_, R, G>,
     source: &mut S,
@@ -435,7 +435,7 @@ fn open_crew<C: FlowCache>(
 }
 
 /// What all did together, once the reader has read and the workers have worked. What is left in the queue is metered
-/// here. So many bytes are left behind the last record.
+/// here. `tail` bytes are left behind the last record.
 fn close_crew<C: FlowCache, G: Gate, R: Wait>(
     engine: &Engine<'_, R, G>,
     cache: &C,
@@ -474,14 +474,15 @@ fn close_crew<C: FlowCache, G: Gate, R: Wait>(
 /// reader, one for what is left in the queue at the end, and one for each worker; each has a front where fronts are
 /// asked for, which is emptied into the cache at the end.
 ///
-/// The gate is told of each batch by its number, before it is metered: by a worker's number, counted from 0, by the
-/// number of workers where the reader meters it, and by that and one more at the end. What was put in through the
-/// united pass shares out the packets of the capture; `parts` are the fragments that it was handed; the tally is that
-/// of all records, and the source has nothing left. At most `room` + workers + 2 buffers of `size` bytes exist.
+/// Before a batch is metered, the gate is told its number and who meters it: a worker by its number, counted from 0;
+/// the reader by the number of workers; and for what is left in the queue at the end, one more than that. What was put
+/// in through the united pass shares out the packets of the capture; `parts` are the fragments that it was handed; the
+/// tally is that of all records, and the source has nothing left. At most `room` + workers + 2 buffers of `size` bytes
+/// exist.
 ///
-/// Refusals in the order of [`MeterFault`]: where the input is no capture, of an unknown link type or damaged, it is
-/// read to its end first, so that `Failed` and `TooLarge` keep their place. `NoMemory` may come at any time. All
-/// workers have ended then.
+/// Refusals in the order of [`MeterFault`]: where the input isn't a capture, has an unknown link type or is damaged, it
+/// is read to its end first, so that `Failed` and `TooLarge` keep their place. `NoMemory` may come at any time. All
+/// workers have ended when this call returns.
 pub fn meter_batches<S: Source, C: FlowCache, G: Gate, R: Threads + Wait + Sync>(
     engine: &Engine<'_, R, G>,
     source: &mut S,

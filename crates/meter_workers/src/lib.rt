@@ -12,9 +12,9 @@
 //! done: what was put in shares out the packets of the records that it metered. So how many packets were put in is
 //! known from the tally alone, and nothing is said of the order of the records.
 //!
-//! Nothing on the packet's path is shared but the cache and the word that pieces are drawn from. Everything is generic
-//! over the cache ([`FlowCache`](cache_face::FlowCache)). What workers run on is an [`Engine`]; its [`Gate`] is told
-//! before each piece and batch: tests hold workers there.
+//! On a packet's path, workers share nothing but the cache and what hands out the work: the word that pieces are drawn
+//! from, or the queue of batches. Everything is generic over the cache ([`FlowCache`](cache_face::FlowCache)). What
+//! workers run on is an [`Engine`]; its [`Gate`] is told before each piece and batch: tests hold workers there.
 #![tactic(auto)]
 
 mod batches;

@@ -23,7 +23,7 @@ pub struct CaptureMetered<C: FlowCache> {
     pub tail: u64,
 }
 
-/// What a share did, whose front is emptied into the cache.
+/// What a share did, once its front is emptied into the cache.
 fn finish<C: FlowCache>(
     cache: &C,
     share: Share<C>,
@@ -79,8 +79,8 @@ fn unite<C: FlowCache>(
     })
 }
 
-/// What all shares did, with so many bytes left behind the last record: each front is emptied into the cache through
-/// its own pass.
+/// What all shares did, with `tail` bytes left behind the last record: each front is emptied into the cache through its
+/// own pass.
 pub(crate) fn unite_shares<C: FlowCache>(
     cache: &C,
     shares: Vec<Share<C>>,

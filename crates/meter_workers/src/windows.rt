@@ -35,7 +35,7 @@ use work_pieces::{DrawPass, Pieces, WorkState, Worker, seat_workers, unseat_work
 pub struct Windows {
     /// How many bytes a window has, from 262,184 to 2^27.
     pub size: usize,
-    /// How many bytes may come at most, and at most 2^30.
+    /// The most bytes that the input may have; at most 2^30.
     pub limit: u64,
     /// How many records a piece has, from 1 to 65,536.
     pub piece: u64,
@@ -46,7 +46,8 @@ pub struct Windows {
     pub ghost piece_bounds: { (0 < piece) × (piece ≤ 65536) },
 }
 
-/// Draws pieces of a part and meters their records, until none is left. The gate is told of each piece before.
+/// Draws pieces of a part and meters their records, until none is left. The gate is told of each piece before it is
+/// metered.
 fn work_through<C: FlowCache, G: Gate>(
     part: &Part<'_>,
     pieces: &Pieces,
@@ -68,7 +69,7 @@ fn work_through<C: FlowCache, G: Gate>(
     Ok(())
 }
 
-/// The same by a worker.
+/// The same for a worker, whose state tells how it ended.
 fn work<C: FlowCache, G: Gate>(
     part: &Part<'_>,
     pieces: &Pieces,
@@ -97,7 +98,7 @@ fn work<C: FlowCache, G: Gate>(
     };
 }
 
-/// The workers, once they have worked, all at once.
+/// Runs all workers at once, and gives them back once they have worked.
 fn run_workers<C: FlowCache, G: Gate, R: Threads + Sync>(
     engine: &Engine<'_, R, G>,
     part: &Part<'_>,
@@ -131,7 +132,7 @@ fn run_workers<C: FlowCache, G: Gate, R: Threads + Sync>(
     workers
 }
 
-/// Meters a part by a worker for each share, all at once. The shares, once all pieces were metered.
+/// Meters a part by a worker for each share, all at once. Gives the shares back once all pieces are metered.
 fn meter_part<C: FlowCache, G: Gate, R: Threads + Sync>(
     engine: &Engine<'_, R, G>,
     part: &Part<'_>,
@@ -157,7 +158,8 @@ fn meter_part<C: FlowCache, G: Gate, R: Threads + Sync>(
     Ok(shares)
 }
 
-/// Reads a capture in windows and meters each. The shares, and how many bytes are left behind the last record.
+/// Reads a capture in windows and meters each. Gives the shares back, and how many bytes are left behind the last
+/// record.
 fn meter_parts<S: Source, C: FlowCache, G: Gate, R: Threads + Sync>(
     engine: &Engine<'_, R, G>,
     source: &mut S,
@@ -205,8 +207,8 @@ fn meter_parts<S: Source, C: FlowCache, G: Gate, R: Threads + Sync>(
 /// was put in through the united pass shares out the packets of the capture; `parts` are the fragments that it was
 /// handed; the tally is that of all records, and the source has nothing left.
 ///
-/// Refusals in the order of [`MeterFault`]: where the input is no capture, of an unknown link type or damaged, it is
-/// read to its end first, so that `Failed` and `TooLarge` keep their place. `NoMemory` may come at any time.
+/// Refusals in the order of [`MeterFault`]: where the input isn't a capture, has an unknown link type or is damaged, it
+/// is read to its end first, so that `Failed` and `TooLarge` keep their place. `NoMemory` may come at any time.
 pub fn meter_windows<S: Source, C: FlowCache, G: Gate, R: Threads + Sync>(
     engine: &Engine<'_, R, G>,
     source: &mut S,
@@ -243,7 +245,7 @@ pub fn meter_windows<S: Source, C: FlowCache, G: Gate, R: Threads + Sync>(
 /// through the united pass shares out the packets of the part; `parts` are the fragments that it was handed, in the
 /// order of its note; the tally is that of all records.
 ///
-/// `NoMemory`: out of memory. Nothing of the capture is said then.
+/// `NoMemory`: out of memory. No clause says anything of the capture then.
 pub fn meter_all<C: FlowCache, G: Gate, R: Threads + Sync>(
     engine: &Engine<'_, R, G>,
     part: &Part<'_>,

@@ -17,8 +17,8 @@ pipe_options =
     ∷ (option (codes "size") template_message_length 65535 (Some 1400)
     ∷ []))))))
 
--- What a command line asks for: to meter with an idle time-out and an active time-out in seconds, by so many workers,
--- with so many sets of the cache, a queue of so many batches of at most so many bytes, and a message size in octets.
+-- What a command line asks for: to meter with an idle time-out and an active time-out in seconds, a number of workers
+-- and of sets of the cache, how many batches the queue holds, the most bytes of a batch, and a message size in octets.
 pub data Piping : Type 0 where
   pipe : (idle active workers sets queue batch size : ℕ) → Piping
 

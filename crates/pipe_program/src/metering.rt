@@ -17,11 +17,11 @@ use pcap_reader::CAPTURE_LIMIT;
 use std::sync::Wait;
 use std::thread::Threads;
 
-/// The seats of the cache beside those of the workers: the reader's, and that of what is left in the queue in the end.
+/// The seats of the cache beside those of the workers: the reader's, and that of what is left in the queue at the end.
 const OTHER_SEATS: usize = 2;
 
 /// Meters the capture that the input gives through a cache, by the reader and all workers at once, and closes the
-/// cache. The fragments that it gave, and what is known of the capture.
+/// cache. Gives the fragments that the cache gave, and what is known of the capture.
 fn meter_in_batches<R: Threads + Wait + Sync, S: Source, M: Caches, G: Gate>(
     engine: &Engine<'_, R, G>,
     settings: &PipeSettings,

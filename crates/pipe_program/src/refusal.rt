@@ -8,8 +8,8 @@ ghost use Rattle.pipe_program.specs.Lines.{pipe_line};
 use meter_io::{Failed, Sink, write_all};
 use meter_program::{Status, fault_line};
 
-/// Writes the line of a status: `usage: pipe` for words that are no command line, and else that of `meter`. `Done` and
-/// `WriteFault` have none: of them nothing is written.
+/// Writes the line of a status: `usage: pipe` for words that aren't a command line, and else that of `meter`. `Done`
+/// and `WriteFault` have none: for them nothing is written.
 ///
 /// `Failed` comes only where the count of faults of standard error rose; it then took a beginning of the line.
 pub fn pipe_line<E: Sink>(stderr: &mut E, status: &Status) -> Result<(), Failed>

@@ -23,13 +23,14 @@ use std::thread::Threads;
 /// Meters the capture of the input as the words behind the program's name ask for, and tells how the run ended.
 ///
 /// Reads a capture of at most 2^30 bytes to its end, writes the stream of its flow records to `output`, and the
-/// summary, eleven lines. The capture is cut into batches of whole records, which wait in a queue; workers meter them
-/// while the next bytes are read. One cache of `caches` is opened, with a pass for each worker, one for the reader and
-/// one for what is left in the queue in the end, and closed; the records that are written regroup the fragments that
-/// `caches` then tells.
+/// summary, eleven lines, to `stderr`. The capture is cut into batches of whole records, which wait in a queue; workers
+/// meter them while the next bytes are read. One cache of `caches` is opened, with a pass for each worker, one for the
+/// reader and one for what is left in the queue at the end, and closed; the records that are written regroup the
+/// fragments that `caches` then tells.
 ///
-/// The gate is told of each batch, by its number, before it is metered: by worker `k` as `k`, by the reader, which
-/// meters a batch that finds the queue full, as the number of workers, and of what is left in the queue as one more.
+/// Before a batch is metered, the gate is told its number and who meters it: a worker by its number, counted from 0;
+/// the reader, which meters a batch that finds the queue full, by the number of workers; and for what is left in the
+/// queue at the end, one more than that.
 ///
 /// This call may wait; what is said here holds if it returns. The input is read to its end before anything is written.
 /// At a refusal, any status but `Done` and `WriteFault`, nothing is written to `output`, and one line that names the
@@ -37,10 +38,10 @@ use std::thread::Threads;
 ///
 /// - `Done`: all was read and written.
 /// - `ReadFault`: only where a read failed and the input counted it.
-/// - `Usage`: exactly where the words are no command line. Nothing is read.
+/// - `Usage`: exactly where the words aren't a command line. Nothing is read.
 /// - `WriteFault`: only where a write failed and the output or standard error counted it. Both took a beginning of what
 ///   they were to take, the output all of it where none of its own writes failed.
-/// - `NotCapture`, `LinkUnknown`, `Damaged`: exactly where the bytes read are no capture, have another link type than
+/// - `NotCapture`, `LinkUnknown`, `Damaged`: exactly where the bytes read aren't a capture, have another link type than
 ///   1, 101 and 113, or a record that claims too much.
 /// - `TooLarge`: exactly where more bytes came than the limit.
 /// - `NoMemory`: out of memory, at any point before the first write.

@@ -88,7 +88,7 @@ fn settings(alloc: Global, options: &[String]) -> Result<PipeSettings, OptionsEr
 /// | `batch` | 262,184 to 4,194,304 bytes, 1,048,576 |
 /// | `size` | 116 to 65,535 octets, 1400 |
 ///
-/// - `NotOptions`: exactly where the words are no such command line.
+/// - `NotOptions`: exactly where the words aren't such a command line.
 /// - `NoMemory`: out of memory.
 pub fn settings_of(alloc: Global, words: &[String]) -> Result<PipeSettings, OptionsError>
     ensures settings { IfOk result (λ s. piping_by (map string_bytes words.now) ≡ Some (piping_of s)) }

@@ -24,16 +24,16 @@ Bucket = Vec FlowRecord Global
 abbrev pub records_of : List Bucket → List FlowRecord
 records_of buckets = flat_map (λ (b : Bucket). b.items) buckets
 
--- Each record of a bucket has a key of the bucket's number, of so many buckets; the first bucket has the number i.
+-- Each record lies in the bucket that its key has among n buckets, where the first of these has the number i.
 abbrev pub LieFrom : ℕ → ℕ → List Bucket → Type 0
 LieFrom n i [] = ⊤
 LieFrom n i (b ∷ buckets) = All (λ (r : FlowRecord). set_number r.part.key n ≡ i) b.items × LieFrom n (suc i) buckets
 
--- Each record lies in the bucket that its key is of.
+-- Each record lies in the bucket of its key.
 abbrev pub AreByKey : List Bucket → Type 0
 AreByKey buckets = LieFrom (length buckets) 0 buckets
 
--- The fragments lie in the buckets that their keys are of.
+-- The fragments lie in the buckets of their keys.
 pub record AreDealt (parts : List Fragment) (buckets : List Bucket) : Type 0 where
   pub whole : IsPermutation parts (parts_of (records_of buckets))
   pub by_key : AreByKey buckets

@@ -26,8 +26,8 @@ abbrev pub OwnClockIsGiven : Type 0
 OwnClockIsGiven = (limits : Timeouts) (packets : List Packet) (clock : Option ℕ) (records : List FlowRecord)
     → IsClock packets clock → IsLawfulBy limits clock packets records ↔ IsLawful limits packets records
 
--- Records that are lawful for some packets and records of other keys that are lawful for others, by one clock, are
--- together, in the written order, lawful for all of these by it.
+-- Records that are lawful for some packets, and records of other keys that are lawful for others, by one clock, are
+-- together, in the written order, lawful for all of these packets by that clock.
 abbrev pub LawfulTogether : Type 0
 LawfulTogether = (limits : Timeouts) (clock : Option ℕ) (packets others : List Packet)
     (records rest both : List FlowRecord)
@@ -85,7 +85,7 @@ abbrev pub GatheredInAnyOrder : Type 0
 GatheredInAnyOrder = (limits : Timeouts) (clock : ℕ) (parts others : List Fragment) (records : List FlowRecord)
     → IsPermutation parts others → IsGathered limits clock parts records → IsGathered limits clock others records
 
--- What is gathered of the fragments of some keys are the records of these keys, of those that are gathered of all.
+-- The records gathered of the fragments of some keys are those of these keys among the records gathered of all.
 abbrev pub GatheredByKeys : Type 0
 GatheredByKeys = (limits : Timeouts) (clock : ℕ) (chosen : FlowKey → Bool) (parts : List Fragment)
     (records some : List FlowRecord) → IsGathered limits clock parts records

@@ -17,13 +17,13 @@ const BUCKET: usize = 4096;
 /// The most buckets that are made.
 const MOST_BUCKETS: usize = 1024;
 
-/// After how many fragments that were dealt their room in a piece is let go.
+/// How many fragments of a piece are dealt before their room in it is let go.
 const LET_GO: usize = 4096;
 
-/// Fragments as records, with no reason yet, each in the bucket that its key is of.
+/// Fragments as records, with no reason yet, each in the bucket of its key.
 ///
-/// The rooms of the buckets are taken first, and filled while those of the pieces are let go: so what is held at a time
-/// is hardly more than the records.
+/// The buckets get their room first, and are filled while the room of the pieces is let go: so hardly more than the
+/// records is held at any time.
 pub fn deal(alloc: Global, parts: PartList) -> Result<Vec<Vec<FlowRecord>>, NoMemory>
     ensures { IfOk result (λ buckets. AreDealt parts buckets.items) }
 {
@@ -56,7 +56,7 @@ fn count_of(pieces: &[Vec<Fragment>]) -> usize {
     count
 }
 
-/// How many buckets are made for so many fragments: a power of two, about one for each 4,096 of them.
+/// How many buckets are made for so many fragments: a power of two, about one for each 4,096 of them, at most 1,024.
 fn bucket_count(fragments: usize) -> usize
     ensures { 1 ≤ result }
 {
@@ -65,7 +65,7 @@ fn bucket_count(fragments: usize) -> usize
         .next_power_of_two()
 }
 
-/// Counts to which buckets the fragments of a piece will be dealt.
+/// Adds to the count of each bucket how many fragments of a piece will be dealt to it.
 fn count_piece(piece: &[Fragment], counts: &mut [usize])
     requires { 1 ≤ length counts.old }
     ensures { length counts.new ≡ length counts.old }
@@ -76,7 +76,7 @@ fn count_piece(piece: &[Fragment], counts: &mut [usize])
     }
 }
 
-/// A bucket for each count, with room for so many records.
+/// An empty bucket for each count, with room for that many records.
 fn empty_buckets(alloc: Global, counts: &[usize]) -> Result<Vec<Vec<FlowRecord>>, NoMemory>
     ensures many { IfOk result (λ buckets. length buckets.items ≡ length counts.now) }
     ensures none { IfOk result (λ buckets. records_of buckets.items ≡ []) }

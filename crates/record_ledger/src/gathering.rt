@@ -27,13 +27,13 @@ use std::thread::Threads;
 /// [`IDLE_TIMEOUT`](crate::IDLE_TIMEOUT) where the next record of its key begins more than the idle time-out after
 /// its last packet, or where there is none and `clock` is more than the idle time-out after it;
 /// [`ACTIVE_TIMEOUT`](crate::ACTIVE_TIMEOUT) where the next record of its key begins sooner; and else
-/// [`FORCED_END`](crate::FORCED_END). The records stand in the written order, by last time, then by key. `clock` is
-/// the time of the latest packet of all, in milliseconds; `None` without a packet. It is taken as given, also where
-/// `parts` are but some of the fragments: those of some keys, of which all are there.
+/// [`FORCED_END`](crate::FORCED_END). The records stand in the written order, by last time, then by key. `clock` is the
+/// time of the latest packet of all, in milliseconds since 1970-01-01T00:00:00Z; `None` without a packet. It is taken
+/// as given, even where `parts` holds the fragments of some keys alone, as long as it holds all of these.
 ///
-/// The fragments are dealt to buckets by their keys; `threads` threads at most sort, join and give reasons there, and
+/// The fragments are dealt to buckets by their keys; at most `threads` threads sort, join and give reasons there, and
 /// then sort the places of all records. It takes the time of sorting. The fragments of `parts` are let go as soon as
-/// they are dealt; held are a record for each part, and 24 bytes for its place in the order.
+/// they are dealt; what is held is a record for each part, and 24 bytes for its place in the order.
 ///
 /// # Errors
 ///

@@ -20,15 +20,16 @@ pub fn lawful_lists_are_sessions()
     ensures unique { LawfulIsOne }
 {}
 
-/// Where lists are gathered from the fragments of some keys each, by the clock of all packets: put together in the
-/// written order they are lawful for all packets. And to be lawful by the clock of just these packets is to be lawful.
+/// Lists of records of different keys, each lawful for its packets by one clock, are lawful for all of these packets by
+/// that clock, once they are put together in the written order. And lawful by the packets' own clock is the same as
+/// lawful.
 pub fn lawful_lists_go_together()
     ensures own_clock { OwnClockIsGiven }
     ensures together { LawfulTogether }
 {}
 
-/// What is gathered of fragments is one list of records, whatever the order of the fragments. What is gathered of those
-/// of some keys are the records of these keys, of all that are gathered.
+/// Fragments are gathered into one list of records, whatever their order. The records gathered of the fragments of some
+/// keys are those of these keys among the records gathered of all.
 pub fn gathered_lists_are_one()
     ensures one { GatheredIsOne }
     ensures any_order { GatheredInAnyOrder }

@@ -12,8 +12,8 @@ use crate::record::FlowRecord;
 use flow_parts::Fragment;
 use std::cmp::Ordering;
 
-/// Sorts records into the order in which they are joined: by key, then by last time, then by all else, so that there is
-/// one order of those, too, that have one key and one last time.
+/// Sorts records into the order in which they are joined: by key, then by last time, then by the other numbers of the
+/// fragment, so that records with the same key and last time have one order, too.
 pub fn sort_by_key(records: &mut Vec<FlowRecord>)
     ensures permutation { IsPermutation records.old.items records.new.items }
     ensures order { IsSorted (λ (one other : FlowRecord). joining_order one.part other.part) records.new.items }
@@ -45,7 +45,8 @@ fn by_numbers(one: &Fragment, other: &Fragment) -> Ordering
 }
 
 /// How two places stand in the written order of their records: by last time, which is in the place, and only where two
-/// tie by the keys, which are looked up in the buckets. Those of records that tie by both stand as they lie there.
+/// tie by the keys, which are looked up in the buckets. Places whose records tie by both stand as the records lie in
+/// the buckets.
 pub fn by_place(buckets: &[Vec<FlowRecord>], one: &Place, other: &Place) -> Ordering
     ensures { result ≡ place_order buckets.now one.now other.now }
 {

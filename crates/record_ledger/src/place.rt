@@ -3,7 +3,7 @@
 /// Where a record lies in buckets, and the time of its last packet, by which places are sorted.
 #[derive(Clone, Copy, Debug)]
 pub struct Place {
-    /// The time of the record's last packet, in milliseconds since 1970.
+    /// The time of the record's last packet, in milliseconds since 1970-01-01T00:00:00Z.
     pub last: u64,
     /// The number of the bucket, from 0.
     pub bucket: usize,

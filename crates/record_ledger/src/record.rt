@@ -21,6 +21,6 @@ pub struct FlowRecord {
     /// Why the flow ended: [`IDLE_TIMEOUT`], [`ACTIVE_TIMEOUT`], [`END_OF_FLOW`] or
     /// [`FORCED_END`] in a record that was gathered here.
     pub reason: u8,
-    // The width of the reason, for a reader of clauses, where a number has none.
+    // The width of the reason: a number in a clause has none of its own.
     pub ghost sized: { reason < 2 ^ 8 },
 }

@@ -17,7 +17,7 @@ use std::thread::Threads;
 
 /// Records in the written order: by last time, then by key. Contracts see it as the list.
 ///
-/// The records stay in the buckets that they were gathered in; the order is that of 24 bytes for each, beside them.
+/// The records stay in the buckets that they were gathered in; beside them lies their order, 24 bytes for each.
 #[derive(Drop)]
 pub struct RecordList {
     buckets: Vec<Vec<FlowRecord>>,
@@ -37,7 +37,7 @@ impl Model for RecordList {
 }
 
 impl RecordList {
-    /// The records of some buckets, put into the written order by so many threads.
+    /// The records of some buckets, put into the written order by at most `threads` threads.
     pub(crate) fn in_order<R: Threads + Sync>(
         rt: &R,
         alloc: Global,

@@ -13,7 +13,7 @@ use crate::record::FlowRecord;
 use flow_parts::Timeouts;
 use std::thread::{self, Threads};
 
-/// Settles the records of all buckets, by so many threads.
+/// Settles the records of all buckets, by at most `threads` threads.
 pub fn settle_all<R: Threads + Sync>(
     rt: &R,
     buckets: &mut [Vec<FlowRecord>],

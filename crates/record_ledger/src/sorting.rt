@@ -16,9 +16,10 @@ const FEW: usize = 8192;
 /// How many places are looked at for one that is near the middle.
 const SAMPLE: usize = 33;
 
-/// Sorts places into the written order of their records, by so many threads.
+/// Sorts places into the written order of their records, by at most `threads` threads.
 ///
-/// Threads sort parts of the list that are in order among each other; what is left is to see that all are in order.
+/// The threads sort parts of the list that stand in order among each other; a last sort of all then finds them in
+/// order.
 pub fn sort_places<R: Threads + Sync>(
     rt: &R,
     buckets: &[Vec<FlowRecord>],
@@ -32,8 +33,8 @@ pub fn sort_places<R: Threads + Sync>(
     order.sort_unstable_by(|one, other| by_place(buckets, one, other));
 }
 
-/// Sorts places by so many threads, where they are many: those before one near the middle are brought in front of it,
-/// and each side is sorted by threads of its own.
+/// Sorts places by at most `threads` threads. Few places are sorted by one thread; of many, those before one near the
+/// middle are moved in front of it, and each side is sorted by threads of its own.
 #[cycle(parts)]
 fn sort_parts<R: Threads + Sync>(
     rt: &R,
@@ -53,7 +54,7 @@ fn sort_parts<R: Threads + Sync>(
     }
 }
 
-/// Sorts two lists of places by so many threads together.
+/// Sorts two lists of places at once, by at most `threads` threads together.
 #[cycle(parts)]
 fn sort_both<R: Threads + Sync>(
     rt: &R,
@@ -79,7 +80,7 @@ fn sort_both<R: Threads + Sync>(
     join_mut(rt, &mut left, &mut right);
 }
 
-/// Brings the places that come before one near the middle to the front: how many they are.
+/// Moves the places that come before one near the middle to the front, and tells how many they are.
 fn part_places(buckets: &[Vec<FlowRecord>], order: &mut [Place]) -> usize
     requires some { 0 < length order.old }
     ensures permutation { IsPermutation order.old order.new }

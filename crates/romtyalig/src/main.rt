@@ -1,4 +1,4 @@
-//! The program: the command line's words, the standard streams, and the exit status.
+//! The program `romtyalig`: the command line's words, the standard streams, and the exit status.
 #![tactic(auto)]
 
 use command_words::{OptionsError, words_of};

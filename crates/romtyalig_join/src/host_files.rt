@@ -24,7 +24,7 @@ pub struct OpenFile {
     faults: u64,
 }
 
-/// Counts a failed call, where the count isn't at its last value.
+/// Counts a failed call, unless the count is at its greatest value.
 fn count_fault(faults: &mut u64) -> Failed
     ensures counted { faults.new ≡ one_more faults.old }
     ensures later { faults.old ≤ faults.new }
@@ -64,7 +64,7 @@ pub struct HostFiles<'a> {
 }
 
 impl<'a> HostFiles<'a> {
-    /// None is open.
+    /// No file is open yet.
     pub fn new(rt: &'a HostRuntime) -> HostFiles<'a> {
         HostFiles { rt, faults: 0 }
     }

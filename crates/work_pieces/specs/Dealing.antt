@@ -71,7 +71,7 @@ HasDrawn st m n m' =
     × (n < m.0.pieces → m' ≡ (draws_one m.0 n, m.1))
     × (m.0.pieces ≤ n → m' ≡ (draws_none m.0, m.1))
 
--- who stands for all seats, one of which had its None, has all pieces
+-- a pass that stands for all seats, one of which had its None, has all pieces
 abbrev pub HasAll : Hand → Type 0
 HasAll v = v.seats ≡ v.all → 0 < v.done → EachOnce v.pieces v.drawn
 

@@ -1,6 +1,6 @@
 //! A piece of work.
 
-/// Piece `number` of some things, from the thing `start` on and before the thing `end`, both counted from 0.
+/// Piece `number` of some things: those from `start` on that stand before `end`, both counted from 0.
 #[derive(Clone, Copy, PartialEq, Eq, Debug)]
 pub struct Piece {
     /// The number of the piece, counted from 0.

@@ -10,7 +10,7 @@ use std::alloc::Global;
 mod all;
 mod calls;
 
-/// So many things, cut into pieces of one size.
+/// A number of things, cut into pieces of one size.
 #[derive(Drop)]
 pub struct Pieces {
     table: Table<(), Hand, Plan, Deals, Global>,

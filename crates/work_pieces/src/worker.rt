@@ -12,11 +12,11 @@ pub enum WorkState {
     Going,
     /// No work was left.
     Finished,
-    /// It ended since memory was out.
+    /// It ended because memory ran out.
     NoMemory,
 }
 
-/// A worker: its number, what it has done, its seat at what hands out the work, and how it stands.
+/// A worker: its number, what it has done, the seat by which it gets its work, and how it stands.
 #[derive(Drop)]
 pub struct Worker<S, T> {
     pub number: usize,
@@ -53,7 +53,7 @@ pub fn seat_workers<S: Drop, T: Drop>(
     Ok(workers)
 }
 
-/// What the workers have done, and their seats, where all have finished. `NoMemory`: memory was out, for one of them or
+/// What the workers have done, and their seats, where all have finished. `NoMemory`: memory ran out, for one of them or
 /// here.
 pub fn unseat_workers<S: Drop, T: Drop>(
     alloc: Global,

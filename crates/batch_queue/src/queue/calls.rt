@@ -93,8 +93,8 @@ impl BatchQueue {
 
     /// Puts a batch behind all others. The pass is the reader's, and the batch stands behind each that it put.
     ///
-    /// The batch comes back unchanged, and only where the reader had put at least as many batches as the queue has room
-    /// for; that it was full at a step of this call is in no clause.
+    /// `Err` gives the batch back unchanged, and comes only where the reader had put at least as many batches as the
+    /// queue has room for; no clause says that the queue was full at a step of this call.
     pub fn offer<R: Wait>(&self, rt: &R, feed: &mut Feed, batch: Batch) -> Result<(), Batch>
         requires own { IsPassOf self.now (reader_of feed.old) }
         requires reader { IsReaders (reader_of feed.old) }
@@ -122,10 +122,10 @@ impl BatchQueue {
             .store::<Says>(&mut feed.pass.seat, END_WORD, 1);
     }
 
-    /// Whether it was said that no more batches come. Who was told so may put none, and is told so again at each later
-    /// call.
+    /// Whether it was said that no more batches come. A pass that was told so may put none, and is told so again at
+    /// each later call.
     ///
-    /// What is taken from then on was put before; that a batch is found by who looks for it then is in no clause.
+    /// What is taken from then on was put before; no clause says that a pass that looks for a batch then finds it.
     pub fn is_ended(&self, pass: &mut QueuePass) -> bool
         requires own { IsPassOf self.now pass.old }
         ensures own { IsPassOf self.now pass.new }
@@ -140,7 +140,7 @@ impl BatchQueue {
     /// Takes the batch at the front, which stands behind each that the pass took.
     ///
     /// `None`: nothing was taken. Of a pass for all seats it says that all batches that were put were taken, each once.
-    /// Of another pass it says no more; that the queue was empty at a step of this call is in no clause.
+    /// Of another pass it says no more; no clause says that the queue was empty at a step of this call.
     pub fn take<R: Wait>(&self, rt: &R, pass: &mut QueuePass) -> Option<Batch>
         requires own { IsPassOf self.now pass.old }
         ensures own { IsPassOf self.now pass.new }
@@ -155,7 +155,7 @@ impl BatchQueue {
 
     /// One pass for the seats of both. If it stands for all seats, the batches that it took and those that were in the
     /// queue at a step of this call are the batches that were put, each once. If one of the two was told that no more
-    /// batches come, neither may put one: so who was told was told the truth.
+    /// batches come, neither may put one: so what it was told was true.
     pub fn unite(&self, first: QueuePass, second: QueuePass) -> QueuePass
         requires own { IsPassOf self.now first × IsPassOf self.now second }
         ensures own { IsPassOf self.now result }

@@ -40,14 +40,14 @@ fn meter_output<'a, R: Threads + Sync + Abort>(
     let words = words(alloc, word)?;
     let mut input = MemSource::new(bytes, 65_536, &[]);
     let mut output = MemSink::open(alloc, 1 << 16, 65_536, &[]).expect(rt, "memory");
-    let mut notes = MemSink::open(alloc, 1 << 16, 65_536, &[]).expect(rt, "memory");
+    let mut stderr = MemSink::open(alloc, 1 << 16, 65_536, &[]).expect(rt, "memory");
     let status = run(
         rt,
         alloc,
         words.as_slice(),
         &mut input,
         &mut output,
-        &mut notes,
+        &mut stderr,
         &mut TurnCaches::new(),
         &OpenGate,
     );

@@ -12,9 +12,9 @@ use std::test::Fail;
 use std::thread::Threads;
 use trial_samples::octets_of;
 
-/// Settings that change nothing of what is written of a web exchange: as many workers as there may be, one more than
-/// eight, as many sets, records in a piece and octets in a message as there may be; of the pipeline besides batches and
-/// batches that wait.
+/// Settings that don't change what is written of a web exchange: the most workers, and nine; the most and the fewest
+/// sets, the most and the fewest records in a piece, the largest messages; and for the pipeline the longest and the
+/// shortest queues, and the largest and the smallest batches.
 static SAME: [&str; 13] = [
     "meter --workers 64",
     "meter --workers 9",

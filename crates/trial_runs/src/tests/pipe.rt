@@ -19,8 +19,8 @@ mod words;
 /// A capture's header: little-endian, microseconds, Ethernet.
 const HEADER: &str = "d4c3b2a1 02000400 00000000 00000000 00000400 01000000";
 
-/// A record of a frame of 42 bytes at 1000 s, and its like at 1001 s: UDP over IPv4 from port 4000 of 192.0.2.1 to port
-/// 53 of 192.0.2.2.
+/// A record of a frame of 42 bytes at 1000 s, and one like it at 1001 s: UDP over IPv4 from port 4000 of 192.0.2.1 to
+/// port 53 of 192.0.2.2.
 static TWO_PACKETS: [&str; 2] = [
     "e8030000 00000000 2a000000 2a000000 \
     020000000002 020000000001 0800 4500001c 00000000 40110000 c0000201 c0000202 0fa0 0035 0008 0000",
@@ -48,7 +48,7 @@ fn sink<'a>(alloc: Global) -> Result<MemSink<'a>, Fail> {
     MemSink::open(alloc, 65_536, 65_536, &[]).map_err(|_| Fail::from("no memory"))
 }
 
-/// A run of the pipelined meter over this input, which is told to this gate.
+/// A run of the pipelined meter over this input, whose batches are told to this gate.
 pub(super) fn run_piped<R: Threads + Wait + Sync, G: Gate>(
     rt: &R,
     alloc: Global,

@@ -81,8 +81,8 @@ fn schedules_are_replayed(rt: HostRuntime) -> Result<(), Fail> {
     Ok(())
 }
 
-/// Texts that are no schedule, or have a step that isn't enabled, and their first bad line. Where all lines are in the
-/// grammar it is that of the step.
+/// Texts that aren't a schedule, or have a step that isn't enabled, and their first bad line. Where all lines are in
+/// the grammar it is that of the step.
 static BAD: [(&str, u64); 18] = [
     ("", 1),
     ("core 1 2 1 1 1", 1),

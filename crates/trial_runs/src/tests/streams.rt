@@ -227,7 +227,7 @@ static FAULTS: [(&[&str], StreamFault, &str); 9] = [
 ];
 
 #[test]
-fn faults_of_streams_are_noted(rt: HostRuntime) -> Result<(), Fail> {
+fn faults_of_streams_are_reported(rt: HostRuntime) -> Result<(), Fail> {
     for (pieces, fault, report) in FAULTS {
         let input = octets_of(rt.alloc(), pieces)?;
         let status = Status::NotStream(fault);

@@ -86,7 +86,7 @@ fn commands_have_their_settings(rt: HostRuntime) -> Result<(), Fail> {
     Ok(())
 }
 
-/// Lines that are no command lines.
+/// Lines that aren't command lines.
 static OTHERS: [&str; 72] = [
     "",
     "meters",

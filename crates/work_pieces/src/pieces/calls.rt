@@ -40,8 +40,9 @@ impl Pieces {
 }
 
 impl Pieces {
-    /// The next piece of a pass of one seat, by one fetch-and-add. `None` exactly where the number that was drawn is no
-    /// piece's, or where the pass had its `None` before, which then takes no step. The numbers of a pass rise.
+    /// The next piece of a pass of one seat, by one fetch-and-add. `None` exactly where the number that was drawn lies
+    /// beyond the last piece, or where the pass had its `None` before: then it takes no step. The numbers of a pass
+    /// rise.
     pub fn draw(&self, pass: &mut DrawPass) -> Option<Piece>
         requires own { IsPassOf self.now pass.old }
         requires single { seats_of pass.old ≡ 1 }
@@ -92,7 +93,8 @@ impl Pieces {
         }
     }
 
-    /// The same pass, for one that was never united: with one seat alone it has all pieces once it had its `None`.
+    /// The same pass, which need not have been united: where it stands for all seats, as with one seat alone, it has
+    /// all pieces once one of them had its `None`.
     pub fn complete(&self, pass: DrawPass) -> DrawPass
         requires own { IsPassOf self.now pass }
         ensures own { IsPassOf self.now result }
@@ -106,10 +108,10 @@ impl Pieces {
         DrawPass { seat, done }
     }
 
-    /// The pieces of `count` things, below 2^32, each of `size` things, 1 to 65,536, but the last that may be smaller;
-    /// and a pass for each of 1 to 64 seats.
+    /// Cuts `count` things (fewer than 2^32) into pieces of `size` things (1 to 65,536), the last one perhaps smaller,
+    /// and makes a pass for each of `seats` seats (1 to 64).
     ///
-    /// `NoMemory`: out of memory. No other call takes any.
+    /// `NoMemory`: out of memory. No other call takes memory.
     pub fn open(
         alloc: Global,
         count: u64,

@@ -9,7 +9,7 @@ use pipe_program::run_pipe;
 use std::test::Fail;
 use trial_samples::{octets_of, words_of};
 
-/// Command lines that are none.
+/// Lines that aren't command lines.
 static USAGE: [&str; 4] = ["", "meter", "pipe --piece 1", "pipe --workers 63"];
 
 #[test]

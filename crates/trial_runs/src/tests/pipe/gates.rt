@@ -7,10 +7,10 @@ use meter_workers::Gate;
 use std::sync::atomic::{AtomicU64, Ordering};
 use std::test::Fail;
 
-/// How often one that is held looks for the other before it gives up.
+/// How many times a thread that is held looks for the other before it gives up.
 const TURNS: u64 = 100_000_000;
 
-/// A gate that holds all but one at a batch until this one was at a batch.
+/// A gate that holds all but one at a batch until that one has reached a batch.
 #[derive(Drop)]
 struct Holding {
     awaited: usize,

@@ -27,7 +27,7 @@ fn numbers(alloc: Global, line: &str) -> Result<Option<[u64; 7]>, Fail> {
     }
 }
 
-/// Lines that are none.
+/// Lines that aren't command lines.
 static OTHERS: [&str; 30] = [
     "",
     "pipes",
