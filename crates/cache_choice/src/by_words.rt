@@ -40,8 +40,8 @@ pub fn has_words(content: &[u64; 10], words: &[u64; 5]) -> bool
     true
 }
 
-/// The lowest content that has the words of a key. Those below it show no fragment of the key, and where none has them
-/// none does.
+/// The lowest content that has the words of a key. Those below it show no fragment of the key, and where no content has
+/// these words, none shows one.
 fn lowest_with_words(contents: &[[u64; 10]; 4], _key: &FlowKey, words: &[u64; 5]) -> Option<usize>
     requires whole { All IsWhole contents.now }
     requires words { words.now ≡ words_of _key.now }
@@ -77,8 +77,8 @@ fn entry_of_key(content: &[u64; 10], key: FlowKey) -> Option<Fragment>
     })
 }
 
-/// The fragment that stands at the place as one with the given one, where they can be one. The content has the words of
-/// its key.
+/// The fragment that the content shows, joined with the given one, where they are joinable. The content has the words
+/// of the given one's key.
 pub fn join_content(timeouts: &Timeouts, content: &[u64; 10], own: &Fragment) -> Option<Fragment>
     requires whole { IsWhole content.now }
     requires words { take 5 content.now ≡ words_of own.now.key }

@@ -14,7 +14,7 @@ use Rattle.cache_face.specs.declared.metered.How.TheVariants.{Joined, Opened, Re
 abbrev pub entry_at : List (Option Fragment) → ℕ → Option Fragment
 entry_at entries place = slice_index_or entries place None
 
--- The entry has a fragment that can be one with this one.
+-- The entry has a fragment that is joinable with this one.
 abbrev pub CanJoin : Timeouts → Fragment → Option Fragment → Type 0
 CanJoin limits own entry = MatchOption entry ⊥ (λ old. IsJoinable limits old own)
 
@@ -26,11 +26,11 @@ HasKey key entry = MatchOption entry ⊥ (λ old. old.key ≡ key)
 abbrev pub IsSmallEntry : Option Fragment → Type 0
 IsSmallEntry entry = MatchOption entry ⊤ IsSmall
 
--- None of the entries is so.
+-- `Is` holds of none of the entries.
 abbrev pub HasNone : (Option Fragment → Type 0) → List (Option Fragment) → Type 0
 HasNone Is entries = (place : ℕ) → place < length entries → ¬ Is (entry_at entries place)
 
--- The place is that of the lowest entry that is so.
+-- The place is that of the lowest entry of which `Is` holds.
 pub record IsLowest (Is : Option Fragment → Type 0) (entries : List (Option Fragment)) (place : ℕ) : Type 0 where
   pub below : place < length entries
   pub is : Is (entry_at entries place)
@@ -44,7 +44,7 @@ pub record IsOldest (entries : List (Option Fragment)) (place : ℕ) : Type 0 wh
   pub first : (lower : ℕ) (oldest fragment : Fragment) → lower < place → entry_at entries place ≡ Some oldest
       → entry_at entries lower ≡ Some fragment → oldest.last < fragment.last
 
--- The four rules. First: the lowest entry with a fragment that can be one with this one takes it in.
+-- The four rules. First: the lowest entry with a fragment that is joinable with this one takes it in.
 pub record Joins (limits : Timeouts) (entries : List (Option Fragment)) (own : Fragment) (place : ℕ)
     (out : Option Fragment) (kept : Fragment) : Type 0 where
   pub lowest : IsLowest (CanJoin limits own) entries place

@@ -1,4 +1,4 @@
--- Laws by which a cache keeps what it keeps.
+-- Laws by which each step of a cache leaves it with what `Keeps` says.
 use Rattle.std.specs.Prelude.{◌≡◌, ◌≢◌, ℕ, suc, ◌+◌, ◌*◌, ◌≤◌, ◌^◌, List, [], ◌∷◌, ◌++◌, length, sum_by, All, Option}
 use Rattle.std.specs.Prelude.{Some}
 use Rattle.std.specs.Prelude.{slice_set}

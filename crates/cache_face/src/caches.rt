@@ -1,4 +1,4 @@
-//! A shared cache, and who opens and closes caches.
+//! A shared cache, and what opens and closes caches.
 
 ghost use Rattle.std.specs.Prelude.{◌≡◌, ◌+◌, ◌*◌, ◌<◌, ◌≤◌, ◌^◌, ◌++◌, ℕ, List, [], length, All, IfOk, OnOk, OnErr};
 ghost use Rattle.std.specs.Prelude.{IsPermutation};
@@ -20,7 +20,7 @@ use std::alloc::Global;
 
 /// A cache that threads share, each with passes of its own.
 pub trait FlowCache: Sync + Drop {
-    /// What a thread meters through. It is at no packet between calls.
+    /// What a thread meters through. Between calls it is in the middle of no packet.
     type Pass: Send + Drop;
 
     ghost means: { Self → CacheMeans };
@@ -39,9 +39,9 @@ pub trait FlowCache: Sync + Drop {
     // The tries that the pass lost, newest first.
     ghost lost: { Self.Pass → List lost_try };
 
-    /// Puts a fragment in, of one packet or of several. It waits for nobody and takes no memory. With all that was put
-    /// in through the pass before, the fragment has at most 2^32 packets, and it has fewer octets than 2^24 for each of
-    /// its own.
+    /// Puts a fragment in, of one packet or of several. It waits for nobody and takes no memory. The fragment has fewer
+    /// than 2^24 octets for each of its packets, and at most 2^32 packets together with all fragments that were put in
+    /// through the pass before.
     ///
     /// The choice over the four entries of the set of the fragment's key decides what becomes of it; where other seats
     /// were in the way three times, it is passed by. The pass lists each lost try, and each is one of this set.
@@ -72,7 +72,8 @@ pub trait FlowCache: Sync + Drop {
         self.meter_part(pass, &Fragment::of(packet))
     }
 
-    /// One pass for both, which only `unite` and `close` take where it stands for more than one seat.
+    /// One pass that stands for the seats of both. Only `unite` and `close` take a pass that stands for more than one
+    /// seat.
     fn unite(&self, first: Self::Pass, second: Self::Pass) -> Self::Pass
         requires first { is_of self.now first }
         requires second { is_of self.now second }
@@ -80,9 +81,13 @@ pub trait FlowCache: Sync + Drop {
         ensures united { IsUnited (shown first) (shown second) (shown result) }
         ensures lost { lost result ≡ lost first ++ lost second };
 
-    /// The entries that aren't empty. With the fragments that the pass was handed they are reached from those that were
-    /// put in through it, so whatever packets these share out, they do. And what the pass saw is borne out by what was
-    /// put in. Without memory they are given up.
+    /// Ends the cache, and gives the entries that aren't empty. With the fragments that the pass was handed they are
+    /// reached from those that were put in through it: they share out whatever packets these share out. And what the
+    /// pass saw is borne out by what was put in.
+    ///
+    /// # Errors
+    ///
+    /// `NoMemory` where no memory was left; the entries are given up.
     fn close(self, alloc: Global, pass: Self::Pass) -> Result<Vec<Fragment>, NoMemory>
         requires own { is_of self pass }
         requires all { (shown pass).note.seats ≡ (means self).seats }
@@ -95,15 +100,15 @@ pub trait FlowCache: Sync + Drop {
         ensures seen { OnOk result (All (IsBorne (means self).limits (shown pass).note.taken) (shown pass).note.seen) };
 }
 
-/// Who opens and closes caches.
+/// What opens and closes caches of one kind.
 pub trait Caches {
     type Cache: FlowCache;
 
     // The fragments of the last cache that was closed: those that were handed out, and its entries.
     ghost metered: { Self → List Fragment };
 
-    /// A cache of so many sets, 1 to 65,536, and a pass for each of 1 to 64 seats. The fragments of the last cache
-    /// stay.
+    /// A cache of so many sets, 1 to 65,536, and a pass for each of 1 to 64 seats. What is
+    /// known of the cache that was closed last stays.
     ///
     /// # Errors
     ///
@@ -125,8 +130,11 @@ pub trait Caches {
         ensures kept { metered self.new ≡ metered self.old };
 
     /// Closes a cache with the pass for all its seats and the fragments that this was handed, and gives its fragments
-    /// away: those that were handed out, and its entries behind them. Nothing is copied. Without memory they are given
-    /// up.
+    /// away: those that were handed out, and its entries behind them. Nothing is copied.
+    ///
+    /// # Errors
+    ///
+    /// `NoMemory` where no memory was left; the fragments are given up.
     fn close(
         &mut self,
         alloc: Global,

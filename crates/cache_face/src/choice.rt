@@ -24,7 +24,7 @@ pub struct Choice {
     pub kept: Fragment,
 }
 
-/// Whether the entry has a fragment that can be one with this one.
+/// Whether the entry has a fragment that is joinable with this one.
 #[inline]
 fn can_join(timeouts: &Timeouts, entry: &Option<Fragment>, own: &Fragment) -> bool
     ensures { IsTrue result ↔ CanJoin timeouts.now own.now entry.now }
@@ -46,7 +46,7 @@ fn has_key(entry: &Option<Fragment>, key: &FlowKey) -> bool
     }
 }
 
-/// The lowest entry that can be one with the fragment.
+/// The lowest entry whose fragment is joinable with this one.
 fn lowest_joinable(
     timeouts: &Timeouts,
     entries: &[Option<Fragment>],
@@ -139,9 +139,9 @@ fn join_entry(timeouts: &Timeouts, entry: &Option<Fragment>, own: &Fragment) -> 
     }
 }
 
-/// Puts a fragment into one of a set's entries: the lowest one that can be one with it takes it in; else the lowest one
-/// of its key is put out and opened anew; else the lowest empty one is opened; else the one with the least last time,
-/// the lowest among equals, is put out and opened anew.
+/// Puts a fragment into one of a set's entries: the lowest one that is joinable with it takes it in; else the lowest
+/// one of its key is put out and opened anew; else the lowest empty one is opened; else the one with the least last
+/// time, the lowest among equals, is put out and opened anew.
 pub fn choose(timeouts: Timeouts, entries: &[Option<Fragment>], own: Fragment) -> Choice
     requires some { 0 < length entries.now }
     requires entries { All IsSmallEntry entries.now }

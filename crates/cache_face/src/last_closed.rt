@@ -32,7 +32,11 @@ impl LastClosed {
     }
 
     /// The fragments of a cache that is closed: those that were handed out, and its entries behind them. From now on it
-    /// is the last one. Without memory they are given up, and the one before stays the last.
+    /// is the last one.
+    ///
+    /// # Errors
+    ///
+    /// `NoMemory` where no memory was left: the fragments are given up, and the cache before stays the last.
     pub fn closed_with(
         &mut self,
         handed: PartList,

@@ -3,7 +3,7 @@ ghost use Rattle.cache_face.specs.Laws.{KeepsOpening, KeepsSplit, KeepsMerged, K
 ghost use Rattle.cache_face.specs.Laws.{KeepsSeen, BacksTaken, BacksSeen, BacksMerged, KeptIsBacked, EmptyIsBacked};
 ghost use Rattle.cache_face.specs.Laws.{TakenIsSmall, WholeIsSmall, WordsShow, ChoiceTakes};
 
-/// Steps by which a cache keeps what it keeps.
+/// Each step of a cache leaves it with what `Keeps` says (`specs/Keeping.antt`).
 pub fn steps_keep()
     ensures opening { KeepsOpening }
     ensures split { KeepsSplit }
@@ -13,7 +13,7 @@ pub fn steps_keep()
     ensures seen { KeepsSeen }
 {}
 
-/// What notes back of contents.
+/// What the notes of a cache back, and that they still back it after each step.
 pub fn notes_back()
     ensures taken { BacksTaken }
     ensures seen { BacksSeen }
@@ -22,7 +22,7 @@ pub fn notes_back()
     ensures empty { EmptyIsBacked }
 {}
 
-/// What the last pass has.
+/// What follows where one pass has done all that was done.
 pub fn ends_keep()
     ensures { KeptAtEnd }
 {}

@@ -2,14 +2,15 @@
 //!
 //! A cache has sets of four entries, each a fragment or empty. Threads put fragments into one cache, each through a
 //! pass of its own: a [`FlowCache`]'s `meter_part` puts a fragment, of one packet or of several, into an entry of the
-//! set of its key, and may hand a fragment out; `meter` does this with the fragment of one packet. A pass means what it
-//! has done (`specs/Notes.antt`): the fragments that were put in through it, and those that it was handed. [`Caches`]
-//! opens and closes caches, and gives away the fragments of each; contracts know those of the last by a [`LastClosed`].
+//! set of its key, and may hand a fragment out; `meter` does this with the fragment of one packet. To contracts a
+//! pass is what it has done (`specs/Notes.antt`): the fragments that were put in through it, those that it was handed,
+//! and the entries that it saw. [`Caches`] opens and closes caches, and gives away the fragments of each; contracts
+//! know those of the last by a [`LastClosed`].
 //!
 //! What becomes of a fragment is one choice over the four entries of its set (`specs/Choice.antt`), which [`choose`]
 //! makes for any cache. What a cache keeps is said once (`specs/Keeping.antt`): its entries and all fragments that were
 //! handed out are reached from all that were put in, by permuting and by joining joinable ones, and each entry is of
-//! the set of its key. So whatever packets are shared out by what was put in, they are by what is kept and handed out.
+//! the set of its key. So if what was put in shares out some packets, what is kept and handed out shares out the same.
 //! Nothing here knows how threads take turns: what a lost try is, each cache says itself. [`laws`] holds the laws by
 //! which a cache keeps this, as contracts.
 #![tactic(auto)]

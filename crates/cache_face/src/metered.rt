@@ -9,7 +9,7 @@ pub enum How {
     Joined,
     /// It opened an empty entry.
     Opened,
-    /// It opened an entry anew, whose fragment was put out.
+    /// An entry's fragment was put out, and it opened that entry anew.
     Replaced,
     /// Other seats were in the way three times: the fragment itself is handed out, and no entry changed.
     PassedBy,

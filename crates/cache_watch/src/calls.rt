@@ -18,7 +18,7 @@ use flow_cache::{PebrCache, PebrPass};
 use flow_key::FlowKey;
 use flow_parts::Fragment;
 
-/// After so many lost tries a call of `hold` is lost.
+/// After this many lost tries a call of `hold` answers `Lost`.
 const TRIES: u32 = 3;
 
 impl Watcher {
@@ -70,8 +70,8 @@ impl Watcher {
     /// call. The watcher's note lists it as seen, so that what was put into the cache bears it out.
     ///
     /// `Absent`: none of the four entries that were read has the key. `Lost`: in this call the watcher was ejected
-    /// three times before its shields were valid; it never comes where the cache has one seat. It waits for nobody,
-    /// takes no memory, and makes at most 168 operations on words.
+    /// three times before its shields were valid; it never comes where the cache has one seat. The call waits for
+    /// nobody, takes no memory, and makes at most 168 operations on words.
     pub fn hold(&mut self, cache: &PebrCache, key: &FlowKey) -> Watch
         requires of { IsOf cache.now self.old }
         requires idle { held_by self.old ≡ None }

@@ -8,13 +8,13 @@
 //!
 //! A watcher uses a seat of the cache, as a worker does. To find the flow it enters, which pins the epoch, sets its
 //! shields on the four slots of the key's set, and checks that it wasn't ejected; then the shields are valid, and it
-//! leaves. From then on it holds shields and no pin: workers collect past it, and lose to it the four slots under its
-//! shields at most, and for no longer than it holds them. A pinned watcher would hold up every collection, and would be
-//! ejected by the first one that needs room.
+//! leaves. From then on it holds shields and no pin: workers collect past it, and can't use again the slots under its
+//! four shields while it holds them. A pinned watcher would hold up every collection, and would be ejected by the first
+//! one that needs room.
 //!
 //! [`Watcher::hold`] answers that the flow is held, that it is absent, or that the try was lost: three times in one
-//! call a worker that needed room ejected the watcher before its shields were valid. It then asks again when it likes.
-//! No call waits for anybody or takes memory.
+//! call a worker that needed room ejected the watcher before its shields were valid. It may then call again when it
+//! likes. No call waits for anybody or takes memory.
 #![tactic(auto)]
 
 mod calls;

@@ -27,7 +27,7 @@ pub(crate) struct Hold {
     pub(crate) fragment: Fragment,
 }
 
-/// A seat of a cache that looks at its open flows.
+/// A seat of a cache through which the cache's open flows are looked at.
 #[derive(Drop)]
 pub struct Watcher {
     pub(crate) seat: RootPass<CacheRule>,

@@ -1,4 +1,4 @@
--- How often a pass collects: steps that neither note the epoch alone nor pin alone, and what it does before a try.
+-- How often a pass collects: steps that note the epoch as often as they pin, and what a pass does before a try.
 use Rattle.std.proofs.Common.{◌≡◌, ◌≢◌, ◌<◌, ◌≤◌, ◌+◌, ◌∷◌, ℕ, Bool, true, false, List, Some, refl, sym, ◌∙◌, subst}
 use Rattle.std.proofs.Common.{arith}
 use Rattle.std.specs.Prelude.{if◌then◌else◌}

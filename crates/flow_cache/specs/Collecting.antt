@@ -1,5 +1,5 @@
 -- How often a pass collected, and which operations only a collection makes. A pass notes the epoch once at each
--- collection, and else only where it enters, which pins.
+-- collection, and otherwise only where it enters, and pins.
 use Rattle.std.specs.Prelude.{◌≡◌, ◌≢◌, ◌⊎◌, ℕ, ◌+◌, ◌<◌, ◌≤◌, Bool, false, List, ◌++◌, length, All}
 use Rattle.pebr_core.specs.declared.kinds.Shape.{Shape}
 use Rattle.pebr_core.specs.State.{Seat}
@@ -9,7 +9,7 @@ use Rattle.pebr_words.specs.Places.{index, epoch_word, status_word, shield_word}
 use Rattle.pebr_words.specs.Pasts.{History}
 use Rattle.pebr_roots.specs.Orders.{HasMade, HasMadeCollection}
 
--- It collected so often.
+-- The pass collected this many times.
 abbrev pub HasCollected : ℕ → History → History → Type 0
 HasCollected times old new = new.notes + old.pins ≡ old.notes + new.pins + times
 

@@ -16,7 +16,7 @@ use cache_face::NoMemory;
 use flow_parts::Fragment;
 use std::alloc::Global;
 
-/// A fragment behind the others, where there is one.
+/// Appends a fragment, where there is one.
 fn add(parts: &mut Vec<Fragment>, part: Option<Fragment>) -> Result<(), NoMemory>
     ensures { OnOk result (parts.new.items ≡ parts.old.items ++ option_to_list part) }
 {

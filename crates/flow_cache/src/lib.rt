@@ -23,10 +23,10 @@
 //!
 //! # Where fresh slots come from
 //!
-//! A pass of a cache with so many seats has `32 + 4 * seats` slots besides. Before the first try, from 32 retired slots
-//! on, it collects those that nobody reads any more, and lets others be. Where that leaves no fresh slot it collects
-//! with force: it ejects who is in the way, and at most `4 * (seats - 1)` slots stay retired. So a call of `meter`
-//! takes no memory, waits for nobody and has a bound on its steps, wherever the others are stopped.
+//! A pass of a cache with `seats` seats has `32 + 4 * seats` slots of its own. Before the first try, from 32 retired
+//! slots on, it collects those that nobody reads any more, and ejects nobody. Where that leaves no fresh slot it
+//! collects with force: it ejects each seat in the way, and at most `4 * (seats - 1)` slots stay retired. So a call of
+//! `meter` takes no memory, waits for nobody and has a bound on its steps, wherever the others are stopped.
 //!
 //! # What is proved
 //!

@@ -24,10 +24,10 @@ use cache_face::{How, Metered};
 use flow_parts::Fragment;
 use pebr_roots::RootPass;
 
-/// From so many retired slots on a pass collects.
+/// From this many retired slots on a pass collects.
 const BATCH: usize = 32;
 
-/// After so many lost tries a packet is passed by.
+/// After this many lost tries a packet is passed by.
 const TRIES: u64 = 3;
 
 impl PebrCache {
@@ -79,7 +79,7 @@ impl PebrCache {
         }
     }
 
-    /// Sees that a fresh slot is there.
+    /// Makes sure that there is a fresh slot.
     fn make_room(&self, pass: &mut RootPass<CacheRule>)
         requires of { IsOf self.now.roots pass.old }
         requires resting { IsResting (known_by_pass pass.old) }
@@ -99,8 +99,8 @@ impl PebrCache {
         self.collect_if_none(pass);
     }
 
-    /// Tries to put the packet's fragment into its set, and passes the packet by after the third lost try. How many
-    /// tries were lost; what became of the packet goes into `metered`.
+    /// Tries to put the packet's fragment into its set, and passes the packet by after the third lost try. Answers
+    /// how many tries were lost; what became of the packet goes into `metered`.
     fn put_in<T: Stop>(
         &self,
         pass: &mut RootPass<CacheRule>,

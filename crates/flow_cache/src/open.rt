@@ -13,14 +13,14 @@ use flow_parts::Timeouts;
 use pebr_roots::{RootPass, Roots, Shape};
 use std::alloc::Global;
 
-/// So many words that are 0.
+/// `count` words that are 0.
 fn zeros(alloc: Global, count: usize) -> Result<Vec<u64>, NoMemory>
     ensures { IfOk result (λ words. words.items ≡ replicate count 0) }
 {
     Ok(vec![in alloc; 0u64; count]?)
 }
 
-/// One more pass.
+/// Appends a pass.
 fn add(passes: &mut Vec<PebrPass>, pass: PebrPass) -> Result<(), NoMemory>
     ensures { OnOk result (passes.new.items ≡ passes.old.items ++ pass ∷ []) }
 {

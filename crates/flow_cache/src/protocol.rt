@@ -28,8 +28,8 @@ pub struct CacheFixed {
 }
 
 /// The contents of the roots are entries of a cache. They and all fragments that were handed out are reached from all
-/// that were put in, whatever the threads do in turn; and so, with some others, is the fragment that any slot shows
-/// which no pass has fresh.
+/// that were put in, whatever the threads do in turn. And what any slot shows that no pass has fresh is, with some
+/// other fragments, reached from these too.
 pub struct CacheRule;
 
 impl RootProtocol for CacheRule {

@@ -17,8 +17,8 @@ use cache_choice::{has_words, join_content, put_out};
 use cache_face::How;
 use flow_parts::{Fragment, Timeouts};
 
-/// Takes a fragment into the content where it can be one with the fragment that this shows, and tells whether it did.
-/// Of the ten words the five behind the key change.
+/// Takes a fragment into the content, where that shows a fragment joinable with it, and tells whether it did. Of the
+/// ten words only the five behind the key change.
 #[inline(always)]
 fn take_into(timeouts: &Timeouts, content: &mut [u64; 10], words: &[u64; 5], own: &Fragment) -> bool
     requires whole { IsWhole content.old }
@@ -145,8 +145,8 @@ fn open_one(
     (place, out)
 }
 
-/// Puts a fragment in by the choice over the two contents from `first` on. The place of the one that it is in then, and
-/// what left that.
+/// Puts a fragment in by the choice over the two contents from `first` on. Answers the place of the content that it is
+/// in then, and the fragment that left this content, if one did.
 #[inline(always)]
 pub(crate) fn put_into(
     timeouts: &Timeouts,

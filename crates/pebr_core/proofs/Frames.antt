@@ -234,7 +234,7 @@ look_uses : (other : ℕ) (b : Bool) (seat : Seat) (epoch : ℕ)
 look_uses other true seat epoch slot used = used
 look_uses other false seat epoch slot used = used
 
--- a loaded slot is used, and what was seen before
+-- after a load a seat uses what it used before, or the slot that was loaded
 load_uses : (slot : ℕ) (seat : Seat) (used : ℕ) → Uses (after_load slot seat) used → Uses seat used ⊎ (slot ≡ used)
 load_uses slot seat used (inl valid) = inl (inl valid)
 load_uses slot seat used (inr (epoch, was_in, seen)) = ⊎_elim

@@ -95,7 +95,7 @@ given_unused state i sound inside scanning complete down j slot uses =
     at : (seat_at state i).scan ≡ Some (scan_of (seat_at state i))
     at = is_some-value (seat_at state i).scan no_scan scanning
 
-    -- a seat that is used by is one of the seats
+    -- a seat that uses a slot is one of the core's seats
     out_nobody : (j' : ℕ) → Uses (seat_at state j') slot → j' < state.shape.seats
     out_nobody j' u = elim (cases_lt j' (length state.seats)) as (λ _. j' < state.shape.seats) [
       | inl low ↦ omega (arith, sound.shape.seats)

@@ -213,7 +213,7 @@ looked_reaches state i j found sound looked unpassed =
     reached (scan_of (seat_at state i)).candidates (seat_at state i).retired found
     ((sound.kept.looked i (scan_of (seat_at state i)) (scans (seat_at state i).scan looked) j found looked unpassed).0)
   where
-    -- who has looked is at a scan
+    -- a seat that has looked at another is at a scan
     scans : (one : Option Scan) → found_at (unwrap_or one no_scan) j ≡ Some found → one ≡ Some (unwrap_or one no_scan)
     scans None e = absurd (none-some found e)
     scans (Some one) e = refl

@@ -502,7 +502,7 @@ above_each (true ∷ cs) (retire.No ∷ rs) epoch (suc slot) tag h c r = above_e
 above_each (false ∷ cs) (r ∷ rs) epoch zero tag h c e = absurd (false≢true c)
 above_each (false ∷ cs) (r ∷ rs) epoch (suc slot) tag h c e = above_each cs rs epoch slot tag h c e
 
--- a retired slot without the lack of a tag has one
+-- a retired slot that isn't untagged has a tag
 tag_of : (r : Retired) → is_retired r ≡ true → r ≢ retire.Untagged → (tag : ℕ) × (r ≡ retire.Tagged tag)
 tag_of retire.No h k = absurd (false≢true h)
 tag_of retire.Untagged h k = absurd (k refl)

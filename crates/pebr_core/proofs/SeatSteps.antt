@@ -1,4 +1,4 @@
--- What a seat's entry stand for after a step of the seat.
+-- What a seat's entry stands for after a step of the seat.
 use Rattle.std.proofs.Common.{◌≡◌, ℕ, ◌<◌, Bool, true, false, List, [], length, map, replicate, get_or, set, Option}
 use Rattle.std.proofs.Common.{Some, None, cond, is_some, unwrap_or, not, ◌&&◌, eqb, refl, sym, ◌∙◌, ap, subst, arith}
 use Rattle.std.proofs.lemmas.List.{length-map, length-set}

@@ -46,7 +46,7 @@ pub shown_written : (core : Inside) (i : ℕ) (new : SeatData)
 shown_written core i new = ap (λ seats. record (shown_state core) { seats = seats })
     (map-set shown_seat core.seats.items i new)
 
--- the room stays where the new entry have it
+-- the room stays where the new entry has it
 pub room_written : (core : Inside) (i : ℕ) (entry new : SeatData) → IsCore core → HasRoom core.shape new
     → All (HasRoom core.shape) (set core.seats.items i new)
 room_written core i entry new held room =
@@ -55,7 +55,7 @@ room_written core i entry new held room =
     (All-get_or (HasRoom core.shape) core.seats.items j entry
     (omega (arith, length-set core.seats.items i new)) held.room))
 
--- A step that is enabled and that makes of the state what the written entry stand for.
+-- A step that is enabled and that makes of the state what the written entry stands for.
 pub step_written : (core : Inside) (i : ℕ) (entry new : SeatData) (s : Step) → IsCore core
     → is_enabled (shown_state core) s ≡ true
     → HasRoom core.shape new

@@ -95,7 +95,7 @@ LookedIsOlder retired scan j seat =
     → (is_above_tags scan.candidates retired found ≡ false)
     × ((epoch : ℕ) → seat.status ≡ stance.In epoch → (epoch ≡ found) ⊎ HasSeenNoCandidate scan seat)
 
--- these three for each scanning seat by itself
+-- one of these three, of each scanning seat with its scan and of each seat
 abbrev pub OfEachScan : (Seat → Scan → ℕ → Seat → Type 0) → State → Type 0
 OfEachScan P state = (i : ℕ) (scan : Scan) → (seat_at state i).scan ≡ Some scan → (j : ℕ)
     → P (seat_at state i) scan j (seat_at state j)
@@ -118,8 +118,8 @@ held_count seat = count_by (λ fresh. fresh) seat.fresh + count_by is_retired se
 abbrev pub Holding : State → Type 0
 Holding state = (i : ℕ) → i < state.shape.seats → held_count (seat_at state i) ≡ slots_per_seat state.shape
 
--- The data is that of a core of its shape: there is one entry for each root, slot, seat and shield, and each slot that
--- is named is one.
+-- The data is that of a core of its shape: there is one entry for each root, slot, seat and shield, and each number
+-- that names a slot is below the number of slots.
 
 pub record IsScanOfShape (shape : Shape) (scan : Scan) : Type 0 where
   pub candidates : length scan.candidates ≡ slot_count shape

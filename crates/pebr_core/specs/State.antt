@@ -32,7 +32,7 @@ pub record Scan : Type 0 where
 pub record Seat : Type 0 where
   -- Out, In with an epoch, or Ejected with an epoch
   pub status : Stance
-  -- the epoch that it last read
+  -- the epoch that it noted last
   pub noted : ℕ
   -- the slots that it loaded since its pin
   pub seen : List Bool
@@ -40,7 +40,7 @@ pub record Seat : Type 0 where
   pub shields : List ShieldAt
   -- the slots that it may write
   pub fresh : List Bool
-  -- for each slot, whether it retired it, and the tag
+  -- for each slot, whether the seat holds it as retired, and the tag
   pub retired : List Retired
   -- the scan that it is at
   pub scan : Option Scan

@@ -19,7 +19,7 @@ use Rattle.pebr_core.specs.declared.kinds.Step.TheVariants as step
 use Rattle.pebr_core.specs.declared.kinds.Answer.{Answer}
 use Rattle.pebr_core.specs.declared.kinds.Answer.TheVariants as answer
 
--- at this epoch no step raises it any more
+-- the last epoch: no step raises the epoch beyond it
 abbrev pub last_epoch : ℕ
 last_epoch = 2 ^ 60
 

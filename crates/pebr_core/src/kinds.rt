@@ -1,15 +1,15 @@
 //! The plain values that a schedule is made of: the shape of a core, the steps of its seats, their
-//! answers, and what the readers of a core tell.
+//! answers, and what the calls that read a core answer.
 
 ghost use Rattle.std.specs.Prelude.{◌≡◌};
 ghost use Rattle.pebr_core.specs.State.{slots_per_seat, slot_count};
 ghost use Rattle.pebr_core.specs.Steps.{epoch_of};
 ghost use Rattle.pebr_core.specs.Kept.{IsWithinLimits};
 
-/// At this epoch no step raises it any more.
+/// The last epoch: no step raises the epoch beyond it.
 pub const LAST_EPOCH: u64 = 1 << 60;
 
-/// How large a core is. Each seat owns `batch + seats * shields` slots besides the roots' slots.
+/// How large a core is. It has a slot for each root, and `batch + seats * shields` more for each seat.
 #[derive(Clone, Copy, PartialEq, Eq, Debug)]
 pub struct Shape {
     /// Roots, 1 to 262,144. Each holds one slot.
@@ -55,7 +55,7 @@ pub enum Step {
     /// Takes the announcement back: the seat is out, and has seen no slot. Enabled where it isn't out.
     /// Answers `Out`.
     Leave(usize),
-    /// Raises the epoch by one, where it is still the noted one. Enabled where that is below
+    /// Raises the epoch by one, where it is still the noted one. Enabled where the noted epoch is below
     /// [`LAST_EPOCH`]. Answers `Epoch` with the new epoch, or `Lost`.
     Advance(usize),
     /// Looks at the status of another seat. A seat that is out or ejected, or in with an epoch above
@@ -71,8 +71,8 @@ pub enum Step {
     /// Sets a shield, the second number, on a slot, the third. Enabled where the seat isn't out and
     /// has seen the slot. Answers `Set`.
     Shield(usize, usize, usize),
-    /// Makes each shield that is set on a slot that the seat has seen valid, where the seat is in.
-    /// Enabled where it isn't out. Answers `Valid`, or `Ejected`.
+    /// Where the seat is in, each of its shields that is set on a slot that it has seen becomes valid.
+    /// Enabled where it isn't out. Answers `Valid`, or `Ejected` where the seat was ejected.
     Check(usize),
     /// Takes a shield down. Always enabled. Answers `Cleared`.
     Unshield(usize, usize),
@@ -82,15 +82,15 @@ pub enum Step {
     /// Writes a value, the last number, into a word of a slot. Enabled where the slot is fresh at the
     /// seat. Answers `Written`.
     Write(usize, usize, usize, u64),
-    /// Where a root, the second number, has a slot, the third, it gets a fresh slot, the last, and the
-    /// old slot is retired. Enabled where the seat isn't out, a shield of it is valid on the old slot,
-    /// and the new one is fresh at it. Answers `Replaced` or `Other`.
+    /// Puts a fresh slot, the last number, into a root, the second, where that has the slot of the third
+    /// number; this old slot is then retired. Enabled where the seat isn't out, one of its shields is
+    /// valid on the old slot, and the new one is fresh at it. Answers `Replaced` or `Other`.
     Replace(usize, usize, usize, usize),
     /// Reads a shield, the third number, of another seat: a candidate that it stands on is kept.
     /// Enabled where the seat scans, the other is passed, and this shield isn't read yet. Answers
     /// `Holds` with the slot, or `Empty`.
     Scan(usize, usize, usize),
-    /// Makes the candidates that aren't kept fresh, notes the epoch, and ends the scan. Enabled where
+    /// Makes fresh each candidate that isn't kept, notes the epoch, and ends the scan. Enabled where
     /// the scan has passed each other seat and read all its shields, and all shields of the seat are
     /// down. Answers `Given`.
     Give(usize),
@@ -107,7 +107,7 @@ pub enum Answer {
     Out,
     /// Another seat changed the word first.
     Lost,
-    /// The seat looked at can't be in the way of the scan.
+    /// The seat looked at is passed: its pin lets it use no candidate.
     Passed,
     /// The seat is ejected.
     Ejected,
@@ -146,7 +146,7 @@ pub enum Stance {
     Out,
     /// Reading since this epoch.
     In(u64),
-    /// Put out by another seat, after it was in with this epoch.
+    /// Ejected by another seat, while it was in with this epoch.
     Ejected(u64),
 }
 
@@ -165,9 +165,9 @@ impl Stance {
 /// Whether a seat retired a slot.
 #[derive(Clone, Copy, PartialEq, Eq, Debug)]
 pub enum Retired {
-    /// It holds no such retired slot.
+    /// The seat doesn't hold the slot as retired.
     No,
-    /// Retired since its last Note.
+    /// Retired since the seat's last Note.
     Untagged,
     /// Retired, and tagged with the epoch of the first Note after it.
     Tagged(u64),

@@ -33,8 +33,8 @@ pub fn steps_are_safe()
         → KeepsUsedWords state (after state step) }
 {}
 
-/// From the start, every list of steps that are enabled in turn leads through sound states alone,
-/// and so do those of every sound state.
+/// From the start, every list of steps that are enabled in turn leads through sound states alone, and
+/// from every other sound state too.
 pub fn runs_are_safe()
     ensures start { (shape : Shape) (steps : List Step) → first_refused (start_state shape) steps ≡ None
         → IsSafeRun (start_state shape) steps }
@@ -42,7 +42,7 @@ pub fn runs_are_safe()
         → IsSafeRun state steps }
 {}
 
-/// Whether a step is enabled hangs on the shape and the seat that steps alone.
+/// Whether a step is enabled depends on the shape and the seat that steps alone.
 pub fn enabled_by_own_seat()
     ensures { (a b : State) (step : Step) → a.shape ≡ b.shape → seat_at a (seat_of step) ≡ seat_at b (seat_of step)
         → is_enabled a step ≡ is_enabled b step }
@@ -53,13 +53,13 @@ pub fn steps_leave_the_rest()
     ensures { (state : State) (step : Step) → LeavesTheRest state step (after state step) }
 {}
 
-/// A use of a slot begins only where the seat loads it, and no other seat's step takes a shield down.
+/// A use of a slot begins only where the seat loads it, and a seat's shields change only by its own steps.
 pub fn uses_begin_at_load()
     ensures begin { (state : State) (step : Step) → UsesBeginAtLoad state step (after state step) }
     ensures shields { (state : State) (step : Step) → LeavesShields state step (after state step) }
 {}
 
-/// A seat that was looked at and isn't passed has an epoch at most the tag of some candidate.
+/// A seat that was looked at and isn't passed was found in with an epoch at most the tag of some candidate.
 pub fn looked_reaches_a_tag()
     ensures { (state : State) (i j found : ℕ) → IsSound state → found_at (scan_of (seat_at state i)) j ≡ Some found
         → has (scan_of (seat_at state i)).passed j ≡ false
@@ -69,7 +69,7 @@ pub fn looked_reaches_a_tag()
 
 /// How many slots a scan keeps, and so how many stay retired.
 pub fn kept_slots_are_counted()
-    // A Note keeps none, and a look or an ejection leaves them.
+    // After a Note none is kept. To pass a seat, by a look or an ejection, leaves their number.
     ensures note { (shape : Shape) (epoch : ℕ) (seat : Seat) → kept_count (after_note shape epoch seat) ≡ 0 }
     ensures pass { (other : ℕ) (seat : Seat) → kept_count (after_pass other seat) ≡ kept_count seat }
     // A Scan keeps at most one more, and none where the shield was down.
@@ -87,7 +87,7 @@ pub fn kept_slots_are_counted()
         ≡ fresh_count (seat_at state i) + count_by (λ mark. mark) (given_slots (seat_at state i)) }
 {}
 
-/// Other words of the same lengths keep a state sound. So a start with given contents is sound.
+/// A sound state stays sound with other words of the same lengths. So a start with given contents is sound.
 pub fn other_words_are_sound()
     ensures words { (state : State) (words : List (List ℕ)) → IsSound state → length words ≡ slot_count state.shape
         → ((slot : ℕ) → slot < slot_count state.shape → length (slice_index_or words slot []) ≡ state.shape.width)

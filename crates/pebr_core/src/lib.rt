@@ -1,9 +1,10 @@
 //! The core of reclamation: who may use a slot, and when it can be written again.
 //!
-//! Readers reach slots through roots. A seat, the part that one thread plays, replaces the slot in a
-//! root by a fresh one of its own, and then holds the old slot as retired: some other seat may still
-//! read it. The question is when it is fresh again. After Kang and Jung, 'A marriage of pointer- and
-//! epoch-based reclamation' (PLDI 2020); every rule here is this repository's own.
+//! A slot is a few words, and a root says which slot has its present content. Readers reach slots
+//! through roots. A seat, the part that one thread plays, never writes a slot that a root has. It
+//! writes a *fresh* slot of its own, puts this into the root, and holds the old slot as *retired*:
+//! some other seat may still read it. The question is when it is fresh again. After Kang and Jung,
+//! 'A marriage of pointer- and epoch-based reclamation' (PLDI 2020); every rule here is this repository's own.
 //!
 //! - **Pins.** Before it loads a root a seat notes the epoch and pins: its status is In with that
 //!   epoch. A slot that it loads since then is seen, and a seat that is in uses what it has seen.
@@ -14,13 +15,13 @@
 //! - **Shields.** A seat sets a shield on a slot that it has seen, and checks that it is still in:
 //!   then the shield is valid, and it protects the slot also after an ejection.
 //! - **Scans.** A Note opens a scan over the owner's retired slots, the candidates. The scan passes
-//!   each other seat, by a look or an ejection, and only then reads its shields. Give makes the
-//!   candidates that no shield was found on fresh.
+//!   each other seat, by a look or an ejection, and only then reads its shields. Give makes fresh the
+//!   candidates that no shield was found on.
 //!
 //! A step is one load, store or compare and exchange of one word. [`Core::step`] makes one,
-//! [`replay`] a list. Each core is sound: [`start_is_sound`], [`steps_are_safe`] and
-//! [`runs_are_safe`] say so of every state. The tests of all this stand in `trial_layers`, where they don't prove the
-//! core a second time.
+//! [`replay`] a list. Each core is sound, by the laws [`start_is_sound`], [`steps_are_safe`]
+//! and [`runs_are_safe`], which speak of all states. The tests of all this stand in `trial_layers`,
+//! where they don't prove the core a second time.
 #![tactic(auto)]
 
 mod kinds;

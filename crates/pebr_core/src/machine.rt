@@ -1,4 +1,4 @@
-//! The core: its state, and what its readers tell.
+//! The core: its state, and the calls that read it.
 
 ghost use Rattle.std.specs.Prelude.{◌≡◌, ℕ, ◌<◌, IsTrue, Option, Some, None};
 ghost use Rattle.pebr_core.specs.State.{State, has, seat_at, root_at, shield_at, retired_at, slot_count, is_out};
@@ -71,7 +71,7 @@ impl Core {
         self.seats[seat].status
     }
 
-    /// The epoch that a seat last read.
+    /// The epoch that a seat noted last.
     pub fn noted(&self, seat: usize) -> u64
         requires { seat < self.now.shape.seats }
         ensures { result ≡ (seat_at self.now seat).noted }
@@ -88,7 +88,7 @@ impl Core {
         self.seats[seat].fresh.get(slot, false)
     }
 
-    /// Whether a seat retired a slot, and with which tag.
+    /// Whether a seat holds a slot as retired, and with which tag.
     pub fn retired(&self, seat: usize, slot: usize) -> Retired
         requires seat { seat < self.now.shape.seats }
         requires slot { slot < slot_count self.now.shape }

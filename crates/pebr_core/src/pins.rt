@@ -8,14 +8,14 @@ use crate::kinds::{Answer, LAST_EPOCH, Stance, Step};
 use crate::machine::Core;
 
 impl Core {
-    /// Whether it is a seat that is out.
+    /// Whether there is such a seat, and it is out.
     pub(crate) fn is_out(&self, seat: usize) -> bool
         ensures { result ≡ (is_seat self.now seat && is_out (seat_at self.now seat).status) }
     {
         seat < self.shape.seats && matches!(self.seats[seat].status, Stance::Out)
     }
 
-    /// Whether it is a seat that isn't out.
+    /// Whether there is such a seat, and it isn't out.
     pub(crate) fn is_engaged(&self, seat: usize) -> bool
         ensures { result ≡ (is_seat self.now seat && not (is_out (seat_at self.now seat).status)) }
     {
@@ -82,7 +82,7 @@ impl Core {
         Some(Answer::Epoch(noted + 1))
     }
 
-    /// Whether a seat may look at another.
+    /// Whether the step Look is enabled.
     fn can_look(&self, seat: usize, other: usize) -> bool
         ensures { result ≡ is_enabled self.now (Step.Look seat other) }
     {
@@ -106,7 +106,7 @@ impl Core {
         Some(entry.look(other, status))
     }
 
-    /// The epoch with which the scan of a seat found another in, where it isn't passed yet.
+    /// The epoch with which the scan of a seat found another in, where the step Eject is enabled.
     fn epoch_found(&self, seat: usize, other: usize) -> Option<u64>
         ensures { result ≡ (if is_enabled self.now (Step.Eject seat other)
             then found_at (scan_of (seat_at self.now seat)) other else None) }

@@ -77,7 +77,7 @@ impl RetiredSlots {
         count
     }
 
-    /// Whether a slot is retired and not in a set.
+    /// Whether a slot is retired and not in `kept`.
     #[tactic(auto, using(crate::proofs::Given::given_at))]
     pub fn is_outside(&self, kept: &Row<bool>, slot: usize) -> bool
         ensures { result ≡ has (given_marks self.now kept.now) slot }
@@ -85,7 +85,7 @@ impl RetiredSlots {
         is_retired(self.at(slot)) && !kept.get(slot, false)
     }
 
-    /// How many retired slots aren't in a set.
+    /// How many retired slots aren't in `kept`.
     pub fn count_outside(&self, kept: &Row<bool>) -> usize
         ensures { result ≡ count_by (λ mark. mark) (given_marks self.now kept.now) }
     {
@@ -98,7 +98,7 @@ impl RetiredSlots {
         count
     }
 
-    /// Takes out the retired slots that aren't in a set.
+    /// Takes out the retired slots that aren't in `kept`.
     pub fn release(&mut self, kept: &Row<bool>)
         ensures { self.new ≡ slots_without self.old (given_marks self.old kept.now) }
     {
@@ -108,7 +108,7 @@ impl RetiredSlots {
         }
     }
 
-    /// What a slot is once the retired slots that aren't in a set are taken out.
+    /// What a slot is once the retired slots that aren't in `kept` are taken out.
     fn slot_without(&self, kept: &Row<bool>, slot: usize) -> Retired
         ensures { result ≡ (if has (given_marks self.now kept.now) slot then retire.No
             else slice_index_or self.now slot retire.No) }
@@ -120,7 +120,7 @@ impl RetiredSlots {
         }
     }
 
-    /// Adds the retired slots that aren't in a set to another.
+    /// Adds to `marks` the retired slots that aren't in `kept`.
     pub fn add_outside(&self, kept: &Row<bool>, marks: &mut Row<bool>)
         requires { length marks.old ≡ length self.now }
         ensures { marks.new ≡ union_of marks.old (given_marks self.now kept.now) }
@@ -162,7 +162,7 @@ fn is_retired(slot: Retired) -> bool
     }
 }
 
-/// A slot behind a Note of this epoch: one that has no tag gets the epoch as its tag.
+/// A slot after a Note of this epoch: one that has no tag gets the epoch as its tag.
 fn slot_with_tag(slot: Retired, epoch: u64) -> Retired
     ensures { result ≡ tag_with epoch slot }
 {

@@ -47,7 +47,7 @@ impl Core {
         ensures state { self.new ≡ (next self.old step).1 }
         ensures sound { IsSound self.old }
     {
-        // Read for the proof alone, which so knows that the core is sound.
+        // This read is for the proof alone, which learns from it that the core is sound.
         let _ = &self.shape;
         match step {
             Step::Note(seat) => self.note(seat),
@@ -97,8 +97,8 @@ impl Core {
 ///
 /// # Errors
 ///
-/// `NotEnabled(place)` exactly at the first step that isn't enabled, the one at this place, counted
-/// from 0. The core is given up.
+/// `NotEnabled(place)` where a step isn't enabled: `place` is that of the first such step, counted
+/// from 0. `NoMemory` where no memory was left. The core is dropped in both cases.
 pub fn replay(alloc: Global, core: Core, steps: &[Step]) -> Result<Replayed, ReplayError>
     ensures whole { IsOk result → first_refused core steps.now ≡ None }
     ensures refused { (place : ℕ) → result ≡ Err (ReplayError.NotEnabled place)
@@ -108,7 +108,7 @@ pub fn replay(alloc: Global, core: Core, steps: &[Step]) -> Result<Replayed, Rep
     // Each state on the way is sound, no step makes a used slot fresh, and none changes a word of one.
     ensures safe { IsOk result → IsSafeRun core steps.now }
 {
-    // Read for the proof alone, which so knows that the core is sound.
+    // This read is for the proof alone, which learns from it that the core is sound.
     let _ = &core.shape;
     let mut core = core;
     let mut answers = Vec::new(alloc);
@@ -121,7 +121,7 @@ pub fn replay(alloc: Global, core: Core, steps: &[Step]) -> Result<Replayed, Rep
     Ok(Replayed { core, answers })
 }
 
-/// Puts an answer behind the others.
+/// Appends an answer.
 fn push_answer(answers: &mut Vec<Answer>, answer: Answer) -> Result<(), NoMemory>
     ensures { OnOk result (answers.new.items ≡ answers.old.items ++ answer ∷ []) }
 {

@@ -35,8 +35,8 @@ impl Core {
         })
     }
 
-    /// Whether the step Scan is enabled: the scan is open, has passed the other seat and hasn't looked at this
-    /// shield of it.
+    /// Whether the step Scan is enabled: the scan is open, has passed the other seat and hasn't read this
+    /// shield of it yet.
     fn can_scan(&self, seat: usize, other: usize, place: usize) -> bool
         ensures { result ≡ is_enabled self.now (Step.Scan seat other place) }
     {
@@ -60,7 +60,8 @@ impl Core {
         Some(entry.give(epoch))
     }
 
-    /// Whether the step Give is enabled: the scan has passed each other seat and looked at all of its shields.
+    /// Whether the step Give is enabled: the scan is open, has passed each other seat and read all of its
+    /// shields, and the seat's own shields are down.
     fn can_give(&self, seat: usize) -> bool
         ensures { result ≡ is_enabled self.now (Step.Give seat) }
     {

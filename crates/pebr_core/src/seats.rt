@@ -19,7 +19,7 @@ pub struct ScanData {
     pub is_open: bool,
     /// For each seat, the epoch that it was last found in with.
     pub looked: Row<Option<u64>>,
-    /// The seats that can't be in the way.
+    /// The seats whose pins can't be in the way.
     pub passed: Row<bool>,
     /// For each seat, its shields that were read.
     pub scanned: Grid<bool>,
@@ -32,7 +32,7 @@ pub struct ScanData {
 pub struct SeatData {
     /// Out, in or ejected.
     pub status: Stance,
-    /// The epoch that it last read.
+    /// The epoch that it noted last.
     pub noted: u64,
     /// The slots that it loaded since its pin.
     pub seen: Row<bool>,
@@ -104,7 +104,7 @@ impl SeatData {
     ghost use Rattle.pebr_core.specs.Entries.{ejected_entry, passing_entry, loaded_entry, shielded_entry};
     ghost use Rattle.pebr_core.specs.Entries.{checked_entry, replaced_entry, scanned_entry, given_entry};
 
-    /// Reads the epoch, tags what is retired with it, and opens a scan.
+    /// Notes the epoch, tags with it the retired slots that have no tag, and opens a scan.
     pub fn note(&mut self, epoch: u64)
         ensures { self.new ≡ noted_entry epoch self.old }
     {
@@ -130,7 +130,7 @@ impl SeatData {
         self.seen.fill(false);
     }
 
-    /// Whether a seat with this status can't use a retired slot of this one by its pin.
+    /// Whether the pin of a seat with this status lets it use none of this seat's retired slots.
     fn can_pass(&self, status: Stance) -> bool
         ensures { result ≡ can_pass_entry self.now status }
     {
@@ -140,7 +140,7 @@ impl SeatData {
         }
     }
 
-    /// Takes down what another seat's status showed.
+    /// Records what another seat's status showed.
     pub fn look(&mut self, other: usize, status: Stance) -> Answer
         ensures answer { result ≡ (if can_pass_entry self.old status then Answer.Passed
             else Answer.In (epoch_of status)) }
@@ -155,7 +155,7 @@ impl SeatData {
         Answer::In(epoch)
     }
 
-    /// Ejects the seat, where it is still in with the epoch that it was found with.
+    /// Ejects the seat, where it is still in with the epoch that it was found with. Whether it was.
     pub fn eject(&mut self, found: u64) -> bool
         ensures answer { result ≡ is_in_at found self.old.status }
         ensures entry { self.new ≡ ejected_entry found self.old }
@@ -176,14 +176,14 @@ impl SeatData {
         self.scan.passed.set(other, true);
     }
 
-    /// Takes down that a slot was loaded.
+    /// Records that a slot was loaded.
     pub fn load(&mut self, slot: usize)
         ensures { self.new ≡ loaded_entry slot self.old }
     {
         self.seen.set(slot, true);
     }
 
-    /// Puts a shield.
+    /// Sets what a shield stands on.
     pub fn put_shield(&mut self, place: usize, at: ShieldAt)
         ensures { self.new ≡ shielded_entry place at self.old }
     {
@@ -236,7 +236,7 @@ impl SeatData {
         self.retired.put(old, Retired::Untagged);
     }
 
-    /// Takes down what a shield of another seat stood on.
+    /// Records what a shield of another seat stood on: a slot that is retired is kept.
     pub fn scan(&mut self, other: usize, place: usize, slot: Option<usize>)
         ensures { self.new ≡ scanned_entry other place slot self.old }
     {
@@ -259,7 +259,7 @@ impl SeatData {
         self.scan.is_open && is_complete && are_down
     }
 
-    /// Makes the retired slots that aren't kept fresh, and ends the scan.
+    /// Makes fresh the retired slots that aren't kept, notes the epoch, and ends the scan.
     pub fn give(&mut self, epoch: u64) -> Answer
         requires { length self.old.fresh ≡ length self.old.retired }
         ensures answer { result ≡ Answer.Given
@@ -288,7 +288,7 @@ fn validated_shield(at: ShieldAt, seen: &Row<bool>) -> ShieldAt
     }
 }
 
-/// Makes the shields that are set on slots of this set valid.
+/// Makes valid the shields that are set on slots of this set.
 fn validate(shields: &mut Row<ShieldAt>, seen: &Row<bool>)
     ensures { shields.new ≡ map (validated_shield seen.now) shields.old }
 {

@@ -21,7 +21,7 @@ impl Core {
         Some(Answer::Slot(slot))
     }
 
-    /// Whether the step Load is enabled: the seat is in, and there is such a root.
+    /// Whether the step Load is enabled: the seat isn't out, and there is such a root.
     fn can_load(&self, seat: usize, root: usize) -> bool
         ensures { result ≡ is_enabled self.now (Step.Load seat root) }
     {
@@ -41,7 +41,7 @@ impl Core {
         Some(Answer::Set)
     }
 
-    /// Whether the step Shield is enabled: the seat is in, has such a shield, and has seen the slot.
+    /// Whether the step Shield is enabled: the seat isn't out, has such a shield, and has seen the slot.
     fn can_shield(&self, seat: usize, place: usize, slot: usize) -> bool
         ensures { result ≡ is_enabled self.now (Step.Shield seat place slot) }
     {

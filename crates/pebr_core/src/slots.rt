@@ -79,8 +79,8 @@ impl Core {
         Some(Answer::Replaced)
     }
 
-    /// Whether the step Replace is enabled: the seat is in, a valid shield of it stands on the old slot, and the new
-    /// one is a fresh one of its own.
+    /// Whether the step Replace is enabled: the seat isn't out, there is such a root, a valid shield of the seat stands
+    /// on the old slot, and the new slot is a fresh one of its own.
     fn can_replace(&self, seat: usize, root: usize, old: usize, new: usize) -> bool
         ensures { result ≡ is_enabled self.now (Step.Replace seat root old new) }
     {

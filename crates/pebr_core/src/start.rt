@@ -81,7 +81,7 @@ fn first_seats(alloc: Global, shape: &Shape) -> Result<Vec<SeatData>, NoMemory>
     Ok(seats)
 }
 
-/// Puts a seat behind the others.
+/// Appends a seat.
 fn push_seat(seats: &mut Vec<SeatData>, entry: SeatData) -> Result<(), NoMemory>
     ensures { OnOk result (seats.new.items ≡ seats.old.items ++ entry ∷ []) }
 {

@@ -38,8 +38,8 @@ impl<P: RootProtocol> Roots<P> {
         RootPass { seat, under }
     }
 
-    /// Ends the roots. What is given back has the length of all contents, and the protocol keeps with it, the
-    /// pass's note at its number, and the empty note at every other.
+    /// Ends the roots, and gives their contents, one after another. The protocol keeps with these contents, with the
+    /// pass's note at the number that it acts as, and with the empty note at every other.
     ///
     /// # Errors
     ///

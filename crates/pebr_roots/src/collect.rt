@@ -21,10 +21,10 @@ impl<P: RootProtocol> Roots<P> {
     /// Makes retired slots fresh: Note; Advance, from the epoch that Note found, unless it is the last; a Look at each
     /// other seat in rising order; a Scan of each of their shields; Give. Each is one operation on a word.
     ///
-    /// A seat that is in with an epoch at most a tag holds the scan up. Without force the collection ends
+    /// A seat that is in with an epoch that isn't above all tags holds the scan up. Without force the collection ends
     /// there, gives nothing, and leaves the scan open for the next `enter` or `collect` to end. With force it
-    /// ejects such a seat and goes on, whatever the other seats do: then at most as many slots are left as the
-    /// other seats have shields.
+    /// ejects such a seat and goes on, whatever the other seats do: then at most as many slots stay
+    /// retired as the other seats have shields.
     pub fn collect(&self, pass: &mut RootPass<P>, force: bool) -> Collected
         requires of { IsOf self.now pass.old }
         requires out { IsTrue (is_out (known_by_pass pass.old).status) }

@@ -10,8 +10,8 @@
 //! - **Check** ([`Roots::check`]): if the pass is still in, the shields are valid. If another pass has ejected it,
 //!   leave and try again.
 //! - **Read** the words of a slot under a valid shield ([`Roots::read`]). Nobody writes them while the shield stays up,
-//!   even if the pass is ejected afterwards. A content that was read word by word is whole: it is one that some pass
-//!   put into a root.
+//!   even if the pass is ejected afterwards. A content of which each word was read is whole, as the
+//!   protocol says of each slot that no pass has fresh.
 //! - **Replace**: write the least fresh slot ([`Roots::write_fresh`]), then put it into a root that still has the slot
 //!   under the shield ([`Roots::replace`]). The old slot is retired.
 //! - **Clear** the shields and **leave** ([`Roots::clear`], [`Roots::leave`]).
@@ -22,8 +22,8 @@
 //! [`RootPass::retired`]). [`Roots::collect`] makes retired slots fresh that nobody uses any more. It raises the epoch
 //! and looks at each other seat. One that is in with an old epoch holds the scan up. Without force the collection ends
 //! there. With force it ejects that seat, goes on, and reads the shields of all the others: a retired slot under a
-//! shield stays retired, the rest is fresh. So at most `(seats - 1) * shields` slots are left, whatever the other
-//! passes do, and the operations that it makes have a bound.
+//! shield stays retired, and the rest become fresh. So at most `(seats - 1) * shields` slots stay retired, whatever the
+//! other passes do, and the number of operations that it makes is bounded.
 //!
 //! # What the clauses say
 //!

@@ -12,7 +12,7 @@ use pebr_core::start_is_sound;
 use pebr_shields::{NoMemory, RootProtocol, Seat, Shape, Words};
 use std::alloc::Global;
 
-/// One value more.
+/// Appends a value.
 fn put<T: Drop>(list: &mut Vec<T>, value: T) -> Result<(), NoMemory>
     ensures { OnOk result (list.new.items ≡ list.old.items ++ value ∷ []) }
 {
@@ -34,7 +34,7 @@ impl<P: RootProtocol> Roots<P> {
         }
     }
 
-    /// A pass for each seat. The last seat is taken first, so the passes are turned round at the end.
+    /// A pass for each seat. The last seat is taken first, so the order of the passes is reversed at the end.
     fn deal(&self, alloc: Global, mut seats: Vec<Seat<P>>) -> Result<Vec<RootPass<P>>, NoMemory>
         requires { AreOpened self.now.words P.first (shape_at self.now).seats seats.items }
         ensures { IfOk result (λ passes. AreOpenedPasses self.now P.first passes.items) }
@@ -51,8 +51,8 @@ impl<P: RootProtocol> Roots<P> {
         Ok(passes)
     }
 
-    /// Roots with these contents, one after another, and a pass for each number. The protocol keeps with the
-    /// first note at each pass.
+    /// Roots with these contents, one after another, and a pass for each number. With the first
+    /// note at each pass the protocol has to keep.
     ///
     /// # Errors
     ///

@@ -22,7 +22,8 @@ use pebr_core::valid_shields_protect;
 use pebr_shields::{Checked, RootProtocol, check, shield, unshield};
 
 impl<P: RootProtocol> Roots<P> {
-    /// Loads a root and sets a shield on its slot. The shield protects nothing before a check has said so.
+    /// Loads a root, sets a shield on its slot, and answers the slot. The shield protects nothing until a check has
+    /// said `Valid`.
     pub fn load(&self, pass: &mut RootPass<P>, root: usize, place: usize) -> usize
         requires of { IsOf self.now pass.old }
         requires range { (root < (shape_at self.now).roots) × (place < (shape_at self.now).shields) }
@@ -45,7 +46,8 @@ impl<P: RootProtocol> Roots<P> {
         slot
     }
 
-    /// Whether the pass is still in, and so its shields on slots that it has loaded are valid.
+    /// `Valid`: the pass is still in, and so its shields on slots that it has loaded are valid. `Ejected`: another seat
+    /// has ejected it.
     pub fn check(&self, pass: &mut RootPass<P>) -> Checked
         requires of { IsOf self.now pass.old }
         requires entered { is_out (known_by_pass pass.old).status ≡ false }

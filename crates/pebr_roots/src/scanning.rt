@@ -34,8 +34,8 @@ pub fn open_scan<P: RootProtocol>(words: &Words<P>, seat: &mut Seat<P>)
     }
 }
 
-/// Looks at a seat, and with force ejects it where it holds the scan up. Whether it is passed, which the seat
-/// itself need not be.
+/// Looks at a seat, and with force ejects it where it holds the scan up. Answers whether it is passed; the
+/// seat itself needn't be, and counts as passed.
 pub fn pass<P: RootProtocol>(
     words: &Words<P>,
     seat: &mut Seat<P>,

@@ -37,9 +37,11 @@ impl<P: RootProtocol> Roots<P> {
     /// Puts the least fresh slot into a root, where the root still has the slot under the shield, and changes
     /// the note by the act.
     ///
-    /// The caller shows that a content as it wrote it is whole and backed, and that in place of a content as it read
-    /// it, and with the changed note, it keeps what the protocol keeps; and that what was backed still is. `Other`
-    /// exactly where the root had another slot at this step; then nothing was changed.
+    /// The caller shows three things, of each old content that agrees with what the pass read and each new one that
+    /// agrees with what it wrote. The new one is whole, and the notes with the changed one back it. With it in place of
+    /// the old one, and with the changed note, the protocol keeps. And what the notes backed, they still back.
+    ///
+    /// `Other` exactly where the root had another slot at this step; then nothing was changed.
     pub fn replace(
         &self,
         pass: &mut RootPass<P>,

@@ -29,7 +29,7 @@ pub fn shield<P: RootProtocol>(words: &Words<P>, seat: &mut Seat<P>, place: usiz
     words.set_shield(seat, place, slot);
 }
 
-/// Whether the seat is still in, and so its shields on slots that it has seen are valid.
+/// Looks whether the seat is still in: then its shields on slots that it has seen are valid.
 ///
 /// `Ejected` exactly where its status word says so at this step. By the rule of the table, and by no clause here,
 /// another seat then lists this ejection, with a tag not below the epoch of the pin.

@@ -9,7 +9,7 @@ pub record Sets : Type 0 where
   pub fresh : List Bool
   pub retired : List Retired
   pub kept : List Bool
-  -- how many slots there is room for to be retired at a time
+  -- how many retired slots there is room for
   pub room : ℕ
 
 -- the retired slots that the scan doesn't keep

@@ -14,7 +14,7 @@ times slot slots = count_by (λ other. other == slot) slots
 abbrev pub is_in : ℕ → List ℕ → Bool
 is_in slot slots = nat_lt 0 (times slot slots)
 
--- the least slot is the last
+-- the slots fall, so the least is the last
 abbrev pub AreFalling : List ℕ → Type 0
 AreFalling slots = (i j : ℕ) → i ≤ j → j < length slots → slice_index slots j ≤ slice_index slots i
 
@@ -58,8 +58,8 @@ sets_of slots room fresh untagged tagged = record {
   room = room;
 }
 
--- Each list has slots of the table alone, each slot stands once in one of them, and there are as many as there is room
--- for.
+-- Each list has slots of the table alone, each slot stands at most once in all of them, and together they have as many
+-- as there is room for.
 pub record AreApart (slots room : ℕ) (fresh untagged : List ℕ) (tagged : List TaggedSlot) : Type 0 where
   pub once : (slot : ℕ) → times slot fresh + times slot untagged + times slot (slots_of tagged)
       ≤ cond (nat_lt slot slots) 1 0

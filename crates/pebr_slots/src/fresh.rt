@@ -8,7 +8,7 @@ ghost use Rattle.pebr_slots.specs.Shown.{times, AreFalling};
 use no_memory::NoMemory;
 use std::alloc::Global;
 
-/// So many slots from one on, the least last.
+/// `count` slots from `first` on, the least last.
 pub fn falling_from(alloc: Global, first: usize, count: usize) -> Result<Vec<usize>, NoMemory>
     requires { first + count < 2 ^ 32 }
     ensures slots { IfOk result (λ fresh. IsPermutation (range_with_len first count) fresh.items) }
@@ -23,7 +23,7 @@ pub fn falling_from(alloc: Global, first: usize, count: usize) -> Result<Vec<usi
     Ok(fresh)
 }
 
-/// Puts the least slot last.
+/// Sorts the slots so that they fall: the least is last.
 pub fn let_fall(fresh: &mut Vec<usize>)
     ensures slots { IsPermutation fresh.old.items fresh.new.items }
     ensures falling { AreFalling fresh.new.items }
@@ -33,7 +33,7 @@ pub fn let_fall(fresh: &mut Vec<usize>)
     fresh.reverse();
 }
 
-/// Takes a slot out. The least one is the last, and nothing moves then.
+/// Takes a slot out. The least one is the last: where that is taken, nothing moves.
 #[inline]
 pub fn take_out(fresh: &mut Vec<usize>, slot: usize)
     requires { 0 < times slot fresh.old.items }
@@ -49,7 +49,7 @@ pub fn take_out(fresh: &mut Vec<usize>, slot: usize)
     }
 }
 
-/// The place of a slot in the list. It is looked for from the end on, where the least one is.
+/// The place of a slot in the list. The search begins at the end, where the least one is.
 #[inline]
 fn place_of(fresh: &[usize], slot: usize) -> usize
     requires { 0 < times slot fresh.now }

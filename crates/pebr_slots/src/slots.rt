@@ -18,7 +18,7 @@ use pebr_core::Shape;
 use std::alloc::Global;
 use std::marker::Model;
 
-/// What the slots are to a seat: short lists, as long together as there is room for retired slots, however
+/// A seat's own slots, as short lists. Together these are as long as there is room for retired slots, however
 /// many slots the table has. A replacement takes the last of one list and puts a slot behind another; a
 /// Note goes over the slots that were retired since the last. A slot on which a shield was found is looked
 /// for among those that are retired. A Give goes over these, and sorts the fresh ones.
@@ -26,7 +26,7 @@ use std::marker::Model;
 pub struct SeatSlots {
     /// The fresh slots, each once, the least last.
     fresh: Vec<usize>,
-    /// The slots that were retired since the last Note, in the order in which they were.
+    /// The slots that were retired since the last Note, in the order in which they were retired.
     untagged: Vec<usize>,
     /// The other retired slots, in the order in which they were retired.
     tagged: Vec<TaggedSlot>,
@@ -36,7 +36,7 @@ pub struct SeatSlots {
     some_kept: bool,
     /// How many slots the table has.
     slots: usize,
-    /// How many slots there is room for to be retired at a time.
+    /// How many retired slots there is room for.
     room: usize,
 }
 
@@ -120,7 +120,7 @@ impl SeatSlots {
         self.untagged.len() + self.tagged.len()
     }
 
-    /// The newest tag of a retired slot.
+    /// The newest tag of a retired slot, if any has one.
     pub fn newest_tag(&self) -> Option<u64>
         ensures { (epoch : ℕ) → is_above_tags (map is_retired self.now.retired) self.now.retired epoch
             ≡ is_above result epoch }

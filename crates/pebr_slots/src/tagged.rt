@@ -63,7 +63,7 @@ pub fn keep_slot(tagged: &mut [TaggedSlot], slot: usize)
     }
 }
 
-/// The scan keeps none of them any more. Without the sign that it may keep some, none is kept.
+/// Makes the scan keep none of them. Where `some_kept` is false it keeps none as it is.
 pub fn unkeep(tagged: &mut Vec<TaggedSlot>, some_kept: bool)
     requires { IsSignOf some_kept tagged.old.items }
     ensures slots { tagged.new.items ≡ map unkept_entry tagged.old.items }
@@ -74,7 +74,7 @@ pub fn unkeep(tagged: &mut Vec<TaggedSlot>, some_kept: bool)
     }
 }
 
-/// Takes the mark of the scan from each.
+/// Clears the scan's mark in each.
 fn unkeep_all(tagged: &mut [TaggedSlot])
     ensures { tagged.new ≡ map unkept_entry tagged.old }
 {
@@ -96,7 +96,7 @@ pub fn free_all(tagged: &[TaggedSlot], fresh: &mut Vec<usize>)
     }
 }
 
-/// Leaves those that the scan keeps.
+/// Takes out all but those that the scan keeps.
 pub fn leave_kept(tagged: &mut Vec<TaggedSlot>)
     ensures slots { tagged.new.items ≡ filter is_kept tagged.old.items }
     ensures room { vec_capacity tagged.new ≡ vec_capacity tagged.old }
@@ -127,7 +127,7 @@ pub fn newest_with(newest: Option<u64>, slots: &[usize], tag: u64) -> Option<u64
     }
 }
 
-/// The newer of a tag and another.
+/// The newer of two tags, the first of which may be missing.
 fn newer_of(newest: Option<u64>, tag: u64) -> Option<u64>
     ensures { (epoch : ℕ) → is_above result epoch ≡ (is_above newest epoch && nat_lt tag epoch) }
 {

@@ -24,6 +24,6 @@ operations_of seat = seat.inner.me.0.operations
 abbrev pub table_of : {V K P : Type 0} → Table V K P → TableId
 table_of table = table.inner.shared.table_id
 
--- what it was told once
+-- what it was told when it was opened
 abbrev pub key_of : {V K P : Type 0} → Table V K P → K
 key_of table = table.inner.shared.key

@@ -15,7 +15,7 @@ use no_memory::NoMemory;
 use std::alloc::Global;
 
 impl<V, K, P: TableRule<(), V, K>> Table<V, K, P> {
-    /// These words, and the first seat, which has made no operation.
+    /// A table of these words, and its first seat, which has made no operation. `told` is what the rule is told of it.
     ///
     /// # Errors
     ///
@@ -114,7 +114,7 @@ impl<V, K, P: TableRule<(), V, K>> Table<V, K, P> {
             .join_seat::<Unites<M>>(&mut seat.inner, inner);
     }
 
-    /// Ends the table: the words are those of a last state, which has the seat's view.
+    /// Ends the table, and gives its words as they are in a last state, in which the seat has its view.
     pub fn close(self, seat: Seat<V>) -> Closed<(), Global>
         requires { table_at seat ≡ table_of self }
         ensures counts { (slots_len result.words ≡ (table_of self).words) × (slots_len result.slots ≡ 0) }

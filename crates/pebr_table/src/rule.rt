@@ -8,7 +8,7 @@ use crate::recorded::Recorded;
 use atomic_table::{Join, Play, Split, TableRule};
 use std::marker::PhantomData;
 
-/// The rule of the layer above keeps, and the words are what the recorded operations made of them.
+/// The rule of the layer above holds, and the words are what the recorded operations made of them.
 pub struct Kept<P> {
     marker: PhantomData<P>,
 }

@@ -249,7 +249,7 @@ module _ {N A : Type 0} (keeps : List (List ℕ) → List N → Type 0) (plain :
       none_other : {by seats j other : ℕ} → by < seats → by ≢ j → j < 1 → other ≡ j → seats ≡ 1 → ⊥
       none_other low apart zero_is same one = apart (omega (arith, low, zero_is, one))
 
-      -- who is ejected is a seat
+      -- a number that is ejected is that of a seat
       ejected_inside : (core : State) (j epoch : ℕ) → IsSound core → (seat_at core j).status ≡ stance.Ejected epoch
           → j < core.shape.seats
       ejected_inside core j epoch sound now = pick (cases_lt j (length core.seats))

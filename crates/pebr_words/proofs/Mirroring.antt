@@ -185,7 +185,7 @@ found_here noted slots found known m other epoch looked inside read = pick (foun
     pick None e h = absurd (false≢true h)
     pick (Some n) e h = ap Some (sym (m.found_is other n e) ∙ sym (read ∙ get_or_default found other epoch 0 inside))
 
--- who is at a scan has it
+-- a seat that is scanning has a scan
 pub has_scan : (known : Seat) → is_scanning known ≡ true → known.scan ≡ Some (scan_of known)
 has_scan known scanning = pick known.scan scanning
   where

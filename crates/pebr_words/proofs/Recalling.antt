@@ -128,7 +128,7 @@ sure_of whole shape core number known past is_shape sound inside as_known recall
       (sound.shape.each number (subst (λ (s : Shape). number < s.seats) (sym is_shape) inside)));
 }
 
--- who writes has the slot fresh
+-- a seat that may write a slot has it fresh
 write_fresh : (core : State) (i slot word value : ℕ) → is_enabled core (step.Write i slot word value) ≡ true
     → (slot < slot_count core.shape) × (has (seat_at core i).fresh slot ≡ true)
 write_fresh core i slot word value h =

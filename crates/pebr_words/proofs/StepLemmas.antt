@@ -29,13 +29,13 @@ out_is stance.Out h = refl
 out_is (stance.In epoch) h = absurd (false≢true h)
 out_is (stance.Ejected epoch) h = absurd (false≢true h)
 
--- who is out wasn't ejected
+-- a seat that knows that it is out wasn't ejected since
 pub out_known : (known actual : Seat) → is_out known.status ≡ true → IsAsKnown known actual → actual ≡ known
 out_known known actual out (inl same) = same
 out_known known actual out (inr (epoch, was_in, now)) =
     absurd (let e : stance.Out ≡ stance.In epoch = sym (out_is known.status out) ∙ was_in in cc)
 
--- who is ejected after a seat changed was so before, where that seat isn't ejected now
+-- a seat that is ejected after one seat changed was ejected before, where the change ejects nobody
 pub not_ejected : (core : State) (i : ℕ) (new : Seat) → i < length core.seats
     → ((epoch : ℕ) → new.status ≡ stance.Ejected epoch → (seat_at core i).status ≡ stance.Ejected epoch)
     → (j epoch : ℕ) → (seat_at (with_seat core i new) j).status ≡ stance.Ejected epoch
@@ -54,7 +54,7 @@ module _ (shape : Shape) (core : State) (number : ℕ) (is_shape : core.shape �
   pub is_one : is_seat core number ≡ true
   is_one = lt-ltb number core.shape.seats (subst (λ (s : Shape). number < s.seats) (sym is_shape) inside)
 
--- who isn't out isn't, though it may have been ejected
+-- a seat that knows that it isn't out isn't out, though it may have been ejected since
 pub in_known : (known actual : Seat) → is_out known.status ≡ false → IsAsKnown known actual
     → is_out actual.status ≡ false
 in_known known actual in' (inl same) = ap (λ (s : Seat). is_out s.status) same ∙ in'
@@ -64,7 +64,7 @@ pub noted_known : (known actual : Seat) → IsAsKnown known actual → actual.no
 noted_known known actual (inl same) = ap (λ (s : Seat). s.noted) same
 noted_known known actual (inr (epoch, was_in, now)) = ap (λ (s : Seat). s.noted) now
 
--- who is at a scan is out, and wasn't ejected
+-- a seat that knows that it is at a scan wasn't ejected since
 pub scans_known : (core : State) (i : ℕ) (known : Seat) (scan : Scan) → IsSound core → known.scan ≡ Some scan
     → IsAsKnown known (seat_at core i) → seat_at core i ≡ known
 scans_known core i known scan sound scans (inl same) = same

@@ -75,7 +75,7 @@ IsKeptBy {N} keeps whole after_act shape s act number known past note written =
     → keeps (contents (after core s)) (slice_set notes number (note_after after_act s act found note))
     × AreWhole (whole (slice_set notes number (note_after after_act s act found note))) (after core s)
 
--- What the seat remembers after the step is so.
+-- What the seat remembers after the step is true of the core after it.
 abbrev pub IsRecalledBy : Shape → Step → ℕ → Seat → History → (ℕ → ℕ) → Type 0
 IsRecalledBy shape s number known past written =
     (law : StepsAreSafe) (core : State) (found : ℕ) → IsBefore shape s number known past core found (written found)

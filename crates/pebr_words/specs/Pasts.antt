@@ -131,7 +131,7 @@ abbrev pub is_shown : Option ℕ → ℕ → Bool
 is_shown None slot = false
 is_shown (Some other) slot = other == slot
 
--- A try is lost, if it is the first since the last pin.
+-- A lost try is listed, if it is the first since the last pin.
 abbrev pub with_lost : Lost → History → History
 with_lost try past = if past.has_lost then past else record past { lost = try ∷ past.lost; has_lost = true }
 

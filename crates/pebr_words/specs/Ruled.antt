@@ -36,7 +36,7 @@ IsEjectionOf core other epoch e =
     (e.other ≡ other) × (e.epoch ≡ epoch) × (e.by < core.shape.seats) × (e.by ≢ other) × (epoch ≤ e.tag)
     × (e.tag ≤ core.epoch)
 
--- What a seat remembers is so.
+-- What a seat remembers is true of the core.
 pub record Recalls (core : State) (number : ℕ) (past : History) : Type 0 where
   -- a read of a slot that the seat still uses has that slot's word
   pub reads : (read : Read) → IsIn read past.reads → Uses (seat_at core number) read.slot
@@ -108,7 +108,7 @@ module _ {N : Type 0} where
   IsListed ejection views = (view : List (Held N)) × (held : Held N) × IsIn view views × IsIn held view
       × IsIn ejection held.past.ejections
 
-  -- what a view has of a number is so
+  -- what a view has of a number is true of the core and the notes
   pub record Fits (core : State) (notes : List N) (held : Held N) : Type 0 where
     pub known : IsAsKnown held.known (seat_at core held.number)
     pub note : get_elem? notes held.number ≡ some held.note
@@ -132,7 +132,7 @@ module _ {N : Type 0} where
     -- each number stands in one view, and no other number in any
     pub once : (number : ℕ) → total (times_held number) s.views ≡ once_below number shape.seats
     pub count : total length s.views ≡ shape.seats
-    -- what views know, note and remember is so
+    -- what views know, note and remember is true
     pub fits : (view : List (Held N)) (held : Held N) → IsIn view s.views → IsIn held view → Fits core notes held
     -- each seat that is ejected was ejected by another, in whose history it stands
     pub ejected : (other epoch : ℕ) → (seat_at core other).status ≡ stance.Ejected epoch

@@ -19,7 +19,7 @@ use pebr_core::Shape;
 use pebr_table::Closed;
 use std::alloc::Global;
 
-/// So many words from one on, behind the others.
+/// Appends `count` words, from the word `from` on.
 fn put_words(
     contents: &mut Vec<u64>,
     closed: &Closed<(), Global>,
@@ -52,7 +52,7 @@ fn slot_place(closed: &Closed<(), Global>, shape: Shape, root: usize) -> usize
     roots_from + shape.roots + slot * shape.width
 }
 
-/// The content of a root, behind the others.
+/// Appends the content of a root.
 fn put_root(
     contents: &mut Vec<u64>,
     closed: &Closed<(), Global>,
@@ -89,8 +89,8 @@ fn root_contents(
 }
 
 impl<P: RootProtocol> Words<P> {
-    /// Ends the words. What is given back has the length of all contents, and the protocol keeps with it, the
-    /// seat's note at its number, and the empty note at every other.
+    /// Ends the words, and gives the contents of the roots, one after another. The protocol keeps with these contents,
+    /// with the seat's note at the number that it acts as, and with the empty note at every other.
     ///
     /// # Errors
     ///

@@ -12,14 +12,14 @@
 //! - **Pin.** Before it loads a root a seat notes the epoch and pins: its status is In with that epoch.
 //!   It uses each slot that it loads from then on, until it leaves.
 //! - **Retire.** A slot that was replaced is retired at the seat that replaced it. The seat's next Note
-//!   tags it with the epoch. Who pins a later epoch can't have loaded it.
-//! - **Eject.** An owner that collects raises the epoch and looks at each other seat. A seat that is in
-//!   with an epoch above all tags is passed. One that is in with an older epoch is ejected: its status
-//!   says so, and from then on it uses only what it has shielded.
+//!   tags it with the epoch. A seat that pins a later epoch can't have loaded it.
+//! - **Eject.** A seat that collects its retired slots raises the epoch and looks at each other seat.
+//!   One that is in with an epoch above all tags is passed. One that is in with an older epoch is
+//!   ejected: its status says so, and from then on it uses only what it has shielded.
 //! - **Shield.** A seat that wants to read for long sets a shield on a slot that it has loaded, and then
 //!   checks its own status. If it is still in, whoever ejects it later will see the shield: it is valid.
-//! - **Scan.** Once a seat is passed, the owner reads its shields. A retired slot that it finds there is
-//!   kept. Give makes the others **fresh**: nobody uses them, so the owner may write them.
+//! - **Scan.** Once a seat is passed, the collecting seat reads its shields. A retired slot that it finds there is
+//!   kept. Give makes the others **fresh**: nobody uses them, so their owner may write them.
 //!
 //! So each seat needs a bounded number of slots, whatever the others do: those that other seats' shields
 //! stand on, and a batch of its own.
@@ -38,7 +38,7 @@
 //! core it was, by which operation and of what that found (`specs/Operating.antt`), what the seat knows
 //! afterwards, and how its history goes on. The history is what a layer above may rely on although
 //! other seats step in between: two reads of one word under a valid shield are equal, a content that
-//! was read in full is whole, and with one seat no try is lost.
+//! was read in full under one is whole, and with one seat no try is lost.
 //!
 //! A [`RootProtocol`] says what the layer above keeps of the roots' contents and of the seats' notes.
 #![tactic(auto)]

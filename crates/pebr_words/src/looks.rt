@@ -48,7 +48,7 @@ fn keep(found: &mut Vec<u64>, other: usize, looked: Looked)
 
 impl<P: RootProtocol> Words<P> {
     /// Looks at the status of another seat. A seat that is out or ejected, or in with an epoch above
-    /// each candidate's tag, is passed.
+    /// each candidate's tag, is passed. Of any other it answers the epoch with which that is in.
     pub fn look(&self, seat: &mut Seat<P>, other: usize) -> Looked
         requires at { IsAt self.now seat.old }
         requires other { (other < (shape_of self.now).seats) × (other ≢ number_of seat.old) }

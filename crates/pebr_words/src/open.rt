@@ -47,7 +47,7 @@ fn spare_words(shape: Shape) -> usize
     slots * shape.width
 }
 
-/// One value more.
+/// Appends a value.
 pub(crate) fn put<T: Drop>(list: &mut Vec<T>, value: T) -> Result<(), NoMemory>
     ensures { OnOk result (list.new.items ≡ list.old.items ++ value ∷ []) }
 {
@@ -65,7 +65,7 @@ fn push_roots(words: &mut Vec<u64>, roots: usize) -> Result<(), NoMemory>
     Ok(())
 }
 
-/// So many zeros more.
+/// Appends `count` zeros.
 fn put_zeros(words: &mut Vec<u64>, count: usize) -> Result<(), NoMemory>
     requires { length words.old.items + count < 2 ^ 32 }
     ensures { OnOk result (words.new.items ≡ words.old.items ++ replicate count 0) }
@@ -75,7 +75,7 @@ fn put_zeros(words: &mut Vec<u64>, count: usize) -> Result<(), NoMemory>
     Ok(())
 }
 
-/// All of these more.
+/// Appends all of these.
 fn put_all(words: &mut Vec<u64>, more: &[u64]) -> Result<(), NoMemory>
     ensures { OnOk result (words.new.items ≡ words.old.items ++ more.now) }
 {
@@ -114,7 +114,7 @@ impl<P: RootProtocol> Words<P> {
         SeatSlots::new(alloc, self.shape, number)
     }
 
-    /// A seat of one number that was opened.
+    /// The seat of one number, as it is opened.
     fn open_seat(
         &self,
         inner: TableSeat<P::Note>,
@@ -185,7 +185,7 @@ impl<P: RootProtocol> Words<P> {
     }
 
     /// The words of a core whose roots have these contents, one after another, and a seat for each
-    /// number. Each content has `width` words. The protocol keeps with the first note at each seat.
+    /// number. Each content has `width` words. With the first note at each seat the protocol has to keep.
     ///
     /// # Errors
     ///

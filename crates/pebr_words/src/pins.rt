@@ -56,8 +56,9 @@ impl<P: RootProtocol> Words<P> {
         self.store(&mut seat.inner, word, status, step, None);
     }
 
-    /// Takes the announcement back: the seat is out, and has seen no slot. The act changes its note, for which the
-    /// caller may take it that the notes back what the seat has read in full under valid shields.
+    /// Takes the announcement back: the seat is out, and has seen no slot. The act changes its note.
+    /// That the protocol still keeps then, the caller shows, and may rely on this: the notes back each content that
+    /// the seat has read in full under a valid shield.
     pub fn leave(&self, seat: &mut Seat<P>, act: Option<P::Act>)
         requires at { IsAt self.now seat.old }
         requires not_out { is_out (known_of seat.old).status ≡ false }

@@ -88,7 +88,7 @@ ten_words words at_set place (suc (suc (suc (suc (suc (suc (suc (suc (suc zero))
 ten_words words at_set place (suc (suc (suc (suc (suc (suc (suc (suc (suc (suc k)))))))))) low =
     absurd (omega (arith, low))
 
--- who stands for no seat is idle
+-- a pass that stands for no seat writes nowhere
 idle_where : (sets : ℕ) (words : List ℕ) (contents : List (List ℕ)) (u : Hand) → Fits sets words contents u
     → u.note.seats ≡ 0 → (q p : ℕ) → at_work q p u.turn ≡ 0
 idle_where sets words contents u f no_seat q p = off u.turn f.live

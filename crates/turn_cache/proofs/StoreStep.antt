@@ -22,7 +22,7 @@ written_is at_set place k value new now t e = ap (written_turn (64 * at_set + 16
     ∙ ap (λ m. writing at_set place new (set now m value))
     (let d : 64 * at_set + 16 + (10 * place + k) - (64 * at_set + 16 + 10 * place) ≡ k = omega arith in d)
 
--- who writes an entry is at work there
+-- a seat that writes an entry is at work there
 pub work_here : (at_set place q p : ℕ) (new now : List ℕ) → at_set ≡ q → place ≡ p
     → at_work q p (writing at_set place new now) ≡ 1
 work_here at_set place q p new now e e' =

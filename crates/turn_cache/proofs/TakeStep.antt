@@ -37,7 +37,7 @@ holds true m h = refl
 holds false m h = absurd (omega (arith, h))
 
 module _ (at_set : ℕ) where
-  -- who has the turn says so
+  -- each seat that has the turn claims it
   holding_few : (vs : List Hand) → total (turns_held at_set) vs ≤ total (claim at_set) vs
   holding_few [] = omega arith
   holding_few (x ∷ xs) = let a = few (is_at at_set x.turn) (number_of x.numbers) in let b = holding_few xs in
@@ -61,7 +61,7 @@ module _ (at_set : ℕ) where
       let none = none_few (is_at at_set x.turn) (number_of x.numbers) (omega (arith, few, least, one)) in
       omega (arith, rest, none)
 
--- who has a turn is live
+-- a seat that has a turn is live
 alive : (at_set count : ℕ) (t : Turn) → is_at at_set t ≡ true → LiveAt count t → 0 < count
 alive at_set count idle e l = absurd (let z : false ≡ true = e in cc)
 alive at_set count (reading x) e l = l

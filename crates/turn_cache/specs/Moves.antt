@@ -47,14 +47,14 @@ hand_losing move hand =
           if move.last then note_after hand.note move.taken move.out else hand.note;
     }
 
--- To try to take a turn tells whose it was: nobody's, or that of another seat.
+-- A try to take a turn tells whose it was: nobody's, or another seat's.
 abbrev pub Tells : Move → Sat → ℕ → Sat → Type 0
 Tells move m found m' =
     (m' ≡ (if found == 0 then hand_taking move.set m.0 else hand_losing move m.0, m.1))
     × (found ≢ 0 → (other : ℕ) × (found ≡ suc other) × (other < move.seats) × (other ≢ number_of m.0.numbers)
     × (move.seats ≢ 1))
 
--- The turn of a set is tried at the turn word of that set.
+-- A try to take the turn of a set is made at the turn word of that set.
 abbrev pub Takes : Move → Step (Unit {0}) → Sat → ℕ → Sat → Type 0
 Takes move st m found m' = (st.word ≡ turn_word move.set) × Tells move m found m'
 
@@ -80,7 +80,7 @@ committed_hand move hand = record hand {
 abbrev pub Commits : Move → Sat → Sat → Type 0
 Commits move m m' = m' ≡ (committed_hand move m.0, m.1)
 
--- What the seat is at changes alone.
+-- Only what the seat is at changes.
 abbrev pub at_turn : Turn → Hand → Hand
 at_turn turn hand = record hand { turn = turn }
 

@@ -10,9 +10,9 @@ use Rattle.turn_cache.specs.Hands.{Hand, Turn, idle, reading, writing, turns_hel
 use Rattle.turn_cache.specs.Hands.{total}
 use Rattle.turn_cache.specs.Places.{turn_word, set_word, content_place}
 
--- What a seat is at is so. The words that it read under the turn are there, but for those of the entry that it writes.
--- That entry is kept as its new words; its words are as the seat knows them, each as the new one or still as it was
--- read.
+-- What a seat is at is true of the table. The words that it read under the turn still stand there, but for those of the
+-- entry that it writes. That entry counts as its new words already; its words in the table are as the seat knows them,
+-- each the new one or still the one that was read.
 abbrev pub FitsTurn : ℕ → List ℕ → List (List ℕ) → List ℕ → Turn → Type 0
 FitsTurn sets words contents read idle = Unit {0}
 FitsTurn sets words contents read (reading set) =
@@ -27,13 +27,13 @@ FitsTurn sets words contents read (writing set place new now) =
     × ((k : ℕ) → k < length read → (k < 10 * place) ⊎ (10 * place + 10 ≤ k)
     → slice_index read k ≡ slice_index words (set_word set k))
 
--- Who isn't idle is live.
+-- A seat that isn't idle is live: it stands for some number.
 abbrev pub LiveAt : ℕ → Turn → Type 0
 LiveAt count idle = Unit {0}
 LiveAt count (reading set) = 0 < count
 LiveAt count (writing set place new now) = 0 < count
 
--- What a seat knows is so.
+-- What a seat knows is true of the table.
 pub record Fits (sets : ℕ) (words : List ℕ) (contents : List (List ℕ)) (hand : Hand) : Type 0 where
   pub seats : hand.note.seats ≡ length hand.numbers
   pub gone : hand.note.seats ≡ 0 → IsUnused hand.note
@@ -58,7 +58,7 @@ pub record Ruled (told : Told) (s : State (Unit {0}) Hand) : Type 0 where
   -- each number stands in one view
   pub numbers : (number : ℕ) → total (λ hand. times number hand.numbers) s.views ≡ once_below number told.seats
   pub seats : total (λ hand. hand.note.seats) s.views ≡ told.seats
-  -- what each seat knows is so
+  -- what each seat knows is true
   pub each : (j : ℕ) (hand : Hand) → get_elem? s.views j ≡ some hand → Fits told.sets s.words contents hand
   -- the cache keeps
   pub kept : Keeps told.timeouts told.sets contents (map (λ (hand : Hand). hand.note) s.views)

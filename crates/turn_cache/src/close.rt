@@ -24,7 +24,7 @@ fn entry_shown(words: [u64; 10]) -> Option<Fragment>
     Fragment::of_words(&words)
 }
 
-/// A fragment behind the others, where there is one.
+/// Appends a fragment, where there is one.
 fn add(parts: &mut Vec<Fragment>, part: Option<Fragment>) -> Result<(), NoMemory>
     ensures { OnOk result (parts.new.items ≡ parts.old.items ++ option_to_list part) }
 {
@@ -63,7 +63,7 @@ fn content(closed: &Closed<(), Global>, set: usize, place: usize) -> [u64; 10]
     ]
 }
 
-/// The entry at a place of a set, behind the others.
+/// Appends the entry at a place of a set, where it isn't empty.
 fn add_entry(
     parts: &mut Vec<Fragment>,
     closed: &Closed<(), Global>,
@@ -78,7 +78,7 @@ fn add_entry(
     add(parts, entry_shown(content(closed, set, place)))
 }
 
-/// The entries of a set, behind the others.
+/// Appends the entries of a set that aren't empty.
 fn add_set(
     parts: &mut Vec<Fragment>,
     closed: &Closed<(), Global>,

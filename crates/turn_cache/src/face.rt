@@ -1,4 +1,4 @@
-//! The cache as a shared cache, and who opens and closes such caches.
+//! The cache as a shared cache, and what opens and closes such caches.
 
 ghost use Rattle.std.specs.Prelude.{◌≡◌, []};
 ghost use Rattle.turn_cache.specs.Shown.{means_of, shown_of, lost_of, IsOf, IsTryOf, LostTry};

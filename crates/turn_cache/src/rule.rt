@@ -19,7 +19,7 @@ impl Model for Known {
     ghost view = { λ _. spent_hand };
 }
 
-/// What the table is told once.
+/// What the table is told when it is opened.
 #[derive(Clone, Copy)]
 pub struct Told {
     pub sets: u64,
