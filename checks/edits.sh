@@ -3,12 +3,12 @@
 #
 #     checks/edits.sh [--further] [CRATE]..
 #
-# Without crates: the edits of all of them, several at a time, by the gate itself in a copy; so it proves and tests all besides,
-# where no earlier run on this machine did. With crates: theirs alone, one crate after another, with a line for each. With
-# --further those of more-edits/ alone, since the gate tries the others. What is committed is cloned into a temporary folder, where
-# the edits of crates/NAME/more-edits/ are laid beside those of crates/NAME/must-fail/; so nothing changes here. An edit that the
-# checker doesn't refuse, or that can't be tried, is told. The last line counts; the status is not 0 where an edit isn't refused.
-# It takes hours where nothing is proved yet; this is no part of the gate.
+# Without crates: the edits of all of them, several at a time, by the gate itself in a copy that has the crates with edits and what
+# these stand on; the programs and the trials have none. With crates: theirs alone, one crate after another, with a line for each.
+# With --further those of more-edits/ alone, since the gate tries the others. What is committed is cloned into a temporary folder,
+# where the edits of crates/NAME/more-edits/ are laid beside those of crates/NAME/must-fail/; so nothing changes here. An edit that
+# the checker doesn't refuse, or that can't be tried, is told. The last line counts; the status is not 0 where an edit isn't refused.
+# It proves the crates from nothing and takes an hour or more; this is no part of the gate.
 set -u
 
 top=$(dirname "$(cd "$(dirname "$0")" && pwd)")
@@ -23,9 +23,31 @@ if [ "${1:-}" = --further ]; then
     shift
 fi
 git clone -q "$top" "$work/copy" && cd "$work/copy" || exit 2
+
+# The crates that have edits and those that they stand on, the highest first: crates.txt names a crate below all that it stands on.
+needed() {
+    awk -v edited="$(find crates -path '*/m*/*.edit' | cut -d / -f 2 | sort -u | tr '\n' ' ')" '
+        BEGIN { count = split(edited, name, " "); for (k = 1; k <= count; k++) is_needed[name[k]] = 1; lines = 0 }
+        { sub(/#.*/, "") }
+        /:/ { split($0, half, ":"); split(half[1], left, " "); crate[++lines] = left[1]; deps[lines] = half[2] }
+        END {
+            for (k = lines; k >= 1; k--) {
+                if (!(crate[k] in is_needed)) continue
+                print crate[k]
+                count = split(deps[k], dep, " ")
+                for (d = 1; d <= count; d++) is_needed[dep[d]] = 1
+            }
+        }' crates.txt
+}
+
 whole=
 if [ $# -eq 0 ]; then
     whole=1
+    needed >"$work/needed"
+    for folder in crates/*; do
+        name=${folder#crates/}
+        grep -qx "$name" "$work/needed" || { rm -rf "$folder" && sed -i "/^$name:/d" crates.txt; }
+    done
     # shellcheck disable=SC2046 # names of crates, in the order of crates.txt
     set -- $(sed -n 's/^\([a-z0-9_][a-z0-9_]*\).*:.*/\1/p' crates.txt)
 fi
