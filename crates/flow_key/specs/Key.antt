@@ -1,4 +1,4 @@
--- A flow key as words and as a place in the written order, and the set of a cache that it falls in.
+-- A flow key as words, the order of keys, and the set of a cache that a key falls in.
 use Rattle.std.specs.Prelude.{ℕ, ◌+◌, ◌*◌, ◌/◌, ◌%◌, ◌^◌, List, [], ◌∷◌, fold, bit_xor}
 use Rattle.std.specs.Ordering.{nat_cmp, ordering_then}
 use Rattle.std.specs.declared.cmp.Ordering.{Ordering}

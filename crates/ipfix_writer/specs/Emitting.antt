@@ -32,8 +32,8 @@ last_template encode [] = None
 last_template encode (x ∷ []) = Some (encode x).template
 last_template encode (x ∷ (next ∷ xs)) = last_template encode (next ∷ xs)
 
--- The code's own: the length of a set header in front of a record of this template, where the record before has that
--- one, or there is none.
+-- The code's own: the length of the set header in front of a record of this template, by the template of the record
+-- before it, if there is one.
 abbrev pub header_before : Option ℕ → ℕ → ℕ
 header_before None template = 4
 header_before (Some last) template = if last == template then 0 else 4

@@ -1,4 +1,4 @@
--- The layout of records as a stream of messages. It is said for anything that is written as data records: `encode`
+-- The layout of records as a stream of messages. It is stated for anything that is written as data records: `encode`
 -- tells the template and the bytes of one; `encode_flow` is that of flow records.
 use Rattle.std.specs.Prelude.{◌≡◌, ℕ, ◌+◌, ◌%◌, ◌^◌, ◌-◌, min, ◌<◌, ◌≤◌, ◌==◌, if◌then◌else◌, List, [], ◌∷◌, ◌++◌}
 use Rattle.std.specs.Prelude.{length, take, flat_map}

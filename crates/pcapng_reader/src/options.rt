@@ -20,7 +20,7 @@ pub(crate) enum NextOption {
     Coded(u16, u16),
 }
 
-/// So many octets, padded to a multiple of four.
+/// A length in octets, padded to a multiple of four.
 pub(crate) fn padded_length(len: usize) -> usize
     requires { len ≤ 262144 }
     ensures { result ≡ padded_length len }
