@@ -64,7 +64,7 @@ pub record EmitterKeeps (size : ℕ) (phase : Phase) (waiting : List FlowRecord)
   pub records : size / v4_record_length ≤ room_of_records
   pub fresh : phase ≡ Fresh → (waiting ≡ []) × (sequence ≡ 0) × (messages ≡ 0) × (held ≡ [])
 
--- The code's own: so many of the first records fill a message: it has one or more and is at most `size` bytes long, and
+-- The code's own: the first `count` records fill a message: it has one or more and is at most `size` bytes long, and
 -- with one more it would be longer.
 pub record FillsMessage {A : Type 0} (encode : A → RecordSet) (size : ℕ) (records : List A) (count : ℕ) : Type 0 where
   pub some : 0 < count

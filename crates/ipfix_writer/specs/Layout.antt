@@ -95,7 +95,7 @@ data_messages export_time before parts = messages_in encode_flow export_time bef
 abbrev pub IsLayout : ℕ → ℕ → List FlowRecord → List ℕ → Type 0
 IsLayout size export_time flows bytes = IsStream encode_flow size export_time (template_message export_time) flows bytes
 
--- The bytes are the layout of the records in so many messages, the template message among them.
+-- The bytes are the layout of the records in `messages` messages, the template message among them.
 pub record IsLayoutOf (size export_time : ℕ) (flows : List FlowRecord) (bytes : List ℕ) (messages : ℕ) : Type 0 where
   pub layout : IsLayout size export_time flows bytes
   pub count : messages ≡ min (1 + length layout.parts) (2 ^ 64 - 1)

@@ -16,7 +16,7 @@ pub(crate) enum NextOption {
     Last,
     /// An option that goes beyond the octets.
     Beyond,
-    /// An option of this code, with a value of so many octets.
+    /// An option of this code, with a value of this many octets.
     Coded(u16, u16),
 }
 

@@ -55,7 +55,7 @@ fn nanoseconds(rest: u64, units: u64) -> u32
     (rest as u128 * 1_000_000_000 / units as u128) as u32
 }
 
-/// The time of so many units, by the clock of an interface.
+/// The time that counts this many units, by the clock of an interface.
 pub(crate) fn stamp_of(interface: &Interface, time: u64) -> Stamp
     requires { HasUnits interface.now }
     ensures { result ≡ stamp_of interface.now time }
