@@ -297,7 +297,7 @@ pub consumes-nothing : (left : Option (List ℕ)) → Consumes left left []
 consumes-nothing None = tt
 consumes-nothing (Some bytes) = refl
 
--- bytes that are no capture stay none, however they go on
+-- bytes that don't begin with a file header stay so, however they go on
 pub stays-none : (read got : List ℕ) (ended : Bool) (size : ℕ)
     → ((xs ys : List ℕ) → 24 ≤ length xs → capture_file (xs ++ ys)
     ≡ option_map (λ (f : CaptureFile). grown_file f ys) (capture_file xs))

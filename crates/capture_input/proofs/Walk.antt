@@ -115,7 +115,7 @@ sound-next head window taken file more part goes header at is undamaged =
       rest = ap rest_of same ∙ sym next.on.rest;
     }
 
--- so long a file has no more records
+-- a file of this length has no more records than that
 pub few-records : (head : Head) (window : List ℕ) (taken limit base : ℕ) (file : CaptureFile) (more : List ℕ)
     (part : CaptureFile)
     → IsAt head window 0 taken file more → IsNext head file more base part → taken ≤ limit → limit ≤ 2 ^ 30

@@ -15,13 +15,14 @@ pub record WindowState : Type 0 where
 abbrev pub window_in : List ℕ → ℕ → WindowState
 window_in buffer end = record { bytes = take end buffer; size = length buffer }
 
--- Why filling ended, when so many bytes were taken: the first of these three that holds.
+-- Why filling ended, when `count` bytes were taken: the first of these three that holds.
 abbrev pub HasEndedFor : FillEnd → ℕ → ℕ → WindowState → Option (List ℕ) → Type 0
 HasEndedFor Spent count most window left = count ≡ most
 HasEndedFor Full count most window left = (count < most) × (length window.bytes ≡ window.size)
 HasEndedFor Ended count most window left = (count < most) × (length window.bytes < window.size) × IsAtEnd left
 
--- The window grew by bytes that the source gave, at most so many, and what ended it; fewer where a read failed.
+-- The window grew by bytes that the source gave, at most `most`, and the result says what ended that. Fewer than `most`
+-- came where a read failed.
 pub record IsFilled (most : ℕ) (old new : WindowState) (before after : Option (List ℕ))
     (result : Result FillEnd Failed) : Type 0 where
   pub got : List ℕ

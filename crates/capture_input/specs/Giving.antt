@@ -21,7 +21,7 @@ base_in reading = reading.base
 abbrev pub head_in : Reading → Head
 head_in reading = reading.head
 
--- How many bytes its window has.
+-- The size of its window: the most bytes that it can have.
 abbrev pub size_in : Reading → ℕ
 size_in reading = reading.input.window.size
 
@@ -29,13 +29,13 @@ size_in reading = reading.input.window.size
 abbrev pub IsLast : Reading → Type 0
 IsLast reading = reading.input.ended ≡ true
 
--- How much can still be read: a number that falls by each part.
+-- How much can still be read: a number that falls with each part.
 abbrev pub left_in : Reading → ℕ
 left_in reading = reading.input.limit - reading.input.taken + cond reading.input.ended 0 1
 
--- The source gave a beginning of an undamaged capture so far, at most so many bytes, `before` being what it had left at
--- first. These are the answers to its records, all of which were given in parts; the next part begins with what is left
--- behind them, where the window has it.
+-- So far the source gave a beginning of an undamaged capture, of at most `limit` bytes; `before` is what it had left at
+-- first. `answers` are those to the records of that beginning, all of which were given in parts. The window has what is
+-- left behind these records, from `next` on; the next part begins with it.
 pub record HasGiven (before left : Option (List ℕ)) (limit : ℕ) (reading : Reading) (answers : List Answer)
     : Type 0 where
   pub file : CaptureFile
@@ -55,7 +55,7 @@ pub record HasGiven (before left : Option (List ℕ)) (limit : ℕ) (reading : R
   pub ended : reading.input.ended ≡ true → IsAtEnd left
   pub records : reading.base + reading.count ≡ length (records_of file)
 
--- The same, where the window was filled again: it begins with what is left, and goes on.
+-- The same, where the window was filled again: it begins with what was left, and more bytes stand behind that.
 pub record HasFilled (before left : Option (List ℕ)) (limit : ℕ) (reading : Reading) (answers : List Answer)
     : Type 0 where
   pub file : CaptureFile
@@ -71,8 +71,8 @@ pub record HasFilled (before left : Option (List ℕ)) (limit : ℕ) (reading : 
   pub ended : reading.input.ended ≡ true → IsAtEnd left
   pub records : reading.base + reading.count ≡ length (records_of file)
 
--- The source gave an undamaged capture of at most so many bytes, and has nothing left; these are the answers to its
--- records, and so many bytes are left behind the last of them.
+-- The source gave an undamaged capture of at most `limit` bytes, and has nothing left. `answers` are those to its
+-- records, and `tail` bytes are left behind the last of them.
 pub record IsReadWhole (before left : Option (List ℕ)) (limit : ℕ) (answers : List Answer) (tail : ℕ) : Type 0 where
   pub file : CaptureFile
   pub given : Consumes before left file.bytes

@@ -31,7 +31,7 @@ side_from first source =
 abbrev pub IsQuiet : Side → Type 0
 IsQuiet source = source.faults_after ≡ source.faults_before
 
--- So many bytes more were taken, and the source is at its end or the window is full.
+-- `count` more bytes were taken, and the source is at its end or the window is full.
 pub record IsMore (source : Side) (taken count : ℕ) (new : CaptureInput) : Type 0 where
   pub taken_is : new.taken ≡ taken + count
   pub within : new.taken ≤ new.limit
@@ -40,7 +40,7 @@ pub record IsMore (source : Side) (taken count : ℕ) (new : CaptureInput) : Typ
   pub full : new.ended ≡ false → length new.window.bytes ≡ new.window.size
   pub fits : length new.window.bytes ≤ new.window.size
 
--- Why reading ended early, when so many bytes had come.
+-- Why reading ended early, when `count` bytes had come.
 abbrev pub IsCut : Side → ℕ → ℕ → MeterFault → Type 0
 IsCut source count limit Failed = HasFailed source × (count ≤ limit)
 IsCut source count limit TooLarge = IsQuiet source × (count ≡ limit + 1)
@@ -74,7 +74,7 @@ pub record IsReadOut (source : Side) (count limit : ℕ) : Type 0 where
   pub ended : IsAtEnd source.after
   pub within : count ≤ limit
 
--- The source was read on: the fault stays where it came to its end, and else is why reading ended early.
+-- The source was read on: the answer is this fault where the source came to its end, and else why reading ended early.
 pub record ReadsOn (source : Side) (input : CaptureInput) (fault result : MeterFault) : Type 0 where
   pub got : List ℕ
   pub given : Consumes source.before source.after got
@@ -82,12 +82,12 @@ pub record ReadsOn (source : Side) (input : CaptureInput) (fault result : MeterF
   pub ends : ((result ≡ fault) × IsReadOut source (input.taken + length got) input.limit)
       ⊎ IsCut source (input.taken + length got) input.limit result
 
--- Why metering a part of so many bytes ended: memory was out, or the part is damaged, at a place within it.
+-- Why reading ended at a part of `count` bytes: memory was out, or the part is damaged, at a place within it.
 abbrev pub EndsFor : Side → CaptureInput → ℕ → IndexError → MeterFault → Type 0
 EndsFor source input count NoIndex result = (result ≡ NoMemory) × (source.after ≡ source.before) × IsQuiet source
 EndsFor source input count (DamagedPart at) result = ReadsOn source input (Damaged (input.taken - count + at)) result
 
--- The fault of bytes that are no capture that can be read.
+-- The fault for bytes that are not a capture that can be read.
 abbrev pub fault_for : CaptureError → MeterFault
 fault_for NoHeader = NotCapture
 fault_for (OtherLink link) = LinkUnknown link

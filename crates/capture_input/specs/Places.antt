@@ -14,8 +14,8 @@ pub record IsSound (head : Head) (file : CaptureFile) : Type 0 where
   pub header : 24 ≤ length file.bytes
   pub undamaged : damage_of file ≡ None
 
--- The window goes on, from a place on, with what is left of the file behind its records, and more bytes. All these
--- bytes were taken.
+-- From place `from` on, the window has what is left of the file behind its records, and then more bytes. All bytes of
+-- the file and these were taken.
 pub record IsAt (head : Head) (window : List ℕ) (from taken : ℕ) (file : CaptureFile) (more : List ℕ) : Type 0 where
   pub sound : IsSound head file
   pub low : from ≤ length window

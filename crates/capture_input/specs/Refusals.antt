@@ -8,7 +8,7 @@ use Rattle.capture_input.specs.declared.fault.MeterFault.{MeterFault}
 use Rattle.capture_input.specs.declared.fault.MeterFault.TheVariants.{Failed, TooLarge, NotCapture, LinkUnknown}
 use Rattle.capture_input.specs.declared.fault.MeterFault.TheVariants.{Damaged, NoMemory}
 
--- Why an input is refused. Damage counts from the beginning of the input.
+-- Why an input is refused. The place of damage counts from the beginning of the input.
 abbrev pub IsRefused : Side → ℕ → MeterFault → Type 0
 IsRefused source limit Failed = IsBroken source limit
 IsRefused source limit TooLarge = IsTooLarge source limit

@@ -8,13 +8,13 @@ use no_memory::NoMemory;
 /// any time.
 #[derive(Clone, Copy, Debug, PartialEq, Eq)]
 pub enum MeterFault {
-    /// The source failed, and counted it.
+    /// A read failed, and the source counted it.
     Failed,
-    /// More bytes came than the limit.
+    /// More bytes came than the limit allows.
     TooLarge,
     /// The input doesn't begin with the file header of a classic capture.
     NotCapture,
-    /// It does, and the link type is this one, which isn't read.
+    /// It does, and its link type is this number, which is none of 1, 101 and 113.
     LinkUnknown(u32),
     /// The record header at this offset, counted from the beginning of the input, claims more than 262,144 captured
     /// bytes.

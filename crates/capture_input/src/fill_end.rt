@@ -3,7 +3,7 @@
 /// Why a window takes no more bytes. The first that holds, in this order, is the answer.
 #[derive(Clone, Copy, Debug, PartialEq, Eq)]
 pub enum FillEnd {
-    /// As many bytes were taken as were asked for at most.
+    /// As many bytes were taken as the call allows.
     Spent,
     /// The window is full.
     Full,

@@ -6,9 +6,9 @@ use crate::window::Window;
 #[derive(Drop)]
 pub struct CaptureInput {
     pub window: Window,
-    /// How many bytes were taken.
+    /// How many bytes were taken from the source.
     pub taken: u64,
-    /// How many may come at most.
+    /// How many bytes may come at most.
     pub limit: u64,
     /// Whether the source is at its end.
     pub ended: bool,

@@ -37,8 +37,8 @@ impl Reading {
     /// Reads the first part of a capture, in a window of `size` bytes (262,184 to 2^27), and its index. At most `limit`
     /// bytes may come, and at most 2^30.
     ///
-    /// Refusals in the order of [`MeterFault`]: where the input is no capture, of an unknown link type or damaged, it
-    /// is read to its end first, so that `Failed` and `TooLarge` keep their place. `NoMemory` may come at any time.
+    /// Refusals come in the order of [`MeterFault`]: where the input is no capture, of an unknown link type or damaged,
+    /// it is read to its end first, so that `Failed` and `TooLarge` still come first. `NoMemory` may come at any time.
     pub fn begin<S: Source>(
         alloc: Global,
         source: &mut S,
@@ -74,7 +74,7 @@ impl Reading {
         reading.index_part(source, index)
     }
 
-    /// The part that was filled in, and its index.
+    /// The part that the window was filled with, and its index.
     fn index_part<S: Source>(
         self,
         source: &mut S,
@@ -121,7 +121,8 @@ impl Reading {
         Ok((reading, index))
     }
 
-    /// Reads the next part, and its index in the memory of another. This part isn't the last.
+    /// Reads the next part and makes its index, in the memory of the index that is passed in. The part before must not
+    /// be the last.
     ///
     /// It refuses as [`Reading::begin`] does.
     pub fn next<S: Source>(
@@ -155,7 +156,7 @@ impl Reading {
         reading.index_part(source, index)
     }
 
-    /// The part that was read, by its index.
+    /// The part that was read last, with its index.
     pub fn part<'a>(&'a self, index: &'a RecordIndex) -> Part<'a>
         requires part { IsIndexOf index.now (part_in self.now) }
         requires few { base_in self.now + length index.now.offsets < 2 ^ 32 }
@@ -191,7 +192,8 @@ impl Reading {
         self.input.ended
     }
 
-    /// How many bytes are left behind the last record of the part. Where this is the last, the capture was read whole.
+    /// How many bytes are left behind the last record of the part. Where this part is the last, the whole capture was
+    /// read.
     pub fn tail(&self) -> u64
         requires given { (before left : Option (List ℕ)) × (limit : ℕ) × (answers : List Answer)
             × HasGiven before left limit self.now answers }
@@ -202,8 +204,8 @@ impl Reading {
         (self.input.window.bytes().len() - self.next) as u64
     }
 
-    /// The bytes of the part, in the memory of the window. What is left behind its last record goes into this buffer,
-    /// which is the window from now on, and as long.
+    /// Hands over the bytes of the part, in the memory of the window. What is left behind the part's last record is
+    /// copied into `buffer`, which must be as long as the window, and is the window from now on.
     pub fn take_bytes(self, buffer: Vec<u8>) -> (Vec<u8>, Reading)
         requires given { (before left : Option (List ℕ)) × (limit : ℕ) × (answers : List Answer)
             × HasGiven before left limit self answers }

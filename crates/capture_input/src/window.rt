@@ -27,7 +27,7 @@ impl Model for Window {
     ghost invariant = { λ w. w.end ≤ length w.buffer.items };
 }
 
-/// Reads once behind the first `end` bytes of a buffer, as many bytes as fit and are wanted.
+/// Reads once behind the first `end` bytes of a buffer, as many bytes as fit, and at most `most`.
 fn read_behind<S: Source>(
     source: &mut S,
     buffer: &mut [u8],
@@ -51,7 +51,7 @@ fn read_behind<S: Source>(
     source.read(&mut buffer[end..end + want])
 }
 
-/// Fills a buffer from the place `end` on, which moves on behind what was read.
+/// Fills a buffer from the place `end` on. `end` moves to behind what was read.
 fn fill_behind<S: Source>(
     source: &mut S,
     buffer: &mut [u8],
@@ -102,7 +102,7 @@ impl Window {
         Ok(Window { buffer, end: 0 })
     }
 
-    /// A window in memory that stands ready, of 262,184 to 2^27 bytes, with these bytes at its front. Takes no memory.
+    /// A window in memory that was taken before, 262,184 to 2^27 bytes, with these bytes at its front. Takes no memory.
     pub fn over(mut buffer: Vec<u8>, bytes: &[u8]) -> Window
         requires size { (262184 ≤ length buffer.items) × (length buffer.items ≤ 2 ^ 27) }
         requires room { length bytes.now ≤ length buffer.items }
@@ -115,7 +115,7 @@ impl Window {
         }
     }
 
-    /// Gives its memory back with the bytes before the place `end` alone in it.
+    /// Gives its memory back, cut down to the bytes before the place `end`.
     pub fn into_front(self, end: usize) -> Vec<u8>
         requires { end ≤ length self.bytes }
         ensures { result.items ≡ take end self.bytes }
@@ -126,7 +126,7 @@ impl Window {
     }
 
     /// Appends bytes of the source, until `most` were taken (`Spent`), the window is full (`Full`), or the source is at
-    /// its end (`Ended`), tried in this order. Each read asks for all that is still wanted.
+    /// its end (`Ended`), checked in this order. Each read asks for all that is still wanted.
     ///
     /// `Failed` comes only where the source's count of faults rose. The bytes taken before stay in the window.
     pub fn fill<S: Source>(&mut self, source: &mut S, most: u64) -> Result<FillEnd, Failed>

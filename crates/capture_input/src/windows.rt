@@ -15,7 +15,7 @@ use no_memory::NoMemory;
 use pcap_reader::{CaptureError, Head, IndexError, parts_law};
 use std::alloc::Global;
 
-/// The fault of bytes that are no capture that can be read.
+/// The fault for bytes that are not a capture that can be read.
 fn fault_of(error: CaptureError) -> MeterFault
     ensures { result ≡ fault_for error }
 {
@@ -25,7 +25,8 @@ fn fault_of(error: CaptureError) -> MeterFault
     }
 }
 
-/// Reads the source to its end and drops what it reads. The fault stays, unless reading has one of its own.
+/// Reads the source to its end and drops what it reads. The answer is this fault, unless reading has a fault of its
+/// own.
 fn read_on<S: Source>(source: &mut S, input: CaptureInput, fault: MeterFault) -> MeterFault
     requires within { (input.taken ≤ input.limit) × (input.limit ≤ 2 ^ 30) }
     requires size { 0 < input.window.size }
@@ -87,7 +88,7 @@ impl CaptureInput {
         }
     }
 
-    /// Reads the first window, and the file header that it begins with. The window keeps it.
+    /// Reads the first window, and the file header that it begins with. The window keeps the header.
     ///
     /// `NotCapture`, `LinkUnknown`: the source was read to its end then, and has neither failed nor given too much;
     /// else `Failed` or `TooLarge`.
@@ -109,9 +110,9 @@ impl CaptureInput {
         }
     }
 
-    /// Why the input is refused whose last part, of so many bytes, has no index: out of memory, or damaged. Where it is
-    /// damaged, the source is read to its end first, and the place counts from the beginning of the input; reading may
-    /// have a fault of its own.
+    /// Why an input is refused whose last part, of `count` bytes, could not be indexed: memory ran out, or the part is
+    /// damaged. Where it is damaged, the source is read to its end first, and the place counts from the beginning of
+    /// the input; reading may have a fault of its own.
     pub fn refusal<S: Source>(self, source: &mut S, count: usize, error: IndexError) -> MeterFault
         requires within { (count ≤ self.taken) × (self.taken ≤ self.limit) × (self.limit ≤ 2 ^ 30) }
         requires bounded { (at : ℕ) → error ≡ IndexError.Damaged at → at ≤ count }

@@ -1,7 +1,7 @@
 -- The draws of the generator: a linear congruential sequence of numbers of 64 bits.
 use Rattle.std.specs.Prelude.{ℕ, ◌+◌, ◌*◌, ◌/◌, ◌%◌, ◌^◌}
 
--- The state behind a state.
+-- The state that follows a state.
 abbrev pub state_behind : ℕ → ℕ
 state_behind state = (state * 6364136223846793005 + 1442695040888963407) % 2 ^ 64
 

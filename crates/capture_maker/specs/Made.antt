@@ -5,8 +5,8 @@ use Rattle.octets.specs.Numbers.{octets_of, ordered_octets}
 use Rattle.octets.specs.declared.endianness.Endianness.TheVariants.{Little}
 use Rattle.capture_maker.specs.Draws.{state_behind, number_of}
 
--- The file header: the least octet first, microseconds, version 2.4, at most 65,535 octets captured, link type 101 for
--- raw IP.
+-- The file header: least significant octet first, microseconds, version 2.4, at most 65,535 octets captured, link type
+-- 101 for raw IP.
 abbrev pub file_header : List ℕ
 file_header =
     ordered_octets Little 4 0xa1b2c3d4 ++ (ordered_octets Little 2 2 ++ (ordered_octets Little 2 4
@@ -31,7 +31,7 @@ abbrev pub udp_header : ℕ → ℕ → List ℕ
 udp_header payload key =
     octets_of 2 (1024 + key) ++ (octets_of 2 53 ++ (octets_of 2 (8 + payload) ++ octets_of 2 0))
 
--- The record of a packet with so many octets of payload, of which none is captured.
+-- The record of a packet with `payload` octets of payload, of which none is captured.
 abbrev pub packet_record : ℕ → ℕ → ℕ → List ℕ
 packet_record number payload key = record_header number payload ++ (ip_header payload key ++ udp_header payload key)
 
@@ -43,6 +43,6 @@ packets_from keys state number (suc count) =
     packet_record number (number_of (state_behind state) % 1000) (number_of (state_behind (state_behind state)) % keys)
     ++ packets_from keys (state_behind (state_behind state)) (suc number) count
 
--- The capture of so many packets of so many keys. The seed is the first state.
+-- The capture of `packets` packets, whose keys are below `keys`. The seed is the first state.
 abbrev pub capture_of : ℕ → ℕ → ℕ → List ℕ
 capture_of seed packets keys = file_header ++ packets_from keys seed 0 packets

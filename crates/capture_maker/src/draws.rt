@@ -13,7 +13,7 @@ pub struct Draws {
     pub state: u64,
 }
 
-/// The state behind a state.
+/// The state that follows a state.
 #[inline]
 fn step(state: u64) -> u64
     ensures { result ≡ state_behind state }

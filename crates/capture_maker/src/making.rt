@@ -14,7 +14,7 @@ use std::alloc::Global;
 const FILE_HEADER: usize = 24;
 /// Octets of a record.
 const RECORD: usize = 44;
-/// The first captured second.
+/// The time of the first packet, in seconds since 1970.
 const FIRST_SECOND: u32 = 1000;
 
 /// Appends the file header.
@@ -99,10 +99,10 @@ fn append_packet(bytes: &mut Vec<u8>, number: u32, payload: u16, key: u16)
     append_udp_header(bytes, payload, key);
 }
 
-/// A classic capture of so many packets, at most 1,000,000, of so many keys, from 1 to 4096, by a seed. It has 24
-/// octets and 44 a packet.
+/// A classic capture of `packets` packets, at most 1,000,000, made from a seed. Their keys are drawn from `keys` keys,
+/// 1 to 4096. It has 24 octets, and 44 more for each packet.
 ///
-/// `NoMemory` where memory is out.
+/// `NoMemory` where there is no memory for it.
 pub fn capture(alloc: Global, seed: u64, packets: u32, keys: u16) -> Result<Vec<u8>, NoMemory>
     requires packets { packets ≤ 1000000 }
     requires keys { (1 ≤ keys) × (keys ≤ 4096) }

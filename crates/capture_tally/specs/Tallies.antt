@@ -16,7 +16,7 @@ cause_number BadHeader = 3
 cause_number ShortTransport = 4
 cause_number BadTime = 5
 
--- The answer is this cause.
+-- The answer is the cause with this number.
 abbrev pub is_ignored_for : ℕ → Result Packet Ignored → Bool
 is_ignored_for number (Ok packet) = false
 is_ignored_for number (Err cause) = cause_number cause == number
@@ -40,7 +40,7 @@ pub record IsTallyOf (tally : Tally) (answers : List (Result Packet Ignored)) : 
   pub octets : tally.octets ≡ octets_of (packets_in answers)
   pub clock : IsClock (packets_in answers) tally.clock
 
--- No number of the tally is near the last value of its type, so two such tallies can be added up.
+-- Each number of the tally is below 2^63, so that two such tallies can be added up.
 pub record HasRoom (tally : Tally) : Type 0 where
   pub captured : tally.captured < 2 ^ 63
   pub accepted : tally.accepted < 2 ^ 63

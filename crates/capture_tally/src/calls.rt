@@ -41,7 +41,7 @@ fn later_of(one: Option<u64>, other: Option<u64>) -> Option<u64>
 }
 
 impl Tally {
-    /// The tally of no record.
+    /// The tally of no records.
     pub fn new() -> Tally
         ensures tally { IsTallyOf result [] }
         ensures room { HasRoom result }
@@ -86,8 +86,8 @@ impl Tally {
 
     /// Counts one more record by its answer.
     ///
-    /// No number of the tally is near the last value of its type ([`room_law`](crate::room_law)), and the time of a
-    /// packet has whole seconds of 32 bits, as that of each accepted packet.
+    /// Each number of the tally must be below 2^63 ([`room_law`](crate::room_law)), and the whole seconds of a packet's
+    /// time must fit 32 bits, as those of each accepted packet do.
     pub fn add(&mut self, answer: &Result<Packet, Ignored>)
         requires room { HasRoom self.old }
         requires early { IfOk answer.now (λ packet. packet.time < 1000 * 2 ^ 32) }
@@ -100,7 +100,7 @@ impl Tally {
         }
     }
 
-    /// The tally of the records of both.
+    /// The tally of the records of both. Each number of either must be below 2^63.
     pub fn sum_with(self, other: &Tally) -> Tally
         requires one { HasRoom self }
         requires two { HasRoom other.now }

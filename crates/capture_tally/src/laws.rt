@@ -1,4 +1,4 @@
-//! Laws on tallies, for proofs above. The calls do nothing.
+//! Laws on tallies, for proofs in the crates above. The calls do nothing.
 
 ghost use Rattle.std.specs.Prelude.{◌<◌, ◌^◌, List, Result, length, All, IsPermutation};
 ghost use Rattle.packet_accept.specs.declared.packet.Packet.{Packet};
@@ -9,7 +9,8 @@ ghost use Rattle.capture_tally.specs.declared.tally.Tally.{Tally};
 
 use packet_accept::{clock_law, packets_law};
 
-/// The tally of fewer than 2^38 records, whose packets have fewer than 2^24 octets each, has room.
+/// The tally of fewer than 2^38 records, whose packets have fewer than 2^24 octets each, has room: each of its numbers
+/// is below 2^63.
 pub fn room_law()
     ensures { (tally : Tally) (answers : List (Result Packet Ignored)) → IsTallyOf tally answers
         → length answers < 2 ^ 38

@@ -6,7 +6,7 @@ ghost use Rattle.std.specs.Option.{ForSome};
 /// What some records of a capture held, in numbers.
 #[derive(Clone, Copy, Debug, PartialEq, Eq)]
 pub struct Tally {
-    /// How many records.
+    /// How many records there were.
     pub captured: u64,
     /// How many of them gave a packet.
     pub accepted: u64,
@@ -15,7 +15,7 @@ pub struct Tally {
     pub ignored: [u64; 5],
     /// The octets of the packets together.
     pub octets: u64,
-    /// The time of the latest packet in milliseconds, and none without a packet. In whole seconds it has 32 bits.
+    /// The latest time of a packet, in milliseconds since 1970; `None` without a packet. Its whole seconds fit 32 bits.
     pub clock: Option<u64>,
     pub ghost early: { ForSome clock (λ time. time < 1000 * 2 ^ 32) },
 }

@@ -20,12 +20,12 @@ app_for names = record {
 abbrev pub names_in : List Rule → List Text
 names_in table = map (λ (rule : Rule). rule.name) table
 
--- The texts of one value, where there is one.
+-- The text of a value as a list: that one text, or no text.
 abbrev pub texts_of : Option Text → List Text
 texts_of None = []
 texts_of (Some text) = text ∷ []
 
--- The values by the text that was found for each name.
+-- The values of the options, by the text that was found for each name.
 abbrev pub values_found : List Rule → (Text → Option Text) → Option (List ℕ)
 values_found [] found = Some []
 values_found (rule ∷ table) found =

@@ -1,4 +1,4 @@
--- The words of one command as its options, by a table of these.
+-- Reads the words of one command as its options, by a table of them.
 use Rattle.std.specs.Prelude.{ℕ, Bool, true, ⊤, ◌≤◌, ◌==◌, ◌&&◌, nat_le, nat_lt, if◌then◌else◌, List, [], ◌∷◌, length}
 use Rattle.std.specs.Prelude.{Option, Some, None, option_map, option_and_then}
 use Rattle.std.specs.Char.{is_ascii_digit}
@@ -7,8 +7,8 @@ use Rattle.std.specs.Option.{option_map_or}
 use Rattle.std.specs.Str.{bytes_eq}
 use Rattle.std.specs.Str.Parse.{digits_value}
 
--- An option: its name, its least and its greatest value, and the value that stands where it isn't given. One without
--- such a value must be given.
+-- An option: its name, its least and its greatest value, and its default, the value where it isn't given. An option
+-- without a default must be given.
 pub record Rule : Type 0 where
   pub name : List ℕ
   pub low : ℕ
@@ -29,12 +29,12 @@ name_and_value text = (
   if list_any (λ x. x == 61) text then Some (after_first (λ x. x == 61) text) else None,
 )
 
--- The same of a text that isn't empty.
+-- The same for a text that isn't empty; none for an empty one.
 abbrev pub named_value : List ℕ → Option (List ℕ × Option (List ℕ))
 named_value [] = None
 named_value (first ∷ rest) = Some (name_and_value (first ∷ rest))
 
--- A word `--name` or `--name=value` as its name and its value; another word is none such.
+-- A word `--name` or `--name=value`, as its name and its value, if any; none for any other word.
 abbrev pub option_word : List ℕ → Option (List ℕ × Option (List ℕ))
 option_word word = option_and_then named_value (option_and_then behind_hyphen (behind_hyphen word))
 
@@ -44,7 +44,7 @@ Given = List ℕ × List ℕ
 
 -- ---- the grammar
 
--- One option before others, where these are options.
+-- One option in front of the others, where these words are options.
 abbrev pub with_option : Given → Option (List Given) → Option (List Given)
 with_option given others = option_map (λ more. given ∷ more) others
 
@@ -55,7 +55,8 @@ option_then None behind = None
 option_then (Some (name, Some value)) behind = with_option (name, value) (behind None)
 option_then (Some (name, None)) behind = behind (Some name)
 
--- The options that words are; none where they are no options. A name waits for its value, where there is one.
+-- The options that the words are; none where they are not options. The first argument is a name that waits for its
+-- value, if there is one.
 unfoldable pub options_from : Option (List ℕ) → List (List ℕ) → Option (List Given)
 options_from None [] = Some []
 options_from (Some name) [] = None
@@ -64,14 +65,14 @@ options_from (Some name) (word ∷ words) = with_option (name, word) (options_fr
 
 -- ---- values
 
--- The number that one to twenty decimal digits write; another text writes none.
+-- The number that one to twenty decimal digits write; none for any other text.
 abbrev pub number_of : List ℕ → Option ℕ
 number_of text =
     if nat_lt 0 (length text) && nat_le (length text) 20 && list_all is_ascii_digit text
     then Some (digits_value 10 text)
     else None
 
--- A number that is from `low` to `high`.
+-- The number, where it is from `low` to `high`; else none.
 abbrev pub within : ℕ → ℕ → ℕ → Option ℕ
 within low high number = if nat_le low number && nat_le number high then Some number else None
 
@@ -80,8 +81,8 @@ abbrev pub texts_for : List ℕ → List Given → List (List ℕ)
 texts_for name [] = []
 texts_for name (given ∷ more) = if bytes_eq given.0 name then given.1 ∷ texts_for name more else texts_for name more
 
--- The value of an option by the texts given for it: without one its default, with one the number of that text, which is
--- in range. More than one is no value.
+-- The value of an option, by the texts given for it: with none, its default; with one, the number that it writes, where
+-- this is in range; with more than one, no value.
 abbrev pub value_by : Rule → List (List ℕ) → Option ℕ
 value_by rule [] = rule.default
 value_by rule (text ∷ []) = option_and_then (within rule.low rule.high) (number_of text)
@@ -100,15 +101,16 @@ values_by (rule ∷ table) given =
     option_and_then (λ value. option_map (λ values. value ∷ values) (values_by table given))
     (value_by rule (texts_for rule.name given))
 
--- The values of the options of a table, in its order, by the words of a command behind its name: the words are options,
--- each of the table, at most once, and each with a value in its range; none where they aren't.
+-- The values of the options of a table, in the table's order, by the words behind a command's name. The words must be
+-- options of the table, each given at most once and with a value in its range, and an option without a default must be
+-- given; otherwise there are no values.
 abbrev pub values_of : List Rule → List (List ℕ) → Option (List ℕ)
 values_of table words =
     option_and_then (λ given. if are_known table given then values_by table given else None) (options_from None words)
 
 -- ---- ranges
 
--- The value that stands for an option that isn't given is in its range.
+-- The default, where there is one, is in the option's range.
 abbrev pub has_default_within : Rule → Bool
 has_default_within rule = option_map_or (λ value. nat_le rule.low value && nat_le value rule.high) rule.default true
 

@@ -7,7 +7,8 @@ use std::io::ErrorKind;
 
 /// The words behind the program's name, as the system gives them.
 ///
-/// `NotOptions` where a word isn't UTF-8, which no command line of these programs has; `NoMemory` where memory ran out.
+/// `NotOptions` where they can't be read as UTF-8: no command of these programs takes a word that isn't. `NoMemory`
+/// where memory ran out.
 pub fn words_of(rt: &HostRuntime) -> Result<Vec<String>, OptionsError> {
     match env::args(rt) {
         Ok(words) => words

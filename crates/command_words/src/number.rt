@@ -7,7 +7,7 @@ ghost use Rattle.command_words.specs.Views.{rule_of};
 
 use crate::rule::OptionRule;
 
-/// The number that one to twenty decimal digits write; none for another text.
+/// The number that one to twenty decimal digits write; `None` for any other text.
 fn number(text: &str) -> Option<u128>
     ensures { result ≡ number_of text.now }
 {
@@ -25,7 +25,7 @@ fn number(text: &str) -> Option<u128>
     Some(number)
 }
 
-/// The number that a text writes, where it is from `low` to `high`.
+/// The number that a text writes, where it is from `low` to `high`; else `None`.
 fn number_within(text: &str, low: u64, high: u64) -> Option<u64>
     ensures { result ≡ option_and_then (within low high) (number_of text.now) }
 {
@@ -37,7 +37,8 @@ fn number_within(text: &str, low: u64, high: u64) -> Option<u64>
     }
 }
 
-/// The value of an option: the number of its text, where that is in its range, and without a text its default.
+/// The value of an option: the number that its text writes, where this is in the option's range; without a text, the
+/// default. `None` where that gives no number.
 pub fn value_by(rule: &OptionRule<'_>, text: Option<&str>) -> Option<u64>
     ensures { result ≡ value_by (rule_of rule.now) (texts_of (option_map (λ t. t.now) text.entry)) }
 {

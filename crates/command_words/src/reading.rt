@@ -17,10 +17,10 @@ use clap::{Arg, ArgAction, ArgMatches, Command};
 use no_memory::NoMemory;
 use std::alloc::Global;
 
-/// Why words give no values.
+/// Why the words give no values.
 #[derive(Clone, Copy, Debug, PartialEq, Eq)]
 pub enum OptionsError {
-    /// The words are no options of the table.
+    /// The words are not options by the table, as [`values_of`] describes them.
     NotOptions,
     /// Out of memory.
     NoMemory,
@@ -48,7 +48,7 @@ fn has_dashes(words: &[String]) -> bool
     false
 }
 
-/// The command that reads words by these options.
+/// The command of `clap` that reads words by these options.
 fn command_of<'a>(alloc: Global, table: &'a [OptionRule<'a>]) -> Result<Command<'a>, NoMemory>
     ensures { IfOk result (λ command. app_of command ≡ app_for (names_in (rules_of table.now))) }
 {
@@ -93,15 +93,16 @@ fn values_found(
     Ok(values)
 }
 
-/// The values of the options of a table, in its order, by the words behind a command's name.
+/// Reads the words behind a command's name: the values of the options of a table, in the table's order.
 ///
 /// Each option stands at most once, in any order, as `--name value` or `--name=value`. A value is one to twenty decimal
-/// digits, leading zeros among them, whose number is in the option's range.
+/// digits, where leading zeros are allowed, whose number is in the option's range.
 ///
-/// The defaults are in the ranges of their options, so each value is in its range, and there is one for each option.
+/// Each default must be in its option's range. So each value is in its option's range, and there is one for each
+/// option.
 ///
-/// - `NotOptions`: exactly where the words aren't such: another word or name, an option twice or without a value, a
-///   value of another form or out of its range, or an option left out that has no default.
+/// - `NotOptions`: exactly where the words aren't such, unless memory ran out first: another word or name, an option
+///   twice or without a value, a value of another form or out of its range, or an option left out that has no default.
 /// - `NoMemory`: out of memory.
 pub fn values_of<'a>(
     alloc: Global,

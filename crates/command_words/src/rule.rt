@@ -5,10 +5,10 @@
 pub struct OptionRule<'a> {
     /// The name, without the two hyphens.
     pub name: &'a str,
-    /// The least value.
+    /// The least value that is allowed.
     pub low: u64,
-    /// The greatest value.
+    /// The greatest value that is allowed.
     pub high: u64,
-    /// The value where the option isn't given; without one it must be.
+    /// The value where the option isn't given; `None` where it must be given.
     pub default: Option<u64>,
 }

@@ -1,4 +1,4 @@
--- A flow key as words and as a place in the written order, and the set of a cache that it falls in.
+-- A flow key as words, the order of keys, and the set of a cache that a key falls in.
 use Rattle.std.specs.Prelude.{ℕ, ◌+◌, ◌*◌, ◌/◌, ◌%◌, ◌^◌, List, [], ◌∷◌, fold, bit_xor}
 use Rattle.std.specs.Ordering.{nat_cmp, ordering_then}
 use Rattle.std.specs.declared.cmp.Ordering.{Ordering}
@@ -16,7 +16,7 @@ words_of k =
 abbrev pub mixed_hash : ℕ → ℕ → ℕ
 mixed_hash hash word = bit_xor hash word * 0x9E3779B97F4A7C15 % 2 ^ 64
 
--- The set of a key in a table of so many sets: the upper half of the hash of its words, modulo the number of sets.
+-- The set of a key in a table of `sets` sets: the upper half of the hash of its words, modulo `sets`.
 abbrev pub set_number : FlowKey → ℕ → ℕ
 set_number k sets = fold mixed_hash 0 (words_of k) / 2 ^ 32 % sets
 

@@ -40,7 +40,7 @@ fit_or_not f =
     (all_five (dec_lt f.source (2 ^ 128)) (dec_lt f.destination (2 ^ 128)) (dec_lt f.protocol (2 ^ 8))
     (dec_lt f.source_port (2 ^ 16)) (dec_lt f.destination_port (2 ^ 16)))
 
--- The key with these fields, where they fit or don't.
+-- The key with these fields where they fit, and none where they don't.
 unfoldable pub key_where : (f : KeyFields) → Dec (AreFit f) → Option FlowKey
 key_where f (yes fit) = Some (record {
   version = f.version;

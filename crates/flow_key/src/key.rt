@@ -24,12 +24,12 @@ pub struct FlowKey {
     pub destination_port: u16,
     pub ghost known: { version ≢ 4 → version ≡ 6 },
     pub ghost narrow: { version ≡ 4 → (source < 2 ^ 32) × (destination < 2 ^ 32) },
-    // The widths of the fields, for a reader of clauses, where a number has none.
+    // The widths of the fields, for clauses, in which a number has no width.
     pub ghost sized: { (source < 2 ^ 128) × (destination < 2 ^ 128)
         × (protocol < 2 ^ 8) × (source_port < 2 ^ 16) × (destination_port < 2 ^ 16) },
 }
 
-/// The multiplier that [`FlowKey::set_of`] mixes each word with: 2^64 divided by the golden ratio.
+/// The multiplier that [`FlowKey::set_of`] mixes each word with: 2^64 divided by the golden ratio, rounded down.
 const MULTIPLIER: u64 = 0x9E37_79B9_7F4A_7C15;
 
 impl FlowKey {
@@ -37,8 +37,9 @@ impl FlowKey {
     ghost use Rattle.flow_key.specs.Fields.{fields_in, IsKeyOf};
     ghost use Rattle.flow_key.specs.KeyWith.{key_with};
 
-    /// The key as five words: version, protocol and ports packed into the first, then the upper and the
-    /// lower half of the source address, then those of the destination address.
+    /// The key as five words of 64 bits. The first has, from its upper end down, the version, the protocol, the source
+    /// port and the destination port. Then come the upper and the lower half of the source address, and those of the
+    /// destination address.
     pub fn to_words(&self) -> [u64; 5]
         ensures { result ≡ words_of self.now }
     {
@@ -85,7 +86,7 @@ impl FlowKey {
         }
     }
 
-    /// The number of the set that the key belongs to, in a table of `sets` sets.
+    /// The number of the set that the key belongs to, counted from 0, in a table of `sets` sets.
     ///
     /// Each word of the key is taken into a hash by `xor` and a product modulo 2^64; the upper half of the
     /// hash, modulo `sets`, is the answer.

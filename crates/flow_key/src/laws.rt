@@ -8,12 +8,12 @@ pub fn keys_are_ordered()
     ensures ties { TiesOnlyItself }
 {}
 
-/// A key is known by its words.
+/// Two keys with the same words are one key.
 pub fn keys_have_words()
     ensures { WordsTell }
 {}
 
-/// A key is known by its fields: six numbers that fit the fields are those of one key, and others are of none.
+/// Six numbers that fit the fields are those of exactly one key, and other numbers are those of none.
 pub fn keys_have_fields()
     ensures tell { FieldsTell }
     ensures fit { KeysFit }

@@ -58,8 +58,8 @@ flow_start_milliseconds = 152
 abbrev pub flow_end_milliseconds : ℕ
 flow_end_milliseconds = 153
 
--- The enterprise of reverse elements: its element with the number of one of IANA's is the reverse of that one (RFC
--- 5103, section 6.1).
+-- The enterprise of reverse elements: under it the number of one of IANA's elements stands for the reverse of that one
+-- (RFC 5103, section 6.1).
 abbrev pub reverse_enterprise : ℕ
 reverse_enterprise = 29305
 

@@ -1,5 +1,5 @@
--- What the fields of the templates come to, in octets. Each number stands here once, for whoever writes or reads
--- records; `ipfix_model::laws` says that the fields come to it.
+-- Lengths in octets that the fields of the templates add up to. Each number stands here once, for all that write or
+-- read records; `ipfix_model::laws` says that the fields add up to it.
 use Rattle.std.specs.Prelude.{ℕ}
 
 -- What a record of a flow has behind its key: flags, counts, times and end reason.
@@ -27,11 +27,11 @@ template_record_length = 48
 abbrev pub template_set_length : ℕ
 template_set_length = 100
 
--- The message that has the templates of flows: no message of a stream is held to fewer octets.
+-- The message that has the templates of flows: no stream may limit its messages to fewer octets.
 abbrev pub template_message_length : ℕ
 template_message_length = 116
 
--- The set and the message that have the templates of biflows besides.
+-- The set and the message that have the templates of biflows as well.
 abbrev pub bi_template_set_length : ℕ
 bi_template_set_length = 292
 

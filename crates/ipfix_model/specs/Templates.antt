@@ -9,7 +9,7 @@ use Rattle.ipfix_model.specs.Elements.{destination_ipv4_address, source_ipv6_add
 use Rattle.ipfix_model.specs.Elements.{flow_end_reason, flow_start_milliseconds, flow_end_milliseconds}
 use Rattle.ipfix_model.specs.Elements.{reverse_enterprise}
 
--- A field of an element of IANA's.
+-- A field for one of IANA's elements.
 abbrev pub iana_field : ℕ → ℕ → FieldSpec
 iana_field element length = record { element = element; length = length; enterprise = None }
 
@@ -51,7 +51,7 @@ template_of flow = if flow.part.key.version == 4 then v4_template else v6_templa
 abbrev pub fields_of : FlowRecord → List FieldSpec
 fields_of flow = if flow.part.key.version == 4 then v4_fields else v6_fields
 
--- A field of the reverse of an element of IANA's (RFC 5103).
+-- A field for the reverse of one of IANA's elements (RFC 5103).
 abbrev pub reverse_field : ℕ → ℕ → FieldSpec
 reverse_field element length = record { element = element; length = length; enterprise = Some reverse_enterprise }
 

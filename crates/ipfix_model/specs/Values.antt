@@ -37,8 +37,8 @@ flow_value flow element = unwrap_or (lookup (λ other. element == other) (flow_v
 abbrev pub field_value : FlowRecord → FieldSpec → ℕ
 field_value flow field = flow_value flow field.element
 
--- The value of a field in a biflow, of a forward and a reverse flow record: a field of an element of IANA's has it of
--- the forward one, and one of a reverse element has it of the reverse one.
+-- The value of a field in a biflow, which is a forward and a reverse flow record: a field of one of IANA's elements
+-- takes it from the forward record, and a field of a reverse element from the reverse record.
 abbrev pub bi_field_value : FlowRecord → FlowRecord → FieldSpec → ℕ
 bi_field_value forward reverse field = flow_value (if is_none field.enterprise then forward else reverse) field.element
 
@@ -47,7 +47,7 @@ bi_field_value forward reverse field = flow_value (if is_none field.enterprise t
 abbrev pub record_bytes : (FieldSpec → ℕ) → List FieldSpec → List ℕ
 record_bytes value fields = flat_map (λ field. octets_of field.length (value field)) fields
 
--- Both are one enterprise, or both are IANA.
+-- Both are the same enterprise, or both are IANA.
 abbrev pub is_same_enterprise : Option ℕ → Option ℕ → Bool
 is_same_enterprise None None = true
 is_same_enterprise None (Some other) = false

@@ -29,8 +29,8 @@ pub const FLOW_START_MILLISECONDS: u16 = 152;
 /// flowEndMilliseconds.
 pub const FLOW_END_MILLISECONDS: u16 = 153;
 
-/// The enterprise number of reverse elements: the element of this enterprise with an element's number is its reverse
-/// (RFC 5103, section 6.1).
+/// The enterprise number of reverse elements: under this enterprise an element's number stands for the reverse of that
+/// element (RFC 5103, section 6.1).
 pub const REVERSE_ENTERPRISE: u32 = 29_305;
 
 /// The abstract data types of the elements of a flow (RFC 7012, section 3.1).
@@ -52,7 +52,7 @@ pub enum AbstractType {
 
 ghost use Rattle.ipfix_model.specs.Elements.{abstract_type};
 
-/// The abstract data type of an element of IANA's. `None` for an element that isn't one of a flow's.
+/// The abstract data type of one of IANA's elements. `None` for an element that no flow has.
 #[tactic(auto, unfolding(crate::specs::Elements::abstract_type))]
 pub fn abstract_type(element: u16) -> Option<AbstractType>
     ensures { result ≡ abstract_type element }

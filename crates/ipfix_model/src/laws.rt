@@ -52,7 +52,8 @@ pub fn templates_are_defined()
     ensures v6_length { record_length v6_fields ≡ v6_record_length }
 {}
 
-/// And so are those for biflows, and so long are their records.
+/// The templates for biflows in the code are those of the definition, and records of biflows are as long as their
+/// fields together.
 pub fn biflow_templates_are_defined()
     ensures v4_number { V4_BI_TEMPLATE ≡ v4_bi_template }
     ensures v4_fields { V4_BI_FIELDS ≡ v4_bi_fields }

@@ -3,11 +3,11 @@
 //!
 //! [`V4_FIELDS`] and [`V6_FIELDS`] are the field lists of the two templates of flows, numbered [`V4_TEMPLATE`] and
 //! [`V6_TEMPLATE`]; [`V4_BI_FIELDS`] and [`V6_BI_FIELDS`] are those of the two of biflows (RFC 5103), numbered
-//! [`V4_BI_TEMPLATE`] and [`V6_BI_TEMPLATE`]. `framing.rt` has the fixed numbers of messages and sets, `sizes.rt` what
-//! the fields come to. [`FieldList`], [`Octets`] and [`ValueList`] are lists over a `Vec`, which contracts see as
-//! lists; making one and reading it takes no memory. [`elements`] has the numbers of information elements and their
-//! abstract data types. The functions of [`laws`] do nothing: their contracts are laws, that the constants here are the
-//! numbers of the registry and the fields of the definitions.
+//! [`V4_BI_TEMPLATE`] and [`V6_BI_TEMPLATE`]. `framing.rt` has the fixed numbers of messages and sets, `sizes.rt` the
+//! lengths that the fields add up to. [`FieldList`], [`Octets`] and [`ValueList`] are lists over a `Vec`, which
+//! contracts see as lists; making one and reading it takes no memory. [`elements`] has the numbers of information
+//! elements and their abstract data types. The functions of [`laws`] do nothing: their contracts are the laws that the
+//! constants here are the numbers of the registry and the fields of the definitions.
 //!
 //! `specs/Templates.antt` is the one table of fields, from which template records, the bytes of data records and the
 //! reading of flow records come; `specs/Values.antt` says which value of a flow record an element has.

@@ -7,7 +7,7 @@ ghost use Rattle.ipfix_model.specs.Values.{number_of, AreNumbers};
 use crate::fields::FieldSpec;
 use crate::values::FieldValue;
 
-/// Whether both are one enterprise, or both are IANA.
+/// Whether both are the same enterprise, or both are IANA.
 fn is_same_enterprise(one: Option<u32>, other: Option<u32>) -> bool
     ensures { result ≡ is_same_enterprise one other }
 {

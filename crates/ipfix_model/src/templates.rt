@@ -18,8 +18,8 @@ pub struct Template {
 impl Template {
     ghost use Rattle.ipfix_model.specs.Fields.{least_length};
 
-    /// The least length of a record of this template, in octets: a variable field takes at least its length byte
-    /// (RFC 7011, section 7).
+    /// The least length of a record of this template, in octets: a field of variable length takes at least its length
+    /// byte (RFC 7011, section 7).
     pub fn least(&self) -> u64
         ensures { result ≡ least_length self.now.fields }
     {
@@ -35,7 +35,7 @@ impl Template {
     }
 }
 
-/// A field of an element of IANA's, or behind `reverse` of the reverse of one (RFC 5103).
+/// A field for one of IANA's elements or, written with `reverse`, for the reverse of one (RFC 5103).
 macro_rules! field {
     ($element:expr, $length:expr) => {
         FieldSpec {
@@ -53,7 +53,8 @@ macro_rules! field {
     };
 }
 
-/// The fields of a template of flows: two addresses of one length, what all templates have behind them, and more.
+/// The fields of a template of flows: two addresses of this length, the fields that all templates have behind them, and
+/// more.
 macro_rules! flow_fields {
     ($source:expr, $destination:expr, $length:expr $(, $more:expr)*) => {
         [

@@ -16,7 +16,7 @@ pub struct FieldValue {
 /// The values of a data record, in the order of its template.
 pub type ValueList = ListOf<FieldValue>;
 
-/// One data record: the observation domain and the number of the template that it was read by, and its values.
+/// One data record: its observation domain, the number of the template by which it was read, and its values.
 #[derive(Drop)]
 pub struct DataRecord {
     pub domain: u32,

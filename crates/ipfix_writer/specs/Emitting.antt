@@ -32,8 +32,8 @@ last_template encode [] = None
 last_template encode (x ∷ []) = Some (encode x).template
 last_template encode (x ∷ (next ∷ xs)) = last_template encode (next ∷ xs)
 
--- The code's own: the length of a set header in front of a record of this template, where the record before has that
--- one, or there is none.
+-- The code's own: the length of the set header in front of a record of this template, by the template of the record
+-- before it, if there is one.
 abbrev pub header_before : Option ℕ → ℕ → ℕ
 header_before None template = 4
 header_before (Some last) template = if last == template then 0 else 4
@@ -64,7 +64,7 @@ pub record EmitterKeeps (size : ℕ) (phase : Phase) (waiting : List FlowRecord)
   pub records : size / v4_record_length ≤ room_of_records
   pub fresh : phase ≡ Fresh → (waiting ≡ []) × (sequence ≡ 0) × (messages ≡ 0) × (held ≡ [])
 
--- The code's own: so many of the first records fill a message: it has one or more and is at most `size` bytes long, and
+-- The code's own: the first `count` records fill a message: it has one or more and is at most `size` bytes long, and
 -- with one more it would be longer.
 pub record FillsMessage {A : Type 0} (encode : A → RecordSet) (size : ℕ) (records : List A) (count : ℕ) : Type 0 where
   pub some : 0 < count

@@ -1,4 +1,4 @@
--- The layout of records as a stream of messages. It is said for anything that is written as data records: `encode`
+-- The layout of records as a stream of messages. It is stated for anything that is written as data records: `encode`
 -- tells the template and the bytes of one; `encode_flow` is that of flow records.
 use Rattle.std.specs.Prelude.{◌≡◌, ℕ, ◌+◌, ◌%◌, ◌^◌, ◌-◌, min, ◌<◌, ◌≤◌, ◌==◌, if◌then◌else◌, List, [], ◌∷◌, ◌++◌}
 use Rattle.std.specs.Prelude.{length, take, flat_map}
@@ -95,7 +95,7 @@ data_messages export_time before parts = messages_in encode_flow export_time bef
 abbrev pub IsLayout : ℕ → ℕ → List FlowRecord → List ℕ → Type 0
 IsLayout size export_time flows bytes = IsStream encode_flow size export_time (template_message export_time) flows bytes
 
--- The bytes are the layout of the records in so many messages, the template message among them.
+-- The bytes are the layout of the records in `messages` messages, the template message among them.
 pub record IsLayoutOf (size export_time : ℕ) (flows : List FlowRecord) (bytes : List ℕ) (messages : ℕ) : Type 0 where
   pub layout : IsLayout size export_time flows bytes
   pub count : messages ≡ min (1 + length layout.parts) (2 ^ 64 - 1)

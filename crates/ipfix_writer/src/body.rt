@@ -29,7 +29,7 @@ pub fn append_message_header(buffer: &mut Vec<u8>, size: u16, export_time: u32, 
     append_u32(buffer, OBSERVATION_DOMAIN);
 }
 
-/// How many of the first records have this template.
+/// How many records at the front have this template, before the first of another.
 #[inline]
 fn run_length<R: Encode>(records: &[R], template: u16) -> usize
     ensures { result ≡ length (take_while (λ one. (R.encode one).template == template) records.now) }

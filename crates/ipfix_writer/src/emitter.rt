@@ -29,7 +29,7 @@ pub fn header_length(last: Option<u16>, template: u16) -> usize
     }
 }
 
-/// How far an emitter came.
+/// How far an emitter has come.
 #[derive(Clone, Copy, PartialEq, Eq, Debug)]
 pub enum Phase {
     /// Nothing was written yet.
@@ -44,7 +44,7 @@ pub enum Phase {
 ///
 /// It keeps the records of one message, and puts their message into a buffer when the next record doesn't fit. The
 /// buffer goes out, in whole messages and by one call of [`write_all`](meter_io::write_all), when it has no room for
-/// the next message, and in the end. All memory is taken when the emitter is made.
+/// the next message, and at the end. All memory is taken when the emitter is made.
 #[derive(Drop)]
 pub struct Emitter {
     size: usize,
@@ -88,9 +88,10 @@ impl Emitter {
     ghost use Rattle.ipfix_writer.specs.Emitting.{IsUnderWay};
     ghost use Rattle.record_ledger.specs.declared.record.FlowRecord.{FlowRecord};
 
-    /// An emitter of messages of at most `size` octets, from 116 to 65,535, with this export time in seconds.
+    /// An emitter of messages of at most `size` octets, from 116 to 65,535, with this export time in seconds since
+    /// 1970.
     ///
-    /// `NoMemory` where the room for one message, its records and the messages in front of the sink can't be had.
+    /// `NoMemory` where there is no memory for one message, its records and the buffer in front of the sink.
     pub fn open(alloc: Global, size: usize, export_time: u32) -> Result<Emitter, NoMemory>
         requires { (template_message_length ≤ size) × (size < 2 ^ 16) }
         ensures { IfOk result (λ emitter. emitter ≡ record {
@@ -120,7 +121,10 @@ impl Emitter {
         })
     }
 
-    /// Writes the message with the templates.
+    /// Begins the stream with the message that has the templates. Nothing was written before.
+    ///
+    /// `Failed` comes only where the sink's count of faults rose. The sink then took a beginning of the stream, and the
+    /// emitter can only be dropped.
     pub fn start<K: Sink>(&mut self, sink: &mut K) -> Result<(), Failed>
         requires { self.old.phase ≡ Phase.Fresh }
         ensures started { OnOk result ((bytes : List ℕ) × Appends (K.held sink.old) (K.held sink.new) bytes
@@ -205,7 +209,11 @@ impl Emitter {
         }
     }
 
-    /// Takes in one more record. The message before it is done where the record doesn't fit it.
+    /// Takes in one more record. Where it doesn't fit the message of the records that wait, that message is written
+    /// first.
+    ///
+    /// `Failed` comes only where the sink's count of faults rose. The sink then took a beginning of the stream, and the
+    /// emitter can only be dropped.
     pub fn record<K: Sink>(&mut self, flow: &FlowRecord, sink: &mut K) -> Result<(), Failed>
         requires { self.old.phase ≡ Phase.Started }
         ensures taken { OnOk result ((flows : List FlowRecord) (written : List ℕ) → IsUnderWay self.old flows written
@@ -251,6 +259,8 @@ impl Emitter {
 
     /// Writes the records that wait and all that the sink has not taken yet, and tells how many messages were written,
     /// the one with the templates among them.
+    ///
+    /// `Failed` comes only where the sink's count of faults rose. The sink then took a beginning of the stream.
     pub fn finish<K: Sink>(mut self, sink: &mut K) -> Result<u64, Failed>
         requires { self.phase ≡ Phase.Started }
         ensures finished { IfOk result (λ messages. (flows : List FlowRecord) (written : List ℕ)

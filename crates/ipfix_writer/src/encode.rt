@@ -9,8 +9,8 @@ use ipfix_model::{V4_RECORD_LENGTH, V4_TEMPLATE, V6_RECORD_LENGTH, V6_TEMPLATE};
 use octets::{append_u8, append_u16, append_u32, append_u64, append_u128};
 use record_ledger::FlowRecord;
 
-/// What is written as a data record: the number of its template, and its bytes (RFC 7011, section 3.4.3). Those of one
-/// template are of one length.
+/// Something that is written as a data record: it has the number of its template, and the bytes of its record (RFC
+/// 7011, section 3.4.3). Records of one template are of one length.
 pub trait Encode: Copy {
     ghost use Rattle.ipfix_writer.specs.Layout.{RecordSet};
 
@@ -24,7 +24,7 @@ pub trait Encode: Copy {
     fn size(&self) -> usize
         ensures { result ≡ length (encode self.now).records };
 
-    /// Appends its data record.
+    /// Appends its data record to a buffer that has room for it.
     fn append(&self, buffer: &mut Vec<u8>)
         requires { length buffer.old.items + length (encode self.now).records ≤ vec_capacity buffer.old }
         ensures items { buffer.new.items ≡ buffer.old.items ++ (encode self.now).records }
@@ -90,7 +90,8 @@ pub fn append_key(buffer: &mut Vec<u8>, flow: &FlowRecord)
     append_u8(buffer, key.protocol);
 }
 
-/// Appends the values that are not of the key: flags, counts, times and reason.
+/// Appends the values behind the key, 35 octets in network order: flags, packets, octets, first and last time, and end
+/// reason.
 #[tactic(auto, unfolding(crate::specs::DataParts::counts_part))]
 pub fn append_counts(buffer: &mut Vec<u8>, flow: &FlowRecord)
     requires { length buffer.old.items + counts_length ≤ vec_capacity buffer.old }

@@ -4,8 +4,8 @@
 //! the records still left that fits the message size; neighbours of one template share a set. [`layout`] gives the
 //! whole stream of a list of records. An [`Emitter`] keeps the records of one message and writes the same bytes to a
 //! sink as the records come, in whole messages through a buffer; [`emit_all`] is a whole run of it, and all its memory
-//! is taken when it is made. [`Encode`] is what anything has that is written as data records; what is said of the
-//! layout holds for all of them, and [`write_messages`] writes a whole list of them. The functions of [`laws`] do
+//! is taken when it is made. Anything that is written as data records implements [`Encode`]; what is said of the layout
+//! holds for all of it, and [`write_messages`] writes a whole list of such records. The functions of [`laws`] do
 //! nothing: their contracts are the laws of the layout.
 #![tactic(auto)]
 

@@ -15,7 +15,7 @@ use ipfix_model::{
 };
 use octets::{append_u16, append_u32};
 
-/// Puts the message of these records, of this length, into the buffer.
+/// Replaces what the buffer holds by the message of these records, which has `size` octets.
 #[tactic(auto, unfolding(crate::specs::Encoding::message, crate::specs::Layout::length_in))]
 pub fn encode_message<R: Encode>(
     buffer: &mut Vec<u8>,
@@ -35,7 +35,8 @@ pub fn encode_message<R: Encode>(
     append_body(buffer, records);
 }
 
-/// Appends a field specifier: that of an enterprise's element has its upper bit set.
+/// Appends a field specifier (RFC 7011, section 3.2). Where it names an enterprise, the upper bit of the element is
+/// set.
 #[tactic(auto, unfolding(crate::specs::Encoding::field_specifier))]
 fn append_field(buffer: &mut Vec<u8>, field: &FieldSpec)
     requires room { length buffer.old.items + length (field_specifier field.now) ≤ vec_capacity buffer.old }
@@ -68,7 +69,8 @@ fn append_fields(buffer: &mut Vec<u8>, fields: &[FieldSpec])
     }
 }
 
-/// Appends a template record.
+/// Appends a template record (RFC 7011, section 3.4.1), in network order, to a buffer that has room for it. The number
+/// of each element is below 2^15.
 #[tactic(auto, unfolding(crate::specs::Encoding::template_record))]
 pub fn append_template(buffer: &mut Vec<u8>, number: u16, fields: &[FieldSpec])
     requires room { length buffer.old.items + length (template_record number fields.now) ≤ vec_capacity buffer.old }
@@ -82,7 +84,7 @@ pub fn append_template(buffer: &mut Vec<u8>, number: u16, fields: &[FieldSpec])
     append_fields(buffer, fields);
 }
 
-/// Puts the message with the two templates into the buffer.
+/// Replaces what the buffer holds by the message with the two templates.
 pub fn encode_template_message(buffer: &mut Vec<u8>, export_time: u32)
     requires { template_message_length ≤ vec_capacity buffer.old }
     ensures items { buffer.new.items ≡ template_message export_time }

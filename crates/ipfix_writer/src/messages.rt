@@ -1,4 +1,4 @@
-//! Messages of a whole list, each filled with as many records as it takes.
+//! Messages of a whole list, each filled with as many records as fit.
 
 ghost use Rattle.std.specs.Prelude.{◌≡◌, ◌+◌, ◌≤◌, ◌<◌, ◌^◌, ◌++◌, [], ◌∷◌, ℕ, List, IfOk, OnOk, OnErr, length, take};
 ghost use Rattle.std.specs.Io.KnownBytes.{Appends};
@@ -21,7 +21,7 @@ use std::alloc::Global;
 /// What all data messages of a stream have.
 #[derive(Clone, Copy, Debug)]
 pub struct MessageForm {
-    /// The most octets of each.
+    /// The most octets that a message has.
     pub size: usize,
     /// Their export time, in seconds since 1970-01-01T00:00:00Z.
     pub export_time: u32,
@@ -87,10 +87,10 @@ fn append_message<R: Encode>(
     Ok(count)
 }
 
-/// Appends the data messages of some records to a stream that has its first message, each of this form. A message of
-/// any one record is no longer than that.
+/// Appends the data messages of some records, each of this form, to a stream that has its first message. A message of
+/// any one record fits `form.size`.
 ///
-/// `NoMemory` where the room for them can't be had; no clause says what the stream then is.
+/// `NoMemory` where there is no memory for them; no clause says what the stream is then.
 pub fn append_messages<R: Encode>(
     alloc: Global,
     stream: &mut Vec<u8>,
@@ -147,8 +147,8 @@ fn put_message<R: Encode, K: Sink>(
 }
 
 /// Writes a stream to a sink: its first message, and then the data messages of some records, each of this form. A
-/// message of any one record is no longer than that. It goes out through `out`,
-/// which is empty, in whole messages; `room` has room for one.
+/// message of any one record fits `form.size`. The stream goes out through `out`, which is empty, in whole messages;
+/// `room` has room for one of them.
 ///
 /// `Failed` comes only where the sink's count of faults rose; the sink then took a beginning of the stream.
 pub fn write_messages<R: Encode, K: Sink>(

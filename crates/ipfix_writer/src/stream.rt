@@ -45,10 +45,10 @@ pub fn emit_all<K: Sink>(
     emitter.finish(sink)
 }
 
-/// The stream of these records: messages of at most `size` octets, from 116 to 65,535, with this export time in
-/// seconds.
+/// The stream of these records: messages of at most `size` octets, from 116 to 65,535, with this export time in seconds
+/// since 1970.
 ///
-/// `NoMemory` where the room for it can't be had.
+/// `NoMemory` where there is no memory for it.
 pub fn layout(
     alloc: Global,
     records: &[FlowRecord],

@@ -9,7 +9,7 @@ number_of Ethernet = 1
 number_of RawIp = 101
 number_of LinuxCooked = 113
 
--- The link type of a number; none of another number.
+-- The link type with this number; none for any other number.
 abbrev pub link_of : ℕ → Option LinkType
 link_of number =
     if number == 1 then Some Ethernet

@@ -1,7 +1,7 @@
 //! The link types of captures that are read, and their numbers.
 //!
-//! A capture names what stands in front of its packets by a number. Three of these numbers are read here, and code that
-//! depends on the link type matches on [`LinkType`], so that a fourth is missed nowhere.
+//! A capture file says by a number what stands in front of its packets. Three of these numbers are known here. Code
+//! that depends on the link type matches on [`LinkType`], so that no place is missed if a fourth is added.
 #![tactic(auto)]
 
 mod link;

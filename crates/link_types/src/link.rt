@@ -5,18 +5,18 @@ ghost use Rattle.std.specs.Prelude.{◌≡◌, ◌↔◌, IfSome, IsSome, Some};
 /// What stands in front of the IP header in the frames of a capture.
 #[derive(Clone, Copy, Debug, PartialEq, Eq)]
 pub enum LinkType {
-    /// An Ethernet header of 14 octets, and tags (IEEE 802.3, IEEE 802.1Q).
+    /// An Ethernet header of 14 octets, and any tags behind it (IEEE 802.3, IEEE 802.1Q).
     Ethernet,
     /// Nothing: the frame begins with the IP header.
     RawIp,
-    /// A header of 16 octets that Linux writes in the place of the link's own, version 1.
+    /// The Linux cooked header, version 1: 16 octets that Linux writes in place of the link's own header.
     LinuxCooked,
 }
 
 impl LinkType {
     ghost use Rattle.link_types.specs.Links.{number_of, link_of, IsKnownLink};
 
-    /// The link type of a number: 1, 101 or 113, and none of another one.
+    /// The link type with this number: 1 (Ethernet), 101 (raw IP) or 113 (Linux cooked). `None` for any other number.
     #[inline]
     pub fn of(number: u32) -> Option<LinkType>
         ensures value { result ≡ link_of number }
@@ -31,7 +31,7 @@ impl LinkType {
         }
     }
 
-    /// The number of a link type.
+    /// The number of this link type in the registry of LINKTYPE values: 1, 101 or 113.
     #[inline]
     pub fn number(self) -> u32
         ensures value { result ≡ number_of self }

@@ -25,7 +25,7 @@ all-read (Some xs) (Some ys) all bytes is consumed ended =
     let same : xs ≡ all = cc in
     sym (append-nil bytes) ∙ ap (λ zs. bytes ++ zs) (sym ended) ∙ sym consumed ∙ same
 
--- an input of at most so many bytes isn't too large
+-- an input of at most `n` bytes isn't too large
 pub large-fails : (input : Side) (n : ℕ) (all : List ℕ) → input.before ≡ Some all → length all ≤ n
     → IsTooLarge input n → ⊥
 large-fails input n all is few large = too-large input.before input.after all large.0 n is few large.1 large.2

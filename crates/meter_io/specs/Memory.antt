@@ -20,7 +20,7 @@ pub record SinkState : Type 0 where
   pub calls : ℕ
   pub faults : ℕ
 
--- the number of the next call, which stands still at the last value of its type
+-- the number of the next call, which stays at its greatest value
 abbrev pub next_call : ℕ → ℕ
 next_call calls = one_more calls
 

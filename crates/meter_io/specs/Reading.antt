@@ -3,10 +3,10 @@ use Rattle.std.specs.Prelude.{◌≡◌, ℕ, ◌≤◌, List, length}
 use Rattle.std.specs.declared.option.Option.{Option}
 use Rattle.std.specs.Io.KnownBytes.{Consumes}
 
--- just so many bytes were taken
+-- exactly `count` bytes were taken
 abbrev pub Takes : ℕ → Option (List ℕ) → Option (List ℕ) → Type 0
 Takes count before now = (bytes : List ℕ) × (length bytes ≡ count) × Consumes before now bytes
 
--- at most so many bytes were taken
+-- at most `count` bytes were taken
 abbrev pub TakesAtMost : ℕ → Option (List ℕ) → Option (List ℕ) → Type 0
 TakesAtMost count before now = (bytes : List ℕ) × (length bytes ≤ count) × Consumes before now bytes

@@ -12,7 +12,7 @@ pub record Side : Type 0 where
   pub faults_before : ℕ
   pub faults_after : ℕ
 
--- One object by the meanings of its type, at the call and at the return.
+-- One object at the call and at the return: `bytes` gives what it has left or holds, and `faults` its count of faults.
 abbrev pub side : {S : Type 0} → (S → Option (List ℕ)) → (S → ℕ) → S → S → Side
 side bytes faults old new =
     record { before = bytes old; after = bytes new; faults_before = faults old; faults_after = faults new }
@@ -28,7 +28,7 @@ pub record IsUntouched (object : Side) : Type 0 where
 
 -- ---- a source
 
--- The input gave these bytes, at most so many, and is at its end.
+-- The input gave these bytes, at most `limit` of them, and is at its end.
 pub record IsRead (input : Side) (limit : ℕ) (bytes : List ℕ) : Type 0 where
   pub given : Consumes input.before input.after bytes
   pub ended : IsAtEnd input.after
@@ -38,7 +38,7 @@ pub record IsRead (input : Side) (limit : ℕ) (bytes : List ℕ) : Type 0 where
 abbrev pub IsTooLarge : Side → ℕ → Type 0
 IsTooLarge input limit = Takes (limit + 1) input.before input.after
 
--- A read failed, when the input had given at most so many bytes.
+-- A read failed, when the input had given at most `limit` bytes.
 pub record IsBroken (input : Side) (limit : ℕ) : Type 0 where
   pub cause : HasFailed input
   pub within : TakesAtMost limit input.before input.after

@@ -11,8 +11,8 @@ use crate::{Failed, Sink, Source};
 use std::io::{Read, Write};
 use std::marker::Model;
 
-/// A reader of the standard library as a source. It tells the bytes left where the reader tells them, which standard
-/// input and files do not.
+/// A reader of the standard library as a source. It tells the bytes left where the reader tells them; standard input
+/// and files do not.
 #[derive(Drop)]
 pub struct StdSource<R: Read + Drop> {
     inner: R,
@@ -53,8 +53,8 @@ impl<R: Read + Drop> Source for StdSource<R> {
     }
 }
 
-/// A writer of the standard library as a sink. It tells the bytes held where the writer tells them, which standard
-/// output and files do not. A write that takes nothing is a fault.
+/// A writer of the standard library as a sink. It tells the bytes held where the writer tells them; standard output and
+/// files do not. A write that takes nothing is a fault.
 #[derive(Drop)]
 pub struct StdSink<W: Write + Drop> {
     inner: W,

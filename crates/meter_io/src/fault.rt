@@ -7,7 +7,7 @@ ghost use Rattle.meter_io.specs.Causes.{one_more};
 #[derive(Clone, Copy, Debug, PartialEq, Eq)]
 pub struct Failed;
 
-/// Counts a failed call, where the count isn't at its last value.
+/// Counts a failed call. At its greatest value, 2^64 - 1, the count stays.
 pub(crate) fn count_fault(faults: &mut u64) -> Failed
     ensures counted { faults.new ≡ one_more faults.old }
     ensures later { faults.old ≤ faults.new }

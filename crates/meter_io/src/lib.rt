@@ -1,12 +1,12 @@
 //! The outside of the meter: where bytes come from and where they go.
 //!
-//! A [`Source`] gives bytes, a [`Sink`] takes them, and both count their faults: a failed call has its cause in a count
-//! that rose. Contracts above speak of the bytes that a source has left and that a sink holds, where it tells them.
-//! [`read_all`] reads a source to its end, and [`write_all`] writes a piece whole. [`MemSource`] and [`MemSink`] stand
-//! in memory and can fail at chosen calls; [`StdSource`] and [`StdSink`] are the edge to the standard library's
+//! A [`Source`] gives bytes, a [`Sink`] takes them, and both count their faults: where a call failed, that count has
+//! risen. Contracts in the crates above speak of the bytes that a source has left and that a sink holds, where it tells
+//! them. [`read_all`] reads a source to its end, and [`write_all`] writes a piece whole. [`MemSource`] and [`MemSink`]
+//! are in memory and can fail at chosen calls; [`StdSource`] and [`StdSink`] are the edge to the standard library's
 //! streams.
 //!
-//! [`NoMemory`] is the one answer for out of memory, here and in the crates above.
+//! [`NoMemory`] is the one error for out of memory, here and in the crates above.
 #![tactic(auto)]
 
 mod edge;

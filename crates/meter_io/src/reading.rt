@@ -11,9 +11,9 @@ use std::alloc::Global;
 /// Why an input was not read whole.
 #[derive(Clone, Copy, Debug, PartialEq, Eq)]
 pub enum ReadError {
-    /// The source failed, and counted it.
+    /// A read failed, and the source counted it.
     Failed,
-    /// More bytes came than the limit.
+    /// More bytes came than the limit allows.
     TooLarge,
     /// Out of memory.
     NoMemory,
@@ -22,10 +22,10 @@ pub enum ReadError {
 /// How many bytes one read asks for at most.
 const CHUNK: usize = 65_536;
 
-/// All bytes that the source has left, where they are at most `limit`.
+/// Reads all bytes that the source has left, where they are at most `limit`.
 ///
 /// - `Failed`: only where the source's count of faults rose, after at most `limit` bytes were taken.
-/// - `TooLarge`: exactly where more than `limit` bytes came, after `limit + 1` were taken.
+/// - `TooLarge`: exactly where more than `limit` bytes came, unless memory ran out first; `limit + 1` were taken.
 /// - `NoMemory`: out of memory, after at most `limit + 1` bytes were taken.
 pub fn read_all<S: Source>(alloc: Global, source: &mut S, limit: u64) -> Result<Vec<u8>, ReadError>
     ensures all { IfOk result (λ bytes. Consumes (S.left source.old) (S.left source.new) bytes.items

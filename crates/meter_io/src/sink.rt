@@ -21,7 +21,7 @@ pub trait Sink {
     /// How often a write has failed. It never falls.
     ghost faults: { Self → ℕ };
 
-    /// Takes some bytes from the beginning of `piece`, which is not empty: at least one, and tells how many.
+    /// Takes some bytes from the beginning of `piece`, which is not empty: at least one. Tells how many it took.
     ///
     /// `Failed` comes only where the count of faults rose in this call, and leaves the bytes held as they were.
     fn write(&mut self, piece: &[u8]) -> Result<usize, Failed>
@@ -62,8 +62,10 @@ impl<'a> Model for MemSink<'a> {
 }
 
 impl<'a> MemSink<'a> {
-    /// An empty sink with room for `room` bytes, all its memory taken here, that takes at most `piece` bytes a call,
-    /// with `piece` at least 1.
+    /// An empty sink with room for `room` bytes, all its memory taken here. A call takes at most `piece` bytes, with
+    /// `piece` at least 1, and the calls numbered in `fails` fail.
+    ///
+    /// `NoMemory` where there is no memory for the room.
     pub fn open(
         alloc: Global,
         room: usize,

@@ -59,7 +59,8 @@ impl<'a> Model for MemSource<'a> {
 }
 
 impl<'a> MemSource<'a> {
-    /// A source of `bytes` that gives at most `piece` of them a call, with `piece` at least 1.
+    /// A source of `bytes` that gives at most `piece` of them a call, with `piece` at least 1. The calls numbered in
+    /// `fails` fail.
     pub fn new(bytes: &'a [u8], piece: usize, fails: &'a [u64]) -> MemSource<'a>
         requires { 0 < piece }
         ensures { result ≡ record { left = bytes.now; piece = piece; fails = fails.now; calls = 0; faults = 0 } }

@@ -6,7 +6,7 @@ ghost use Rattle.meter_io.specs.Causes.{HasCause};
 
 use crate::{Failed, Sink};
 
-/// Writes all of `piece`; an empty piece without a call.
+/// Writes all of `piece`. For an empty piece it makes no call.
 ///
 /// `Failed` comes only where the sink's count of faults rose; the sink then took a prefix of the piece.
 pub fn write_all<K: Sink>(sink: &mut K, piece: &[u8]) -> Result<(), Failed>

@@ -1,10 +1,10 @@
-//! The one answer for out of memory. Crates that answer it pass this type on, so that `?` carries it through them
-//! unchanged, and carries an allocation's own error into it.
+//! The one error for out of memory. Crates that return it re-export this type, so that `?` passes it on unchanged, and
+//! turns an allocation's own error into it.
 #![tactic(auto)]
 
 use std::alloc::{AllocError, AllocFailed};
 
-/// Out of memory. It is merged with no other answer.
+/// Out of memory, kept apart from every other error.
 #[derive(Clone, Copy, Debug, PartialEq, Eq)]
 pub struct NoMemory;
 

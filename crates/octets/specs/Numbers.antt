@@ -4,7 +4,7 @@ use Rattle.byteorder.specs.Endian.{big_number, little_number, big_bytes, little_
 use Rattle.octets.specs.declared.endianness.Endianness.{Endianness}
 use Rattle.octets.specs.declared.endianness.Endianness.TheVariants.{Little, Big}
 
--- The octet at a place, and 0 behind the last one.
+-- The octet at a place; 0 at a place behind the last octet.
 abbrev pub octet_at : ℕ → List ℕ → ℕ
 octet_at place octets = slice_index octets place
 
@@ -31,6 +31,6 @@ unfoldable pub ordered_octets : Endianness → ℕ → ℕ → List ℕ
 ordered_octets Little size value = little_bytes size value
 ordered_octets Big size value = big_bytes size value
 
--- Each is the number of an octet.
+-- Each number in the list is that of an octet: it is below 256.
 abbrev pub AreOctets : List ℕ → Type 0
 AreOctets octets = (place : ℕ) → octet_at place octets < 256

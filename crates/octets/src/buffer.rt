@@ -1,4 +1,4 @@
-//! Appending octets, and one number in network order, to a buffer that has room for them.
+//! Appending octets, or one number in network order, to a buffer that has room for them.
 
 ghost use Rattle.std.specs.Prelude.{◌≡◌, ◌+◌, ◌≤◌, ◌++◌, length};
 ghost use Rattle.std.specs.Vec.{vec_capacity};
@@ -6,7 +6,7 @@ ghost use Rattle.octets.specs.Numbers.{octets_of};
 
 use byteorder::{ByteOrder, NetworkEndian};
 
-/// Appends these octets.
+/// Appends these octets to a buffer that has room for them.
 #[inline]
 pub fn append(buffer: &mut Vec<u8>, octets: &[u8])
     requires { length buffer.old.items + length octets.now ≤ vec_capacity buffer.old }
@@ -17,7 +17,7 @@ pub fn append(buffer: &mut Vec<u8>, octets: &[u8])
     buffer.extend_from_slice(octets).unwrap();
 }
 
-/// Appends a number of one octet.
+/// Appends a number of one octet to a buffer that has room for it.
 #[inline]
 pub fn append_u8(buffer: &mut Vec<u8>, value: u8)
     requires { length buffer.old.items + 1 ≤ vec_capacity buffer.old }
@@ -28,7 +28,7 @@ pub fn append_u8(buffer: &mut Vec<u8>, value: u8)
     append(buffer, &[value]);
 }
 
-/// Appends a number of two octets.
+/// Appends a number of two octets, in network order, to a buffer that has room for them.
 #[inline]
 pub fn append_u16(buffer: &mut Vec<u8>, value: u16)
     requires { length buffer.old.items + 2 ≤ vec_capacity buffer.old }
@@ -41,7 +41,7 @@ pub fn append_u16(buffer: &mut Vec<u8>, value: u16)
     append(buffer, &octets);
 }
 
-/// Appends a number of four octets.
+/// Appends a number of four octets, in network order, to a buffer that has room for them.
 #[inline]
 pub fn append_u32(buffer: &mut Vec<u8>, value: u32)
     requires { length buffer.old.items + 4 ≤ vec_capacity buffer.old }
@@ -54,7 +54,7 @@ pub fn append_u32(buffer: &mut Vec<u8>, value: u32)
     append(buffer, &octets);
 }
 
-/// Appends a number of eight octets.
+/// Appends a number of eight octets, in network order, to a buffer that has room for them.
 #[inline]
 pub fn append_u64(buffer: &mut Vec<u8>, value: u64)
     requires { length buffer.old.items + 8 ≤ vec_capacity buffer.old }
@@ -67,7 +67,7 @@ pub fn append_u64(buffer: &mut Vec<u8>, value: u64)
     append(buffer, &octets);
 }
 
-/// Appends a number of sixteen octets.
+/// Appends a number of sixteen octets, in network order, to a buffer that has room for them.
 #[inline]
 pub fn append_u128(buffer: &mut Vec<u8>, value: u128)
     requires { length buffer.old.items + 16 ≤ vec_capacity buffer.old }

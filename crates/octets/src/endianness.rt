@@ -1,4 +1,4 @@
-//! Both orders of octets.
+//! Numbers in either order of octets.
 
 ghost use Rattle.std.specs.Prelude.{◌≡◌, ◌+◌, ◌++◌, ◌≤◌, length};
 ghost use Rattle.std.specs.Vec.{vec_capacity};
@@ -18,7 +18,7 @@ pub enum Endianness {
 impl Endianness {
     ghost use Rattle.octets.specs.Numbers.{number, ordered_number_at, ordered_octets};
 
-    /// The number in the two octets from `place` on.
+    /// The number in the two octets from `place` on, in this order of octets. All of them must be there.
     #[tactic(auto, unfolding(crate::specs::Numbers::number))]
     #[inline]
     pub fn u16_at(self, octets: &[u8], place: usize) -> u16
@@ -31,7 +31,7 @@ impl Endianness {
         }
     }
 
-    /// The number in the four octets from `place` on.
+    /// The number in the four octets from `place` on, in this order of octets. All of them must be there.
     #[tactic(auto, unfolding(crate::specs::Numbers::number))]
     #[inline]
     pub fn u32_at(self, octets: &[u8], place: usize) -> u32
@@ -44,7 +44,7 @@ impl Endianness {
         }
     }
 
-    /// The number in the eight octets from `place` on.
+    /// The number in the eight octets from `place` on, in this order of octets. All of them must be there.
     #[tactic(auto, unfolding(crate::specs::Numbers::number))]
     #[inline]
     pub fn u64_at(self, octets: &[u8], place: usize) -> u64
@@ -57,7 +57,7 @@ impl Endianness {
         }
     }
 
-    /// Appends a number of two octets to a buffer that has room for them.
+    /// Appends a number of two octets, in this order of octets, to a buffer that has room for them.
     #[tactic(auto, unfolding(crate::specs::Numbers::ordered_octets))]
     #[inline]
     pub fn append_u16(self, buffer: &mut Vec<u8>, value: u16)
@@ -74,7 +74,7 @@ impl Endianness {
         append(buffer, &octets);
     }
 
-    /// Appends a number of four octets to a buffer that has room for them.
+    /// Appends a number of four octets, in this order of octets, to a buffer that has room for them.
     #[tactic(auto, unfolding(crate::specs::Numbers::ordered_octets))]
     #[inline]
     pub fn append_u32(self, buffer: &mut Vec<u8>, value: u32)

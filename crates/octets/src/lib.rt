@@ -1,7 +1,8 @@
-//! Numbers in octets: read at a place, and appended to a buffer, in network order or in either order of octets.
+//! Numbers in octets: read at a place, or appended to a buffer, in network order or in a byte order that is chosen.
 //!
-//! `specs/Numbers.antt` says what number stands at a place and which octets a number has. `specs/Outcome.antt` has the
-//! step from one rule of a format to the next. Formats above state their fields by these definitions alone.
+//! `specs/Numbers.antt` says what number stands at a place and which octets a number has. `specs/Outcome.antt` puts one
+//! rule of a format behind another, so that the first fault is the answer. Crates above state the fields of their
+//! formats by these definitions alone.
 #![tactic(auto)]
 
 mod buffer;

@@ -5,7 +5,7 @@ ghost use Rattle.octets.specs.Numbers.{number_at};
 
 use byteorder::{ByteOrder, NetworkEndian};
 
-/// The number in the two octets from `place` on.
+/// The number in the two octets from `place` on, in network order. All of them must be there.
 #[inline]
 #[tactic(auto, unfolding(crate::specs::Numbers::number_at))]
 pub fn u16_at(octets: &[u8], place: usize) -> u16
@@ -15,7 +15,7 @@ pub fn u16_at(octets: &[u8], place: usize) -> u16
     NetworkEndian::read_u16(&octets[place..])
 }
 
-/// The number in the four octets from `place` on.
+/// The number in the four octets from `place` on, in network order. All of them must be there.
 #[inline]
 #[tactic(auto, unfolding(crate::specs::Numbers::number_at))]
 pub fn u32_at(octets: &[u8], place: usize) -> u32
@@ -25,7 +25,7 @@ pub fn u32_at(octets: &[u8], place: usize) -> u32
     NetworkEndian::read_u32(&octets[place..])
 }
 
-/// The number in the sixteen octets from `place` on.
+/// The number in the sixteen octets from `place` on, in network order. All of them must be there.
 #[inline]
 #[tactic(auto, unfolding(crate::specs::Numbers::number_at))]
 pub fn u128_at(octets: &[u8], place: usize) -> u128
@@ -35,7 +35,7 @@ pub fn u128_at(octets: &[u8], place: usize) -> u128
     NetworkEndian::read_u128(&octets[place..])
 }
 
-/// The number in the `size` octets from `place` on, of which there are 1 to 16.
+/// The number in the `size` octets from `place` on, 1 to 16 of them, in network order. All of them must be there.
 #[inline]
 #[tactic(auto, unfolding(crate::specs::Numbers::number_at))]
 pub fn uint_at(octets: &[u8], place: usize, size: usize) -> u128

@@ -19,7 +19,7 @@ per_second nanos = if nanos then 1000000000 else 1000000
 abbrev pub per_millisecond : Bool → ℕ
 per_millisecond nanos = if nanos then 1000000 else 1000
 
--- The time in whole milliseconds. The fraction is less than a second.
+-- The time in whole milliseconds, rounded down. A fraction of a second or more is a bad time.
 unfoldable pub time_of : Bool → ℕ → ℕ → Result ℕ Ignored
 time_of nanos seconds fraction =
     if nat_lt fraction (per_second nanos) then Ok (seconds * 1000 + fraction / per_millisecond nanos)
@@ -29,8 +29,8 @@ time_of nanos seconds fraction =
 abbrev pub no_ports : TransportPart
 no_ports = record { source_port = 0; destination_port = 0; flags = 0 }
 
--- The ports and the control bits. A fragment other than the first has no transport header. TCP has the protocol
--- number 6 and UDP 17; of another protocol nothing is read.
+-- The ports and the control bits. A fragment other than the first has no transport header. TCP has the protocol number
+-- 6 and UDP 17; for any other protocol nothing is read.
 unfoldable pub transport_part : IpPart → Result TransportPart Ignored
 transport_part ip =
     if ip.later then Ok no_ports
@@ -48,8 +48,8 @@ headers_of link rec = do
   transport ← transport_part ip
   Ok (record { ip = ip; transport = transport })
 
--- The answer to the record with number `n` of a capture of this link type, whose fractions of a second are
--- nanoseconds or microseconds: the time is looked at first, then the headers.
+-- The answer to the record with number `n` of a capture of this link type, whose fractions of a second are nanoseconds
+-- or microseconds: the time is checked first, then the headers.
 unfoldable pub accepted_packet : ℕ → Bool → PacketRecord → ℕ → Result Packet Ignored
 accepted_packet link nanos rec n = do
   time ← time_of nanos rec.seconds rec.fraction

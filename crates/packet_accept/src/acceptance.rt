@@ -19,7 +19,7 @@ use pcap_reader::{Capture, Record};
 /// The packet that a record of the capture gives, with the number `n`, or the first cause for which the record is
 /// ignored, in this order:
 ///
-/// - `BadTime`: the fraction of a second is 1,000,000 or more, or 1,000,000,000 or more in nanoseconds.
+/// - `BadTime`: the fraction of a second is 1,000,000 or more in microseconds, or 1,000,000,000 or more in nanoseconds.
 /// - `Short`: the link part isn't whole. `NotIp`: it announces no IP packet, or holds more than two tags.
 /// - `Short`: the IP header isn't whole, or an extension header goes beyond the packet's or the captured end.
 ///   `BadHeader`: the version isn't the one announced, the header or the total length is too small, or the packet
@@ -49,7 +49,8 @@ pub fn accept(capture: &Capture<'_>, rec: &Record<'_>, n: u64) -> Result<Packet,
     Ok(packet_of(headers, time, n))
 }
 
-/// The same for a record whose link part was read before, as `frame`: it is not read again.
+/// The same for a record whose link part was already read, as `frame`: it is not read again. `nanos` says whether the
+/// fraction of a second is in nanoseconds.
 #[inline]
 #[tactic(auto, unfolding(crate::specs::Acceptance::accepted_packet))]
 pub fn accept_behind(

@@ -10,11 +10,12 @@ use packet_headers::HeaderFault;
 pub enum Ignored {
     /// The frame holds no IP packet.
     NotIp,
-    /// The link part, the IP header or an extension header ends behind what was captured of the packet.
+    /// The link part, the IP header or an extension header goes beyond the packet's end or beyond what was captured of
+    /// it.
     Short,
-    /// The IP header's fields contradict each other, or its packet is longer than 16,777,215 octets.
+    /// The IP header's version or a length in it can't be right, or its packet is longer than 16,777,215 octets.
     BadHeader,
-    /// The TCP or UDP header's fields end behind what was captured of the packet.
+    /// The TCP or UDP header's fields go beyond the packet's end or beyond what was captured of it.
     ShortTransport,
     /// The fraction of the record's time is a second or more.
     BadTime,

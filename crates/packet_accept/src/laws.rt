@@ -1,4 +1,4 @@
-//! Laws on the definitions, for proofs above. The calls do nothing.
+//! Laws on the definitions, for proofs in the crates above. The calls do nothing.
 
 ghost use Rattle.std.specs.Prelude.{◌≡◌, ◌+◌, ◌++◌, ℕ, List, [], ◌∷◌, Option, Result, Some, IsPermutation, length};
 ghost use Rattle.std.specs.Prelude.{take, slice_get};
@@ -10,8 +10,8 @@ ghost use Rattle.packet_accept.specs.Acceptance.{accepted_packet};
 ghost use Rattle.packet_accept.specs.Packets.{answers_of, packets_in, packets_of};
 ghost use Rattle.packet_accept.specs.Clock.{IsClock, later_clock};
 
-/// A file has one answer for each of its records, at the record's place. The packets among two lists of answers
-/// together are those among the one and those among the other, and the order of the answers is that of the packets.
+/// A file has one answer for each of its records, at the record's place. The packets of two lists of answers, one
+/// behind the other, are those of the first and then those of the second, and permuted answers have permuted packets.
 pub fn packets_law()
     ensures count { (file : CaptureFile) → length (answers_of file) ≡ length (records_of file) }
     ensures place { (file : CaptureFile) (n : ℕ) (rec : PacketRecord) → slice_get (records_of file) n ≡ Some rec
@@ -28,7 +28,7 @@ pub fn packets_law()
         → IsPermutation (packets_in answers) (packets_in others) }
 {}
 
-/// The clock of two lists of packets together is the later of theirs, and the clock of a permuted list is the clock.
+/// The clock of two lists of packets together is the later of theirs, and permuting a list doesn't change its clock.
 pub fn clock_law()
     ensures together { (packets others : List Packet) (one two : Option ℕ) → IsClock packets one → IsClock others two
         → IsClock (packets ++ others) (later_clock one two) }

@@ -5,8 +5,8 @@
 //! [`Ignored`]: the first cause in the order time, link part, IP header, transport header. It takes no memory.
 //!
 //! `specs/Acceptance.antt` says in one page which answer a record gets, in terms of the headers' fields, and
-//! `specs/Packets.antt` which packets a capture file has: those of its records, in file order, each numbered by
-//! its record's place. [`packets_law`] and [`clock_law`] say how packets and their clock are put together.
+//! `specs/Packets.antt` which packets a capture file has: those of its records, in file order, each numbered by its
+//! record's place. [`packets_law`] and [`clock_law`] say how packets, and clocks, of two lists are put together.
 #![tactic(auto)]
 
 mod acceptance;

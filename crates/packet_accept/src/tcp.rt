@@ -1,4 +1,4 @@
-//! The numbers of TCP by which the end of a flow is told.
+//! The numbers of TCP that show the end of a flow.
 
 /// The protocol number of TCP in the IANA registry.
 pub const TCP: u8 = 6;

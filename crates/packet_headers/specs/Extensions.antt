@@ -17,8 +17,8 @@ pub record Upper : Type 0 where
 abbrev pub is_extension : ℕ → Bool
 is_extension next = (next == 0) || (next == 43) || (next == 44) || (next == 51) || (next == 60)
 
--- The length of such a header: a fragment header has 8 octets, an authentication header counts words of
--- 4 octets without the first two, each other counts words of 8 octets without the first.
+-- The length of such a header in octets: a fragment header has 8, an authentication header counts words of 4 octets
+-- without the first two, and any other counts words of 8 octets without the first.
 abbrev pub extension_length : ℕ → List ℕ → ℕ
 extension_length next headers =
     if next == 44 then 8
@@ -33,8 +33,8 @@ is_whole next headers = nat_le 2 (length headers) && nat_le (extension_length ne
 abbrev pub is_later_fragment : ℕ → List ℕ → Bool
 is_later_fragment next headers = (next == 44) && nat_lt 0 (number_at 2 2 headers / 8)
 
--- One header: none of these, or a later fragment's, or one behind which `walk` goes on. The first octet of
--- a header names the next one. Behind a later fragment's header there is no other header, whatever it names:
+-- One step: `next` names no extension header, or it names a later fragment's, or `walk` goes on behind it. The first
+-- octet of a header names the next one. Behind a later fragment's header there is no other header, whatever it names:
 -- what it names is the protocol of the whole packet's payload.
 abbrev pub over_one : (ℕ → List ℕ → Result Upper HeaderFault) → ℕ → List ℕ → Result Upper HeaderFault
 over_one walk next headers =
@@ -44,8 +44,8 @@ over_one walk next headers =
     (record { protocol = octet_at 0 headers; later = true; payload = drop 8 headers })
     else walk (octet_at 0 headers) (drop (extension_length next headers) headers)
 
--- At most so many extension headers. (The bound gives the recursion its end. It is never met, as the law
--- `WalksOn` below says.)
+-- At most so many extension headers. (The bound lets the recursion end. It is never met, as the law `WalksOn` below
+-- says.)
 unfoldable pub over_at_most : ℕ → ℕ → List ℕ → Result Upper HeaderFault
 over_at_most zero = λ next headers. Err Short
 over_at_most (suc more) = over_one (over_at_most more)

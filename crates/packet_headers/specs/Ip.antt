@@ -6,8 +6,8 @@ use Rattle.packet_headers.specs.Packet.{IpPart}
 use Rattle.packet_headers.specs.Ipv4.{ipv4_part}
 use Rattle.packet_headers.specs.Ipv6.{ipv6_part}
 
--- The IP packet of this version at the front of what was captured, where the frame's original length leaves
--- so many octets for it. There are two versions.
+-- The IP packet of this version at the front of what was captured, where the frame's original length leaves `original`
+-- octets for it. There are two versions.
 unfoldable pub ip_part : ℕ → List ℕ → ℕ → Result IpPart HeaderFault
 ip_part version rest original =
     if version == 4 then ipv4_part rest original

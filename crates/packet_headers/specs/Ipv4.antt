@@ -23,8 +23,9 @@ header_length rest =
     else if nat_lt (length rest) (4 * header_words rest) then Err Short
     else Ok (4 * header_words rest)
 
--- The octets of the packet: its total length, which isn't below the header's. A total length of 0 stands
--- in packets whose sending was offloaded: there it is what is left of the frame's original length.
+-- The packet's length in octets: its total length, which isn't below the header's. A total length of 0 stands in
+-- packets whose segmentation was offloaded: there the packet's length is what the frame's original length leaves, and
+-- no less than the header's.
 unfoldable pub packet_length : List ℕ → ℕ → ℕ → Result ℕ HeaderFault
 packet_length rest original header =
     let total = number_at 2 2 rest in
@@ -36,8 +37,7 @@ packet_length rest original header =
 abbrev pub fragment_offset : List ℕ → ℕ
 fragment_offset rest = number_at 6 2 rest % 8192
 
--- The IPv4 packet at the front of what was captured, where the frame's original length leaves so many
--- octets for it.
+-- The IPv4 packet at the front of what was captured, where the frame's original length leaves `original` octets for it.
 unfoldable pub ipv4_part : List ℕ → ℕ → Result IpPart HeaderFault
 ipv4_part rest original = do
   header ← header_length rest

@@ -23,9 +23,9 @@ pub record LinkPart : Type 0 where
 abbrev pub is_tag : ℕ → Bool
 is_tag kind = (kind == 0x8100) || (kind == 0x88A8)
 
--- A type and the place in the frame where what it announces begins are an `Announced`. A tag, where
--- there is one, is gone over: it is four octets long, and its last two are the next type
--- (IEEE 802.1Q, 9.3 to 9.6).
+-- A type and the place in the frame where what it announces begins are an `Announced`. A tag, where there is one, is
+-- gone over: behind its type stand two octets of the tag, and then the next type, four octets together (IEEE 802.1Q,
+-- 9.3 to 9.6).
 unfoldable pub after_tag : List ℕ → Announced → Result Announced HeaderFault
 after_tag frame first =
     if not (is_tag first.kind) then Ok first
@@ -64,7 +64,7 @@ part_of_link Ethernet captured = typed_part 12 captured
 part_of_link RawIp captured = raw_part captured
 part_of_link LinuxCooked captured = typed_part 14 captured
 
--- The same by the number of a link type. Behind another link no IP packet is known.
+-- The same by the number of a link type. Behind a link of another type no IP packet is known.
 abbrev pub part_of_number : Option LinkType → List ℕ → Result LinkPart HeaderFault
 part_of_number (Some link) captured = part_of_link link captured
 part_of_number None captured = Err NotIp

@@ -18,8 +18,8 @@ pub record IpPart : Type 0 where
 abbrev pub limited_octets : ℕ → Result ℕ HeaderFault
 limited_octets octets = if nat_lt 16777215 octets then Err BadHeader else Ok octets
 
--- What lies behind the first `header` octets of a packet of so many octets, as far as it was captured:
--- up to the packet's end or the captured end, whichever comes first. What is captured behind the packet's
--- end, as padding, is no part of it.
+-- What lies behind the first `header` octets of a packet of `octets` octets, as far as it was captured: up to the
+-- packet's end or the captured end, whichever comes first. What is captured behind the packet's end, as padding, is no
+-- part of it.
 unfoldable pub behind_header : ℕ → ℕ → List ℕ → List ℕ
 behind_header header octets rest = drop header (take octets rest)

@@ -50,7 +50,7 @@ ip_shown view = record {
 abbrev pub upper_shown : UpperView → Upper
 upper_shown view = record { protocol = view.protocol; later = view.later; payload = view.payload.now }
 
--- The code's own: going over one header, what is left gives what there was, and is shorter.
+-- The code's own: a step ends the walk with its answer, or leaves fewer octets that have the same answer.
 abbrev pub StepGives : ℕ → List ℕ → Step → Type 0
 StepGives next headers (Ends view) = upper_part next headers ≡ Ok (upper_shown view)
 StepGives next headers (GoesOn named behind) =

@@ -39,7 +39,8 @@ enum Step<'a> {
     GoesOn(u8, &'a [u8]),
 }
 
-/// Goes over the extension headers, from the one that `first` names to the packet's end.
+/// Goes over the extension headers, from the one that `first` names to the packet's end. `Short` where one of them
+/// isn't whole.
 pub fn upper_of(first: u8, headers: &[u8]) -> Result<UpperView<'_>, HeaderFault>
     ensures fields { IfOk result (λ view. upper_part first headers.now ≡ Ok (upper_shown view)) }
     ensures fault { IfErr result (λ fault. upper_part first headers.now ≡ Err fault) }
@@ -90,7 +91,7 @@ fn go_over(next: u8, headers: &[u8]) -> Result<Step<'_>, HeaderFault>
     Ok(Step::GoesOn(headers[0], behind))
 }
 
-/// Whether the header is gone over.
+/// Whether this number names an extension header that is gone over.
 fn is_extension(next: u8) -> bool
     ensures { result ≡ is_extension next }
 {
@@ -100,7 +101,7 @@ fn is_extension(next: u8) -> bool
     )
 }
 
-/// Whether a fragment header is that of a fragment other than the first.
+/// Whether this is a fragment header, and that of a fragment other than the first.
 fn is_later_fragment(next: u8, headers: &[u8]) -> bool
     requires { 4 ≤ length headers.now }
     ensures { result ≡ is_later_fragment next headers.now }

@@ -29,8 +29,8 @@ pub struct IpView<'a> {
 }
 
 impl<'a> IpView<'a> {
-    /// The packet of this version at the front of `rest`, as [`Ipv4View::of`] or [`Ipv6View::of`] reads it, with
-    /// their faults.
+    /// The packet of this version, 4 or 6, at the front of `rest`, as [`Ipv4View::of`] or [`Ipv6View::of`] reads it,
+    /// with their faults. `original` means what it means there.
     #[inline]
     #[tactic(auto, unfolding(crate::specs::Ip::ip_part))]
     pub fn of(version: u8, rest: &'a [u8], original: u64) -> Result<IpView<'a>, HeaderFault>

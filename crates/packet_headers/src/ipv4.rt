@@ -29,13 +29,12 @@ pub struct Ipv4View<'a> {
 }
 
 impl<'a> Ipv4View<'a> {
-    /// The packet at the front of `rest`, the captured octets from the IP header on. `original` is
-    /// the frame's original length less the link part, and 0 where that is negative: the packet's
-    /// length where its total length is 0.
+    /// The packet at the front of `rest`, the captured octets from the IP header on. `original` is the frame's original
+    /// length less that of the link part, or 0 where the link part is longer. Where the total length is 0, `original`
+    /// is the packet's length instead, unless the header is longer than that.
     ///
-    /// `Short` comes where the header isn't whole, `BadHeader` where the version isn't 4, the header
-    /// has fewer than 20 octets, the total length is below the header's, or the packet is longer than
-    /// 16,777,215 octets.
+    /// `Short` comes where the header isn't whole, `BadHeader` where the version isn't 4, the header has fewer than 20
+    /// octets, the total length is below the header's, or the packet is longer than 16,777,215 octets.
     #[tactic(auto, unfolding(crate::specs::Ipv4::ipv4_part))]
     pub fn of(rest: &'a [u8], original: u64) -> Result<Ipv4View<'a>, HeaderFault>
         ensures fields { IfOk result (λ view. ipv4_part rest.now original ≡ Ok (ipv4_shown view)) }
@@ -56,7 +55,7 @@ impl<'a> Ipv4View<'a> {
     }
 }
 
-/// The length of the header with its options.
+/// The length of the header with its options, in octets.
 #[tactic(auto, unfolding(crate::specs::Ipv4::header_length))]
 fn header_of(rest: &[u8]) -> Result<usize, HeaderFault>
     ensures value { result ≡ header_length rest.now }
@@ -79,7 +78,7 @@ fn header_of(rest: &[u8]) -> Result<usize, HeaderFault>
     Ok(header)
 }
 
-/// The octets of the packet.
+/// The length of the packet, in octets.
 #[tactic(auto, unfolding(crate::specs::Ipv4::packet_length))]
 fn length_of(rest: &[u8], original: u64, header: usize) -> Result<u32, HeaderFault>
     requires { 4 ≤ length rest.now }

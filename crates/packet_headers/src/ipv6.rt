@@ -11,7 +11,7 @@ use octets::{u16_at, u128_at};
 
 /// The length of the header, in octets.
 const HEADER: usize = 40;
-/// The next header that says that there is none.
+/// The number of a next header that says that no header follows (RFC 8200, section 4.7).
 const NO_NEXT_HEADER: u8 = 59;
 
 /// An IPv6 packet (RFC 8200), as far as it was captured. Numbers are in host order.
@@ -33,16 +33,15 @@ pub struct Ipv6View<'a> {
 }
 
 impl<'a> Ipv6View<'a> {
-    /// The packet at the front of `rest`, the captured octets from the IP header on. `original` is
-    /// the frame's original length less the link part, and 0 where that is negative: the packet's
-    /// length where its payload length is 0 and its next header isn't 59.
+    /// The packet at the front of `rest`, the captured octets from the IP header on. `original` is the frame's original
+    /// length less that of the link part, or 0 where the link part is longer. Where the payload length is 0 and the
+    /// next header isn't 59, `original` is the packet's length instead, or 40 if that is more.
     ///
-    /// Goes over the headers hop-by-hop options, routing, fragment, authentication and destination
-    /// options, in any order and number, up to a fragment header whose offset isn't 0.
+    /// Goes over the headers hop-by-hop options, routing, fragment, authentication and destination options, in any
+    /// order and number, up to a fragment header whose offset isn't 0.
     ///
-    /// `Short` comes where the header isn't whole or an extension header goes beyond the packet's or
-    /// the captured end, `BadHeader` where the version isn't 6 or the packet is longer than
-    /// 16,777,215 octets.
+    /// `Short` comes where the header isn't whole or an extension header goes beyond the packet's or the captured end,
+    /// `BadHeader` where the version isn't 6 or the packet is longer than 16,777,215 octets.
     #[tactic(auto, unfolding(crate::specs::Ipv6::ipv6_part))]
     pub fn of(rest: &'a [u8], original: u64) -> Result<Ipv6View<'a>, HeaderFault>
         ensures fields { IfOk result (λ view. ipv6_part rest.now original ≡ Ok (ipv6_shown view)) }
@@ -63,7 +62,7 @@ impl<'a> Ipv6View<'a> {
     }
 }
 
-/// The octets of a packet of version 6 with its whole header.
+/// The length of a packet of version 6 whose header is whole, in octets.
 #[tactic(auto, unfolding(crate::specs::Ipv6::checked_length))]
 fn checked_length_of(rest: &[u8], original: u64) -> Result<u32, HeaderFault>
     ensures value { result ≡ checked_length rest.now original }
@@ -81,7 +80,7 @@ fn checked_length_of(rest: &[u8], original: u64) -> Result<u32, HeaderFault>
     length_of(rest, original)
 }
 
-/// The octets of the packet.
+/// The length of the packet, in octets.
 #[tactic(auto, unfolding(crate::specs::Ipv6::packet_length))]
 fn length_of(rest: &[u8], original: u64) -> Result<u32, HeaderFault>
     requires { 40 ≤ length rest.now }

@@ -49,9 +49,9 @@ impl<'a> LinkView<'a> {
     /// The link part of the captured octets of a frame, by the capture's link type. At most two tags of IEEE 802.1Q are
     /// gone over.
     ///
-    /// `Short` comes where the link header, a tag or the first octet of raw IP isn't whole, `NotIp`
-    /// where the last type, or the version of raw IP, is neither IPv4's nor IPv6's. A third tag is
-    /// `NotIp`, whatever lies behind it.
+    /// `Short` comes where the link header or a tag isn't captured whole, or raw IP has no octet; `NotIp` where the
+    /// last type, or the version of raw IP, is neither IPv4's nor IPv6's. A third tag is `NotIp`, whatever lies behind
+    /// it.
     pub fn of(link: LinkType, captured: &'a [u8]) -> Result<LinkView<'a>, HeaderFault>
         ensures fields { IfOk result (λ view. link_part (number_of link) captured.now ≡ Ok (link_shown view)) }
         ensures fault { IfErr result (λ fault. link_part (number_of link) captured.now ≡ Err fault) }

@@ -5,10 +5,10 @@ ghost use Rattle.packet_headers.specs.Packet.{limited_octets, behind_header};
 
 use crate::fault::HeaderFault;
 
-/// The greatest number of octets of a packet.
+/// The greatest length of a packet, in octets: 2^24 - 1.
 pub const GREATEST: u64 = 16_777_215;
 
-/// The number of octets of a packet, where it isn't above the greatest.
+/// The length of a packet in octets; `BadHeader` where it is above the greatest.
 #[inline]
 pub fn limited_length(octets: u64) -> Result<u32, HeaderFault>
     ensures { result ≡ limited_octets octets }

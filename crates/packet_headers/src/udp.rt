@@ -7,7 +7,7 @@ use crate::fault::HeaderFault;
 use octets::u16_at;
 use std::marker::Model;
 
-/// The octets that the fields lie in.
+/// How many octets hold the fields that are read.
 const FIELDS: usize = 4;
 
 /// A UDP datagram (RFC 768), as far as it was captured. Contracts see its ports.

@@ -34,7 +34,8 @@ abbrev pub is_version_2_4 : Endianness → List ℕ → Bool
 is_version_2_4 order bytes = ordered_number_at order 4 2 bytes == 2 && ordered_number_at order 6 2 bytes == 4
 
 -- The capture file that the bytes are, where they begin with a file header. Its records begin behind the header. The
--- link type is the whole last field, four bytes from 20 on. The fields between the version and it say nothing here.
+-- link type is the whole last field, four bytes from 20 on. The fields between the version and the link type are not
+-- read.
 unfoldable pub capture_file : List ℕ → Option CaptureFile
 capture_file bytes =
     if nat_lt (length bytes) file_header_len then None else

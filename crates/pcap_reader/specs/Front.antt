@@ -5,13 +5,13 @@ use Rattle.pcap_reader.specs.declared.front.Front.{Front}
 use Rattle.pcap_reader.specs.declared.front.Front.TheVariants.{Record, Damage, Rest}
 use Rattle.pcap_reader.specs.Records.{claimed_len, begins_with_record, begins_with_damage}
 
--- what is there of a whole record that ends at `end`
+-- a whole record stands there, and ends at `end`
 pub record EndsAt (order : Endianness) (bytes : List ℕ) (at end : ℕ) : Type 0 where
   pub is_record : begins_with_record order (drop at bytes) ≡ true
   pub behind : end ≡ at + (16 + claimed_len order (drop at bytes))
   pub within : end ≤ length bytes
 
--- nothing whole, and no claim of too much
+-- less than a whole record, and no header that claims too much
 pub record IsRest (order : Endianness) (bytes : List ℕ) : Type 0 where
   pub no_record : begins_with_record order bytes ≡ false
   pub no_damage : begins_with_damage order bytes ≡ false

@@ -6,7 +6,7 @@ use Rattle.octets.specs.declared.endianness.Endianness.{Endianness}
 use Rattle.octets.specs.Numbers.{ordered_number_at}
 use Rattle.pcap_reader.specs.File.{CaptureFile}
 
--- A record has at most so many captured bytes.
+-- The most captured bytes that a record may have.
 abbrev pub most_captured : ℕ
 most_captured = 262144
 

@@ -14,7 +14,7 @@ grown_file file more =
 abbrev pub part_with : CaptureFile → List ℕ → CaptureFile
 part_with file bytes = record { bytes = bytes; start = 0; order = file.order; nanos = file.nanos; link = file.link }
 
--- The parts that come of pieces of bytes: each is a piece with the rest of the part before it in front.
+-- The parts that pieces of bytes make: each part is a piece with the rest of the part before it in front.
 abbrev pub parts_from : CaptureFile → List ℕ → List (List ℕ) → List CaptureFile
 parts_from file left [] = []
 parts_from file left (piece ∷ pieces) =
@@ -29,14 +29,14 @@ pub record GoesOn (file : CaptureFile) (more : List ℕ) : Type 0 where
   pub damage : damage_of (grown_file file more)
       ≡ option_map (λ at. rest_offset file + at) (damage_of (part_with file (rest_of file ++ more)))
 
--- The file is read in these parts: its bytes behind the file header are cut into pieces, anywhere, and the parts come
--- of the pieces. Before the first of them nothing is left.
+-- The file is read in these parts: its bytes behind the file header are cut into pieces, anywhere, and the pieces make
+-- the parts. The first part has no rest in front.
 pub record IsReadIn (file : CaptureFile) (parts : List CaptureFile) : Type 0 where
   pub pieces : List (List ℕ)
   pub cut : drop file.start file.bytes ≡ concat pieces
   pub come : parts ≡ parts_from file [] pieces
 
--- What stands before the records of a file: a file that has none.
+-- The file up to where its records begin: a file without records.
 abbrev pub front_of : CaptureFile → CaptureFile
 front_of file =
     record {
@@ -61,6 +61,6 @@ pub record GrowsFromFront (file : CaptureFile) : Type 0 where
 abbrev pub place_behind : CaptureFile → List CaptureFile → ℕ
 place_behind file earlier = file.start + length (concat (flat_map parts_of earlier))
 
--- A whole record or damage stands at the beginning of the file's records.
+-- A whole record, or damage, stands where the file's records begin.
 abbrev pub BeginsWithMore : CaptureFile → Type 0
 BeginsWithMore file = (0 < length (records_of file)) ⊎ (damage_of file ≡ Some file.start)

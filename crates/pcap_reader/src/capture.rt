@@ -10,7 +10,7 @@ use crate::record::{Record, record_at};
 use link_types::LinkType;
 use std::alloc::Global;
 
-/// The most octets of a capture that a program takes: 1 GiB.
+/// The most octets of a capture that the programs accept: 1 GiB.
 pub const CAPTURE_LIMIT: u64 = 1 << 30;
 
 /// A capture file in memory, whose header was read, or a part of one.
@@ -61,8 +61,8 @@ impl<'a> Capture<'a> {
     /// Where its records begin, and how many bytes are left behind them, in one pass from record to record. The index
     /// keeps four bytes a record. The capture has fewer than 2^32 bytes.
     ///
-    /// `Damaged`: exactly where a record header that is reached claims too much, with the first one's offset.
-    /// `NoMemory`: out of memory.
+    /// `Damaged`: exactly where a record header that is reached claims more than 262,144 captured bytes, unless memory
+    /// ran out first; it has the offset of the first such header. `NoMemory`: out of memory.
     pub fn index(&self, alloc: Global) -> Result<RecordIndex, IndexError>
         requires { length (file_of self.now).bytes < 2 ^ 32 }
         ensures cut { let file = file_of self.now in IsOnlyCut file (parts_of file) (rest_of file) }
@@ -75,8 +75,8 @@ impl<'a> Capture<'a> {
         self.index_into(RecordIndex::none(alloc))
     }
 
-    /// The same, in the memory of an index that isn't needed any more. More is taken only where it has too little. How
-    /// much room there is, is in no clause.
+    /// The same, reusing the memory of an index that is no longer needed. More is taken only where that is too little.
+    /// No clause says how much room there is.
     pub fn index_into(&self, index: RecordIndex) -> Result<RecordIndex, IndexError>
         requires { length (file_of self.now).bytes < 2 ^ 32 }
 

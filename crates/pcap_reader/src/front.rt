@@ -1,4 +1,4 @@
-//! What stands at a place of a file: a record, a damaged header, or less.
+//! What stands at a place of a file: a record, a damaged header, or less than a whole record.
 
 ghost use Rattle.std.specs.Prelude.{◌≤◌, length};
 ghost use Rattle.pcap_reader.specs.Front.{IsFront};

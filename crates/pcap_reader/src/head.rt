@@ -9,7 +9,7 @@ use crate::header::{FileHeader, read_header};
 use link_types::LinkType;
 use octets::Endianness;
 
-/// Why some bytes are no capture that can be read.
+/// Why some bytes are not a capture that can be read.
 #[derive(Clone, Copy, Debug, PartialEq, Eq)]
 pub enum CaptureError {
     /// They do not begin with the file header of a classic capture.

@@ -40,8 +40,8 @@ impl RecordIndex {
         RecordIndex::new(Vec::new(alloc), 0)
     }
 
-    /// An index of no records, with room for all that so many bytes can have: a record has 16 bytes at least. How much
-    /// room there is, is in no clause.
+    /// An index of no records, with room for all records that `bytes` bytes can have: a record has at least 16 bytes.
+    /// No clause says how much room there is. `NoMemory` where there is no memory for it.
     pub fn with_room(alloc: Global, bytes: usize) -> Result<RecordIndex, NoMemory>
         ensures { IfOk result (λ index. index ≡ record { offsets = []; tail = 0 }) }
     {
@@ -49,7 +49,7 @@ impl RecordIndex {
         Ok(RecordIndex::new(offsets, 0))
     }
 
-    /// The memory of the offsets, without any.
+    /// The memory of the offsets, emptied.
     pub(crate) fn into_offsets(self) -> Vec<u32>
         ensures { result.items ≡ [] }
     {
@@ -83,7 +83,7 @@ impl RecordIndex {
         self.offsets[n as usize] as usize
     }
 
-    /// The number of bytes behind the last record that are no whole record.
+    /// The number of bytes behind the last record, which make no whole record.
     pub fn tail(&self) -> u64
         ensures { result ≡ self.now.tail }
     {

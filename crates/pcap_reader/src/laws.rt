@@ -1,4 +1,4 @@
-//! Laws on files that are read in parts, for proofs above. The call does nothing.
+//! Laws on files that are read in parts, for proofs in the crates above. The call does nothing.
 
 ghost use Rattle.std.specs.Prelude.{◌≡◌, ◌+◌, ◌≤◌, ◌<◌, ◌++◌, ◌∷◌, [], ℕ, List, Some, None, length, flat_map};
 ghost use Rattle.std.specs.List.{AllByRecursion};
@@ -9,9 +9,9 @@ ghost use Rattle.pcap_reader.specs.Windows.{grown_file, part_with, place_behind,
 ghost use Rattle.pcap_reader.specs.Windows.{BeginsWithMore};
 
 /// The law of parts. The records of a file are those of its parts in order, where each part but the first begins with
-/// the rest of the one before, and the file's rest is the last part's. Damage of a part is the file's, where the part
-/// begins in the file. A part that is longer than the longest record with its header begins with a record or with
-/// damage.
+/// the rest of the one before, and the file's rest is the last part's. Damage in a part is the file's damage, its
+/// offset counted from where the part begins in the file. A part at least as long as the longest record with its header
+/// begins with a record or with damage.
 pub fn parts_law()
     ensures records { (file : CaptureFile) (parts : List CaptureFile) → file.start ≤ length file.bytes
         → IsReadIn file parts

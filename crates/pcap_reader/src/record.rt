@@ -12,8 +12,8 @@ use octets::Endianness;
 pub struct Record<'a> {
     /// When the packet was captured, in seconds since the beginning of 1970.
     pub seconds: u32,
-    /// The fraction of that second, in microseconds, or in nanoseconds where `Capture::nanos` says so. It may be
-    /// larger than a second has.
+    /// The fraction of that second, in microseconds, or in nanoseconds where `Capture::nanos` says so. It may come to a
+    /// second or more.
     pub fraction: u32,
     /// The length that the packet had on its link, in octets. It may be below the captured length.
     pub original: u32,
@@ -21,7 +21,7 @@ pub struct Record<'a> {
     pub captured: &'a [u8],
 }
 
-/// The record at a place where one stands whole.
+/// The record at a place where a whole one stands.
 #[inline]
 pub(crate) fn record_at(order: Endianness, bytes: &[u8], at: usize) -> Record<'_>
     requires header { at + 16 ≤ length bytes.now }

@@ -1,4 +1,4 @@
--- Powers of ten are some.
+-- Powers of ten are above 0.
 use Rattle.std.proofs.Common.{◌<◌, ◌^◌, ℕ, zero, suc, arith, lit<}
 use Rattle.std.proofs.Math.Nat.{pow-suc}
 

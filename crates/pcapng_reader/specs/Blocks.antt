@@ -33,7 +33,7 @@ block_order section bytes = if begins_section bytes then magic_order bytes else 
 abbrev pub told_len : Endianness → List ℕ → ℕ
 told_len order bytes = ordered_number_at order 4 4 bytes
 
--- A block has 12 octets at least, and a multiple of four of them.
+-- No block has this length: a block has at least 12 octets, and a multiple of four of them.
 abbrev pub is_no_len : ℕ → Bool
 is_no_len len = nat_lt len 12 || not (len % 4 == 0)
 
@@ -47,7 +47,7 @@ sized_front order bytes =
     else if ordered_number_at order (len - 4) 4 bytes == len then Front.Block order len
     else Front.Malformed
 
--- The same of an order of octets that may be bad.
+-- The same by the order of octets, if it is known.
 abbrev pub ordered_front : Option Endianness → List ℕ → Front
 ordered_front None bytes = Front.Malformed
 ordered_front (Some order) bytes = sized_front order bytes
@@ -79,6 +79,7 @@ pieces_from section at zero (byte ∷ bytes) =
 abbrev pub pieces_of : List ℕ → List (Result Block ℕ)
 pieces_of bytes = pieces_from Order.Little 0 0 bytes
 
--- The bytes are a file of this format: they begin with a section header's type, length and a known magic.
+-- The order of octets of the first section, where the bytes are a file of this format: there are 12 bytes or more,
+-- which begin with the type of a section header and have a known magic.
 abbrev pub file_order : List ℕ → Option Endianness
 file_order bytes = if nat_lt (length bytes) 12 then None else if begins_section bytes then magic_order bytes else None

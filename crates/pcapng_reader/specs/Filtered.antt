@@ -12,8 +12,8 @@ use Rattle.packet_accept.specs.declared.ignored.Ignored.{Ignored}
 use Rattle.packet_accept.specs.Acceptance.{accepted_packet}
 use Rattle.pcapng_reader.specs.Records.{LinkedRecord}
 
--- The packets among records: those that are accepted, with these numbers: the first `number`, the next one more, and so
--- on. Times are in nanoseconds. Behind a link type that isn't read no IP packet is known.
+-- The packets among records: those that are accepted, numbered one by one from `number` on. Times are in nanoseconds.
+-- Behind a link type that isn't read no IP packet is known.
 abbrev pub packets_from : ℕ → List LinkedRecord → List Packet
 packets_from number [] = []
 packets_from number (linked ∷ records) =
@@ -32,7 +32,7 @@ raw_record rec frame = record {
   captured = drop frame.offset rec.captured;
 }
 
--- The same of an accepted record; none of another.
+-- The same for an accepted record; none for any other.
 abbrev pub raw_if : Result Packet Ignored → LinkedRecord → Option PacketRecord
 raw_if (Ok packet) linked = option_map (raw_record linked.rec) (result_ok (link_part linked.link linked.rec.captured))
 raw_if (Err cause) linked = None
@@ -40,7 +40,7 @@ raw_if (Err cause) linked = None
 abbrev pub raw_of : LinkedRecord → Option PacketRecord
 raw_of linked = raw_if (accepted_packet linked.link true linked.rec 0) linked
 
--- The accepted records, as such of raw IP.
+-- The accepted records, as records of raw IP.
 abbrev pub raw_records : List LinkedRecord → List PacketRecord
 raw_records records = filter_map raw_of records
 

@@ -1,4 +1,4 @@
--- The code's own: how the part of a run behind the reading ends.
+-- The code's own: how a run ends once the input was read.
 use Rattle.std.specs.Prelude.{ℕ, ◌≡◌, List, None, Err, IsSome}
 use Rattle.meter_io.specs.Sides.{Side, IsUntouched, HasFailed, HasTaken, HasBegun}
 use Rattle.pcapng_reader.specs.declared.status.PngStatus.{PngStatus}

@@ -21,7 +21,7 @@ pub record IsWhole (order : Endianness) (part : List ℕ) : Type 0 where
   pub small : captured_len order part ≤ most_captured
   pub whole : 28 + captured_len order part ≤ length part
 
--- A second has units.
+-- There is at least one unit of time in a second.
 abbrev pub HasUnits : Interface → Type 0
 HasUnits interface = 0 < interface.units
 

@@ -1,4 +1,5 @@
--- Interfaces (draft-ietf-opsawg-pcapng, section 4.2): the link type of their packets, and how their times count.
+-- Interfaces (draft-ietf-opsawg-pcapng, section 4.2): the link type of their packets, and the unit and the offset of
+-- their times.
 use Rattle.std.specs.Prelude.{ℕ, ◌-◌, ◌^◌, ◌==◌, ◌&&◌, List, [], ◌∷◌, length, slice_range, nat_lt, nat_le}
 use Rattle.std.specs.Prelude.{if◌then◌else◌, Option, Some, None, option_map, option_and_then}
 use Rattle.octets.specs.declared.endianness.Endianness.{Endianness}
@@ -27,7 +28,8 @@ with_option order interface told =
     else None)
     else Some interface
 
--- The interface that these options tell, one after the other, so that the last of a code counts; none where one is bad.
+-- The interface that these options tell, one after the other: of several with one code the last counts. None where one
+-- is bad.
 abbrev pub with_options : Endianness → Interface → List (Option CodedValue) → Option Interface
 with_options order interface [] = Some interface
 with_options order interface (told ∷ others) =

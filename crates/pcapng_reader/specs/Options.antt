@@ -11,7 +11,7 @@ pub record CodedValue : Type 0 where
   pub code : ℕ
   pub value : List ℕ
 
--- So many octets, padded to a multiple of four.
+-- A length in octets, padded to a multiple of four.
 abbrev pub padded_length : ℕ → ℕ
 padded_length len = (len + 3) / 4 * 4
 
@@ -28,7 +28,7 @@ next_option order octets =
     else Next.Coded code len
 
 -- The options, one behind the other, of which the first begins behind the first `skip` octets. One that goes beyond the
--- last octet is none, and the last of the list.
+-- last octet is not read: it ends the list, as `None`.
 unfoldable pub options_from : Endianness → ℕ → List ℕ → List (Option CodedValue)
 options_from order skip [] = []
 options_from order (suc skip) (octet ∷ octets) = options_from order skip octets

@@ -56,7 +56,7 @@ pub record IsCutOff (input output : Side) : Type 0 where
   pub begun : HasBegun output written
   pub cause : HasFailed output
 
--- Why a run refuses with a status; never with the others.
+-- What a refusal with this status means of the input. `Done` and `WriteFault` are no refusals.
 abbrev pub Refuses : Side → PngStatus → Type 0
 Refuses input ReadFault = IsBroken input limit
 Refuses input TooLarge = IsTooLarge input limit

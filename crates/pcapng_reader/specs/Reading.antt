@@ -68,7 +68,7 @@ with_block found block = do
   content ← or_bad block.at (content_of found.interfaces block.order block.part)
   Ok (with_content found block content)
 
--- All of these blocks more. The first that is malformed or bad is the fault.
+-- What these blocks tell, one after the other. The first that is malformed or bad is the fault.
 abbrev pub with_pieces : Found → List (Result Block ℕ) → Result Found ℕ
 with_pieces found [] = Ok found
 with_pieces found (piece ∷ pieces) = do

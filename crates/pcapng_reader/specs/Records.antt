@@ -11,7 +11,7 @@ pub record LinkedRecord : Type 0 where
   pub link : ℕ
   pub rec : PacketRecord
 
--- A record without a time has a fraction that is none: it is no part of a second.
+-- A record without a time has a fraction of more than a second, which no time has.
 abbrev pub no_time : Stamp
 no_time = record { seconds = 0; fraction = 4294967295 }
 

@@ -1,4 +1,4 @@
-//! A capture: its first section header looked at, its packets found and read.
+//! A capture: its first section header checked, its packets found and read.
 
 ghost use Rattle.std.specs.Prelude.{◌≡◌, ◌+◌, ◌<◌, ◌≤◌, ◌^◌, ◌↔◌, ℕ, All, None, Ok, Err, IfOk, IfErr, OnOk, IsErr};
 ghost use Rattle.std.specs.Prelude.{IsSome, Some, length, slice_get, slice_range, ◌++◌, ◌∷◌, [], OnErr};
@@ -46,7 +46,7 @@ fn keep<T: Drop>(list: &mut Vec<T>, one: T) -> Result<(), NoMemory>
     Ok(())
 }
 
-/// Takes what one block tells: the block from `at` to `to`.
+/// Takes in what one block tells, the block from `at` to `to`.
 fn take_block(
     bytes: &[u8],
     at: usize,
@@ -93,8 +93,8 @@ fn take_block(
 }
 
 impl<'a> PngCapture<'a> {
-    /// Looks at the beginning of the first section header. `NotPcapng` comes exactly where the first 12 bytes aren't
-    /// there, or their type or their magic aren't those of a section header.
+    /// Checks the beginning of the first section header. `NotPcapng` comes exactly where there are fewer than 12 bytes,
+    /// or the block type or the byte-order magic is not that of a section header (section 4.1 of the draft).
     pub fn open(bytes: &'a [u8]) -> Result<PngCapture<'a>, NotPcapng>
         ensures capture { IfOk result (λ c. bytes_of c ≡ bytes.now) }
         ensures pcapng { OnOk result (IsSome (file_order bytes.now)) }
@@ -109,7 +109,8 @@ impl<'a> PngCapture<'a> {
     /// Where its packets stand, in one pass from block to block. The index keeps 40 bytes a packet. The capture has
     /// fewer than 2^32 bytes.
     ///
-    /// `BadBlock`: exactly where a block is malformed or bad, with the first one's offset. `NoMemory`: out of memory.
+    /// `BadBlock`: exactly where a block is malformed or bad, unless memory ran out first; it has the offset of the
+    /// first such block. `NoMemory`: out of memory.
     pub fn index(&self, alloc: Global) -> Result<PngIndex, PngFault>
         requires { length (bytes_of self.now) < 2 ^ 32 }
         ensures index { IfOk result (λ index. IsIndexOf index (bytes_of self.now)) }

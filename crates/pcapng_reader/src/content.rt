@@ -20,7 +20,7 @@ pub(crate) enum Content {
     Enhanced(Interface),
     /// A packet without a time.
     Simple,
-    /// Nothing that is read.
+    /// A block of a type that isn't read.
     Other,
 }
 

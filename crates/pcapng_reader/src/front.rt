@@ -19,7 +19,7 @@ pub(crate) enum Front {
     Tail,
     /// No block, though the octets of one are there.
     Malformed,
-    /// A block of so many octets, in this order.
+    /// A block in this order of octets, and its length in octets.
     Block(Endianness, usize),
 }
 

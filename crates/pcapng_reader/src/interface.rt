@@ -1,4 +1,4 @@
-//! Interfaces: the link type of their packets, and how their times count.
+//! Interfaces: the link type of their packets, and the unit and the offset of their times.
 
 ghost use Rattle.std.specs.Prelude.{◌≡◌, ◌<◌, ◌≤◌, length, IfSome};
 ghost use Rattle.pcapng_reader.specs.Options.{CodedValue, options_in};
@@ -42,7 +42,7 @@ fn units_of(code: u8) -> Option<u64>
     None
 }
 
-/// The interface with one option more.
+/// The interface with one option more; `None` where the option is bad.
 fn with_option(
     order: Endianness,
     interface: Interface,
@@ -73,7 +73,7 @@ fn with_option(
     Some(interface)
 }
 
-/// The interface with all options that stand in these octets.
+/// The interface with all options that stand in these octets; `None` where one of them is bad.
 fn with_options(order: Endianness, first: Interface, octets: &[u8]) -> Option<Interface>
     requires { HasUnits first }
     ensures value { result ≡ with_options order first (options_in order octets.now) }

@@ -1,4 +1,4 @@
-//! Laws on the definitions, for proofs above and for their readers. The calls do nothing.
+//! Laws on the definitions, for proofs in the crates above and for readers of the definitions. The calls do nothing.
 
 ghost use Rattle.std.specs.Prelude.{ℕ, List};
 ghost use Rattle.pcapng_reader.specs.Blocks.{pieces_of};

@@ -1,8 +1,8 @@
 //! A capture file of the next generation ("pcapng"), read in place: draft-ietf-opsawg-pcapng, sections 3 and 4.
 //!
-//! `PngCapture::open` looks at the first section header, `PngCapture::index` goes over all blocks and finds the
-//! packets, and `PngCapture::record` reads one of them, with the link type and the clock of its interface. Nothing is
-//! copied: the captured octets of a record are a part of the file.
+//! `PngCapture::open` checks the first section header, `PngCapture::index` goes over all blocks and finds the packets,
+//! and `PngCapture::record` reads one of them, with the link type and the clock of its interface. Nothing is copied:
+//! the captured octets of a record are a part of the file.
 //!
 //! `specs/Blocks.antt` says which blocks a file has, `specs/Options.antt` which options a block has, and
 //! `specs/Reading.antt` what they tell: the interfaces of a section, and the records of the packets.

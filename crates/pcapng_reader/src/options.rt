@@ -16,11 +16,11 @@ pub(crate) enum NextOption {
     Last,
     /// An option that goes beyond the octets.
     Beyond,
-    /// An option of this code, with a value of so many octets.
+    /// An option of this code, with a value of this many octets.
     Coded(u16, u16),
 }
 
-/// So many octets, padded to a multiple of four.
+/// A length in octets, padded to a multiple of four.
 pub(crate) fn padded_length(len: usize) -> usize
     requires { len ≤ 262144 }
     ensures { result ≡ padded_length len }

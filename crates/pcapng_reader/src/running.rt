@@ -1,4 +1,4 @@
-//! The top call.
+//! A whole run of the command.
 
 ghost use Rattle.std.specs.Prelude.{◌≡◌, ◌≤◌, ◌^◌, ◌↔◌, map, length, IsFalse};
 ghost use Rattle.std.specs.String.{string_bytes};
@@ -53,20 +53,19 @@ fn filter<K: Sink>(alloc: Global, bytes: &[u8], output: &mut K) -> PngStatus
     }
 }
 
-/// Reads a pcapng file and writes its accepted packets as a classic capture of raw IP with nanoseconds, of which
+/// Reads a pcapng file and writes its accepted packets as a classic capture of raw IP with nanoseconds, from which
 /// `romtyalig meter` reads the same packets. The one word is `pcapng`.
 ///
-/// The input, at most 2^30 bytes, is read to its end, all its blocks are looked at and all memory is taken before
-/// anything is written. At a refusal, any status but `Done` and `WriteFault`, nothing is written. They come in this
+/// The input, at most 2^30 bytes, is read to its end, all its blocks are checked and all memory is taken before
+/// anything is written. At a refusal, any status but `Done` and `WriteFault`, nothing is written. Statuses come in this
 /// order:
 ///
 /// - `Usage`: exactly where the words are not that one word. Nothing is read.
-/// - `ReadFault`: only where a read failed and the input counted it. `TooLarge`: exactly where more bytes came than
-///   2^30.
-/// - `NotPcapng`: exactly where the bytes do not begin with a section header of a known order of octets.
-/// - `BadBlock`: exactly where a block is malformed or bad, with the place of the first one.
+/// - `ReadFault`: only where a read failed and the input counted it. `TooLarge`: where more than 2^30 bytes came.
+/// - `NotPcapng`: where the bytes do not begin with a section header of a known order of octets.
+/// - `BadBlock`: where a block is malformed or bad, with the offset of the first one.
 /// - `WriteFault`: only where a write failed and the output counted it; it took a beginning of what it was to take.
-/// - `NoMemory`: out of memory, at any point before the first write.
+/// - `NoMemory`: out of memory, at any point before the first write, and then in place of any status behind `Usage`.
 pub fn run_png<S: Source, K: Sink>(
     alloc: Global,
     words: &[String],

@@ -8,9 +8,9 @@ ghost use Rattle.pcapng_reader.specs.Statuses.{exit_status};
 pub enum PngStatus {
     /// All was done.
     Done,
-    /// The input failed.
+    /// A read failed.
     ReadFault,
-    /// The words are not the one word of the command.
+    /// The words are not the one word of the command, `pcapng`.
     Usage,
     /// A write failed.
     WriteFault,
@@ -20,7 +20,7 @@ pub enum PngStatus {
     BadBlock(u64),
     /// The input is larger than the limit.
     TooLarge,
-    /// Want of memory.
+    /// Out of memory.
     NoMemory,
 }
 

@@ -13,13 +13,13 @@ pub(crate) struct Stamp {
     pub(crate) fraction: u32,
 }
 
-/// The stamp of a record without a time. Its fraction is no part of a second.
+/// The stamp of a record without a time. Its fraction is more than a second, which no time has.
 pub(crate) const NO_TIME: Stamp = Stamp {
     seconds: 0,
     fraction: u32::MAX,
 };
 
-/// Seconds and a fraction, where the seconds fit.
+/// Seconds and a fraction, where the seconds fit 32 bits; else no time.
 fn fitting_stamp(seconds: u128, fraction: u32) -> Stamp
     ensures { result ≡ fitting_stamp seconds fraction }
 {
@@ -55,7 +55,7 @@ fn nanoseconds(rest: u64, units: u64) -> u32
     (rest as u128 * 1_000_000_000 / units as u128) as u32
 }
 
-/// The time of so many units, by the clock of an interface.
+/// The time that counts this many units, by the clock of an interface.
 pub(crate) fn stamp_of(interface: &Interface, time: u64) -> Stamp
     requires { HasUnits interface.now }
     ensures { result ≡ stamp_of interface.now time }

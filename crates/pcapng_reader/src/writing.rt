@@ -54,7 +54,7 @@ fn raw_of<'a>(linked: &PngRecord<'a>) -> Option<Record<'a>>
     })
 }
 
-/// Encodes what stands in front of a record's captured octets, in a room that has place for it.
+/// Replaces what `room` holds by the record header, the 16 octets in front of a record's captured ones.
 fn encode_header(room: &mut Vec<u8>, rec: &Record<'_>)
     requires small { length rec.now.captured.now ≤ most_captured }
     requires room { 16 ≤ vec_capacity room.old }
@@ -93,7 +93,7 @@ fn put_record<K: Sink>(
     out.put(output, rec.captured)
 }
 
-/// Puts what is written of one record into the buffer.
+/// Puts what is written of one record into the buffer: nothing where the record isn't accepted.
 fn put_linked<K: Sink>(
     room: &mut Vec<u8>,
     out: &mut SinkBuffer,
@@ -115,8 +115,10 @@ fn put_linked<K: Sink>(
     }
 }
 
-/// Writes the capture of the accepted packets by a buffer in front of the output, which is empty; `room` has place for
-/// what stands in front of a record's captured octets. After a fault a beginning of the capture was written.
+/// Writes the capture of the accepted packets through `out`, an empty buffer in front of the output; `room` has room
+/// for a record header.
+///
+/// `Failed` comes only where the output's count of faults rose; the output then took a beginning of the capture.
 pub(crate) fn write_packets<K: Sink>(
     capture: &PngCapture<'_>,
     index: &PngIndex,

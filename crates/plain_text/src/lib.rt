@@ -1,7 +1,7 @@
 //! Text in memory: pieces, numbers in decimal and octets in hexadecimal, each appended to what is there.
 //!
-//! Numbers are written by `itoa` and octets by `hex`, from arrays of fixed size. Each call says which bytes the text
-//! gained; where memory is out, no clause says what the text then is.
+//! Numbers are written by `itoa` and octets by `hex`, from arrays of fixed size. Each contract says which bytes the
+//! text gained. A call answers `NoMemory` where the text can't grow; no clause says what the text is then.
 #![tactic(auto)]
 
 ghost use Rattle.std.specs.Prelude.{◌≡◌, ◌++◌, ◌∷◌, [], decimal, OnOk};
@@ -11,7 +11,7 @@ use hex::encode_to_slice;
 use itoa::Buffer;
 use no_memory::NoMemory;
 
-/// Appends a piece.
+/// Appends a piece of text.
 #[inline]
 pub fn append(text: &mut Vec<u8>, piece: &[u8]) -> Result<(), NoMemory>
     ensures { OnOk result (text.new.items ≡ text.old.items ++ piece.now) }
@@ -36,7 +36,7 @@ pub fn append_numbered(text: &mut Vec<u8>, piece: &[u8], number: u64) -> Result<
     append_decimal(text, number)
 }
 
-/// Appends one octet in hexadecimal.
+/// Appends one octet in hexadecimal: two digits, in lower case.
 fn append_octet(text: &mut Vec<u8>, octet: u8) -> Result<(), NoMemory>
     ensures { OnOk result (text.new.items ≡ text.old.items ++ encode_lower (octet ∷ [])) }
 {

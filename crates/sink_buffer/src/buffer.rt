@@ -13,7 +13,7 @@ use std::marker::Model;
 /// The most bytes that a buffer holds: 256 KiB.
 const ROOM: usize = 262_144;
 
-/// Bytes that wait for a sink, at most 262,144. Contracts see it as the list of them.
+/// A buffer of bytes that wait for a sink, at most 262,144. Contracts see it as the list of these bytes.
 #[derive(Drop)]
 pub struct SinkBuffer {
     held: Vec<u8>,
@@ -33,7 +33,7 @@ impl Model for SinkBuffer {
 impl SinkBuffer {
     /// An empty buffer. All its memory is taken here.
     ///
-    /// `NoMemory` where its room can't be had.
+    /// `NoMemory` where there is no memory for it.
     pub fn open(alloc: Global) -> Result<SinkBuffer, NoMemory>
         ensures { IfOk result (λ buffer. buffer ≡ []) }
     {
@@ -41,7 +41,7 @@ impl SinkBuffer {
         Ok(SinkBuffer { held })
     }
 
-    /// Whether a piece of this length can be held behind what is held.
+    /// Whether a piece of this length fits behind what is held.
     fn has_room(&self, size: usize) -> bool
         requires { size ≤ 262144 }
         ensures { IsTrue result ↔ (length self.now + size ≤ 262144) }
@@ -49,7 +49,7 @@ impl SinkBuffer {
         self.held.len() + size <= ROOM
     }
 
-    /// Holds a piece.
+    /// Appends a piece to what is held.
     fn hold(&mut self, piece: &[u8])
         requires { length self.old + length piece.now ≤ 262144 }
         ensures { self.new ≡ self.old ++ piece.now }
@@ -57,11 +57,11 @@ impl SinkBuffer {
         self.held.extend_from_slice(piece).unwrap();
     }
 
-    /// Puts a piece of at most 262,144 bytes behind what is held. Where it has no room there, what is held is written
-    /// to the sink before; a piece is always held whole.
+    /// Puts a piece of at most 262,144 bytes behind what is held. Where it doesn't fit there, what is held is first
+    /// written to the sink. A piece is always held whole.
     ///
-    /// `Failed` comes only where the sink's count of faults rose; the sink then took a beginning of what was held,
-    /// which is held still, and the piece is not.
+    /// `Failed` comes only where the sink's count of faults rose. The sink then took a beginning of what was held with
+    /// the piece behind it, and the buffer still holds what it held, without the piece.
     pub fn put<K: Sink>(&mut self, sink: &mut K, piece: &[u8]) -> Result<(), Failed>
         requires { length piece.now ≤ 262144 }
         ensures passed { OnOk result (IsPassed (K.held sink.old) (K.held sink.new) self.old self.new piece.now) }
@@ -83,9 +83,10 @@ impl SinkBuffer {
         }
     }
 
-    /// Writes what is held to the sink.
+    /// Writes what is held to the sink, after which nothing is held.
     ///
-    /// `Failed` comes only where the sink's count of faults rose; the sink then took a beginning of what is held.
+    /// `Failed` comes only where the sink's count of faults rose. The sink then took a beginning of what is held, and
+    /// all of it is still held.
     pub fn write_out<K: Sink>(&mut self, sink: &mut K) -> Result<(), Failed>
         ensures whole { OnOk result (Appends (K.held sink.old) (K.held sink.new) self.old) }
         ensures empty { OnOk result (self.new ≡ []) }

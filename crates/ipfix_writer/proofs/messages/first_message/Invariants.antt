@@ -1,4 +1,4 @@
--- The message of the first records, and what it is long.
+-- The message of the first records, and how long it is.
 use Rattle.std.proofs.Common.{◌≡◌, ◌≤◌, ◌-◌, ◌<◌, length, take}
 use Rattle.ipfix_writer.specs.Layout.{length_in}
 use Rattle.ipfix_writer.specs.Emitting.{last_template}

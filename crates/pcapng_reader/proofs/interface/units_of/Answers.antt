@@ -1,4 +1,4 @@
--- A second has units.
+-- There is at least one unit of time in a second.
 use Rattle.std.proofs.Common.{arith}
 use Rattle.pcapng_reader.proofs.Powers.{ten-pos}
 use Rattle.pcapng_reader.proofs.interface.units_of.Goals as goal
