@@ -3,12 +3,13 @@
 #
 #     checks/edits.sh [--further] [CRATE]..
 #
-# Without crates: the edits of all of them, several at a time, by the gate itself in a copy; so it proves and tests all besides,
-# where no earlier run on this machine did. With crates: theirs alone, one crate after another, with a line for each. With
-# --further those of more-edits/ alone, since the gate tries the others. What is committed is cloned into a temporary folder, where
-# the edits of crates/NAME/more-edits/ are laid beside those of crates/NAME/must-fail/; so nothing changes here. An edit that the
-# checker doesn't refuse, or that can't be tried, is told. The last line counts; the status is not 0 where an edit isn't refused.
-# It takes hours where nothing is proved yet; this is no part of the gate.
+# Without crates: the edits of all of them, several at a time, by the gate itself in a copy; so it also proves and tests
+# everything that no earlier run on this machine did. With crates: theirs alone, one crate after another, with a line
+# for each. With --further those of more-edits/ alone, since the gate tries the others. What is committed is cloned into
+# a temporary folder, where the edits of crates/NAME/more-edits/ are laid beside those of crates/NAME/must-fail/; so
+# nothing changes here. An edit that the checker doesn't refuse, or that can't be tried, is named. The last line counts;
+# the status is not 0 where an edit isn't refused. It takes hours where nothing is proved yet; this is no part of the
+# gate.
 set -u
 
 top=$(dirname "$(cd "$(dirname "$0")" && pwd)")

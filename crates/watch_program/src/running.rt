@@ -93,9 +93,9 @@ fn watch_input<R: Threads + Sync, S: Source, K: Sink, G: Gate>(
 /// numbered from 0, it is told before ask k that worker W is at piece k. For each ask there is a line: `held P O F L`
 /// with the packets, the octets, and the times of the earliest and of the latest packet in milliseconds since
 /// 1970-01-01T00:00:00Z, as the flow stood when it was held: those of some of the capture's packets of this key;
-/// `absent` where the cache had no such flow; `lost` where the watcher was ejected three times. The last line is `total
-/// P O` with the packets and the octets of all fragments that the cache handed out and kept: those of all accepted
-/// packets.
+/// `absent` where the cache had no such flow; `lost` where the watcher was ejected three times. Then comes one line,
+/// `total P O`, with the packets and the octets of all fragments that the cache handed out and kept: those of all
+/// accepted packets.
 ///
 /// The input, at most 2^30 bytes, is read to its end, and all memory is taken before anything is written. At a refusal,
 /// any status but `Done` and `WriteFault`, nothing is written. They come in this order:
