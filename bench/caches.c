@@ -1,12 +1,12 @@
 /*
- * How long the caches of `sets.h` and `slots.h` take for a packet. The packets of the capture of standard input are read into
- * memory; then threads meter them all at once, each every so manieth piece of 256 packets, through one cache, as the program
- * `bench_checks pace` does.
+ * How long the caches of `sets.h` and `slots.h` take for a packet. The packets of the capture of standard input are
+ * read into memory; then THREADS threads meter them at the same time through one cache, each of them every THREADS-th
+ * piece of 256 packets, as the program `bench_checks pace` does.
  *
  *     caches turn|pebr THREADS SETS < CAPTURE
  *
  * What it took, in nanoseconds a packet from start to end, goes to standard error. The packets of fragments that are handed out
- * are added up. With those of the cache's entries in the end they must be all, else the status is 1.
+ * are added up. Together with those of the cache's entries at the end they must be all packets, else the status is 1.
  */
 #include "slots.h"
 #include <pthread.h>

@@ -4,9 +4,10 @@
 #
 #     bench/caches.sh [CACHE]..
 #
-# Without words: turn. The capture is of the kind `headers` of make_traffic.c, of PACKETS packets (2,000,000 unless set) by the
-# seed 1. Both programs run in turn on it, ROUNDS times (7 unless set), with 4,096 sets and with 65,536. Written are medians of
-# nanoseconds and of the ratios within a round, and how much faster the threads are together than one, by the medians.
+# Without arguments: turn. The capture is of the kind `headers` of make_traffic.c, of PACKETS packets (2,000,000 unless
+# set) by the seed 1. Both programs run in turn on it, ROUNDS times (7 unless set), with 4,096 sets and with 65,536.
+# Written are medians of nanoseconds and of the ratios within a round, and how much faster the threads are together than
+# one, by the medians.
 #
 # BENCH_CHECKS is the path of the program of crates/bench_checks (bin/bench_checks unless set). Debian packages: gcc, python3, time.
 set -eu

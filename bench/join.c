@@ -4,7 +4,7 @@
  *     join make RECORDS SEED
  *     join sort FILE..
  *
- * `make` writes a stream of so many records to standard output, as `romtyalig meter` lays it out: in order of last
+ * `make` writes a stream of RECORDS records to standard output, as `romtyalig meter` lays it out: in order of last
  * time and key, an hour of UDP, 15 of 100 over IPv6. Three of four have a key of their own, the fourth one that the
  * streams of all other seeds have at the same place, so at the same time: these become one.
  *

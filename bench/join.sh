@@ -4,7 +4,7 @@
 #
 #     bench/join.sh [STREAMS]..
 #
-# Without words: 2 16, so a million records and eight. The streams and the program in C are those of join.c. Each
+# Without arguments: 2 16, so a million records and eight. The streams and the program in C are those of join.c. Each
 # program runs ROUNDS times (3 unless set), in turn with the other; the least time counts, user and system together,
 # and the greatest peak memory. Written is a table of seconds, their ratio, nanoseconds a record, mebibytes and bytes
 # a record; and behind it how many times the time a record on the most streams is that on the fewest.

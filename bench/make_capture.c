@@ -3,10 +3,10 @@
  *
  *     make_capture PACKETS KEYS
  *
- * A classic capture, least byte first, microseconds, Ethernet. Packet k has the time 1,000 s and k tenths of a millisecond,
- * and the key number (k * 2654435761) mod KEYS, so that the keys come equally often and in scattered order. Of eight keys
- * four are UDP over IPv4, three TCP over IPv4 and one UDP over IPv6. Checksums are left at 0. With KEYS 0 no packet is IP:
- * each is an ARP request of 60 octets.
+ * A classic capture, little-endian, microseconds, Ethernet. Packet k has the time 1,000 s and k tenths of a
+ * millisecond, and the key number (k * 2654435761) mod KEYS, so that the keys come equally often and in scattered
+ * order. Of eight keys four are UDP over IPv4, three TCP over IPv4 and one UDP over IPv6. Checksums are left at 0. With
+ * KEYS 0 no packet is IP: each is an ARP request of 60 octets.
  */
 #include <stdint.h>
 #include <stdio.h>

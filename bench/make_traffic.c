@@ -1,5 +1,5 @@
 /*
- * Writes a capture of so many packets of conversations to standard output, of one of four kinds, by a seed.
+ * Writes a capture of PACKETS packets of conversations to standard output, of one of four kinds, from a seed.
  *
  *     make_traffic KIND PACKETS SEED
  *
@@ -8,11 +8,11 @@
  *     scan      as headers, but nine of ten packets are a flow of their own, a TCP SYN
  *     thousand  as headers, but 1,000 flows in all
  *
- * A classic capture, least byte first, microseconds, Ethernet, 15,000 packets a second. A conversation has two flows, one in
- * each direction, and most are short: its number of packets has a long tail. 2,000 conversations go on at a time, and the next
- * packet is of any of them. 15 of 100 conversations are over IPv6, 20 of 100 over UDP. One of TCP begins with SYN and ends with
- * FIN. IPv4 headers have their checksums, segments and datagrams have none. How many flows were begun is said on the other
- * stream.
+ * A classic capture, little-endian, microseconds, Ethernet, 15,000 packets a second. A conversation has two flows, one
+ * in each direction, and most are short: its number of packets has a long tail. 2,000 conversations go on at a time,
+ * and the next packet is of any of them. 15 of 100 conversations are over IPv6, 20 of 100 over UDP. One of TCP begins
+ * with SYN and ends with FIN. IPv4 headers have their checksums, segments and datagrams have none. The number of flows
+ * that were begun goes to standard error.
  */
 #include <math.h>
 #include <stdint.h>

@@ -3,12 +3,13 @@
 #
 #     bench/meters.sh [KIND]..
 #
-# Without words: headers frames scan thousand, the four kinds of capture that make_traffic.c makes, of PACKETS packets
-# (2,000,000 unless set, of frames a sixth) by the seed 1. All run in turn on the same file, ROUNDS times (5 unless set), each
-# with an idle time-out of 300 s and an active one of 1,800 s: meter, nfpcapd and argus write a file, and softflowd sends
-# datagrams of IPFIX to this host, where discard.py takes them. A meter that isn't there is left out, with a line. Written are the
-# medians of seconds from start to end and of the processor's seconds, the peak memory of the greatest process in MiB, and
-# medians of the ratios to `meter` with one worker in the same round: above 1 is slower.
+# Without arguments: headers frames scan thousand, the four kinds of capture that make_traffic.c makes, of PACKETS
+# packets (2,000,000 unless set, of frames a sixth) by the seed 1. All run in turn on the same file, ROUNDS times (5
+# unless set), each with an idle time-out of 300 s and an active one of 1,800 s: meter, nfpcapd and argus write a file,
+# and softflowd sends datagrams of IPFIX to this host, where discard.py takes them. A meter that isn't there is left
+# out, with a line. Written are the medians of seconds from start to end and of the processor's seconds, the peak memory
+# of the greatest process in MiB, and medians of the ratios to `meter` with one worker in the same round: above 1 is
+# slower.
 #
 # argus sleeps to the end of a second before it ends, so its processor's seconds tell more. Flows aren't the same in all: only
 # `meter` and nfpcapd keep each direction apart and cut flows by the same rules.

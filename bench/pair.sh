@@ -3,10 +3,10 @@
 #
 #     bench/pair.sh [RECORDS]..
 #
-# Without words: 100000 1000000. Each program runs ROUNDS times (3 unless set), in turn with the other; the least time counts,
-# user and system together, and the greatest peak memory. Written is a table of seconds and mebibytes, with the ratio of times.
-# With an idle time-out of a day every record has its mate, half the list behind it. The reader only reads the records and writes
-# a line for each.
+# Without arguments: 100000 1000000. Each program runs ROUNDS times (3 unless set), in turn with the other; the least
+# time counts, user and system together, and the greatest peak memory. Written is a table of seconds and mebibytes, with
+# the ratio of times. With an idle time-out of a day every record has its mate, half the list behind it. The reader only
+# reads the records and writes a line for each.
 #
 # ROMTYALIG_PAIR is the program's path (bin/romtyalig-pair unless set). Debian packages: time; gcc, libfixbuf-dev, pkg-config.
 set -eu

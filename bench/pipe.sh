@@ -3,12 +3,13 @@
 #
 #     bench/pipe.sh [KIND]..
 #
-# Without words: headers frames scan thousand, the four kinds of capture that make_traffic.c makes, of PACKETS packets
-# (2,000,000 unless set, of frames a sixth) by the seed 1. All run in turn on the same file, ROUNDS times (5 unless set): `meter`
-# with 1, 2 and 4 workers, and the pipeline with 1 and 3, which with its reader are 2 and 4 threads; it has no fewer. The slow
-# source is slow.py, which gives RATE megabytes a second (100 unless set) through a pipe. Written are the medians of seconds from
-# start to end and of the processor's seconds (those of the source included), the peak memory of the greatest process in MiB, and
-# medians of the ratios to `meter` with as many threads in the same round: below 1 the pipeline is faster.
+# Without arguments: headers frames scan thousand, the four kinds of capture that make_traffic.c makes, of PACKETS
+# packets (2,000,000 unless set, of frames a sixth) by the seed 1. All run in turn on the same file, ROUNDS times (5
+# unless set): `meter` with 1, 2 and 4 workers, and the pipeline with 1 and 3, which with its reader are 2 and 4
+# threads; it has no fewer. The slow source is slow.py, which gives RATE megabytes a second (100 unless set) through a
+# pipe. Written are the medians of seconds from start to end and of the processor's seconds (those of the source
+# included), the peak memory of the greatest process in MiB, and medians of the ratios to `meter` with as many threads
+# in the same round: below 1 the pipeline is faster.
 #
 # ROMTYALIG and ROMTYALIG_PIPE are the programs' paths (bin/romtyalig and bin/romtyalig-pipe unless set). Debian packages: gcc,
 # python3, time.

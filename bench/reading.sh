@@ -4,11 +4,11 @@
 #
 #     bench/reading.sh [MEGABYTES]..
 #
-# Without words: 100 1000. For each size it makes two captures, one of ARP requests alone, so that only windows, index, pieces
-# and the first look at each record are left, and one of the packets of 1,000 keys. `bench_checks windows` and `windows.c` meter them
-# in turn, ROUNDS times (5 unless set), with one worker and with four, in windows of 4 MiB and through 4,096 sets. Both must find
-# the same packets. Written is a table: seconds from start to end and of the processor, peak memory in MiB, and the medians of
-# the ratios within a round.
+# Without arguments: 100 1000. For each size it makes two captures, one of ARP requests alone, so that only windows,
+# index, pieces and the first look at each record are left, and one of the packets of 1,000 keys. `bench_checks windows`
+# and `windows.c` meter them in turn, ROUNDS times (5 unless set), with one worker and with four, in windows of 4 MiB
+# and through 4,096 sets. Both must find the same packets. Written is a table: seconds from start to end and of the
+# processor, peak memory in MiB, and the medians of the ratios within a round.
 #
 # BENCH_CHECKS is the path of the program of crates/bench_checks (bin/bench_checks unless set). Debian packages: gcc, python3, time.
 set -eu

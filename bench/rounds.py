@@ -9,7 +9,7 @@ medians over the rounds of both times by those of BASE, the first command unless
 that a command writes to standard error is a number, the median of these numbers and that of the ratios follow. The fields
 are set off by tabs.
 
-So what else the machine does at the time meets all commands alike. A command that fails ends all.
+So whatever else the machine does at the time affects all commands alike. A command that fails ends the run.
 """
 
 import os

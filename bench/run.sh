@@ -3,10 +3,10 @@
 #
 #     bench/run.sh [PACKETS KEYS]..
 #
-# Without words: 1000000 1, 1000000 1000000 and 10000000 100000. Each program runs ROUNDS times (3 unless set), in turn with
-# the other, on the same file; the least time counts, user and system together, and the greatest peak memory. Written are
-# rows of two tables, seconds and mebibytes, with ratios: the program's figure by the other's. `show` reads the streams of
-# captures of at least 10,000 keys.
+# Without arguments: 1000000 1, 1000000 1000000 and 10000000 100000. Each program runs ROUNDS times (3 unless set), in
+# turn with the other, on the same file; the least time counts, user and system together, and the greatest peak memory.
+# Written are rows of two tables, seconds and mebibytes, with ratios: the program's figure by the other's. `show` reads
+# the streams of captures of at least 10,000 keys.
 #
 # ROMTYALIG is the program's path (bin/romtyalig unless set). Debian packages: gcc, time; for `show` libfixbuf-dev, pkg-config.
 # It needs 700 MB of disk in TMPDIR and 3 GB of memory for ten million packets.

@@ -1,9 +1,9 @@
 /*
- * A shared cache of open flows in C without turns, on the same words as the crates `pebr_words` and `pebr_roots`: the epoch,
- * each thread's status and each thread's shields on cache lines of their own, then the roots, four a set, and behind them the
- * slots, ten words each. A thread pins, loads and shields the four roots, checks its status, reads the forty words, writes ten
- * of a fresh slot, exchanges one root, takes its shields down and leaves. From 32 retired slots on it collects; without a
- * fresh one it ejects whom it finds in.
+ * A shared cache of open flows in C without turns, on the same words as the crates `pebr_words` and `pebr_roots`: the
+ * epoch, each thread's status and each thread's shields on cache lines of their own, then the roots, four a set, and
+ * behind them the slots, ten words each. A thread pins, loads and shields the four roots, checks its status, reads the
+ * forty words, writes ten of a fresh slot, exchanges one root, takes its shields down and leaves. From 32 retired slots
+ * on it collects; where it has no fresh slot, it ejects each thread that it finds in.
  */
 #ifndef SLOTS_H
 #define SLOTS_H

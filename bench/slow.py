@@ -3,7 +3,7 @@
 
     python3 bench/slow.py MEGABYTES
 
-So many megabytes a second, in pieces of 64 KiB: as a network or a decompressor gives them.
+It copies MEGABYTES megabytes a second, in pieces of 64 KiB, as a network or a decompressor gives them.
 """
 
 import sys

@@ -1,7 +1,7 @@
 /*
- * Reads a capture from standard input in windows, as `bench_checks windows` does, and meters it by so many threads, which draw
- * pieces of 256 records of a window from one counter. A window is read by reads as large as it has room, its records are
- * found, and what is left behind the last of them moves to the front.
+ * Reads a capture from standard input in windows, as `bench_checks windows` does, and meters it by WORKERS threads,
+ * which draw pieces of 256 records of a window from one counter. A window is read by reads as large as it has room, its
+ * records are found, and what is left after the last of them moves to the front.
  *
  *     windows WORKERS WINDOW SETS < CAPTURE
  *

@@ -1,5 +1,5 @@
 #!/usr/bin/env python3
-"""Turns what ipfixDump of libfixbuf decodes of an IPFIX file stream into lines as those of `romtyalig show`.
+"""Turns what ipfixDump of libfixbuf decodes of an IPFIX file stream into lines like those of `romtyalig show`.
 
     ipfixDump --in STREAM | python3 checks/dumped_records.py
 

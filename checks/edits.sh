@@ -3,12 +3,13 @@
 #
 #     checks/edits.sh [--further] [CRATE]..
 #
-# Without crates: the edits of all of them, several at a time, by the gate itself in a copy that has the crates with edits and what
-# these stand on; the programs and the trials have none. With crates: theirs alone, one crate after another, with a line for each.
-# With --further those of more-edits/ alone, since the gate tries the others. What is committed is cloned into a temporary folder,
-# where the edits of crates/NAME/more-edits/ are laid beside those of crates/NAME/must-fail/; so nothing changes here. An edit that
-# the checker doesn't refuse, or that can't be tried, is told. The last line counts; the status is not 0 where an edit isn't refused.
-# It proves the crates from nothing and takes an hour or more; this is no part of the gate.
+# Without crates: the edits of all of them, several at a time, by the gate itself in a copy that has the crates with edits
+# and what these stand on; the programs and the trials have none. With crates: theirs alone, one crate after another, with
+# a line for each. With --further those of more-edits/ alone, since the gate tries the others. What is committed is cloned
+# into a temporary folder, where the edits of crates/NAME/more-edits/ are laid beside those of crates/NAME/must-fail/; so
+# nothing changes here. An edit that the checker doesn't refuse, or that can't be tried, is named. The last line counts;
+# the status is not 0 where an edit isn't refused. It proves the crates from nothing and takes an hour or more; this is no
+# part of the gate.
 set -u
 
 top=$(dirname "$(cd "$(dirname "$0")" && pwd)")

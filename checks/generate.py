@@ -7,8 +7,8 @@ empty.pcap       no packet at all
 expiry.pcap      UDP and TCP over IPv4 with gaps, for records that end by the idle and by the active time-out
 transports.pcap  over IPv4: each of the twelve TCP control bits, ICMP, fragments, options, tags, and values at the ends
 extensions.pcap  over IPv6: TCP, UDP, ICMPv6, extension headers in every order, fragments, addresses at the ends
-cooked.pcap      Linux cooked packets with nanoseconds, greatest byte first
-late.pcap        raw IP at the last seconds that a capture can say
+cooked.pcap      Linux cooked packets with nanoseconds, big-endian
+late.pcap        raw IP at the last seconds that a capture can express
 counts.pcap      one key of more octets than 32 bits hold
 keys.pcap        600 keys of both versions, taking turns, in no order of time
 both_ways.pcap   40 conversations of both versions, each packet in one of the two directions, with pauses

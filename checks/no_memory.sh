@@ -1,11 +1,11 @@
 #!/bin/sh
-# Want of memory comes from an allocation alone.
+# Every `NoMemory` comes from an allocation that failed.
 #
 #     checks/no_memory.sh
 #
-# Looks at each place of the sources outside tests that makes a `NoMemory`, of whatever enum, and tells those where it isn't made of
-# want of memory: `no_memory.py` says what counts as such. First it must find what is wrong with some planted lines, and nothing
-# wrong with some right ones.
+# Looks at each place in the sources, outside tests, that makes a `NoMemory` of any enum, and names those places that
+# don't make it from a failed allocation; `no_memory.py` says what counts as one. First it must find what is wrong with
+# some planted lines, and nothing wrong with some right ones.
 set -eu
 
 here=$(cd "$(dirname "$0")" && pwd)

@@ -1,5 +1,5 @@
 #!/bin/bash
-# Each allocation of a run is refused in turn.
+# Runs each program with each of its allocations refused in turn.
 #
 #     checks/refused_memory.sh
 #

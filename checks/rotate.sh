@@ -3,10 +3,10 @@
 #
 #     checks/rotate.sh
 #
-# One line for each row. The commands for tcpdump are taken out of docs/OPERATORS.md, with another interface, time, folder and
-# path of the script, and a filter. Where tcpdump or its user is missing or nobody runs this as root, that is skipped with
-# one line, and so is what needs systemd-analyze. The status is not 0 where any differs. ROMTYALIG is the program's path
-# (bin/romtyalig unless set).
+# One line for each row. The commands for tcpdump are taken out of docs/OPERATORS.md, with another interface, time,
+# folder and path of the script, and a filter. Where tcpdump or its user is missing, or this isn't run as root, that is
+# skipped with one line, and so is what needs systemd-analyze. The status is not 0 where any differs. ROMTYALIG is the
+# program's path (bin/romtyalig unless set).
 set -u
 
 top=$(dirname "$(cd "$(dirname "$0")" && pwd)")

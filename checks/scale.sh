@@ -5,8 +5,8 @@
 #
 # Each block there that is marked `run: NAME, with PROGRAM` is taken as it stands and run in a folder with the files
 # that it names, but that for Slurm, which checks/slurm.sh runs. One line for each; a block whose program is missing
-# is skipped with one line. Of examples/many.sh it is tried besides that it makes just what isn't there, says which
-# capture is refused, and joins by parts. The status is not 0 where any differs.
+# is skipped with one line. Besides, examples/many.sh must make just what isn't there, say which capture is
+# refused, and join by parts. The status is not 0 where any differs.
 #
 # ROMTYALIG and ROMTYALIG_JOIN are the programs' paths (bin/romtyalig and bin/romtyalig-join unless set). PACKETS is
 # how many packets the capture has (60000 unless set).

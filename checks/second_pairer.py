@@ -4,12 +4,12 @@
     python3 checks/second_pairer.py [STREAMS [SEED]]
     romtyalig show < STREAM | python3 checks/second_pairer.py lines [SECONDS]
 
-Each of the streams (300 unless given) has some tens of flow records of few keys, most of them with their reverse, in no order.
-`romtyalig-pair` of the program, at ROMTYALIG_PAIR or bin/romtyalig-pair, must write the very bytes that this one writes. As many
-streams more have their records under templates of any number and domain, some of them with a record that is no flow record: a
-field that is left out, added, moved, of an enterprise or of another length, no packet, a first time behind the last; and some
-have a fault. There it must have the status that this program finds, and write nothing unless that is 0. The first difference ends the
-run with status 1 and leaves the stream in the current folder.
+Each of the streams (300 unless given) has some tens of flow records of few keys, most of them with their reverse, in no
+order. `romtyalig-pair` of the program, at ROMTYALIG_PAIR or bin/romtyalig-pair, must write the very bytes that this one
+writes. As many further streams have their records under templates of any number and domain, some of them with a record
+that is no flow record: a field that is left out, added, moved, of an enterprise or of another length, no packet, a
+first time behind the last; and some have a fault. There it must have the status that this program finds, and write
+nothing unless that is 0. The first difference ends the run with status 1 and leaves the stream in the current folder.
 
 The second form reads the lines of flow records, pairs them with an idle time-out in seconds, and writes a line for each biflow:
 the template's number, then NUMBER=VALUE for each field, with 29305. in front of the number of a reverse element.

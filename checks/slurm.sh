@@ -3,12 +3,12 @@
 #
 #     checks/slurm.sh
 #
-# It starts munged, slurmctld and four slurmd with files of their own in a temporary folder, and ends them by their
-# pid files, also when a row fails. Eight captures are what `make` writes, cut by packets, and eight what
-# bench/make_traffic.c writes. The first task that comes to its capture writes a beginning of the stream and is killed
-# then: the others' streams must be there, that one not, and no join. Submitted again, one task meters. What is joined
-# must be the very bytes of metering all packets as one capture, and four parts together just its records. One line
-# for each row; the status is not 0 where any differs. Without root or one of the programs it is skipped with one
+# It starts munged, slurmctld and four slurmd with files of their own in a temporary folder, and ends them by their pid
+# files, also when a row fails. Eight captures are what `make` writes, cut by packets, and eight what
+# bench/make_traffic.c writes. The first task that comes to its capture writes a beginning of the stream and is then
+# killed: the streams of the others must be there, but not its own, and no join. Submitted again, one task meters. What
+# is joined must be the very bytes of metering all packets as one capture, and four parts together just its records. One
+# line for each row; the status is not 0 where any differs. Without root or one of the programs it is skipped with one
 # line.
 #
 # ROMTYALIG and ROMTYALIG_JOIN are the programs' paths (bin/romtyalig and bin/romtyalig-join unless set). PACKETS is

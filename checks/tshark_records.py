@@ -3,9 +3,10 @@
 
     tshark -n -r STREAM -T pdml | python3 checks/tshark_records.py [SIZE]
 
-One line per data record: the template number, then per field in tshark's order NUMBER=VALUE, where 29305. stands in front of
-the number of a reverse element (RFC 5103). The values are those that tshark shows; no byte of the stream is decoded here. Any remark of tshark's, such as that of an unexpected sequence number
-or of a malformed message, and any message of more than SIZE octets, ends the program with status 1.
+One line per data record: the template number, then per field in tshark's order NUMBER=VALUE, where 29305. stands in
+front of the number of a reverse element (RFC 5103). The values are those that tshark shows; no byte of the stream is
+decoded here. Any remark of tshark's, such as that of an unexpected sequence number or of a malformed message, and any
+message of more than SIZE octets, ends the program with status 1.
 """
 
 import ipaddress

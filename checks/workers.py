@@ -7,7 +7,7 @@ Each capture of examples/ and of generate.py, and some of `make` by the seed (1 
 workers, with the sets and pieces of the program and with one set and pieces of one record. Each stream must be one that so many
 workers may write, by second_meter.py: where the capture has one lawful list of records, all streams are the same. Then the web
 exchange of examples/ is metered so many times (1,000 unless given) by eight workers with one set and pieces of one record. The
-first stream that may not be ends the run with status 1. ROMTYALIG is the program's path (bin/romtyalig unless set).
+first stream that isn't allowed ends the run with status 1. ROMTYALIG is the program's path (bin/romtyalig unless set).
 """
 
 import os

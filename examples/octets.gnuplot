@@ -3,7 +3,7 @@
 #     gnuplot -e "flows='flows.csv'; picture='octets.svg'" examples/octets.gnuplot
 #
 # The file of flows has the columns of docs/OPERATORS.md: the last time of a record is the tenth, its octets are the eighth.
-# `step=60` in the words makes the steps a minute each.
+# `step=60` behind -e makes each step a minute.
 if (!exists("step")) step = 5
 set terminal svg size 900,360 background "white"
 set output picture

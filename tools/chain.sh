@@ -4,8 +4,8 @@
 #
 #     tools/chain.sh [CRATE]
 #
-# Without a word: the longest of all, one crate a line, with how many stand below it in the chain. With one: the longest chain that ends
-# at this crate.
+# Without an argument: the longest chain of all, one crate a line, with how many stand below it in the chain. With one:
+# the longest chain that ends at this crate.
 set -u
 
 cd "$(dirname "$0")/.." || exit 2

@@ -3,9 +3,9 @@
 #
 #     tools/demo.sh
 #
-# The capture is examples/web-exchange.pcap. What `meter` writes of it must be examples/web-exchange.ipfix, and what `show` writes of
-# that are the records. Where bin/romtyalig lies, which is proved, that runs. Else the program is built once as it is before any proof,
-# which takes a minute or two, and runs twice; nothing is left of that build.
+# The capture is examples/web-exchange.pcap. What `meter` writes of it must be examples/web-exchange.ipfix, and what
+# `show` writes of that are the records. Where bin/romtyalig is there, which is proved, that runs. Else the program is
+# built once, without proving it, which takes a minute or two, and runs twice; nothing is left of that build.
 set -u
 
 top=$(dirname "$(cd "$(dirname "$0")" && pwd)")

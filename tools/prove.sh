@@ -3,8 +3,9 @@
 #
 #     tools/prove.sh CRATE..
 #
-# A crate is taken once those are proved that it stands on, by crates.txt; as many at a time as there are processors, and as there is
-# memory for, 3 GiB each. One that nothing has changed of since it was proved gives no line. The status is not 0 where one isn't proved.
+# A crate is taken once those are proved that it stands on, by crates.txt; as many at a time as there are processors,
+# and as there is memory for, 3 GiB each. A crate that hasn't changed since it was proved gives no line. The status is
+# not 0 where a crate isn't proved.
 set -u
 
 top=$(dirname "$(cd "$(dirname "$0")" && pwd)")

@@ -4,8 +4,8 @@
 #     task.sh MANY meter STREAMS LIST FIRST
 #     task.sh MANY join CAPTURES STREAMS WHOLE
 #
-# MANY is the path of many.sh, since Slurm runs a copy of this file. The first meters the capture on the line of the
-# LIST whose number is FIRST and the task's, the second joins, with PARTS above 1 the part with the task's number.
+# MANY is the path of many.sh, since Slurm runs a copy of this file. The first form meters one capture: the line of LIST
+# with the number FIRST plus the task's. The second joins; with PARTS above 1, only the part with the task's number.
 set -u
 many=$1 work=$2
 shift 2

@@ -1,4 +1,4 @@
--- One data record more of a file.
+-- One more data record of a file.
 use Rattle.std.proofs.Common.{◌≡◌, ◌+◌, ◌-◌, ◌≤◌, ◌^◌, min, ℕ, Bool, true, false, List, [], ◌∷◌, ◌++◌, length, Option}
 use Rattle.std.proofs.Common.{Some}
 use Rattle.std.proofs.Common.{None, Ok, sym, subst, arith, append_assoc, append-nil, length-append, refl, ◌∙◌}
@@ -38,7 +38,7 @@ module _ (begun : List FlowRecord → Type 0) (share : Option OneOf) where
   }
 
   module _ (records : List DataRecord) (one : DataRecord) where
-    -- behind a record that is no flow record
+    -- after a record that isn't a flow record
     pub filed-behind : (taken : Taken) (count : ℕ) (other many : Bool) → other ≡ true
         → IsFiled begun share taken count other many records
         → IsFiled begun share taken count other many (records ++ one ∷ [])

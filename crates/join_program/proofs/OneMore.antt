@@ -1,4 +1,4 @@
--- What is taken with one more record.
+-- What is taken, with one more record.
 use Rattle.std.proofs.Common.{◌≡◌, ℕ, ◌+◌, ◌<◌, ◌^◌, max, true, false, List, [], ◌∷◌, ◌++◌, Option, Some, sym}
 use Rattle.std.proofs.Common.{ap, ◌∙◌, subst, arith, sum_by, unwrap_or, ◌≤◌}
 use Rattle.record_ledger.specs.declared.record.FlowRecord.{FlowRecord}

@@ -1,5 +1,5 @@
--- Fragments that regroup others, which regroup others again. It speaks of no input, so it belongs beside `IsGrouped` of
--- `record_ledger`.
+-- Fragments that regroup others, which regroup others again. Nothing here is about inputs, so it would fit beside
+-- `IsGrouped` in `record_ledger` as well.
 use Rattle.std.proofs.Common.{◌≡◌, ◌≤◌, ℕ, Bool, List, [], ◌∷◌, ◌++◌, length, sum_by, filter, map, refl, sym, ap, ◌∙◌}
 use Rattle.std.proofs.Common.{subst, arith, inl, inr, All, Any, IsPermutation}
 use Rattle.std.specs.List.{AllZip}

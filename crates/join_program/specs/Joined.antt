@@ -1,4 +1,4 @@
--- What the flow records of several streams become as one stream.
+-- The flow records of one stream that those of several streams become.
 use Rattle.std.specs.Prelude.{◌≡◌, ℕ, ◌+◌, ◌*◌, ◌/◌, ◌%◌, ◌^◌, ◌<◌, ◌==◌, Bool, true, List, [], Option, Some, None}
 use Rattle.std.specs.Prelude.{MatchOption, filter, flat_map, sum_by, All}
 use Rattle.std.specs.List.{AllZip}
@@ -20,11 +20,11 @@ use Rattle.ipfix_writer.specs.Layout.{IsLayout}
 use Rattle.ipfix_reader.specs.Flows.{flows_of}
 use Rattle.join_program.specs.Words.{Asked, OneOf}
 
--- The lists put together.
+-- The lists as one list, each behind the one before.
 abbrev pub together : {A : Type 0} → List (List A) → List A
 together lists = flat_map (λ list. list) lists
 
--- The key falls to the share: each to just one of them. Without shares all do.
+-- The key falls to the share: each key falls to exactly one share of `count`. Without a share every key does.
 abbrev pub falls_to : Option OneOf → FlowKey → Bool
 falls_to None key = true
 falls_to (Some share) key = set_number key share.count + 1 == share.number
@@ -37,16 +37,17 @@ kept share flows = filter (λ (f : Fragment). falls_to share f.key) (parts_of fl
 abbrev pub falling : Option OneOf → List Packet → List Packet
 falling share packets = filter (λ (p : Packet). falls_to share p.key) packets
 
--- These have fewer than 2^64 packets and octets, as many as one record can count.
+-- The fragments that are kept have fewer than 2^64 packets, and fewer than 2^64 octets, so that one record can count
+-- them.
 pub record AreFew (share : Option OneOf) (flows : List FlowRecord) : Type 0 where
   pub packets : sum_by (λ (f : Fragment). f.packets) (kept share flows) < 2 ^ 64
   pub octets : sum_by (λ (f : Fragment). f.octets) (kept share flows) < 2 ^ 64
 
--- The latest time of records, and none where there are none.
+-- The latest time of some records, in milliseconds; none where there are no records.
 abbrev pub IsLatest : List FlowRecord → Option ℕ → Type 0
 IsLatest flows clock = MatchOption clock (flows ≡ []) (IsGreatest (λ (r : FlowRecord). r.part.last) flows)
 
--- The export time: the latest time in whole seconds, in 32 bits, and 0 without one.
+-- The export time: the latest time in whole seconds, modulo 2^32; 0 where there are no records.
 abbrev pub export_time : Option ℕ → ℕ
 export_time None = 0
 export_time (Some clock) = clock / 1000 % 2 ^ 32
@@ -55,10 +56,10 @@ export_time (Some clock) = clock / 1000 % 2 ^ 32
 abbrev pub EachSharesOut : Timeouts → List (List Packet) → List (List FlowRecord) → Type 0
 EachSharesOut limits packets inputs = AllZip (λ own flows. SharesOut limits own (parts_of flows)) packets inputs
 
--- The records are those of the inputs, joined. Whatever packets the records of the inputs share out, each input its
--- own: the clock is that of all these packets; and the records are lawful, by this clock, for those of them whose keys
--- fall to the share. Without shares they are lawful for all, and where nothing cuts the sessions of all, they are the
--- records of these.
+-- The records are those of the inputs, joined: they regroup the fragments that are kept. And let the records of each
+-- input share out packets of its own. Then the clock is that of all these packets, and the records are lawful, by this
+-- clock, for those of the packets whose keys fall to the share. Without a share they are lawful for all the packets,
+-- and where nothing cuts the sessions of the packets, they are the records of these sessions.
 pub record AreJoined (asked : Asked) (inputs : List (List FlowRecord)) (clock : Option ℕ)
     (records : List FlowRecord) : Type 0 where
   pub limits : Timeouts
@@ -76,8 +77,9 @@ pub record AreJoined (asked : Asked) (inputs : List (List FlowRecord)) (clock : 
       → (sessions : List (List Packet)) → IsSessions limits.idle (together packets) sessions
       → All (IsUncut limits) sessions → AreRecordsOf limits (together packets) sessions records
 
--- The records are just what is gathered of the fragments that fall to the share, by the latest time of all. So those of
--- a share are the records of its keys, of those that are gathered of the same inputs without shares.
+-- The records are exactly what is gathered from the fragments that fall to the share, by the latest time of all
+-- records. So among the records that are gathered from the same inputs without a share, they are those whose keys fall
+-- to it.
 pub record AreGathered (asked : Asked) (inputs : List (List FlowRecord)) (clock : Option ℕ)
     (records : List FlowRecord) : Type 0 where
   pub limits : Timeouts
@@ -88,7 +90,7 @@ pub record AreGathered (asked : Asked) (inputs : List (List FlowRecord)) (clock 
   pub of_whole : (whole : List FlowRecord) → IsGathered limits (unwrap_or clock 0) (parts_of (together inputs)) whole
       → records ≡ filter (λ (r : FlowRecord). falls_to asked.share r.part.key) whole
 
--- What is written is the stream of the records that the inputs become. It reads back as these.
+-- What is written is the stream of the records that the inputs become. It reads back as these records.
 pub record IsAnswer (asked : Asked) (inputs : List (List FlowRecord)) (written : List ℕ) : Type 0 where
   pub clock : Option ℕ
   pub records : List FlowRecord
@@ -96,7 +98,7 @@ pub record IsAnswer (asked : Asked) (inputs : List (List FlowRecord)) (written :
   pub layout : IsLayout asked.size (export_time clock) records written
   pub decoded : flows_of written ≡ Some records
 
--- What is written is the stream of the records that are gathered of the inputs.
+-- What is written is the stream of the records that are gathered from the inputs.
 pub record IsExact (asked : Asked) (inputs : List (List FlowRecord)) (written : List ℕ) : Type 0 where
   pub clock : Option ℕ
   pub records : List FlowRecord

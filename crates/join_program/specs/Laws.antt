@@ -11,7 +11,7 @@ use Rattle.record_ledger.specs.Sessions.{IsSessions, IsUncut}
 use Rattle.join_program.specs.Words.{Asked}
 use Rattle.join_program.specs.Joined.{together, EachSharesOut, AreJoined, IsAnswer}
 
--- The other one asks for all records, by the same time-outs.
+-- The other command asks for all records, with the same time-outs.
 pub record AsksForAll (asked other : Asked) : Type 0 where
   pub idle : other.idle ≡ asked.idle
   pub active : other.active ≡ asked.active
@@ -19,7 +19,7 @@ pub record AsksForAll (asked other : Asked) : Type 0 where
 
 -- ---- all shares of one join
 
--- The same, of the share with this number of so many.
+-- The same command for the share `number` of `count` shares.
 abbrev pub of_share : Asked → ℕ → ℕ → Asked
 of_share asked count number = record {
   idle = asked.idle;
@@ -29,15 +29,15 @@ of_share asked count number = record {
   files = asked.files;
 }
 
--- Each of the lists is what the inputs become of one share of so many; the first one's number is given, and they are
--- counted up.
+-- Each of the lists is what the inputs become for one share of `count`: the first list for the share `number`, and each
+-- further list for the next share.
 abbrev pub AreSharesFrom : Asked → List (List FlowRecord) → ℕ → ℕ → List (List FlowRecord) → Type 0
 AreSharesFrom asked inputs count number [] = ⊤
 AreSharesFrom asked inputs count number (share ∷ shares) =
     ((clock : Option ℕ) × AreJoined (of_share asked count number) inputs clock share)
     × AreSharesFrom asked inputs count (suc number) shares
 
--- The lists are what the inputs become of all shares, each of one of them, from the first to the last.
+-- The lists are what the inputs become for all the shares, a list for each share, from the first to the last.
 abbrev pub AreShares : Asked → List (List FlowRecord) → List (List FlowRecord) → Type 0
 AreShares asked inputs shares = (shares ≢ []) × AreSharesFrom asked inputs (length shares) 1 shares
 
@@ -48,7 +48,7 @@ SharesAreWhole = (asked : Asked) (inputs shares : List (List FlowRecord)) (whole
     → IsPermutation (together shares) whole → IsSorted written_order whole
     → (clock : Option ℕ) × AreJoined asked inputs clock whole
 
--- And what the shares become when they are joined, the inputs become.
+-- Whatever the shares become when they are joined is what the inputs become.
 abbrev pub SharesAreJoined : Type 0
 SharesAreJoined = (asked : Asked) (inputs shares : List (List FlowRecord)) (clock : Option ℕ)
     (records : List FlowRecord) → AreShares asked inputs shares → AreJoined asked shares clock records
@@ -56,9 +56,9 @@ SharesAreJoined = (asked : Asked) (inputs shares : List (List FlowRecord)) (cloc
 
 -- ---- joins of joins
 
--- The streams of the second list come of those of the first by joins, in whatever grouping and order: by permuting
--- streams, by joining some of them to one, and by joining some of them to all shares of one join; by the time-outs
--- asked for.
+-- The streams of the second list come from those of the first by joins, in whatever grouping and order: by permuting
+-- streams, by joining some of them to one, and by joining some of them to all the shares of one join, always with the
+-- time-outs asked for.
 pub data ComeOf (asked : Asked) : List (List FlowRecord) → List (List FlowRecord) → Type 0 where
   moved : (inputs others : List (List FlowRecord)) → IsPermutation inputs others → ComeOf asked inputs others
   joined : (other : Asked) (inputs rest : List (List FlowRecord)) (clock : Option ℕ) (records : List FlowRecord)
@@ -68,31 +68,33 @@ pub data ComeOf (asked : Asked) : List (List FlowRecord) → List (List FlowReco
   onward : (inputs others streams : List (List FlowRecord)) → ComeOf asked inputs others → ComeOf asked others streams
       → ComeOf asked inputs streams
 
--- In another order inputs become the same.
+-- Inputs in another order become the same.
 abbrev pub OrderIsFree : Type 0
 OrderIsFree = (asked : Asked) (inputs others : List (List FlowRecord)) (clock : Option ℕ) (records : List FlowRecord)
     → IsPermutation inputs others → AreJoined asked inputs clock records → AreJoined asked others clock records
 
--- A join of a join is a join: where the first ones became one stream, what this becomes with the rest, all become.
+-- A join of a join is a join: where the first inputs became one stream, whatever this stream and the rest become is
+-- what all the inputs become.
 abbrev pub JoinsAreJoined : Type 0
 JoinsAreJoined = (asked other : Asked) (first rest : List (List FlowRecord)) (now clock : Option ℕ)
     (stream records : List FlowRecord) → AsksForAll asked other → AreJoined other first now stream
     → AreJoined asked (stream ∷ rest) clock records → AreJoined asked (first ++ rest) clock records
 
--- And so it is of any joins of joins: what streams become that come of inputs by joins, the inputs become.
+-- The same for any joins of joins: where streams come from inputs by joins, whatever the streams become is what the
+-- inputs become.
 abbrev pub AnyAreJoined : Type 0
 AnyAreJoined = (asked : Asked) (inputs streams : List (List FlowRecord)) (clock : Option ℕ) (records : List FlowRecord)
     → ComeOf asked inputs streams → AreJoined asked streams clock records → AreJoined asked inputs clock records
 
--- What is written for such streams is an answer to joining the inputs.
+-- Where streams come from inputs by joins, what is written for the streams is an answer to joining the inputs.
 abbrev pub AnyAreAnswered : Type 0
 AnyAreAnswered = (asked : Asked) (inputs streams : List (List FlowRecord)) (written : List ℕ)
     → ComeOf asked inputs streams → IsAnswer asked streams written → IsAnswer asked inputs written
 
 -- ---- one text
 
--- Where nothing cuts the sessions of the packets, there is one answer, in whatever way these were cut into captures,
--- and their records shared among streams.
+-- Where nothing cuts the sessions of the packets, there is one answer by the same time-outs and size of messages, in
+-- whatever way the packets were cut into captures and their records shared among streams.
 abbrev pub AnswerIsOne : Type 0
 AnswerIsOne = (asked other : Asked) (limits : Timeouts) (inputs others : List (List FlowRecord))
     (packets dealt sessions : List (List Packet)) (one text : List ℕ)

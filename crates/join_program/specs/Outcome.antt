@@ -1,4 +1,4 @@
--- What a run means, by what its words ask for and by its status.
+-- What the status of a run means, for each command line.
 use Rattle.std.specs.Prelude.{◌≡◌, ◌⊎◌, ◌≤◌, ◌<◌, ◌^◌, ℕ, List, [], ◌++◌, length, take, Option, Some, None, Err, ⊤}
 use Rattle.std.specs.Prelude.{slice_index_or}
 use Rattle.std.specs.List.{AllZip}
@@ -18,17 +18,18 @@ use Rattle.join_program.specs.Joined.{IsAnswer, IsExact, AreFew, together}
 use Rattle.join_program.specs.Statuses.{fault_line}
 use Rattle.join_program.specs.Words.{Asked, OneOf}
 
--- The most bytes of a file.
+-- The most bytes that a file may have.
 abbrev pub limit : ℕ
 limit = 2 ^ 32
 
--- What is seen of the files: the bytes of each by its name, where they are told, and how often a call failed.
+-- What is seen of the files: the bytes of each by its name, where they are known, and the count of faults before and
+-- after the run.
 pub record Files : Type 0 where
   pub contents : List ℕ → Option (List ℕ)
   pub faults_before : ℕ
   pub faults_after : ℕ
 
--- The files by the meanings of who opens them, at the call and at the return.
+-- What is seen of the files of an opener, by its state at the call and at the return.
 abbrev pub files_seen : {O : Type 0} → (O → List ℕ → Option (List ℕ)) → (O → ℕ) → O → O → Files
 files_seen contents faults old new =
     record { contents = contents old; faults_before = faults old; faults_after = faults new }
@@ -73,12 +74,12 @@ pub record IsCutOff (asked : Asked) (files : Files) (output : Side) : Type 0 whe
 
 -- ---- a file was refused
 
--- The bytes are a stream of flow records that are too many, with those before them.
+-- The bytes are a stream of flow records which, together with those before them, have too many packets or octets.
 abbrev pub HasTooMany : Option OneOf → List FlowRecord → List ℕ → Type 0
 HasTooMany share before bytes =
     (flows : List FlowRecord) × (flows_of bytes ≡ Some flows) × ¬ AreFew share (before ++ flows)
 
--- What is wrong with a file, behind files with these records.
+-- What is wrong with a file, after files with these records.
 abbrev pub IsWrongWith : Option OneOf → List FlowRecord → Side → FileFault → Type 0
 IsWrongWith share before file ReadFault = TakesAtMost limit file.before file.after
 IsWrongWith share before file TooLarge = IsTooLarge file limit
@@ -86,7 +87,7 @@ IsWrongWith share before file (NotStream fault) = IsWrong file limit (λ bytes. 
 IsWrongWith share before file (NotFlows place) = IsWrong file limit (HasOther place)
 IsWrongWith share before file TooMany = IsWrong file limit (HasTooMany share before)
 
--- Only a fault of reading comes where a call failed, and it comes only there.
+-- A read fault comes only where a call failed. Of the other faults nothing is said.
 abbrev pub HasCauseIn : Files → FileFault → Type 0
 HasCauseIn files ReadFault = AreBroken files
 HasCauseIn files TooLarge = ⊤
@@ -94,7 +95,7 @@ HasCauseIn files (NotStream fault) = ⊤
 HasCauseIn files (NotFlows place) = ⊤
 HasCauseIn files TooMany = ⊤
 
--- The file at this place is the first in which something is wrong, and it is this.
+-- The file at this place, counted from 0, is the first in which something is wrong, and it has this fault.
 pub record IsFirstWrong (asked : Asked) (files : Files) (place : ℕ) (fault : FileFault) : Type 0 where
   pub inside : place < length asked.files
   pub inputs : List (List FlowRecord)
@@ -105,7 +106,7 @@ pub record IsFirstWrong (asked : Asked) (files : Files) (place : ℕ) (fault : F
   pub wrong : IsWrongWith asked.share (together inputs) file fault
   pub cause : HasCauseIn files fault
 
--- Nothing was written, and standard error has the line of the file.
+-- Nothing was written, and standard error took the line that reports the file, or a write to it failed.
 pub record IsRefused (asked : Asked) (files : Files) (output stderr : Side) (place : ℕ)
     (fault : FileFault) : Type 0 where
   pub first : IsFirstWrong asked files place fault
@@ -114,7 +115,7 @@ pub record IsRefused (asked : Asked) (files : Files) (output stderr : Side) (pla
 
 -- ---- the run
 
--- How a command ends, by its status. But where a file is refused nothing is reported.
+-- How a command ends, by its status. Standard error is touched only where a file is refused.
 abbrev pub Ends : Asked → Files → Side → Side → JoinStatus → Type 0
 Ends asked files output stderr Done = IsDone asked files output × IsUntouched stderr
 Ends asked files output stderr WriteFault = IsCutOff asked files output × IsUntouched stderr
@@ -122,23 +123,24 @@ Ends asked files output stderr NoMemory = IsUntouched output × IsUntouched stde
 Ends asked files output stderr Usage = ⊥
 Ends asked files output stderr (Refused place fault) = IsRefused asked files output stderr place fault
 
--- The words ask for nothing, or memory was out before they were read: no file is opened and nothing is written.
+-- The words are no command, and the run says so or runs out of memory: no call on a file failed, and nothing is
+-- written.
 pub record IsUsage (files : Files) (output stderr : Side) (status : JoinStatus) : Type 0 where
   pub usage : (status ≡ Usage) ⊎ (status ≡ NoMemory)
   pub unopened : files.faults_after ≡ files.faults_before
   pub unwritten : IsUntouched output
   pub unreported : IsUntouched stderr
 
--- What a run means, by what its words ask for.
+-- What the status of a run means: the words are no command, or they ask for a join.
 abbrev pub RunMeans : Option Asked → Files → Side → Side → JoinStatus → Type 0
 RunMeans None files output stderr status = IsUsage files output stderr status
 RunMeans (Some asked) files output stderr status = Ends asked files output stderr status
 
--- The file of this name has these bytes, not too many.
+-- The file with this name has these bytes, no more than the limit.
 abbrev pub IsFile : (List ℕ → Option (List ℕ)) → List ℕ → List ℕ → Type 0
 IsFile contents name bytes = (contents name ≡ Some bytes) × (length bytes ≤ limit)
 
--- The files are streams of flow records that aren't too many.
+-- The files are streams of flow records, which don't have too many packets or octets.
 pub record AreValid (asked : Asked) (contents : List ℕ → Option (List ℕ)) : Type 0 where
   pub streams : List (List ℕ)
   pub told : AllZip (IsFile contents) asked.files streams
@@ -146,7 +148,7 @@ pub record AreValid (asked : Asked) (contents : List ℕ → Option (List ℕ)) 
   pub are : AllZip (λ bytes flows. flows_of bytes ≡ Some flows) streams inputs
   pub few : AreFew asked.share (together inputs)
 
--- For a command and such files, where no call failed, the run is done, or memory is out.
+-- A command for such files is done, or runs out of memory, where no call on the files or the output failed.
 abbrev pub IsComplete : Option Asked → Files → Side → JoinStatus → Type 0
 IsComplete words files output status =
     (asked : Asked) → words ≡ Some asked → AreValid asked files.contents → ¬ AreBroken files → ¬ HasFailed output

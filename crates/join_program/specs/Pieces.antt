@@ -21,7 +21,7 @@ use Rattle.join_program.specs.Words.{OneOf}
 
 -- ---- bytes
 
--- The window grew by bytes that the source gave, and as many fewer may still come, but one at least.
+-- The window grew by bytes that the source gave. The number `old` fell by as many to `new`, which is still above 0.
 pub record HasReadOn (old new : ℕ) (window grown : List ℕ) (before after : Option (List ℕ)) : Type 0 where
   pub got : List ℕ
   pub bytes : grown ≡ window ++ got
@@ -29,14 +29,14 @@ pub record HasReadOn (old new : ℕ) (window grown : List ℕ) (before after : O
   pub counted : new + length got ≡ old
   pub some : 0 < new
 
--- The source gave all that it had left, fewer bytes than so many.
+-- The source gave all that it had left, fewer than `most` bytes.
 pub record HasReadRest (most : ℕ) (before after : Option (List ℕ)) : Type 0 where
   pub rest : List ℕ
   pub taken : Consumes before after rest
   pub few : length rest < most
   pub ended : IsAtEnd after
 
--- Why reading stopped before the end: a read failed before so many bytes came, or so many came.
+-- Why reading stopped before the end: a read failed before `most` bytes came, or `most` bytes came.
 abbrev pub StopsReading : ℕ → Option (List ℕ) → Option (List ℕ) → FileFault → Type 0
 StopsReading most before after ReadFault = (got : List ℕ) × (length got < most) × Consumes before after got
 StopsReading most before after TooLarge = (got : List ℕ) × (length got ≡ most) × Consumes before after got
@@ -64,13 +64,13 @@ ReadFails file (Fault TooMany) = ⊥
 
 -- ---- records
 
--- What was taken when a file was opened was taken of these records.
+-- What was taken when a file was opened was taken from these records.
 abbrev pub HasBegun : Option Taken → Option OneOf → List FlowRecord → Type 0
 HasBegun start share before = MatchOption start ⊥ (IsTaken share before)
 
--- What is kept of a file's data records, behind the flow records before it, of which `begun` tells: the flow records up
--- to the first other one; of these their number, where 64 bits hold it; and what was taken of them, unless they were
--- too many.
+-- What is kept of a file's data records, after the flow records `before` it, for which `begun` holds. `flows` are its
+-- flow records up to the first other record. `count` is their number, or 2^64 - 1 where there are more. What was taken
+-- is taken from `before` and `flows`, unless they have too many packets or octets.
 pub record IsFiled (begun : List FlowRecord → Type 0) (share : Option OneOf) (taken : Taken) (count : ℕ)
     (has_other are_many : Bool) (records : List DataRecord) : Type 0 where
   pub flows : List FlowRecord
@@ -85,7 +85,7 @@ pub record IsFiled (begun : List FlowRecord → Type 0) (share : Option OneOf) (
 abbrev pub HasGivenAll : Side → List FlowRecord → Type 0
 HasGivenAll file flows = (bytes : List ℕ) × IsRead file limit bytes × (flows_of bytes ≡ Some flows)
 
--- Why the records of a file aren't taken behind these.
+-- Why the records of a file aren't taken after these records.
 abbrev pub TakingFails : Option OneOf → List FlowRecord → Side → FileError → Type 0
 TakingFails share before file NoMemory = ⊤
 TakingFails share before file (Fault fault) = IsWrongWith share before file fault

@@ -1,4 +1,4 @@
--- The exit status and the line of each way in which a run ends.
+-- The exit status for each way in which a run ends, and the line that reports a refused file.
 use Rattle.std.specs.Prelude.{ℕ, List, ◌++◌, codes, decimal}
 use Rattle.ipfix_reader.specs.FaultTexts.{stream_fault_text}
 use Rattle.join_program.specs.declared.status.FileFault.{FileFault}
@@ -28,6 +28,6 @@ fault_text (NotStream fault) = codes "not a stream: " ++ stream_fault_text fault
 fault_text (NotFlows place) = codes "not flow records: " ++ decimal place
 fault_text TooMany = codes "too many"
 
--- The line of a file.
+-- The line that reports a refused file.
 abbrev pub fault_line : List ℕ → FileFault → List ℕ
 fault_line name fault = name ++ (codes ": " ++ (fault_text fault ++ codes "\n"))

@@ -40,7 +40,7 @@ pub record IsTaken (share : Option OneOf) (flows : List FlowRecord) (taken : Tak
   pub clock : IsLatest flows taken.clock
   pub few : AreFew share flows
 
--- Why a file isn't taken behind these records.
+-- Why a file isn't taken after these records.
 abbrev pub FileFails : Option OneOf → List FlowRecord → Option (List ℕ) → FileError → Type 0
 FileFails share before bytes OutOfMemory = ⊤
 FileFails share before bytes (Fault fault) = (file : Side) × (file.before ≡ bytes)
@@ -72,7 +72,7 @@ JoinMeans asked files output NoMemory = IsUntouched output
 JoinMeans asked files output Usage = ⊥
 JoinMeans asked files output (Refused place fault) = IsFirstWrong asked files place fault × IsUntouched output
 
--- What noting a refusal means, by its status.
+-- What reporting a refused file means, by its status.
 abbrev pub RefusalMeans : List (List ℕ) → ℕ → FileFault → Side → JoinStatus → Type 0
 RefusalMeans names place fault stderr NoMemory = IsUntouched stderr
 RefusalMeans names place fault stderr (Refused place' fault') = (place' ≡ place) × (fault' ≡ fault)

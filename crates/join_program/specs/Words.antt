@@ -11,7 +11,8 @@ pub record OneOf : Type 0 where
   pub number : ℕ
   pub count : ℕ
 
--- To join files by time-outs in seconds into messages of a size in octets: all records, or those of one share.
+-- What is asked for: to join these files, with time-outs in seconds, into messages of at most `size` octets; all
+-- records, or those of one share.
 pub record Asked : Type 0 where
   pub idle : ℕ
   pub active : ℕ
@@ -21,18 +22,18 @@ pub record Asked : Type 0 where
 
 -- ---- options and files
 
--- A word of an option begins with two hyphens (45).
+-- An option begins with two hyphens (45).
 abbrev pub is_option : List ℕ → Bool
 is_option [] = false
 is_option (first ∷ []) = false
 is_option (first ∷ (second ∷ rest)) = (first == 45) && (second == 45)
 
--- It has its value in it, behind an equals sign (61).
+-- An option has its value in the same word, after an equals sign (61).
 abbrev pub has_value : List ℕ → Bool
 has_value word = list_any (λ x. x == 61) word
 
--- How many words are options and their values; the others are files. Where an option waits for its value, the next word
--- is that.
+-- How many words at the front are options and their values; the others are files. Where an option waits for its value,
+-- the next word is the value.
 abbrev pub option_words : Bool → List (List ℕ) → ℕ
 option_words waiting [] = 0
 option_words true (word ∷ words) = 1 + option_words false words
@@ -52,7 +53,7 @@ options =
     ∷ record { name = codes "active"; low = 1; high = 86400; default = Some 1800 }
     ∷ record { name = codes "size"; low = template_message_length; high = 65535; default = Some 1400 } ∷ []
 
--- Those with a share: both of its numbers must be given.
+-- The options with a share: both of its numbers must be given.
 abbrev pub share_options : List Rule
 share_options =
     record { name = codes "idle"; low = 1; high = 86400; default = Some 300 }
@@ -61,7 +62,7 @@ share_options =
     ∷ record { name = codes "part"; low = 1; high = 4096; default = None }
     ∷ record { name = codes "parts"; low = 1; high = 4096; default = None } ∷ []
 
--- What the values of the options ask for, of these files.
+-- What the values of the options ask for, with these files.
 abbrev pub asked_with : List (List ℕ) → List ℕ → Option Asked
 asked_with files [] = None
 asked_with files (idle ∷ []) = None
@@ -79,7 +80,7 @@ asked_with files (idle ∷ (active ∷ (size ∷ (number ∷ (count ∷ []))))) 
     } else None
 asked_with files (idle ∷ (active ∷ (size ∷ (number ∷ (count ∷ (more ∷ values)))))) = None
 
--- The values of the options, of those without a share or of those with one.
+-- The values of the options without a share, or else of those with one.
 abbrev pub values_by : Option (List ℕ) → Option (List ℕ) → Option (List ℕ)
 values_by None shared = shared
 values_by (Some values) shared = Some values
@@ -91,7 +92,7 @@ asked_of_files words files = if are_files files
     then option_and_then (asked_with files) (values_by (values_of options words) (values_of share_options words))
     else None
 
--- What the words behind the command's name ask for: options and their values, and behind them files.
+-- What the words after the command's name ask for: options and their values, and then files.
 abbrev pub asked_of_words : List (List ℕ) → Option Asked
 asked_of_words words =
     asked_of_files (take (option_words false words) words) (drop (option_words false words) words)

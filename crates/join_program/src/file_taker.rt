@@ -36,19 +36,20 @@ impl Begun for Brand {
     ghost share = { None };
 }
 
-/// What is kept of the records of a file, behind those of the files before it.
+/// What is kept of the records of a file, after those of the files before it.
 ///
-/// Nothing more is kept once a record was no flow record, or there were too many packets or octets. The file is read on
-/// all the same, since a fault of its stream comes first, and then a record that is no flow record.
+/// Nothing more is kept after a record that isn't a flow record, or after too many packets or octets. The file is read
+/// to its end all the same: a fault of its stream is reported before a record that isn't a flow record, and this before
+/// too many packets or octets.
 #[derive(Drop)]
 pub(crate) struct FileTaker<K: Begun> {
     pub taken: Taken,
     pub alloc: Global,
     pub share: Option<Share>,
-    /// How many records of the file are flow records, up to the first other one, or 2^64 - 1 where there are more: a
-    /// file that is read has fewer bytes, and no more records than bytes.
+    /// How many flow records the file has before its first other record. It stops at 2^64 - 1, which no file reaches:
+    /// a file has fewer bytes, and no more records than bytes.
     pub flows: u64,
-    /// There was a record that is no flow record.
+    /// There was a record that isn't a flow record.
     pub has_other: bool,
     /// There were too many packets or octets.
     pub are_many: bool,

@@ -21,10 +21,10 @@ use record_ledger::{FlowRecord, RecordList, gather};
 use std::alloc::Global;
 use std::thread::Threads;
 
-/// How many threads gather.
+/// The number of threads that gather the records.
 const THREADS: usize = 4;
 
-/// The records that what was taken becomes.
+/// The joined records: those that are gathered from what was taken.
 pub(crate) fn gather_taken<R: Threads + Sync>(
     rt: &R,
     alloc: Global,
@@ -44,7 +44,8 @@ pub(crate) fn gather_taken<R: Threads + Sync>(
     gather(rt, alloc, taken.parts, limits, taken.clock, THREADS)
 }
 
-/// The export time of records with this latest time: in whole seconds, in 32 bits, and 0 without one.
+/// The export time of records with this latest time in milliseconds: in whole seconds, modulo 2^32; 0 where there are
+/// no records.
 fn export_time(clock: Option<u64>) -> u32
     ensures { result ≡ export_time clock }
 {
@@ -54,7 +55,7 @@ fn export_time(clock: Option<u64>) -> u32
     }
 }
 
-/// Writes the stream of records, message by message. All memory is taken before the first of them.
+/// Writes the stream of records, message by message. All memory is allocated before the first message is written.
 pub(crate) fn write_records<K: Sink>(
     alloc: Global,
     size: u32,

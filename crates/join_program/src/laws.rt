@@ -6,9 +6,9 @@ ghost use Rattle.join_program.specs.Laws.{SharesAreWhole, SharesAreJoined, Answe
 use ipfix_writer::laws::layout_is_one;
 use record_ledger::laws::{lawful_lists_are_sessions, lawful_lists_go_together};
 
-/// A join of joins is a join. In whatever order the inputs come, and in whatever groups some of them were joined
-/// before, by the same time-outs, without a share or to all shares: what the streams become that came of this, all
-/// inputs become, and what is written for these streams is an answer to joining all inputs.
+/// A join of joins is a join. Take the inputs in any order, and let some groups of them be joined beforehand, with the
+/// same time-outs, each to one stream or to all the shares of one join. Then whatever the resulting streams become is
+/// what all the inputs become, and what is written for these streams is an answer to joining all the inputs.
 pub fn joins_are_joined()
     ensures order { OrderIsFree }
     ensures one { JoinsAreJoined }
@@ -16,8 +16,8 @@ pub fn joins_are_joined()
     ensures answers { AnyAreAnswered }
 {}
 
-/// The shares of one join are the whole of it: put together in the written order they are what the inputs become
-/// without a share, and what the shares become when they are joined, the inputs become.
+/// All the shares of one join are the whole of it: put together in the written order they are what the inputs become
+/// without a share, and whatever the shares become when they are joined is what the inputs become.
 pub fn shares_are_whole()
     ensures whole { SharesAreWhole }
     ensures joined { SharesAreJoined }
@@ -26,8 +26,8 @@ pub fn shares_are_whole()
     lawful_lists_are_sessions();
 }
 
-/// Where nothing cuts the sessions of all packets, what is written is one text for the packets, the time-outs and the
-/// size of messages: in whatever way the packets were cut into captures and the streams of these joined before.
+/// Where nothing cuts the sessions of the packets, the packets, the time-outs and the size of messages determine every
+/// byte that is written, in whatever way the packets were cut into captures and their records shared among streams.
 pub fn answer_is_one()
     ensures { AnswerIsOne }
 {

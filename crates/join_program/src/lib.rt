@@ -1,13 +1,15 @@
 //! Joining: the streams of many captures as one.
 //!
 //! [`run_join`] is the top call: it reads files of flow records, one after the other, as they come from an [`Opener`],
-//! takes the fragments of all their records, gathers them anew by the time-outs given, and writes the stream of what
-//! they become. A record of a lawful stream is a heap of its packets, so the fragments of all records share out the
-//! packets of all captures, and what is gathered of them is lawful for all these packets.
+//! takes the fragments of all their records, gathers them anew by the time-outs given, and writes the stream of the
+//! records that they become. A record of a lawful stream is a heap of its packets, so the fragments of all records
+//! share out the packets of all captures, and what is gathered from them is lawful for all these packets.
 //!
-//! Of a share, one of several, the records of the keys that fall to it are kept alone; the clock is that of all.
+//! Where one share of several is asked for, only the records whose keys fall to it are kept; the clock is still the
+//! latest time of all records.
 //!
-//! [`laws`] holds laws about what inputs become, as contracts: a join of joins is a join, and all shares are the whole.
+//! [`laws`] holds laws about what inputs become, as contracts: a join of joins is a join, and all shares together are
+//! the whole.
 #![tactic(auto)]
 
 mod file_error;

@@ -6,18 +6,19 @@ ghost use Rattle.meter_io.specs.Causes.{HasCause, Rose};
 
 use meter_io::{Failed, Source};
 
-/// Who opens files by their names, and closes them.
+/// Opens files by their names, and closes them.
 pub trait Opener {
     /// A file that is open.
     type File: Source + Drop;
 
-    /// The bytes of the file of a name, where they are told.
+    /// The bytes of the file with a name, where they are known.
     ghost contents: { Self → List ℕ → Option (List ℕ) };
 
-    /// How often a file couldn't be opened, or a read failed of one that was closed. It never falls.
+    /// A count of faults: it rises where a file couldn't be opened, and where a file is closed of which a read failed.
+    /// It never falls.
     ghost faults: { Self → ℕ };
 
-    /// Opens the file of this name. Its bytes are all left, and no read of it failed yet.
+    /// Opens the file with this name. All its bytes are still left, and no read of it has failed yet.
     ///
     /// `Failed` comes only where the count of faults rose in this call.
     fn open(&mut self, name: &str) -> Result<Self::File, Failed>
@@ -26,7 +27,7 @@ pub trait Opener {
         ensures fresh { IfOk result (λ file. Self.File.faults file ≡ 0) }
         ensures cause { HasCause (faults self.old) (faults self.new) result };
 
-    /// Closes the file. The count of faults rises just where a read of it failed.
+    /// Closes the file. The count of faults rises exactly where a read of the file failed.
     fn close(&mut self, file: Self::File)
         ensures same { contents self.new ≡ contents self.old }
         ensures later { faults self.old ≤ faults self.new }

@@ -22,7 +22,8 @@ use std::alloc::Global;
 /// The most bytes of a file.
 const FILE_LIMIT: u64 = 1 << 32;
 
-/// The bytes of the window: it has room for four messages of the greatest length, and so always for a whole one.
+/// The bytes of the window: it has room for four messages of the greatest length, 65,535 octets, and so always for a
+/// whole one.
 const WINDOW: usize = 262_184;
 
 /// The window that all files are read through, one after the other.
@@ -32,8 +33,8 @@ pub(crate) fn open_window(alloc: Global) -> Result<Window, NoMemory>
     Window::open(alloc, WINDOW)
 }
 
-/// Reads on, until the window is full or the source at its end, and tells whether it is at its end. `left` is how many
-/// bytes may still come and one more, and falls by those that came.
+/// Reads on until the window is full or the source is at its end, and gives whether the source is at its end. `left` is
+/// one more than the number of bytes that may still come, and falls by the number that came.
 ///
 /// - `ReadFault`: only where a read failed, and the source counted it.
 /// - `TooLarge`: exactly where `left` bytes came.
@@ -68,7 +69,7 @@ fn read_on<S: Source>(
     }
 }
 
-/// Reads all that the source has left, fewer bytes than `most`, and drops it. Any window serves.
+/// Reads all that the source has left, fewer bytes than `most`, and drops it. What the window has is dropped too.
 ///
 /// The errors are those of [`read_on`].
 fn drop_rest<S: Source>(source: &mut S, window: &mut Window, most: u64) -> Result<(), FileFault>
@@ -91,7 +92,7 @@ fn drop_rest<S: Source>(source: &mut S, window: &mut Window, most: u64) -> Resul
     }
 }
 
-/// Reads the last bytes of a stream.
+/// Reads the last bytes of a stream: what the window has at the end of the source.
 fn read_end<T: RecordTaker>(
     alloc: Global,
     walk: &mut StreamWalk,
@@ -113,8 +114,8 @@ fn read_end<T: RecordTaker>(
     }
 }
 
-/// Reads all that the source has left, as [`read_pieces`] does, through an empty window and by a walk that read nothing
-/// yet.
+/// Reads all that the source has left, as [`read_pieces`] does, through an empty window and with a walk that has read
+/// nothing yet.
 fn read_through<S: Source, T: RecordTaker>(
     alloc: Global,
     source: &mut S,
@@ -154,11 +155,11 @@ fn read_through<S: Source, T: RecordTaker>(
 }
 
 /// Reads all that the source has left, at most 2^32 bytes, as a stream, message by message. The data records are taken
-/// as they are read. What the window has is dropped.
+/// as they are read. What the window has at the call is dropped.
 ///
 /// - `ReadFault`: only where a read failed, and the source counted it.
-/// - `TooLarge`: exactly where more bytes came.
-/// - `NotStream`: the stream has this fault. The rest was read and dropped.
+/// - `TooLarge`: exactly where more than 2^32 bytes came.
+/// - `NotStream`: the stream has this fault. The rest of the source was read and dropped.
 /// - `NoMemory`: out of memory.
 pub(crate) fn read_pieces<S: Source, T: RecordTaker>(
     alloc: Global,

@@ -24,7 +24,7 @@ use meter_io::{Failed, Source};
 use std::alloc::Global;
 use std::marker::{Brand, PhantomData};
 
-/// What is kept with the records of a source that is a file, by what the contracts know of what was taken before.
+/// Takes the records of a source, which is one file, in addition to `taken`. `K` says what `taken` was taken from.
 fn take_from_as<K: Begun, S: Source>(
     alloc: Global,
     source: &mut S,
@@ -70,7 +70,7 @@ fn take_from_as<K: Begun, S: Source>(
     Ok(taken)
 }
 
-/// What is kept with the records of a source that is a file.
+/// Takes the records of a source, which is one file, in addition to `taken`.
 fn take_from<S: Source>(
     alloc: Global,
     source: &mut S,
@@ -93,7 +93,7 @@ fn take_from<S: Source>(
     take_from_as::<Brand, S>(alloc, source, window, share, taken)
 }
 
-/// What is kept with the records of the file of this name.
+/// Takes the records of the file with this name, in addition to `taken`.
 fn take_file<O: Opener>(
     alloc: Global,
     opener: &mut O,

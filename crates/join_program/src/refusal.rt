@@ -1,4 +1,4 @@
-//! The line of a file that is refused.
+//! The line that reports a refused file.
 
 ghost use Rattle.std.specs.Prelude.{◌≡◌, ◌++◌, IfOk, OnOk};
 ghost use Rattle.join_program.specs.Statuses.{fault_text, fault_line};
@@ -24,7 +24,7 @@ fn append_fault(text: &mut Vec<u8>, fault: &FileFault) -> Result<(), NoMemory>
     }
 }
 
-/// The line of a file that is refused: its name, and what is wrong with it.
+/// The line that reports a refused file: its name, and what is wrong with it.
 pub(crate) fn fault_line(alloc: Global, name: &str, fault: &FileFault) -> Result<Vec<u8>, NoMemory>
     ensures { IfOk result (λ line. line.items ≡ fault_line name.now fault.now) }
 {

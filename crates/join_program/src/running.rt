@@ -19,7 +19,7 @@ use meter_io::{Sink, write_all};
 use std::alloc::Global;
 use std::thread::Threads;
 
-/// Reads files of flow records, and writes the stream of what their records become.
+/// Reads files of flow records, and writes the stream of the records that they become.
 fn join_files<R: Threads + Sync, O: Opener, K: Sink>(
     rt: &R,
     alloc: Global,
@@ -42,7 +42,7 @@ fn join_files<R: Threads + Sync, O: Opener, K: Sink>(
     write_records(alloc, command.settings.size, clock, &records, output)
 }
 
-/// Writes the line of the file at this place, which is refused.
+/// Writes the line that reports the file at this place, which is refused, to standard error.
 fn report_refusal<E: Sink>(
     alloc: Global,
     names: &[String],
@@ -58,7 +58,7 @@ fn report_refusal<E: Sink>(
     let Ok(line) = fault_line(alloc, name, &fault) else {
         return JoinStatus::NoMemory;
     };
-    // Where standard error takes less of it the refusal stands.
+    // Even where standard error doesn't take the whole line, the refusal stands.
     let _reported = write_all(stderr, line.as_slice());
     JoinStatus::Refused { place, fault }
 }
@@ -69,21 +69,21 @@ fn report_refusal<E: Sink>(
 /// The words are `join`; then its options, each at most once, in any order, as `--name value` or `--name=value`:
 /// `--idle` and `--active`, the time-outs in seconds from 1 to 86,400, by default 300 and 1800, `--size`, the most
 /// octets of a message, from 116 to 65,535, by default 1400, and both or none of `--part K` and `--parts N`, with K
-/// from 1 to N and N up to 4,096, by which the records are kept whose keys fall to the K-th of N shares; and then 1 to
+/// from 1 to N and N up to 4,096, which keep only the records whose keys fall to the K-th of N shares; and then 1 to
 /// 65,536 files, of which `-`, standard input, is at most one.
 ///
-/// The files are opened one after the other, each is read to its end, at most 2^32 bytes, and closed. All memory is
-/// taken before anything is written. At a refusal, any status but `Done` and `WriteFault`, nothing is written. They
-/// come in this order:
+/// The files are opened one after the other; each is read to its end, at most 2^32 bytes, and closed. All memory is
+/// allocated before anything is written. At a refusal, any status but `Done` and `WriteFault`, nothing is written to
+/// the output. The statuses come in this order:
 ///
-/// - `Usage`: exactly where the words are no command. No file is opened.
-/// - `Refused`: exactly where something is wrong with a file, by the first such one. Standard error gets its line,
-///   `NAME: ` and what is wrong. Of a file come, in this order, `ReadFault`: only where it couldn't be opened or a read
-///   failed, and the opener counted it; `TooLarge`: exactly where more bytes came than 2^32; `NotStream`: exactly where
-///   they have that fault; `NotFlows`: exactly where they have none, and the data record at that place is the first
-///   that is no flow record; `TooMany`: exactly where the records kept, with those of the files before it, have 2^64
-///   packets or octets.
-/// - `WriteFault`: only where a write failed and the output counted it; it took a beginning of what it was to take.
+/// - `Usage`: exactly where the words aren't such a command. No file is opened.
+/// - `Refused`: exactly where something is wrong with a file; it has the place of the first such file. Standard error
+///   gets a line, `NAME: ` and what is wrong. The faults of a file come in this order. `ReadFault`: only where it
+///   couldn't be opened or a read failed, and the opener counted it. `TooLarge`: exactly where more bytes came than
+///   2^32. `NotStream`: exactly where the bytes have that fault. `NotFlows`: exactly where they have no fault, and the
+///   data record at that place, counted from 0, is the first that isn't a flow record. `TooMany`: exactly where the
+///   records kept, with those of the files before it, have 2^64 or more packets or octets.
+/// - `WriteFault`: only where a write failed and the output counted it; it took a beginning of the stream.
 /// - `NoMemory`: out of memory, at any point before the first write.
 pub fn run_join<R: Threads + Sync, O: Opener, K: Sink, E: Sink>(
     rt: &R,

@@ -10,13 +10,13 @@ use ipfix_reader::StreamFault;
 pub enum FileFault {
     /// It couldn't be opened, or a read failed.
     ReadFault,
-    /// It has more bytes than the limit.
+    /// It has more bytes than the limit, 2^32.
     TooLarge,
-    /// It is no stream: it has this fault.
+    /// It isn't a valid IPFIX stream: it has this fault.
     NotStream(StreamFault),
-    /// Its data record at this place, counted from 0, is the first that is no flow record.
+    /// Its data record at this place, counted from 0, is the first that isn't a flow record.
     NotFlows(u64),
-    /// With its records there are more packets or octets than a record can count.
+    /// With its records there are more packets or octets than a record can count, which is 2^64 - 1.
     TooMany,
 }
 
@@ -40,13 +40,13 @@ impl FileFault {
 pub enum JoinStatus {
     /// All was done.
     Done,
-    /// The words are no command.
+    /// The words of the command line aren't a valid command.
     Usage,
     /// A write failed.
     WriteFault,
-    /// Want of memory.
+    /// Out of memory.
     NoMemory,
-    /// This is wrong with the file at this place, counted from 0, and nothing with those before it.
+    /// The file at this place, counted from 0, has this fault, and no file before it has any.
     Refused { place: u64, fault: FileFault },
 }
 

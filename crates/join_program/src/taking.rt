@@ -35,7 +35,7 @@ impl From<NoMemory> for TakeError {
     }
 }
 
-/// Whether the key falls to the share; without one each does.
+/// Whether the key falls to the share; without a share every key does.
 fn falls_to(share: Option<Share>, key: &FlowKey) -> bool
     ensures { result ≡ falls_to (share_of share) key.now }
 {
@@ -65,7 +65,7 @@ fn sum(one: u64, other: u64) -> Result<u64, TakeError>
     }
 }
 
-/// Nothing is taken yet.
+/// What is kept before any record is read.
 pub(crate) fn nothing_taken(alloc: Global) -> Taken
     ensures { (share : Option OneOf) → IsTaken share [] result }
 {

@@ -58,7 +58,7 @@ static SHARE_OPTIONS: [OptionRule<'static>; 5] = [
     },
 ];
 
-/// Whether the word is that of an option.
+/// Whether the word is an option: whether it begins with two hyphens.
 fn is_option(word: &str) -> bool
     ensures { result ≡ is_option word.now }
 {
@@ -68,14 +68,14 @@ fn is_option(word: &str) -> bool
     }
 }
 
-/// Whether the word has its value in it.
+/// Whether an option has its value in the same word, after an equals sign.
 fn has_value(word: &str) -> bool
     ensures { result ≡ has_value word.now }
 {
     word.as_bytes().iter().any(|byte| *byte == b'=')
 }
 
-/// How many of the words are options and their values.
+/// How many words at the front are options and their values.
 fn option_words(words: &[String]) -> usize
     ensures number { result ≡ option_words false (map string_bytes words.now) }
     ensures within { result ≤ length words.now }
@@ -96,7 +96,7 @@ fn option_words(words: &[String]) -> usize
     count
 }
 
-/// How many of the files are standard input.
+/// How many of the files are standard input, `-`.
 fn inputs_in(files: &[String]) -> usize
     ensures { result ≡ length (filter (λ name. bytes_eq name (codes "-")) (map string_bytes files.now)) }
 {
@@ -180,7 +180,7 @@ fn any_settings(alloc: Global, words: &[String]) -> Result<JoinSettings, Options
     }
 }
 
-/// What the words ask for.
+/// What the words of the command line ask for.
 #[derive(Clone, Copy, Debug)]
 pub(crate) struct Command<'a> {
     pub settings: JoinSettings,
@@ -205,7 +205,7 @@ fn command_in<'a>(alloc: Global, words: &'a [String]) -> Result<Command<'a>, Opt
 /// What the words behind the program's name ask for: the first is `join`, then come its options, and the others are
 /// files.
 ///
-/// - `NotOptions`: exactly where they are no such words.
+/// - `NotOptions`: exactly where the words don't have this form.
 /// - `NoMemory`: out of memory.
 pub(crate) fn command_of<'a>(
     alloc: Global,

@@ -1,4 +1,4 @@
--- Where a stream of flow records was given and no call failed, a command is done, or memory is out.
+-- Where a stream of flow records was given and no call failed, a command is done, or memory ran out.
 use Rattle.std.proofs.Common.{◌≡◌, ◌⊎◌, inl, inr, ◌<◌, ℕ, List, [], ◌∷◌, length, Some, Result, Ok, Err, refl, sym, ap}
 use Rattle.std.proofs.Common.{◌∙◌, subst, arith}
 use Rattle.record_ledger.specs.declared.record.FlowRecord.{FlowRecord}

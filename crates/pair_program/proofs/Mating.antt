@@ -1,4 +1,4 @@
--- When a record is a mate, and when it is none.
+-- When a record is a mate, and when it isn't.
 use Rattle.std.proofs.Common.{◌≡◌, ◌<◌, ◌≤◌, ◌+◌, ◌-◌, ℕ, Bool, true, false, nat_le, List, [], ◌∷◌, length, drop}
 use Rattle.std.proofs.Common.{get_or, Option, Some, None, refl, sym, ap, subst, ◌∙◌, arith, ◌++◌, append-nil}
 use Rattle.std.proofs.Common.{append_assoc, add-one, if◌then◌else◌}
@@ -23,7 +23,7 @@ differ is = cc
 abbrev pub IsReverseKey : FlowRecord → FlowKey → Type 0
 IsReverseKey forward key = (other : FlowKey) → is_reverse forward.part.key other ≡ is_same key other
 
--- keys that differ, differ either way round
+-- keys that differ do so in either order
 apart_sym : (one other : FlowKey) → is_same one other ≡ false → (b : Bool) → is_same other one ≡ b → b ≡ false
 apart_sym one other apart true is =
     absurd (differ (sym apart ∙ ap (is_same one) (same_key other one is) ∙ same_itself one))

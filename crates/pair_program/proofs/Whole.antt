@@ -1,4 +1,4 @@
--- A stream of flow records has no fault, and no record that is no flow.
+-- A stream of flow records has no fault, and only flow records.
 use Rattle.std.proofs.Common.{◌≡◌, ◌≢◌, ◌<◌, ℕ, zero, suc, List, [], ◌∷◌, length, get_or, Option, Some, None, Result}
 use Rattle.std.proofs.Common.{Ok, Err, option_map, refl, sym, arith}
 use Rattle.std.specs.Option.{option_and_then}

@@ -32,8 +32,8 @@ reverse_of key = record {
 abbrev pub reverse_number : ℕ → List FieldValue → ℕ
 reverse_number element values = number_of (Some reverse_enterprise) element values
 
--- The numbers of the reverse flow: its key is the reverse of the forward flow's, and the others are in the values of
--- the reverse elements.
+-- The numbers of the reverse flow: its key is the reverse of the forward flow's, and its other numbers are the values
+-- of the reverse elements (RFC 5103, section 6.1).
 abbrev pub reverse_fields_in : KeyFields → List FieldValue → FlowFields
 reverse_fields_in key values = record {
   part = record {
@@ -54,8 +54,8 @@ biflow_with forward values =
     option_and_then (λ (f : FlowRecord). option_map (λ (r : FlowRecord). record { forward = f; reverse = Some r })
     (flow_with (reverse_fields_in forward.part.key values))) (flow_with forward)
 
--- The biflow that a data record is: of the template for biflows over IPv4 or over IPv6, or a flow record without a
--- reverse flow. Else none.
+-- The biflow that a data record is: one with the fields of the template for biflows over IPv4 or over IPv6, or a flow
+-- record, which is a biflow without a reverse flow. None for any other record.
 unfoldable pub biflow : DataRecord → Option Biflow
 biflow data_record =
     if are_values_of v4_bi_fields data_record.fields
@@ -64,13 +64,13 @@ biflow data_record =
     then biflow_with (fields_in 6 source_ipv6_address destination_ipv6_address data_record.fields) data_record.fields
     else option_map (λ (f : FlowRecord). record { forward = f; reverse = None }) (flow data_record)
 
--- The biflows that data records are, where each is one.
+-- The biflows that data records are, where each is a biflow; none otherwise.
 abbrev pub biflows_in : List DataRecord → Option (List Biflow)
 biflows_in [] = Some []
 biflows_in (data_record ∷ data_records) =
     option_and_then (λ (first : Biflow). option_map (λ (pairs : List Biflow). first ∷ pairs) (biflows_in data_records))
     (biflow data_record)
 
--- The biflows of a stream: those that its data records are, where it has no fault and each is one.
+-- The biflows of a stream: those that its data records are, where the stream has no fault and each record is a biflow.
 unfoldable pub biflows_of : List ℕ → Option (List Biflow)
 biflows_of bytes = option_and_then biflows_in (result_ok (decode bytes))

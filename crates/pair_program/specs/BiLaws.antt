@@ -16,22 +16,23 @@ IsReverseOf forward (Some reverse) = fields_of reverse.part.key ≡ reverse_of (
 abbrev pub AreBiflows : List Biflow → Type 0
 AreBiflows pairs = All (λ (pair : Biflow). IsReverseOf pair.forward pair.reverse) pairs
 
--- The pairs of flow records are one list.
+-- Flow records have one list of pairs.
 abbrev pub ArePairedOnce : Type 0
 ArePairedOnce = (idle : ℕ) (records : List FlowRecord) (one other : List Biflow) → ArePairs idle records one
     → ArePairs idle records other → one ≡ other
 
--- The layout of biflows decodes to these biflows.
+-- The layout of biflows in messages of at most 65,535 octets decodes to these biflows, where each reverse flow has the
+-- reverse key.
 abbrev pub ReadsBack : Type 0
 ReadsBack = (size export_time : ℕ) (pairs : List Biflow) (bytes : List ℕ) → size ≤ 65535 → AreBiflows pairs
     → IsBiLayout size export_time pairs bytes → biflows_of bytes ≡ Some pairs
 
--- The layout of biflows is one value.
+-- Biflows have one layout.
 abbrev pub IsOneBiLayout : Type 0
 IsOneBiLayout = (size export_time : ℕ) (pairs : List Biflow) (one other : List ℕ)
     → IsBiLayout size export_time pairs one → IsBiLayout size export_time pairs other → one ≡ other
 
--- The length of the set of templates, its header among it, and of the message that has it.
+-- The length of the set of templates, with its header, and of the message that has it.
 abbrev pub HasTemplateSetLength : Type 0
 HasTemplateSetLength = 4 + length bi_template_records ≡ bi_template_set_length
 

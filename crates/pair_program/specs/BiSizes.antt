@@ -39,7 +39,7 @@ sized_by false false true false is = absurd (omega arith)
 sized_by false false false true is = absurd (omega arith)
 sized_by false false false false is = refl
 
--- whether there is a reverse flow, and whether it is of version 4
+-- whether there is a reverse flow, and whether a flow is over IPv4
 abbrev pub has_reverse : Option FlowRecord → Bool
 has_reverse None = false
 has_reverse (Some reverse) = true

@@ -30,12 +30,12 @@ pub record IsPlace (records : List FlowRecord) (from : ℕ) (key : FlowKey) (pla
   pub within : place ≤ length records
   pub there : place < length records → HasKeyAt records place key
 
--- And it is the first of these.
+-- The place is the first one from `from` on with this key, or the number of records where there is none.
 pub record IsFirstPlace (records : List FlowRecord) (from : ℕ) (key : FlowKey) (place : ℕ) : Type 0 where
   pub one : IsPlace records from key place
   pub first : (k : ℕ) → from ≤ k → k < length records → HasKeyAt records k key → place ≤ k
 
--- Each key has such a place.
+-- Each key has a place from `from` on, not always the first one.
 abbrev pub ArePlaces : List FlowRecord → ℕ → (FlowKey → ℕ) → Type 0
 ArePlaces records from heads = (key : FlowKey) → IsPlace records from key (heads key)
 
@@ -44,12 +44,12 @@ abbrev pub AreLinks : List FlowRecord → List ℕ → ℕ → Type 0
 AreLinks records links from = (k : ℕ) (d : FlowRecord) → from ≤ k → k < length records
     → IsFirstPlace records (k + 1) (slice_index_or records k d).part.key (slice_index_or links k 0)
 
--- No record begins before one in front of it.
+-- No record has an earlier first time than one that stands in front of it.
 abbrev pub RisesFrom : List FlowRecord → Type 0
 RisesFrom records = (i j : ℕ) (d : FlowRecord) → i ≤ j → j < length records
     → (slice_index_or records i d).part.first ≤ (slice_index_or records j d).part.first
 
--- From a place on, the records that aren't taken: those at or behind the place of their key.
+-- From a place on, the records that aren't taken yet: those that stand at or behind the place of their key.
 abbrev pub untaken_records : (FlowKey → ℕ) → ℕ → List FlowRecord → List FlowRecord
 untaken_records heads place [] = []
 untaken_records heads place (one ∷ more) =

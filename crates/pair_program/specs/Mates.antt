@@ -4,7 +4,7 @@ use Rattle.flow_key.specs.declared.key.FlowKey.{FlowKey}
 use Rattle.flow_parts.specs.Joining.{gap}
 use Rattle.record_ledger.specs.declared.record.FlowRecord.{FlowRecord}
 
--- Two keys are one.
+-- Two keys are the same.
 abbrev pub is_same : FlowKey → FlowKey → Bool
 is_same one other =
     (one.version == other.version) && (one.source == other.source) && (one.destination == other.destination)

@@ -1,4 +1,4 @@
--- What a run means, by what its words ask for and by its status.
+-- What the status of a run means, for each command line.
 use Rattle.std.specs.Prelude.{ℕ, ◌≡◌, ◌⊎◌, ◌*◌, ◌≤◌, ◌^◌, List, length, Option, Some, None, Err, ⊤}
 use Rattle.meter_io.specs.Sides.{Side, HasFailed, IsUntouched, IsRead, IsTooLarge, IsBroken, IsWrong, HasTaken}
 use Rattle.meter_io.specs.Sides.{HasBegun}
@@ -12,7 +12,7 @@ use Rattle.pair_program.specs.declared.status.PairStatus.TheVariants.{NoMemory, 
 use Rattle.pair_program.specs.Pairing.{IsPaired}
 use Rattle.pair_program.specs.Words.{Asked}
 
--- The most bytes of a stream.
+-- The most bytes that an input may have.
 abbrev pub limit : ℕ
 limit = 2 ^ 26
 
@@ -37,7 +37,7 @@ pub record IsCutOff (asked : Asked) (input output : Side) : Type 0 where
   pub begun : HasBegun output written
   pub cause : HasFailed output
 
--- Why a command refuses with a status; never with the others.
+-- Why a command refuses with each status; where this is `⊥`, a command never refuses with that status.
 abbrev pub Refuses : Side → PairStatus → Type 0
 Refuses input ReadFault = IsBroken input limit
 Refuses input TooLarge = IsTooLarge input limit
@@ -64,22 +64,23 @@ Ends asked input output NoMemory = IsRefused input output NoMemory
 Ends asked input output (NotStream fault) = IsRefused input output (NotStream fault)
 Ends asked input output (NotFlows place) = IsRefused input output (NotFlows place)
 
--- The words ask for nothing, or memory was out before they were read: nothing is read and nothing is written.
+-- The words are no command, and the run says so or runs out of memory: nothing is read and nothing is written.
 pub record IsUsage (input output : Side) (status : PairStatus) : Type 0 where
   pub usage : (status ≡ Usage) ⊎ (status ≡ NoMemory)
   pub unread : IsUntouched input
   pub unwritten : IsUntouched output
 
--- What a run means, by what its words ask for.
+-- What the status of a run means: the words are no command, or they ask for a pairing.
 abbrev pub RunMeans : Option Asked → Side → Side → PairStatus → Type 0
 RunMeans None input output status = IsUsage input output status
 RunMeans (Some asked) input output status = Ends asked input output status
 
--- The input is a stream of flow records.
+-- The bytes are a stream of flow records, no longer than the limit.
 abbrev pub IsValid : List ℕ → Type 0
 IsValid bytes = (length bytes ≤ limit) × (flows : List FlowRecord) × (flows_of bytes ≡ Some flows)
 
--- For a command and a stream of flow records, where no call failed, the run is done, or memory is out.
+-- A command whose input is such a stream is done, or runs out of memory, where no call on the input or the output
+-- failed.
 abbrev pub IsComplete : Option Asked → Side → Side → PairStatus → Type 0
 IsComplete words input output status =
     (asked : Asked) (bytes : List ℕ) → words ≡ Some asked → input.before ≡ Some bytes → IsValid bytes

@@ -34,7 +34,7 @@ pub record IsFirstPair (idle : ℕ) (records : List FlowRecord) (pair : Biflow) 
   pub reverse : pair.reverse ≡ first_mate idle pair.forward others
   pub left : rest ≡ without_mate idle pair.forward others
 
--- And so on with the rest, until no record is left.
+-- The first pair is taken out of the records, then the first pair of the rest, and so on until no record is left.
 abbrev pub ArePaired : ℕ → List FlowRecord → List Biflow → Type 0
 ArePaired idle records [] = records ≡ []
 ArePaired idle records (pair ∷ pairs) = (rest : List FlowRecord) × IsFirstPair idle records pair rest

@@ -5,7 +5,7 @@ use Rattle.command_words.specs.Options.{Rule, values_of}
 use Rattle.pair_program.specs.declared.settings.PairSettings.{PairSettings}
 use Rattle.ipfix_model.specs.Sizes.{bi_template_message_length}
 
--- To pair with an idle time-out in seconds and a message size in octets.
+-- What is asked for: an idle time-out in seconds, and the most octets of a message.
 pub record Asked : Type 0 where
   pub idle : ℕ
   pub size : ℕ

@@ -40,7 +40,8 @@ impl Encode for Biflow {
         }
     }
 
-    /// The octets of its data record: those of a flow, and with a reverse flow those of its counts besides.
+    /// The length of its data record in octets: that of the forward flow's record, and with a reverse flow that of its
+    /// counts besides.
     fn size(&self) -> usize {
         match self.reverse {
             None => self.forward.size(),
@@ -85,8 +86,8 @@ pub(crate) fn first_message(alloc: Global, export_time: u32) -> Result<Vec<u8>, 
     Ok(first)
 }
 
-/// The stream of these biflows: the message with the templates of flows and of biflows, then data messages of at most
-/// `size` octets, from 308 to 65,535, with this export time in seconds.
+/// The stream of these biflows (RFC 7011, sections 3.1 to 3.4; RFC 5103): the message with the templates of flows and
+/// of biflows, then data messages of at most `size` octets, from 308 to 65,535. The export time is in seconds.
 ///
 /// `NoMemory` where the room for it can't be had.
 pub fn bi_layout(

@@ -28,7 +28,7 @@ impl Heads {
     ghost use Rattle.pair_program.specs.Chains.{place_of};
     ghost use Rattle.pair_program.specs.Mates.{is_same};
 
-    /// No key has a place.
+    /// A map in which no key has a place.
     pub fn new(alloc: Global, none: usize) -> Self
         ensures { (key : FlowKey) → place_of result key ≡ none }
     {
@@ -38,7 +38,7 @@ impl Heads {
         }
     }
 
-    /// The place of a key.
+    /// The place of a key, or `none` where it was given none.
     pub fn get(&self, key: &FlowKey) -> usize
         ensures { result ≡ place_of self.now key.now }
     {
@@ -48,7 +48,9 @@ impl Heads {
         }
     }
 
-    /// From here on the key has this place.
+    /// Gives the key this place, instead of one that it had before.
+    ///
+    /// `NoMemory` where the room for it can't be had.
     pub fn set(&mut self, key: FlowKey, place: usize) -> Result<(), NoMemory>
         ensures { OnOk result ((other : FlowKey)
             → place_of self.new other ≡ (if is_same other key then place else place_of self.old other)) }

@@ -1,8 +1,8 @@
 //! Biflows (RFC 5103): the two directions of a conversation as one record.
 //!
-//! [`pair`] puts flow records together with their mates: records with reverse keys whose spans are near. [`bi_layout`]
-//! gives the stream of messages that has these biflows, [`pair_stream`] makes it of a stream of flow records, and
-//! [`run_pair`] is the top call: it reads such a stream and writes that of its biflows.
+//! [`pair`] puts each flow record together with its mate: a record with the reverse key that is near to it in time.
+//! [`bi_layout`] gives the stream of messages for these biflows, [`pair_stream`] makes it from a stream of flow
+//! records, and [`run_pair`] is the top call: it reads a stream of flow records and writes the stream of their biflows.
 #![tactic(auto)]
 
 mod biflow;

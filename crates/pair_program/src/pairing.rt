@@ -17,13 +17,13 @@ use record_ledger::FlowRecord;
 use std::alloc::Global;
 use std::cmp::Ordering;
 
-/// The biflows of some flow records: the records stand in the order of first time, last time and key, and ties keep
-/// their order. The first is a forward record; its reverse is the first of the others that is its mate, if there is
-/// one: its key has both addresses and both ports exchanged and isn't the same, and the gap between their spans is at
-/// most `idle` milliseconds, up to 86,400,000. Both are taken out, and so on with the rest. So each record is the
-/// forward or the reverse one of exactly one biflow.
+/// The biflows of some flow records. The records are sorted by first time, last time and key; ties keep their order.
+/// The first is a forward record; its reverse is the first of the others that is its mate, if there is one. A mate has
+/// a key with both addresses and both ports exchanged that isn't the same key, and the gap between the spans of the two
+/// records is at most `idle` milliseconds, which is up to 86,400,000. Both records are taken out, and so on with the
+/// rest. So each record is the forward or the reverse one of exactly one biflow.
 ///
-/// The records are put in order where they stand, and let go once they are paired.
+/// The records are sorted in place, and freed once they are paired.
 ///
 /// `NoMemory` where the room for putting them in order, the places of their keys or the biflows can't be had.
 pub fn pair(alloc: Global, records: Vec<FlowRecord>, idle: u64) -> Result<Vec<Biflow>, NoMemory>
@@ -46,7 +46,7 @@ fn in_order(records: Vec<FlowRecord>) -> Result<Vec<FlowRecord>, NoMemory>
     Ok(ordered)
 }
 
-/// How two records stand by first time, then last time, then key.
+/// Compares two records by first time, then last time, then key.
 fn by_start(one: &FlowRecord, other: &FlowRecord) -> Ordering
     ensures { result ≡ by_start one.now other.now }
 {
@@ -100,7 +100,8 @@ fn link_all(alloc: Global, records: &[FlowRecord]) -> Result<(Vec<usize>, Heads)
     Ok((links, heads))
 }
 
-/// Takes the record at a place out, and its mate: their biflow, or none where the record was taken already.
+/// Takes out the record at a place and its mate, if it has one, and gives their biflow; none where the record was taken
+/// already.
 fn take_pair(
     records: &[FlowRecord],
     links: &[usize],
@@ -125,7 +126,7 @@ fn take_pair(
     Ok(Some(Biflow { forward, reverse }))
 }
 
-/// Takes the first mate of the record at a place out, where it has one.
+/// Takes out the first mate of the record at a place, and gives it; none where the record has no mate.
 fn take_mate(
     records: &[FlowRecord],
     links: &[usize],
@@ -160,7 +161,7 @@ fn take_mate(
     Ok(Some(mate))
 }
 
-/// Whether two keys are one.
+/// Whether two keys are the same.
 fn is_same(one: &FlowKey, other: &FlowKey) -> bool
     ensures { result ≡ is_same one.now other.now }
 {

@@ -71,12 +71,13 @@ fn pair_input<S: Source, K: Sink>(
 /// The input, at most 2^26 bytes, is read to its end, and all memory is taken before anything is written. At a refusal,
 /// any status but `Done` and `WriteFault`, nothing is written. They come in this order:
 ///
-/// - `Usage`: exactly where the words are no command. Nothing is read.
+/// - `Usage`: exactly where the words aren't such a command. Nothing is read.
 /// - `ReadFault`: only where a read failed and the input counted it. `TooLarge`: exactly where more bytes came than
 ///   2^26.
 /// - `NotStream`: exactly where the bytes read have that fault.
-/// - `NotFlows`: exactly where they have none, and the data record at that place is the first that is no flow record.
-/// - `WriteFault`: only where a write failed and the output counted it; it took a beginning of what it was to take.
+/// - `NotFlows`: exactly where they have no fault, and the data record at that place, counted from 0, is the first that
+///   isn't a flow record.
+/// - `WriteFault`: only where a write failed and the output counted it; it took a beginning of the stream.
 /// - `NoMemory`: out of memory, at any point before the first write.
 pub fn run_pair<S: Source, K: Sink>(
     alloc: Global,

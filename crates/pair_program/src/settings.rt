@@ -3,7 +3,7 @@
 ghost use Rattle.std.specs.Prelude.{◌≤◌};
 ghost use Rattle.ipfix_model.specs.Sizes.{bi_template_message_length};
 
-/// What the words ask for.
+/// What the words of the command line ask for.
 #[derive(Clone, Copy, Debug, PartialEq, Eq)]
 pub struct PairSettings {
     /// The idle time-out in seconds, from 1 to 86,400.

@@ -10,19 +10,19 @@ use ipfix_reader::StreamFault;
 pub enum PairStatus {
     /// All was done.
     Done,
-    /// The input failed.
+    /// A read of the input failed.
     ReadFault,
-    /// The words are no command.
+    /// The words of the command line aren't a valid command.
     Usage,
     /// A write failed.
     WriteFault,
-    /// The input is larger than the limit.
+    /// The input is larger than the limit, 2^26 bytes.
     TooLarge,
-    /// Want of memory.
+    /// Out of memory.
     NoMemory,
-    /// The input is no stream: it has this fault.
+    /// The input isn't a valid IPFIX stream: it has this fault.
     NotStream(StreamFault),
-    /// The data record at this place, counted from 0, is the first that is no flow record.
+    /// The data record at this place, counted from 0, is the first that isn't a flow record.
     NotFlows(u64),
 }
 

@@ -19,13 +19,13 @@ use std::alloc::Global;
 pub enum PairError {
     /// The stream has this fault.
     NotStream(StreamFault),
-    /// The data record at this place, counted from 0, is the first that is no flow record.
+    /// The data record at this place, counted from 0, is the first that isn't a flow record.
     NotFlows(u64),
     /// Out of memory.
     NoMemory,
 }
 
-/// The greatest last time of flow records, and 0 of none.
+/// The greatest last time of flow records, in milliseconds; 0 where there are none.
 fn greatest_last(flows: &[FlowRecord]) -> u64
     ensures { result ≡ greatest_last flows.now }
 {
@@ -43,7 +43,7 @@ pub struct Paired {
     pub seconds: u32,
 }
 
-/// The flow records of a stream, which is let go once they are read.
+/// The flow records of a stream. The stream is freed once they are read.
 fn flows_in(alloc: Global, stream: Vec<u8>) -> Result<Vec<FlowRecord>, PairError>
     ensures flows { IfOk result (λ flows. flows_of stream.items ≡ Some flows.items) }
     ensures cause { IfErr result (PairingFails stream.items) }
@@ -56,12 +56,12 @@ fn flows_in(alloc: Global, stream: Vec<u8>) -> Result<Vec<FlowRecord>, PairError
     }
 }
 
-/// The biflows of the flow records that a stream has, paired with this idle time-out, in milliseconds up to 86,400,000.
-/// The export time is the greatest last time, in whole seconds and 32 bits. The stream is let go once its records are
-/// read, and the records once they are paired.
+/// The biflows of the flow records in a stream, paired with this idle time-out, in milliseconds up to 86,400,000. The
+/// export time is the greatest last time in whole seconds, modulo 2^32. The stream is freed once its records are read,
+/// and the records once they are paired.
 ///
-/// `NotStream` has the stream's first fault. `NotFlows` has the place of the first data record that is no flow record,
-/// where the stream has no fault.
+/// `NotStream` has the stream's first fault. `NotFlows` comes where the stream has no fault, and has the place of the
+/// first data record that isn't a flow record, counted from 0.
 pub fn pairs_of(alloc: Global, stream: Vec<u8>, idle: u64) -> Result<Paired, PairError>
     requires { idle ≤ 86400000 }
     ensures paired { IfOk result (λ p. (size : ℕ) (written : List ℕ) → size ≤ 65535
@@ -79,8 +79,8 @@ pub fn pairs_of(alloc: Global, stream: Vec<u8>, idle: u64) -> Result<Paired, Pai
     }
 }
 
-/// The stream of the biflows of the flow records that a stream has: they are paired by [`pairs_of`], and laid out in
-/// messages of at most `size` octets, from 308 to 65,535.
+/// The stream of the biflows of the flow records in a stream: they are paired by [`pairs_of`], and laid out in messages
+/// of at most `size` octets, from 308 to 65,535.
 ///
 /// The errors are those of [`pairs_of`].
 pub fn pair_stream(

@@ -45,7 +45,7 @@ fn settings(alloc: Global, words: &[String]) -> Result<PairSettings, OptionsErro
 
 /// What the words behind the program's name ask for: the first is `pair`, and the others are its options.
 ///
-/// - `NotOptions`: exactly where they are no such words.
+/// - `NotOptions`: exactly where the words don't have this form.
 /// - `NoMemory`: out of memory.
 pub(crate) fn settings_of(alloc: Global, words: &[String]) -> Result<PairSettings, OptionsError>
     ensures asked { IfOk result (λ settings. asked_by (map string_bytes words.now) ≡ Some (asked_of settings)) }

@@ -23,7 +23,7 @@ with_some : (b : ℕ) (ps : List (List ℕ)) → with_front b ps ≡ [] → ⊥
 with_some b [] e = cc
 with_some b (p ∷ ps) e = cc
 
--- the pieces of a text are one at least
+-- a text has at least one piece
 pub some_piece : (at : ℕ) (text : List ℕ)
     → (piece : List ℕ) × (pieces : List (List ℕ)) × (pieces_of at text ≡ piece ∷ pieces)
 some_piece at text = first (pieces_of at text) (never_none at text)
@@ -51,7 +51,7 @@ lines_more front number line rest pieces s cut known =
     ∙ (behind-more front s number (steps_of (number + 1) (next.0 ∷ next.1))
     ∙ ap (λ ps. behind (front ++ s ∷ []) (steps_of (number + 1) ps)) (sym next.2)))
 
--- the first line is none
+-- the first line isn't a step's
 pub lines_bad : (number : ℕ) (line rest : List ℕ) (pieces : List (List ℕ)) → pieces ≡ line ∷ pieces_of 10 rest
     → step_of line ≡ None → steps_of number pieces ≡ Err number
 lines_bad number line rest pieces cut none =

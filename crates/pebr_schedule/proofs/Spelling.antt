@@ -1,4 +1,4 @@
--- What is read is spelled so, and what is spelled so is read.
+-- Words, numbers, lines and steps: what is read has its one spelling, and what has this spelling is read.
 use Rattle.std.proofs.Common.{◌≡◌, ℕ, ◌<◌, ◌^◌, ◌≤◌, Bool, true, false, not, ◌&&◌, List, [], ◌∷◌, ◌++◌, map, Option}
 use Rattle.std.proofs.Common.{Some, None, option_map, option_and_then, cond, codes, decimal, bytes_eq, refl, sym, ◌∙◌}
 use Rattle.std.proofs.Common.{ap, subst, arith, eqb, leb, append-nil}

@@ -47,7 +47,7 @@ numeral_digit (d ∷ e ∷ ds) (suc i) h inside =
 pub digit_low : (byte : ℕ) → is_digit byte ≡ true → 48 ≤ byte
 digit_low byte h = leb-true 48 byte (and_parts (leb 48 byte) (leb byte 57) h).0
 
--- a numeral that stands for too much, or not
+-- a numeral is a number, unless it stands for 2^64 or more
 pub number_large : (word : List ℕ) → 2 ^ 64 ≤ value_of word → number_of word ≡ None
 number_large word h = pick (is_numeral word)
   where
@@ -92,7 +92,7 @@ no_numeral (d ∷ ds) h = absurd (omega arith)
 pub not_numeral : (word : List ℕ) → is_numeral word ≡ false → number_of word ≡ None
 not_numeral word h = ap (λ b. cond (b && ltb (value_of word) (2 ^ 64)) (Some (value_of word)) None) h
 
--- a byte that is no digit spoils a numeral
+-- a word with a byte that isn't a digit isn't a numeral
 pub numeral_spoiled : (word : List ℕ) (i : ℕ) → i < length word → is_digit (get_or word i 0) ≡ false
     → is_numeral word ≡ false
 numeral_spoiled word i inside h = elim (cases_Bool (is_numeral word)) as (λ _. is_numeral word ≡ false) [

@@ -1,4 +1,4 @@
--- Whole texts: what is read is spelled so, and what is spelled so is read.
+-- Whole texts: what is read has the spelling of `spelled_text`, and what has this spelling is read.
 use Rattle.std.proofs.Common.{◌≡◌, ℕ, ◌+◌, ◌≤◌, Bool, true, false, ◌&&◌, List, [], ◌∷◌, ◌++◌, flat_map, Option, Some}
 use Rattle.std.proofs.Common.{None, Result, Ok, Err, cond, codes, bytes_eq, refl, sym, ◌∙◌, ap, subst, arith, leb}
 use Rattle.std.proofs.Common.{append_assoc}

@@ -39,7 +39,7 @@ step_of_three name i j k =
     else (if bytes_eq name (codes "scan") then Some (step.Scan i j k)
     else None))
 
--- steps with four, of which the last of write is any number
+-- steps with four; the last number of `write` is the value, which may be any number
 abbrev pub step_of_four : List ℕ → ℕ → ℕ → ℕ → ℕ → Option Step
 step_of_four name i j k value =
     if bytes_eq name (codes "write") then Some (step.Write i j k value)
@@ -84,7 +84,7 @@ step_of line = line_with step_with (pieces_of 32 line)
 abbrev pub shape_of : List ℕ → Option Shape
 shape_of line = line_with shape_with (pieces_of 32 line)
 
--- the steps of some lines, with one step before them; where a line has no step, its number
+-- one step before the steps of further lines; where the line isn't a step, the number of the line
 abbrev pub with_step : Option Step → ℕ → Result (List Step) ℕ → Result (List Step) ℕ
 with_step None number steps = Err number
 with_step (Some step) number (Ok steps) = Ok (step ∷ steps)
@@ -95,8 +95,8 @@ abbrev pub end_of_lines : List ℕ → ℕ → Result (List Step) ℕ
 end_of_lines [] number = Ok []
 end_of_lines (byte ∷ bytes) number = Err number
 
--- The steps of the lines from this number on, of which the last piece is what follows the last line end; or the number
--- of the first line that is none of a step.
+-- The steps of the lines from this number on; the last piece is what follows the last line end. Or the number of the
+-- first line that isn't a step's.
 abbrev pub steps_of : ℕ → List (List ℕ) → Result (List Step) ℕ
 steps_of number [] = Err number
 steps_of number (last ∷ []) = end_of_lines last number
@@ -112,6 +112,6 @@ lines_of [] = Err 1
 lines_of (line ∷ []) = Err 1
 lines_of (line ∷ next ∷ lines) = with_shape (shape_of line) (steps_of 2 (next ∷ lines))
 
--- the shape and the steps of a text, or the number of the first line that is out of the grammar
+-- the shape and the steps of a text, or the number of the first line that isn't of the grammar
 abbrev pub schedule_of : List ℕ → Result (Shape × List Step) ℕ
 schedule_of text = lines_of (pieces_of 10 text)

@@ -3,7 +3,7 @@ use Rattle.std.specs.Prelude.{ℕ, ◌+◌, ◌*◌, ◌-◌, ◌^◌, Bool, fal
 use Rattle.std.specs.Prelude.{option_map, option_and_then, if◌then◌else◌, ◌==◌, nat_lt, nat_le, fold}
 use Rattle.std.specs.List.{list_all}
 
--- byte is 0 to 9 in ASCII
+-- the byte is a digit, 0 to 9, in ASCII
 abbrev pub is_digit : ℕ → Bool
 is_digit byte = nat_le 48 byte && nat_le byte 57
 
@@ -21,7 +21,7 @@ value_of digits = fold (λ number digit. number * 10 + (digit - 48)) 0 digits
 abbrev pub number_of : List ℕ → Option ℕ
 number_of word = if is_numeral word && nat_lt (value_of word) (2 ^ 64) then Some (value_of word) else None
 
--- the words are numbers
+-- the numbers that the words stand for, where each is a number
 abbrev pub numbers_of : List (List ℕ) → Option (List ℕ)
 numbers_of [] = Some []
 numbers_of (word ∷ words) = option_and_then (λ number. option_map (λ numbers. number ∷ numbers) (numbers_of words))

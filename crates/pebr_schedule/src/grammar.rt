@@ -116,7 +116,7 @@ fn is_within(number: u64, most: u64) -> bool
     1 <= number && number <= most
 }
 
-/// The shape of a core that a line of this name and these numbers gives, if it is the line of one within the limits.
+/// The shape of a core that a line of this name and these numbers gives, if it is such a line and within the limits.
 fn shape_with(name: &[u8], numbers: &[u64]) -> Option<Shape>
     ensures shape { result ≡ shape_with name.now numbers.now }
     ensures limits { IfSome result IsWithinLimits }
@@ -153,7 +153,7 @@ pub fn step_of(alloc: Global, line: &[u8]) -> Result<Option<Step>, NoMemory>
     }
 }
 
-/// The shape that the first line has, if it is such a line.
+/// The shape of a core that the first line gives, if it is such a line and within the limits.
 pub fn shape_of(alloc: Global, line: &[u8]) -> Result<Option<Shape>, NoMemory>
     ensures shape { IfOk result (λ shape. shape ≡ shape_of line.now) }
     ensures limits { IfOk result (λ shape. IfSome shape IsWithinLimits) }

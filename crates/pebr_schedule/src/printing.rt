@@ -199,7 +199,7 @@ fn put_state(out: &mut Vec<u8>, core: &Core) -> Result<(), NoMemory>
 ///
 /// # Errors
 ///
-/// `NoMemory` where no memory was left.
+/// `NoMemory` where memory runs out.
 pub fn print(alloc: Global, replayed: &Replayed) -> Result<Vec<u8>, NoMemory>
     ensures { IfOk result (λ text. text.items ≡ printed_text replayed.now.answers.items replayed.now.core) }
 {

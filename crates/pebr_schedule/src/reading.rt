@@ -25,27 +25,27 @@ pub struct Schedule {
 /// Why a text isn't read.
 #[derive(Clone, Copy, PartialEq, Eq, Debug)]
 pub enum ScheduleError {
-    /// The first line that is out of the grammar, counted from 1.
+    /// The number of the first line that isn't of the grammar, counted from 1.
     BadLine(u64),
-    /// No memory was left.
+    /// Out of memory.
     NoMemory,
 }
 
-/// Reads a schedule. Each has one text: a line `core R N H B W`, and a line for each step, of its word
-/// and its numbers, in decimal and with one space between them; each line ends with a line feed. The
-/// numbers of a step are at most 65,535, but a value to write is any number below 2^64; those of the
-/// shape are at most 64 roots, 16 seats, 8 shields, a batch of 64 and 10 words. Whether the steps are
-/// enabled plays no part.
+/// Reads a schedule. Each schedule has exactly one text: a line `core R N H B W`, and a line for each
+/// step, of its word and its numbers, in decimal and with one space between them; each line ends with
+/// a line feed. The numbers of a step are at most 65,535, but a value to write is any number below
+/// 2^64. The shape has 1 to 64 roots, 1 to 16 seats, 1 to 8 shields of a seat, a batch of 1 to 64 and
+/// 1 to 10 words of a slot. Whether the steps are enabled isn't looked at.
 ///
 /// # Errors
 ///
-/// `BadLine(n)` where line n, counted from 1, is the first that is no such line; an empty text lacks
-/// line 1, and a rest without a line feed is no line. `NoMemory` where no memory was left.
+/// `BadLine(n)` where line n, counted from 1, is the first that isn't such a line; an empty text lacks
+/// line 1, and a rest without a line feed isn't a line. `NoMemory` where memory runs out.
 pub fn read_schedule(alloc: Global, text: &[u8]) -> Result<Schedule, ScheduleError>
     ensures read { IfOk result (λ schedule. schedule_of text.now ≡ Ok (schedule.shape, schedule.steps.items)) }
     ensures bad { (number : ℕ) → result ≡ Err (ScheduleError.BadLine number) → schedule_of text.now ≡ Err number }
 
-    // What is read is spelled so, and what is spelled so is read.
+    // What is read has the spelling of `spelled_text`, and what has this spelling is read.
     ensures spelled { IfOk result (λ schedule. text.now ≡ spelled_text schedule.shape schedule.steps.items) }
     ensures printable { IfOk result (λ schedule. IsPrintable schedule.shape) }
     ensures writable { IfOk result (λ schedule. AreWritable schedule.steps.items) }
@@ -109,7 +109,7 @@ fn read_steps(alloc: Global, text: &[u8]) -> Result<Vec<Step>, ScheduleError>
     }
 }
 
-/// Puts a step behind the others.
+/// Appends a step to the others.
 fn push(steps: &mut Vec<Step>, step: Step) -> Result<(), NoMemory>
     ensures { OnOk result (steps.new.items ≡ steps.old.items ++ step ∷ []) }
 {

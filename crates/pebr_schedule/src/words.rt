@@ -8,7 +8,8 @@ ghost use Rattle.pebr_schedule.specs.Rest.{pieces_after};
 use pebr_core::NoMemory;
 use std::alloc::Global;
 
-/// Cuts a text at the first place of a byte: what stands before it, and what after it.
+/// Cuts a text at the first place of a byte: what stands before it, and what after it; `None` for the
+/// latter where the byte doesn't occur.
 pub fn cut(text: &[u8], at: u8) -> (&[u8], Option<&[u8]>)
     ensures pieces { pieces_of at text.now ≡ result.0.now ∷ pieces_after at (option_copied result.1) }
     ensures shorter { IfSome result.1 (λ rest. length rest.now < length text.now) }
@@ -28,7 +29,7 @@ fn is_digit(byte: u8) -> bool
     b'0' <= byte && byte <= b'9'
 }
 
-/// Whether a word has decimal digits alone, and no leading zero.
+/// Whether a word is decimal digits alone, at least one, without a leading zero.
 fn is_numeral(word: &[u8]) -> bool
     ensures { result ≡ is_numeral word.now }
 {
@@ -40,7 +41,7 @@ fn is_numeral(word: &[u8]) -> bool
     !word.is_empty() && (word.len() == 1 || word[0] != b'0')
 }
 
-/// The number that a word stands for.
+/// The number that a word stands for: decimal digits without a leading zero, below 2^64. Else none.
 pub fn number(word: &[u8]) -> Option<u64>
     ensures { result ≡ number_of word.now }
 {
@@ -57,7 +58,7 @@ pub fn number(word: &[u8]) -> Option<u64>
     Some(number)
 }
 
-/// A number with one more digit, where it fits.
+/// A number with one more decimal digit behind it, where the result fits 64 bits.
 fn number_with_digit(number: u64, digit: u8) -> Option<u64>
     requires { 48 ≤ digit }
     ensures { MatchOption result (2 ^ 64 ≤ number * 10 + (digit - 48)) (λ more. more ≡ number * 10 + (digit - 48)) }
@@ -66,7 +67,8 @@ fn number_with_digit(number: u64, digit: u8) -> Option<u64>
     tens.checked_add(u64::from(digit - b'0'))
 }
 
-/// The numbers that the words of a text stand for, with one space between them.
+/// The numbers that the words of a text stand for, with one space between them; none where one of the
+/// words isn't a number.
 pub fn numbers(alloc: Global, text: Option<&[u8]>) -> Result<Option<Vec<u64>>, NoMemory>
     ensures { IfOk result (λ found. option_map (λ numbers. numbers.items) found
         ≡ numbers_of (pieces_after 32 (option_copied text.entry))) }
@@ -84,7 +86,7 @@ pub fn numbers(alloc: Global, text: Option<&[u8]>) -> Result<Option<Vec<u64>>, N
     Ok(Some(numbers))
 }
 
-/// Puts a number behind the others.
+/// Appends a number to the others.
 fn push(numbers: &mut Vec<u64>, value: u64) -> Result<(), NoMemory>
     ensures { OnOk result (numbers.new.items ≡ numbers.old.items ++ value ∷ []) }
 {

@@ -1,4 +1,4 @@
-//! Fragments and records of flows that the tests of several crates share. No program stands on it.
+//! Fragments and records of flows that the tests of several crates share. No program uses it.
 #![tactic(auto)]
 
 mod parts;

@@ -1,4 +1,4 @@
-//! Fragments as gathering wants them.
+//! Fragments in the form that gathering takes.
 
 ghost use Rattle.std.specs.Prelude.{◌≡◌, ◌<◌, ◌^◌, IsTrue, IfOk, sum_by};
 ghost use Rattle.flow_parts.specs.declared.fragment.Fragment.{Fragment};

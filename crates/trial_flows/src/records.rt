@@ -6,7 +6,8 @@ use flow_parts::Fragment;
 use record_ledger::FlowRecord;
 use trial_samples::{tcp_over_ipv6, udp_key};
 
-/// UDP over IPv4 from this port of 192.0.2.1 to port 53 of 192.0.2.2, from 1000 s on, forced end.
+/// UDP over IPv4 from this port of 192.0.2.1 to port 53 of 192.0.2.2, from 1000 s to `last` in milliseconds, forced
+/// end.
 pub fn udp_flow(source_port: u16, packets: u64, octets: u64, last: u64) -> FlowRecord
     requires some { 1 ≤ packets }
     requires later { 1000000 ≤ last }

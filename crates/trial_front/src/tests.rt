@@ -11,7 +11,8 @@ use packet_accept::Packet;
 use std::alloc::Global;
 use trial_samples::udp_key;
 
-/// Five flows by their source ports. The first three have one place, the others the first and the last place of all.
+/// Five flows by their source ports. The first three have the same place, and the others have the first and the last
+/// place of all.
 const ONE: u16 = 1733;
 
 const TWO: u16 = 3226;
@@ -37,7 +38,7 @@ fn new_front(alloc: Global) -> Result<Counted, NoMemory> {
 }
 
 impl Counted {
-    /// Takes in a packet of 40 octets of a flow, at a second.
+    /// Takes in a packet of 40 octets of a flow, at this second.
     fn take_in(&mut self, flow: u16, second: u32) -> Option<Fragment> {
         if self.left == 0 {
             return None;
@@ -59,7 +60,7 @@ impl Counted {
     }
 }
 
-/// The fragment of so many packets of 40 octets of a flow, from one second to another.
+/// The fragment of `packets` packets of 40 octets of a flow, from the second `first` to the second `last`.
 fn part(flow: u16, packets: u32, first: u32, last: u32) -> Option<Fragment>
     requires packets { 1 ≤ packets }
     requires seconds { first ≤ last }
@@ -74,9 +75,10 @@ fn part(flow: u16, packets: u32, first: u32, last: u32) -> Option<Fragment>
     })
 }
 
-/// What leaves for each packet: the second entry is opened where the first is of another flow; each takes in its own flow;
-/// of two the one with the least last time leaves, the first among equals; one of the flow that doesn't fit leaves, in
-/// either entry, and also where the other is empty, which stays so. At the end each open fragment comes once, place by
+/// What leaves for each packet. The second entry of a place is opened where the first is of another flow. Each entry
+/// takes in packets of its own flow. Where both are of other flows, the one with the least last time leaves, or the
+/// first where the times are equal. An entry of the packet's own flow that the packet doesn't fit leaves, in either
+/// entry, and also where the other entry is empty, which stays so. At the end each open fragment comes once, place by
 /// place.
 #[test]
 fn two_entries_of_a_place(rt: HostRuntime) -> Result<(), NoMemory> {

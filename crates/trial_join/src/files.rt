@@ -13,7 +13,7 @@ pub(crate) struct Held {
     pub fails: &'static [u64],
 }
 
-/// A file that is open, and how many of its reads failed. What it has left isn't told.
+/// A file that is open, and how many of its reads failed. The contracts don't say what it has left.
 #[derive(Drop)]
 pub(crate) struct HeldFile<'a> {
     source: MemSource<'a>,
@@ -36,7 +36,7 @@ impl<'a> Source for HeldFile<'a> {
     }
 }
 
-/// Files of which each can be opened by its name. What they have isn't told.
+/// Files of which each can be opened by its name. The contracts don't say what they have.
 #[derive(Drop)]
 pub(crate) struct HeldFiles<'a> {
     files: &'a [Held],
@@ -44,7 +44,7 @@ pub(crate) struct HeldFiles<'a> {
 }
 
 impl<'a> HeldFiles<'a> {
-    /// None is open.
+    /// These files, with no fault counted yet.
     pub(crate) fn new(files: &'a [Held]) -> HeldFiles<'a> {
         HeldFiles { files, faults: 0 }
     }

@@ -1,4 +1,4 @@
-//! Streams octet by octet, and what is written of them joined.
+//! Streams octet by octet, and what is written when they are joined.
 
 use crate::files::{Held, HeldFiles};
 use join_program::run_join;
@@ -11,12 +11,12 @@ use trial_samples::{octets_of, words_of};
 mod refused;
 mod splits;
 
-/// The message with the templates, behind its length and export time.
+/// The message with the templates, from behind its length and export time on.
 const TEMPLATES: &str = "00000000 00000001 0002 0064 \
     0100000b 00080004 000c0004 00070002 000b0002 00040001 00060002 00020008 00010008 00980008 00990008 00880001 \
     0101000b 001b0010 001c0010 00070002 000b0002 00040001 00060002 00020008 00010008 00980008 00990008 00880001";
 
-/// The header of a message of one record of IPv4 behind its export time, and of its set.
+/// The rest of the header, behind the export time, of a message with one record over IPv4, and the header of its set.
 const ONE: &str = "00000000 00000001 0100 0034";
 
 /// How a run ended, what it wrote, and what it reported.

@@ -1,6 +1,6 @@
 //! Trials of the crates that meter a capture together: windows, workers, the cache and the gathering of records; and
-//! the same captures metered while they are read, through a queue. It has tests alone, since no crate below them has
-//! all of these, and a gate, [`Meeting`], that trials above it hand in too.
+//! the same captures metered while they are read, through a queue. It is a crate of its own, since no crate below
+//! it stands on all of these. Besides tests it has only a gate, [`Meeting`], that other trials use too.
 #![tactic(auto)]
 
 mod meeting;

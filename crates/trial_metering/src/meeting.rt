@@ -6,7 +6,8 @@ use std::sync::atomic::{AtomicU64, Ordering};
 /// How often a worker looks for the other one before it gives up.
 const TURNS: u64 = 100_000_000;
 
-/// A gate that holds the worker at the first piece until another worker is at a piece.
+/// A gate that holds the worker at the first piece until another worker has reached a piece, or `TURNS` looks were in
+/// vain.
 #[derive(Drop)]
 pub struct Meeting {
     /// The worker at the first piece, counted from 1.
@@ -25,7 +26,7 @@ impl Meeting {
         }
     }
 
-    /// Whether another worker was at a piece, and the first never gave up.
+    /// Whether another worker reached a piece, and the first one never gave up waiting.
     pub fn has_met(&self) -> bool {
         self.met.load(Ordering::SeqCst) == 1 && self.failed.load(Ordering::SeqCst) == 0
     }

@@ -6,7 +6,7 @@ use std::test::Fail;
 
 /// The octets that hexadecimal digits in several pieces stand for; spaces are skipped.
 ///
-/// A failure where what is left are no pairs of digits, or memory is out.
+/// A failure where the rest isn't pairs of hexadecimal digits, or memory runs out.
 pub fn octets_of(alloc: Global, pieces: &[&str]) -> Result<Vec<u8>, Fail> {
     let mut digits = Vec::new(alloc);
     for piece in pieces {

@@ -1,5 +1,5 @@
 //! Frames, headers and keys, octets written in hexadecimal, and the words of command lines, that the tests of several
-//! crates share. No program stands on it.
+//! crates share. No program uses it.
 #![tactic(auto)]
 
 pub mod frames;

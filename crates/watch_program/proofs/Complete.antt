@@ -1,4 +1,4 @@
--- Where an undamaged capture was given and no call failed, a command is done, or memory is out.
+-- Where an undamaged capture was given and no call failed, a command is done, or memory ran out.
 use Rattle.std.proofs.Common.{◌≡◌, ◌⊎◌, inl, inr, ℕ, List, Option, Some, None, refl, sym, ◌∙◌, subst}
 use Rattle.std.specs.Prelude.{IsSomeAnd}
 use Rattle.pcap_reader.specs.File.{IsKnownLink, capture_file}

@@ -1,4 +1,4 @@
--- What is known of the file that some bytes are.
+-- What is known of the capture file in some bytes.
 use Rattle.std.proofs.Common.{◌≡◌, ℕ, List, None, Result, Err, subst}
 use Rattle.std.specs.Prelude.{IsSomeAnd}
 use Rattle.pcap_reader.specs.File.{CaptureFile, IsCaptureOf, capture_file, IsKnownLink}

@@ -58,7 +58,7 @@ pub all : (most : ℕ) (packets : List Packet) (keys : List FlowKey) → keys �
 all most packets keys are few = are ∙ ap keys_in
     (sym (take_all most packets (subst (λ k. k ≤ most) (count keys packets are) few)))
 
--- as many as are asked for are asked for, where there are packets
+-- the number of asks is the same by the keys that are asked for and by the packets
 pub count-same : (asks : ℕ) (packets : List Packet) → count_of asks (asked_keys asks packets) ≡ count_of asks packets
 count-same asks [] = ap (λ (l : List Packet). count_of asks (keys_in l)) (take_all asks [] (omega arith))
 count-same zero (p ∷ ps) = refl

@@ -1,4 +1,4 @@
--- What was held are flows of some of the packets.
+-- The flows that were held are flows of some of the packets.
 use Rattle.std.proofs.Common.{◌≡◌, ◌<◌, ℕ, zero, suc, false, arith, List, [], ◌∷◌, ◌++◌, flat_map, All, sym, ap, ◌∙◌}
 use Rattle.std.proofs.Common.{subst, append-nil}
 use Rattle.std.specs.List.{AllZip}
@@ -44,7 +44,7 @@ behind : {A : Type 0} (P : A → Type 0) (xs ys : List A) → All P (xs ++ ys) �
 behind P [] ys all = all
 behind P (x ∷ xs) ys all = behind P xs ys (All-tail P x (xs ++ ys) all)
 
--- what who asked saw are flows of packets that were shared out by what was put in
+-- what the asker saw are flows of packets that were shared out by what was put in
 pub seen-of : (bytes : List ℕ) (limits : Timeouts) (one other both : PassMeans) → IsUnited one other both
     → IsAsker other.note
     → IsCaptureOf (λ file. SharesOut limits (packets_of file) one.note.taken) bytes
@@ -77,7 +77,7 @@ each-of limits packets (Absent ∷ answers) all =
 each-of limits packets (Lost ∷ answers) all =
     All-cons (IsOfPackets limits packets) Lost answers tt (each-of limits packets answers all)
 
--- one answer more
+-- one more answer
 pub asker-still : (answer : Answer) (old new : Note) → IsAsker old → new ≡ note_answered answer old → IsAsker new
 asker-still (Held flow) old new asker is = is
     ∙ (λ i. record {

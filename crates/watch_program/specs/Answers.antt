@@ -10,7 +10,7 @@ use Rattle.cache_face.specs.Notes.{Note, note_seeing}
 use Rattle.watch_program.specs.declared.answer.Answer.{Answer}
 use Rattle.watch_program.specs.declared.answer.Answer.TheVariants.{Held, Absent, Lost}
 
--- A flow that was held has a packet at least, and doesn't begin behind its end.
+-- A flow that was held has at least one packet, and its first time isn't after its last.
 abbrev pub IsSound : Answer → Type 0
 IsSound (Held flow) = (1 ≤ flow.packets) × (flow.first ≤ flow.last)
 IsSound Absent = ⊤
@@ -22,7 +22,7 @@ IsOfKey key (Held flow) = flow.key ≡ key
 IsOfKey key Absent = ⊤
 IsOfKey key Lost = ⊤
 
--- A flow that was held is that of some of these packets: they are a heap of it.
+-- The flow is that of some of these packets: they are a heap of it.
 pub record IsOfSome (limits : Timeouts) (packets : List Packet) (flow : Fragment) : Type 0 where
   pub heap : List Packet
   pub others : List Packet
@@ -43,20 +43,20 @@ flow_in Lost = []
 abbrev pub held_in : List Answer → List Fragment
 held_in answers = flat_map flow_in answers
 
--- The note of who asked: it put nothing in and was handed nothing, and what was held it saw.
+-- The note of the asker: it put nothing in, was handed nothing, and saw the flows that were held.
 abbrev pub asker_note : List Fragment → Note
 asker_note seen = record { seats = 1; taken = []; handed = []; seen = seen }
 
 abbrev pub IsAsker : Note → Type 0
 IsAsker note = note ≡ asker_note note.seen
 
--- An answer more: a flow that was held was seen.
+-- The note after one more answer: a flow that was held was seen.
 abbrev pub note_answered : Answer → Note → Note
 note_answered (Held flow) note = note_seeing note flow
 note_answered Absent note = note
 note_answered Lost note = note
 
--- How often is asked: nobody asks where there is nothing to ask for.
+-- The number of asks: 0 where there is nothing to ask for.
 abbrev pub count_of : {T : Type 0} → ℕ → List T → ℕ
 count_of asks [] = 0
 count_of asks (one ∷ more) = asks
@@ -65,7 +65,7 @@ count_of asks (one ∷ more) = asks
 abbrev pub keys_in : List Packet → List FlowKey
 keys_in packets = map (λ (p : Packet). p.key) packets
 
--- The keys that are asked for: those of the first packets, at most so many.
+-- The keys that are asked for: those of the first `most` packets, or of all where there are fewer.
 abbrev pub asked_keys : ℕ → List Packet → List FlowKey
 asked_keys most packets = keys_in (take most packets)
 

@@ -7,8 +7,8 @@ use Rattle.watch_program.specs.declared.answer.Answer.TheVariants.{Held, Absent,
 abbrev pub number_text : ℕ → List ℕ
 number_text number = codes " " ++ decimal number
 
--- The line of an ask. Of a flow that was held it tells the packets, the octets, and the times of the earliest and of
--- the latest packet.
+-- The line of an ask. Of a flow that was held it has the packets, the octets, and the times of the earliest and of the
+-- latest packet in milliseconds.
 unfoldable pub line_of : Answer → List ℕ
 line_of (Held flow) =
     codes "held"

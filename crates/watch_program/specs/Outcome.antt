@@ -1,4 +1,4 @@
--- What a run means, by what its words ask for and by its status.
+-- What the status of a run means, for each command line.
 use Rattle.std.specs.Prelude.{ℕ, ◌≡◌, ◌⊎◌, ◌≤◌, ◌^◌, List, length, Option, Some, None, All, ⊤}
 use Rattle.meter_io.specs.Sides.{Side, HasFailed, IsUntouched, IsRead, IsTooLarge, IsBroken, IsWrong, HasTaken}
 use Rattle.meter_io.specs.Sides.{HasBegun}
@@ -14,14 +14,14 @@ use Rattle.watch_program.specs.Answers.{IsSound, AreAnswers, asked_keys, count_o
 use Rattle.watch_program.specs.Lines.{text_of}
 use Rattle.watch_program.specs.Words.{Asked}
 
--- The most bytes of a capture.
+-- The most bytes that a capture may have.
 abbrev pub limit : ℕ
 limit = 2 ^ 30
 
 -- The bytes are an undamaged capture. What is written is a line for each ask, or none where the capture has no accepted
--- packet, and then the number and the octets of its accepted packets. Ask k is for the key of accepted packet k, modulo
--- the number of those that are asked for. A flow that was held has this key and is that of some of the accepted
--- packets: they are a heap of it, so it has a packet at least, and doesn't begin behind its end.
+-- packet, and then the number and the octets of its accepted packets. Ask k, counted from 0, is for the key of accepted
+-- packet k, modulo the number of accepted packets. A flow that was held has this key and is that of some of the
+-- accepted packets, which are a heap of it. It has at least one packet, and its first time isn't after its last.
 pub record IsWatched (asks : ℕ) (capture written : List ℕ) : Type 0 where
   pub file : CaptureFile
   pub is_file : capture_file capture ≡ Some file
@@ -50,7 +50,7 @@ pub record IsCutOff (asked : Asked) (input output : Side) : Type 0 where
   pub begun : HasBegun output written
   pub cause : HasFailed output
 
--- Why bytes are refused with a status; never with the others.
+-- Why bytes are refused with each status; where this is `⊥`, they are never refused with that status.
 abbrev pub BytesRefuse : List ℕ → WatchStatus → Type 0
 BytesRefuse bytes NotCapture = capture_file bytes ≡ None
 BytesRefuse bytes (LinkUnknown link) = IsCaptureOf (λ file. (file.link ≡ link) × ¬ IsKnownLink link) bytes
@@ -62,7 +62,7 @@ BytesRefuse bytes Usage = ⊥
 BytesRefuse bytes Done = ⊥
 BytesRefuse bytes WriteFault = ⊥
 
--- Why a command refuses with a status; never with the others.
+-- Why a command refuses with each status; where this is `⊥`, a command never refuses with that status.
 abbrev pub Refuses : Side → WatchStatus → Type 0
 Refuses input ReadFault = IsBroken input limit
 Refuses input TooLarge = IsTooLarge input limit
@@ -91,22 +91,23 @@ Ends asked input output (Damaged at) = IsRefused input output (Damaged at)
 Ends asked input output TooLarge = IsRefused input output TooLarge
 Ends asked input output NoMemory = IsRefused input output NoMemory
 
--- The words ask for nothing, or memory was out before they were read: nothing is read and nothing is written.
+-- The words are no command, and the run says so or runs out of memory: nothing is read and nothing is written.
 pub record IsUsage (input output : Side) (status : WatchStatus) : Type 0 where
   pub usage : (status ≡ Usage) ⊎ (status ≡ NoMemory)
   pub unread : IsUntouched input
   pub unwritten : IsUntouched output
 
--- What a run means, by what its words ask for.
+-- What the status of a run means: the words are no command, or they ask for a watch.
 abbrev pub RunMeans : Option Asked → Side → Side → WatchStatus → Type 0
 RunMeans None input output status = IsUsage input output status
 RunMeans (Some asked) input output status = Ends asked input output status
 
--- The input is an undamaged capture.
+-- The bytes are an undamaged capture of a known link type, no longer than the limit.
 abbrev pub IsValid : List ℕ → Type 0
 IsValid bytes = (length bytes ≤ limit) × IsCaptureOf (λ file. IsKnownLink file.link × (damage_of file ≡ None)) bytes
 
--- For a command and such a capture, where no call failed, the run is done, or memory is out.
+-- A command whose input is such a capture is done, or runs out of memory, where no call on the input or the output
+-- failed.
 abbrev pub IsComplete : Option Asked → Side → Side → WatchStatus → Type 0
 IsComplete words input output status =
     (asked : Asked) (bytes : List ℕ) → words ≡ Some asked → input.before ≡ Some bytes → IsValid bytes

@@ -4,7 +4,7 @@ use Rattle.std.specs.Str.{bytes_eq}
 use Rattle.command_words.specs.Options.{Rule, values_of}
 use Rattle.watch_program.specs.declared.settings.WatchSettings.{WatchSettings}
 
--- To meter by so many workers through a cache of so many sets, and to ask so often.
+-- What is asked for: how many workers meter, how many sets the cache has, and how many asks there are.
 pub record Asked : Type 0 where
   pub workers : ℕ
   pub sets : ℕ

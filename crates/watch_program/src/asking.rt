@@ -1,4 +1,4 @@
-//! Who asks for open flows while workers meter.
+//! The asker: it asks for open flows while workers meter.
 
 ghost use Rattle.std.specs.Prelude.{◌≡◌, None, All, IfOk, length};
 ghost use Rattle.cache_face.specs.Notes.{first_note};
@@ -15,7 +15,7 @@ use meter_workers::Gate;
 use no_memory::NoMemory;
 use std::alloc::Global;
 
-/// What asking runs on: memory, the gate, and the number of a worker by which the gate is told of each ask.
+/// What asking runs on: the allocator, the gate, and the worker's number under which the gate is told of each ask.
 #[derive(Drop)]
 pub(crate) struct Asker<'a, G: Gate> {
     pub(crate) alloc: Global,
@@ -23,7 +23,7 @@ pub(crate) struct Asker<'a, G: Gate> {
     pub(crate) number: usize,
 }
 
-/// What came of asking, and the pass of who asked.
+/// What came of asking, and the asker's pass.
 #[derive(Drop)]
 pub(crate) struct Asking {
     pub(crate) pass: PebrPass,
@@ -51,8 +51,8 @@ fn ask(cache: &PebrCache, watcher: &mut Watcher, key: &FlowKey) -> Answer
     }
 }
 
-/// Asks so often, for the keys in turn. Before each ask the gate is told, as if a worker of the asker's number came to
-/// a piece.
+/// Asks `asks` times, for the keys in turn, or never where there is no key. Before ask k, counted from 0, the gate is
+/// told that the worker with the asker's number is at piece k.
 fn ask_in_turn<G: Gate>(
     asker: &Asker<'_, G>,
     cache: &PebrCache,
@@ -83,8 +83,9 @@ fn ask_in_turn<G: Gate>(
     Ok(answers)
 }
 
-/// Asks so often, for the keys in turn, by a watcher at the seat of a pass that has done nothing, and closes the
-/// watcher. The pass has put nothing in then and was handed nothing; it saw the flows that were held.
+/// Asks `asks` times, for the keys in turn, or never where there is no key, by a watcher at the seat of a pass that has
+/// done nothing yet, and closes the watcher. The pass still has put nothing in and was handed nothing; it saw the flows
+/// that were held.
 ///
 /// The answers are `NoMemory` where there is no room for them.
 pub(crate) fn ask_all<G: Gate>(

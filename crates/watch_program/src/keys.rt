@@ -12,7 +12,7 @@ use packet_accept::{accept, packets_law};
 use pcap_reader::{Capture, RecordIndex};
 use std::alloc::Global;
 
-/// Appends the key of a record, where the record is accepted.
+/// Appends the key of the record with this number, where the record is accepted.
 fn append_key(
     keys: &mut Vec<FlowKey>,
     capture: &Capture<'_>,
@@ -34,7 +34,8 @@ fn append_key(
     Ok(())
 }
 
-/// The keys of the first accepted packets of a capture, in file order, at most so many.
+/// The keys of the first accepted packets of a capture, in file order: of `most` packets, or of all where there are
+/// fewer.
 ///
 /// `NoMemory` where there is no room for them.
 pub(crate) fn keys_of(

@@ -16,7 +16,7 @@ fn append_number(text: &mut Vec<u8>, number: u64) -> Result<(), NoMemory>
     append_numbered(text, b" ", number)
 }
 
-/// Appends the line of a flow that was held.
+/// Appends the line of a flow that was held: its packets and octets, and its first and last time in milliseconds.
 #[tactic(auto, unfolding(crate::specs::Lines::line_of))]
 fn append_held(text: &mut Vec<u8>, flow: &Fragment) -> Result<(), NoMemory>
     ensures { OnOk result (text.new.items ≡ text.old.items ++ line_of (Answer.Held flow.now)) }
@@ -64,7 +64,7 @@ fn append_lines(text: &mut Vec<u8>, answers: &[Answer]) -> Result<(), NoMemory>
 
 /// The text: a line for each ask, and the line of the total.
 ///
-/// The one error is want of memory.
+/// `NoMemory`: out of memory.
 pub(crate) fn text_of(
     alloc: Global,
     answers: &[Answer],

@@ -20,7 +20,8 @@ use pcap_reader::{CAPTURE_LIMIT, Capture, CaptureError, IndexError};
 use std::alloc::Global;
 use std::thread::Threads;
 
-/// The text of watching while the capture that these bytes are is metered, or why there is none.
+/// The text that is written for the capture in these bytes, which is metered while open flows are asked for; or the
+/// status that says why there is none.
 fn text_for<R: Threads + Sync, G: Gate>(
     engine: &Engine<'_, R, G>,
     settings: &WatchSettings,
@@ -83,29 +84,29 @@ fn watch_input<R: Threads + Sync, S: Source, K: Sink, G: Gate>(
 
 /// Meters a capture by some workers through one cache, and meanwhile asks for open flows by a watcher, which holds
 /// each, reads it and releases it. The words are `watch`, and behind it `--workers`, from 1 to 63, by default 1,
-/// `--sets` with the number of sets of the cache, from 1 to 65,536, by default 4096, and `--asks` with how often is
-/// asked, from 1 to 10,000, by default 100; each at most once, in any order, as `--name value` or `--name=value`. The
-/// time-outs are 300 and 1800 seconds, and a piece has 256 records.
+/// `--sets` with the number of sets of the cache, from 1 to 65,536, by default 4096, and `--asks` with the number of
+/// asks, from 1 to 10,000, by default 100; each at most once, in any order, as `--name value` or `--name=value`. The
+/// idle time-out is 300 seconds, the active one 1800, and a piece has 256 records.
 ///
-/// Ask k, counted from 0, is for the flow of accepted packet k of the capture, modulo their number, in file order;
-/// without an accepted packet nothing is asked. The gate is told of each piece of a worker, and before ask k that the
-/// worker whose number is that of the workers is at piece k. For each ask the output takes a line: `held P O F L` with
-/// the packets, the octets, and the times of the earliest and of the latest packet in milliseconds since
+/// Ask k, counted from 0, is for the flow of accepted packet k of the capture, in file order, modulo the number of
+/// accepted packets; where there is none, nothing is asked. The gate is told of each piece of a worker. With W workers,
+/// numbered from 0, it is told before ask k that worker W is at piece k. For each ask there is a line: `held P O F L`
+/// with the packets, the octets, and the times of the earliest and of the latest packet in milliseconds since
 /// 1970-01-01T00:00:00Z, as the flow stood when it was held: those of some of the capture's packets of this key;
-/// `absent` where the cache had no such flow; `lost` where the watcher was ejected three times. Behind them stands
-/// `total P O` with the packets and the octets of all fragments that the cache handed out and kept: those of all
+/// `absent` where the cache had no such flow; `lost` where the watcher was ejected three times. Then comes one line,
+/// `total P O`, with the packets and the octets of all fragments that the cache handed out and kept: those of all
 /// accepted packets.
 ///
 /// The input, at most 2^30 bytes, is read to its end, and all memory is taken before anything is written. At a refusal,
 /// any status but `Done` and `WriteFault`, nothing is written. They come in this order:
 ///
-/// - `Usage`: exactly where the words are no command. Nothing is read.
+/// - `Usage`: exactly where the words aren't such a command. Nothing is read.
 /// - `ReadFault`: only where a read failed and the input counted it. `TooLarge`: exactly where more bytes came than
 ///   2^30.
 /// - `NotCapture`: exactly where the bytes don't begin with the header of a classic capture. `LinkUnknown`: exactly
 ///   where they do, and its link type isn't read. `Damaged`: exactly where the record header at that offset is the
 ///   first that claims more than 262,144 captured bytes.
-/// - `WriteFault`: only where a write failed and the output counted it; it took a beginning of what it was to take.
+/// - `WriteFault`: only where a write failed and the output counted it; it took a beginning of the text.
 /// - `NoMemory`: out of memory, at any point before the first write.
 pub fn run_watch<R: Threads + Sync, S: Source, K: Sink, G: Gate>(
     rt: &R,

@@ -8,22 +8,22 @@ ghost use Rattle.watch_program.specs.Statuses.{exit_status};
 pub enum WatchStatus {
     /// All was done.
     Done,
-    /// The input failed.
+    /// A read of the input failed.
     ReadFault,
-    /// The words are no command.
+    /// The words of the command line aren't a valid command.
     Usage,
     /// A write failed.
     WriteFault,
-    /// The input is no classic capture.
+    /// The input isn't a classic pcap capture.
     NotCapture,
     /// The capture has this link type, which isn't read.
     LinkUnknown(u32),
     /// The record header at this offset, in octets from the beginning of the input, claims more than 262,144 captured
     /// octets.
     Damaged(u64),
-    /// The input is larger than the limit.
+    /// The input is larger than the limit, 2^30 bytes.
     TooLarge,
-    /// Want of memory.
+    /// Out of memory.
     NoMemory,
 }
 

@@ -25,7 +25,7 @@ pub(crate) fn total_of(parts: PartList) -> Result<(u64, u64), NoMemory>
     Ok((packets, octets))
 }
 
-/// Those of some fragments.
+/// The packets and the octets of some fragments, whose sums both fit 64 bits.
 fn total_of_piece(parts: &[Fragment]) -> (u64, u64)
     requires packets { sum_by (λ f. f.packets) parts.now < 2 ^ 64 }
     requires octets { sum_by (λ f. f.octets) parts.now < 2 ^ 64 }

@@ -1,4 +1,4 @@
-//! Workers that meter a capture through a cache, beside one who asks for its open flows.
+//! Workers that meter a capture through a cache, while the asker asks for its open flows.
 
 ghost use Rattle.std.specs.Prelude.{◌≡◌, ◌+◌, ◌^◌, ◌<◌, ◌≤◌, length, Some, All, IfOk, OnOk};
 ghost use Rattle.pcap_reader.specs.File.{IsCaptureOf, capture_file, IsKnownLink};
@@ -45,10 +45,10 @@ pub(crate) struct Watched {
     pub(crate) octets: u64,
 }
 
-/// Meters the capture that these bytes are by a worker for each of the passes.
+/// Meters the capture in these bytes by a worker for each of the passes.
 ///
-/// The capture is opened anew, which reads its header alone: of a closure that holds a struct with a lifetime a join
-/// tells nothing.
+/// The capture is opened again here, which only reads its header, since a join of threads says nothing about a closure
+/// that holds a struct with a lifetime.
 fn meter_bytes<R: Threads + Sync, G: Gate>(
     engine: &Engine<'_, R, G>,
     bytes: &[u8],
@@ -78,8 +78,8 @@ fn meter_bytes<R: Threads + Sync, G: Gate>(
     meter_all(engine, &part, cache, passes, PIECE)
 }
 
-/// Meters the capture that these bytes are, and asks for open flows at the seat of one more pass, at once. Neither
-/// waits for the other, so both end in any order.
+/// Meters the capture in these bytes, and at the same time asks for open flows at the seat of one more pass. Neither
+/// waits for the other, so either may end first.
 fn at_once<R: Threads + Sync, G: Gate>(
     engine: &Engine<'_, R, G>,
     bytes: &[u8],
@@ -148,8 +148,8 @@ fn at_once<R: Threads + Sync, G: Gate>(
     )
 }
 
-/// Closes the cache with the passes of who metered and of who asked, and adds up what it handed out and kept. What the
-/// pass of who asked saw are flows of some of the packets.
+/// Closes the cache with the passes of the workers and of the asker, and adds up what it handed out and kept. What the
+/// asker's pass saw are flows of some of the packets.
 fn total_behind(
     alloc: Global,
     bytes: &[u8],
@@ -172,7 +172,7 @@ fn total_behind(
         (λ file. All (IsOfSome (means_of cache).limits (packets_of file)) (shown_of pass).note.seen) bytes.now) }
 {
     sharing_out_counts();
-    // It is there for the clauses alone.
+    // The parameter `bytes` is there for the clauses alone.
     let _ = bytes;
     let CaptureMetered {
         pass: others,
@@ -185,8 +185,8 @@ fn total_behind(
     Ok(total)
 }
 
-/// Meters the capture that these bytes are by so many workers, asks meanwhile for the flows of its first accepted
-/// packets in turn, and adds up what came of all packets.
+/// Meters the capture in these bytes by `settings.workers` workers, meanwhile asks for the flows of its first accepted
+/// packets in turn, and adds up the packets and octets of all that the cache handed out and kept.
 ///
 /// `NoMemory`: out of memory.
 pub(crate) fn watch_capture<R: Threads + Sync, G: Gate>(

@@ -51,7 +51,7 @@ fn settings(alloc: Global, words: &[String]) -> Result<WatchSettings, OptionsErr
 
 /// What the words behind the program's name ask for: the first is `watch`, and the others are its options.
 ///
-/// - `NotOptions`: exactly where they are no such words.
+/// - `NotOptions`: exactly where the words don't have this form.
 /// - `NoMemory`: out of memory.
 pub(crate) fn settings_of(alloc: Global, words: &[String]) -> Result<WatchSettings, OptionsError>
     ensures asked { IfOk result (λ settings. asked_by (map string_bytes words.now) ≡ Some (asked_of settings)) }

@@ -59,7 +59,8 @@ fn put(
     (choice, put_out(choice.how, &contents[choice.place]))
 }
 
-/// Whether this is done at this place, the content is to have the words of this fragment, and this one is put out.
+/// Whether the answer is this choice at this place, with the words of this fragment as the new content, and with this
+/// fragment put out.
 fn is(
     answer: (WordChoice, Option<Fragment>),
     how: How,
@@ -71,7 +72,7 @@ fn is(
     choice.how == how && choice.place == place && choice.words == kept.to_words() && was_out == out
 }
 
-/// Four entries that end at 5, 1, 3 and 4 s, or some of them and empty ones.
+/// The choice among four entries that end at 5, 1, 3 and 4 s, or among some of them and empty ones.
 #[test]
 fn choices_by_words(rt: HostRuntime) {
     let five = words(part(1, 4, 5));

@@ -54,7 +54,7 @@ fn is(choice: &Choice, how: How, place: usize, out: Option<Fragment>, kept: Frag
     choice.how == how && choice.place == place && choice.out == out && choice.kept == kept
 }
 
-/// One of four entries that end at 5, 1, 3 and 4 s.
+/// The choice among four entries that end at 5, 1, 3 and 4 s.
 #[test]
 fn choices_of_four(rt: HostRuntime) {
     let five = part(1, 4, 5);
@@ -147,7 +147,7 @@ fn lowest_among_equals(rt: HostRuntime) {
     );
 }
 
-/// One of two entries, by the same rules.
+/// The choice among two entries, by the same rules.
 #[test]
 fn choices_of_two(rt: HostRuntime) {
     let old = part(1, 100, 101);

@@ -11,7 +11,7 @@ use flow_parts::{Fragment, Timeouts};
 use packet_accept::Packet;
 use trial_samples::udp_key;
 
-/// A packet of a flow, at a second.
+/// A packet of 40 octets of a flow, at this second.
 pub fn packet(number: u64, flow: u16, second: u32) -> Packet
     ensures { (result.number ≡ number) × (result.octets ≡ 40) }
 {
@@ -52,7 +52,7 @@ pub fn meter_next(
     cache.meter(pass, &packet(number, flow, second))
 }
 
-/// A packet's flow and second, what becomes of it, and the flow whose fragment is put out, or 0.
+/// A packet's flow and second, what becomes of the packet, and the flow whose fragment is put out, or 0.
 type Row = (u16, u32, How, u16);
 
 /// The flow of the fragment that is handed out, or 0.
@@ -94,7 +94,8 @@ fn packets_of(parts: &[Fragment], flow: u16) -> u64 {
     packets
 }
 
-/// Four flows fill the set; the fifth puts the oldest out, and so does the second, which comes again; the first joins.
+/// Four flows fill the set. The fifth puts the oldest out, and so does the second flow when it comes again; the packet
+/// of the first flow joins its entry.
 #[test]
 fn one_set_and_one_seat(rt: HostRuntime) {
     let rows = [

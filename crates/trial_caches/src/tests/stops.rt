@@ -12,7 +12,7 @@ use flow_parts::{Fragment, Timeouts};
 use std::alloc::Global;
 use std::marker::{Brand, PhantomData};
 
-/// The cache that a crowd meters into. A proof picks it.
+/// The cache that a crowd meters into. The proof chooses it.
 trait IsInto {
     ghost use Rattle.flow_cache.specs.declared.cache.PebrCache as declared;
 
@@ -23,7 +23,7 @@ impl IsInto for Brand {
     ghost cache = { None };
 }
 
-/// Another pass of the cache, which meters where the point is first come to.
+/// Another pass of the cache, which meters when the point is first reached.
 #[derive(Drop)]
 struct Crowd<'a, K: IsInto> {
     cache: &'a PebrCache,
@@ -32,7 +32,7 @@ struct Crowd<'a, K: IsInto> {
     came: bool,
     /// The packets of the fragments that it was handed.
     handed: u64,
-    /// The most slots that it had retired behind a packet.
+    /// The most slots that it had retired after a packet.
     most: usize,
     marker: PhantomData<K>,
     ghost into: { K.cache ≡ Some cache.now },
@@ -58,7 +58,8 @@ fn packets_in(parts: &[Fragment]) -> u64 {
     packets
 }
 
-/// Meters 200 packets of other flows at 2 s: the packets that were handed out, and the most slots that were retired.
+/// Meters 200 packets of other flows at 2 s. Gives the number of packets that were handed out, and the most slots that
+/// were retired.
 fn meter_crowd(cache: &PebrCache, pass: &mut PebrPass) -> (u64, usize)
     requires own { IsOf cache.now pass.old }
     requires single { (shown_of pass.old).note.seats ≡ 1 }
@@ -142,7 +143,7 @@ fn meter_stopped<K: IsInto>(
     })
 }
 
-/// The same, in a cache of one set and two seats.
+/// Meters a packet as [`meter_stopped`] does, in a cache of one set and two seats.
 fn stopped_at(alloc: Global, point: Point) -> Result<Came, NoMemory> {
     let (cache, mut passes) = PebrCache::open(alloc, 1, 2, Timeouts::new(300, 1800))?;
     let Some(second) = take_pass(&cache, &mut passes) else {
@@ -154,11 +155,11 @@ fn stopped_at(alloc: Global, point: Point) -> Result<Came, NoMemory> {
     meter_stopped::<Brand>(alloc, cache, first, second, point)
 }
 
-/// Where the other pass meters while this one is in and hasn't replaced yet, the first try is lost: it was ejected, or
-/// its root has another slot. Else none is. No packet is lost or counted twice.
+/// Where the other pass meters while this one is in and hasn't replaced its slot yet, this pass loses its first try: it
+/// was ejected, or its root has another slot. Otherwise no try is lost. No packet is lost or counted twice.
 ///
-/// While this pass is out, the other one gets its slots back each time that it has retired 32. While it is in, it holds
-/// them up, until all 40 are retired and it is ejected.
+/// While this pass is out, the other one gets its slots back each time that it has retired 32. While this pass is in,
+/// it holds them up, until all 40 are retired and it is ejected.
 #[test]
 fn stopped_at_each_point(rt: HostRuntime) {
     let table = [

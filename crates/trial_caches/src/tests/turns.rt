@@ -12,7 +12,7 @@ use std::test::Fail;
 use trial_samples::udp_key;
 use turn_cache::TurnCaches;
 
-/// A packet of a flow, at a second.
+/// A packet of 40 octets of a flow, at this second.
 fn packet(number: u32, flow: u16, second: u32) -> Packet
     ensures { (result.number ≡ number) × (result.octets ≡ 40) }
 {
@@ -69,7 +69,7 @@ fn keep<C: FlowCache>(
     Ok(metered.how)
 }
 
-/// Whether a fragment of so many packets of this flow was handed out.
+/// Whether a fragment of this flow with this number of packets was handed out.
 fn is_out(metered: &Metered, flow: u16, packets: u64) -> bool {
     match metered.out {
         Some(part) => part.key.source_port == flow && part.packets == packets,

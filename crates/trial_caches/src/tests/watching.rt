@@ -12,7 +12,7 @@ use flow_parts::{Fragment, Timeouts};
 use packet_accept::Packet;
 use trial_samples::udp_key;
 
-/// A packet of 28 octets of a flow, at a second.
+/// A packet of 28 octets of a flow, at this second.
 fn packet(number: u64, flow: u16, second: u32) -> Packet
     ensures { (result.number ≡ number) × (result.octets ≡ 28) }
 {
@@ -47,7 +47,7 @@ fn meter_next(cache: &PebrCache, pass: &mut PebrPass, number: u64, flow: u16, se
     cache.meter(pass, &packet(number, flow, second));
 }
 
-/// Meters 200 packets of 200 other flows at 2 s: the most slots that were retired behind one of them.
+/// Meters 200 packets of 200 other flows at 2 s, and gives the most slots that were retired after one of them.
 fn meter_crowd(cache: &PebrCache, pass: &mut PebrPass) -> usize
     requires own { IsOf cache.now pass.old }
     requires single { (shown_of pass.old).note.seats ≡ 1 }
@@ -63,8 +63,8 @@ fn meter_crowd(cache: &PebrCache, pass: &mut PebrPass) -> usize
     most
 }
 
-/// What came of holding a flow: the answers before and behind the crowd, the most slots that the crowd had retired, and
-/// the flow as it was read behind it.
+/// What came of holding a flow: the answers before and after the crowd, the most slots that the crowd had retired, and
+/// the flow as it was read after the crowd.
 #[derive(Drop)]
 struct Came {
     before: Watch,
@@ -101,8 +101,8 @@ fn watch_flow(cache: &PebrCache, mut pass: PebrPass, other: PebrPass) -> Came
     }
 }
 
-/// The flow is read as it was when it was held, and behind it the flow is gone. The other pass collects past the
-/// watcher, which holds no pin, so it never has more than 32 slots retired.
+/// The flow is read as it was when it was held, and asked for again it is absent. The other pass collects past the
+/// watcher, which has no pin, so that pass never has more than 32 slots retired.
 #[test]
 fn held_while_it_is_put_out(rt: HostRuntime) {
     let (cache, mut passes) = PebrCache::open(rt.alloc(), 1, 2, Timeouts::new(300, 1800)).expect(

@@ -6,19 +6,19 @@ use std::alloc::Global;
 use std::test::Fail;
 use trial_samples::octets_of;
 
-/// Two packets of a flow.
+/// A record of two packets.
 const GOOD: &str =
     "c0000201 c0000202 0fa0 0035 11 0000 0000000000000002 0000000000000038 00000000000f4240 00000000000f4628 04";
 
-/// Their record, of twice as many packets and octets.
+/// The record that it becomes with itself: twice as many packets and octets.
 const TWICE: &str =
     "c0000201 c0000202 0fa0 0035 11 0000 0000000000000004 0000000000000070 00000000000f4240 00000000000f4628 04";
 
-/// A record with the most packets that there are.
+/// A record with the most packets that a record can count, 2^64 - 1.
 const MOST: &str =
     "c0000201 c0000202 0fa0 0035 11 0000 ffffffffffffffff 0000000000000038 00000000000f4240 00000000000f4628 04";
 
-/// A stream of one record that has an address alone.
+/// A stream of one record that has only an address, so it isn't a flow record.
 const OTHER: &str =
     "000a0024 00000000 00000000 00000001 0002000c 01020001 00080004 01020008 c0000201";
 
@@ -66,8 +66,8 @@ fn files_of(alloc: Global) -> Result<Vec<Held>, Fail> {
     Ok(files)
 }
 
-/// A command line, the status, the line that is reported, and what is written: nothing, or a stream of this record; or of
-/// none, where that is empty.
+/// A command line, the status, the line that is reported, and what is written: nothing, or a stream of this record, or
+/// a stream without a record where the text is empty.
 type Row = (&'static str, u8, &'static str, Option<&'static str>);
 
 static ROWS: [Row; 18] = [
@@ -101,7 +101,7 @@ static ROWS: [Row; 18] = [
     ("good", 2, "", None),
 ];
 
-/// What is written of no record or of one.
+/// The stream of one record, or of none where the text is empty.
 fn written(alloc: Global, record: &str) -> Result<Vec<u8>, Fail> {
     if record == "" {
         octets_of(alloc, &["000a0074 00000000", TEMPLATES])

@@ -1,4 +1,4 @@
-//! The packets of two captures in every two files, and in a file each.
+//! The packets of two captures, each packet in a stream of its own, joined in every division into two halves.
 
 use super::{TEMPLATES, join, stream_of_one};
 use crate::files::Held;
@@ -8,7 +8,7 @@ use std::test::Fail;
 use std::thread::Threads;
 use trial_samples::octets_of;
 
-/// A capture, by what is written of it.
+/// A capture, by what is written for it.
 struct Capture {
     /// The export time.
     time: &'static str,
@@ -62,7 +62,7 @@ const EXCHANGE: &[(&str, &str)] = &[
     ),
 ];
 
-/// Their flows.
+/// The flow records of these packets.
 const FLOWS: &[&str] = &[
     "0a000005 0a000001 c350 0035 11 0000 0000000000000001 000000000000003c 0000018bcfe5680a 0000018bcfe5680a 04",
     "0a000001 0a000005 0035 c350 11 0000 0000000000000001 000000000000004c 0000018bcfe56819 0000018bcfe56819 04",
@@ -82,7 +82,7 @@ const APART: &[(&str, &str)] = &[
     ),
 ];
 
-/// Their flow.
+/// The flow record of these packets.
 const FLOW: &[&str] = &[
     "c0000201 c0000202 0fa0 0035 11 0000 0000000000000002 0000000000000038 00000000000f4240 00000000000f4628 04",
 ];
@@ -104,7 +104,7 @@ static CAPTURES: [Capture; 2] = [
     },
 ];
 
-/// A stream for each packet, and one of none.
+/// A stream for each packet, and one without a record.
 fn streams_of(
     alloc: Global,
     time: &str,
@@ -144,7 +144,7 @@ fn whole_of(alloc: Global, capture: &Capture) -> Result<Vec<u8>, Fail> {
     Ok(stream)
 }
 
-/// The command line that joins the packets of one half: those whose bit of `half` is `bit`.
+/// The command line that joins the streams of one half: of packet k where bit k of `half` is `bit`.
 fn line_of(
     alloc: Global,
     packets: &[(&'static str, &str)],
@@ -180,7 +180,7 @@ fn a_file_for_each_packet(rt: HostRuntime) -> Result<(), Fail> {
     Ok(())
 }
 
-/// Joins the packets of a capture in two halves, and both halves.
+/// Joins the streams of each half of the packets, and then the two streams that come of it.
 fn check_half(
     rt: &(impl Abort + Threads + Sync),
     alloc: Global,

@@ -11,12 +11,12 @@ use std::alloc::Global;
 use std::sync::Wait;
 use std::test::Fail;
 
-/// A file header: least byte first, microseconds, version 2.4, Ethernet.
+/// A file header: little-endian, microseconds, version 2.4, Ethernet.
 static HEADER: [u8; 24] = [
     0xd4, 0xc3, 0xb2, 0xa1, 2, 0, 4, 0, 0, 0, 0, 0, 0, 0, 0, 0, 0, 0, 4, 0, 1, 0, 0, 0,
 ];
 
-/// A record header: 1000 s, fraction 7, captured and original length 2; and two bytes behind it.
+/// A record header: 1000 s, fraction 7, captured and original length 2; and its two bytes.
 static RECORD: [u8; 18] = [0xe8, 3, 0, 0, 7, 0, 0, 0, 2, 0, 0, 0, 2, 0, 0, 0, 1, 2];
 
 /// The batch with this number, of one record.
@@ -47,7 +47,7 @@ fn batch(alloc: Global, number: u64) -> Result<Batch, Fail>
     })
 }
 
-/// Offers a batch. The number of the batch that comes back.
+/// Offers a batch, and gives the number of the batch that comes back, if one does.
 fn offer<R: Wait>(rt: &R, queue: &BatchQueue, reader: &mut Feed, batch: Batch) -> Option<u64>
     requires own { IsPassOf queue.now (reader_of reader.old) }
     requires reader { IsReaders (reader_of reader.old) × IsOpen reader.old }
@@ -105,10 +105,10 @@ fn batches_go_through_in_order(rt: HostRuntime) -> Result<(), Fail> {
     Ok(())
 }
 
-/// Compiles where what is lent may be lent to several threads.
+/// Compiles only where a reference to the value may be shared with other threads.
 fn check_sync<T: Sync>(_value: &T) {}
 
-/// Compiles where the value may go to another thread, and gives it back.
+/// Compiles only where the value may be sent to another thread, and gives it back.
 fn check_send<T: Send>(value: T) -> T
     ensures { result ≡ value }
 {

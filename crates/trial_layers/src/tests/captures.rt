@@ -1,4 +1,4 @@
-//! File headers, cuts of a file into records, and fields in both orders.
+//! File headers, cuts of a file into records, and fields in both byte orders.
 
 ghost use Rattle.std.specs.Prelude.{◌<◌};
 
@@ -10,10 +10,10 @@ use std::process::Abort;
 use std::test::Fail;
 use trial_samples::octets_of;
 
-/// A file header: least byte first, microseconds, version 2.4, Ethernet.
+/// A file header: little-endian, microseconds, version 2.4, Ethernet.
 const LITTLE: &str = "d4c3b2a1 02000400 00000000 00000000 00000400 01000000";
 
-/// Files that are no capture, and captures whose link type isn't read.
+/// Files that aren't a capture, and captures whose link type isn't read.
 static REFUSED: [(&str, CaptureError); 13] = [
     ("", CaptureError::NotCapture),
     (
@@ -87,10 +87,10 @@ fn count_records(rt: &impl Abort, alloc: Global, bytes: &[u8]) -> Result<(u64, u
     Ok((index.count(), index.tail()))
 }
 
-/// A record header: 1000 s, fraction 7, captured length 42, original length 60; least byte first.
+/// A record header: 1000 s, fraction 7, captured length 42, original length 60; little-endian.
 const RECORD: &str = "e8030000 07000000 2a000000 3c000000";
 
-/// The 42 bytes captured of it, and the first 37 of them.
+/// The 42 captured bytes of this record, and the first 37 of them.
 const PACKET: &str =
     "000000000000000000000000000000000000000000000000000000000000000000000000000000000000";
 
@@ -157,12 +157,12 @@ fn the_longest_record(rt: HostRuntime) -> Result<(), Fail> {
     Ok(())
 }
 
-/// A record with the fields 0x01020304, 0x05060708, 3 and 0x090a0b0c in either order.
+/// A record header with the fields 0x01020304, 0x05060708, 3 and 0x090a0b0c in either byte order.
 const LITTLE_RECORD: &str = "04030201 08070605 03000000 0c0b0a09";
 
 const BIG_RECORD: &str = "01020304 05060708 00000003 090a0b0c";
 
-/// File headers, a record header in their order, whether fractions are nanoseconds, and the link type.
+/// File headers, a record header in the same byte order, whether fractions are nanoseconds, and the link type.
 static ORDERS: [(&str, &str, bool, u32); 4] = [
     (LITTLE, LITTLE_RECORD, false, 1),
     (
@@ -214,7 +214,7 @@ fn fields_in_either_order(rt: HostRuntime) -> Result<(), Fail> {
     Ok(())
 }
 
-/// How a window of 262,184 bytes is filled from so many bytes, and how many it then has.
+/// How a window of 262,184 bytes is filled from `count` bytes, and how many it then has.
 fn fill_window(
     alloc: Global,
     count: usize,

@@ -1,4 +1,4 @@
-//! Frames made by hand from the standards, with the answers that their tables give.
+//! Frames made by hand from the standards, with the answers that the tables of the standards give.
 
 ghost use Rattle.packet_headers.specs.Link.{IsIpVersion};
 
@@ -14,18 +14,18 @@ use trial_samples::frames::{
     ZEROS,
 };
 
-/// What is wanted of a frame.
+/// The answer that is wanted for a frame.
 #[derive(Clone, Copy, Debug, PartialEq, Eq)]
 enum Want {
     Link(HeaderFault),
     Ip(HeaderFault),
     Transport(HeaderFault),
-    /// The octets of the packet, its protocol, whether it is a later fragment, the places in the frame
-    /// where its payload begins and ends, its ports and its flags.
+    /// The octets of the packet, its protocol, whether it is a fragment other than the first, the places in the
+    /// frame where its payload begins and ends, its ports and its flags.
     Packet(u32, u8, bool, usize, usize, u16, u16, u16),
 }
 
-/// A frame in pieces, and what is wanted of it.
+/// A frame in pieces, and the answer that is wanted for it.
 struct Row {
     link: u32,
     frame: &'static [&'static [u8]],
@@ -34,8 +34,8 @@ struct Row {
     want: Want,
 }
 
-/// Rows of a table: the link type, the frame in pieces, how many octets of it are captured of how many
-/// original ones, and what is wanted.
+/// Rows of a table: the link type, the frame in pieces, how many octets of it were captured of how many
+/// original ones, and the answer that is wanted.
 macro_rules! frames {
     ($($link:literal [$($piece:expr),*] $captured:literal of $original:literal => $want:expr;)*) => {
         &[$(Row {
@@ -48,10 +48,10 @@ macro_rules! frames {
     };
 }
 
-/// The type of a customer tag.
+/// The EtherType of a customer VLAN tag.
 const CUSTOMER: &[u8] = b"\x81\0";
 
-/// The type of a service tag.
+/// The EtherType of a service VLAN tag.
 const SERVICE: &[u8] = b"\x88\xa8";
 
 /// Four octets of options: three times no operation, and the end.
@@ -68,7 +68,7 @@ const LINK_PARTS: &[Row] = frames! {
     1 [ETHERNET, IPV4, V4_UDP, UDP] 37 of 42 => Transport(Short);
     1 [ETHERNET, IPV4, V4_UDP, UDP] 38 of 42 => Packet(28, 17, false, 34, 38, 4000, 53, 0);
     1 [ETHERNET, IPV4, V4_UDP, UDP] 42 of 42 => Packet(28, 17, false, 34, 42, 4000, 53, 0);
-    // Types beside those of IP and of tags.
+    // EtherTypes other than those of IP and of tags.
     1 [ETHERNET, ARP, V4_UDP, UDP] 42 of 42 => Link(NotIp);
     1 [ETHERNET, b"\x07\xff", V4_UDP, UDP] 42 of 42 => Link(NotIp);
     1 [ETHERNET, b"\x86\xde", V4_UDP, UDP] 42 of 42 => Link(NotIp);
@@ -87,7 +87,7 @@ const LINK_PARTS: &[Row] = frames! {
         Packet(48, 17, false, 62, 70, 4000, 53, 0);
     1 [ETHERNET, SERVICE, b"\0\x05", SERVICE, b"\0\x06", IPV4, V4_UDP, UDP] 21 of 50 => Link(Short);
     1 [ETHERNET, SERVICE, b"\0\x05", SERVICE, b"\0\x06", IPV4, V4_UDP, UDP] 22 of 50 => Ip(Short);
-    // A third tag is no IP, whatever lies behind it.
+    // A third tag isn't IP, whatever follows it.
     1 [ETHERNET, SERVICE, b"\0\x05", SERVICE, b"\0\x06", CUSTOMER, b"\0\x07", IPV4, V4_UDP, UDP] 54 of 54 =>
         Link(NotIp);
     1 [ETHERNET, SERVICE, b"\0\x05", SERVICE, b"\0\x06", CUSTOMER, b"\0\x07", IPV4, V4_UDP, UDP] 25 of 54 =>
@@ -154,7 +154,7 @@ const IPV4_PACKETS: &[Row] = frames! {
     101 [b"\x45\0", b"\0\0", b"\0\0\0\0", b"\x40\x11\0\0", V4_ADDRESSES, UDP] 28 of 16777216 => Ip(BadHeader);
     1 [ETHERNET, IPV4, b"\x45\0", b"\0\0", b"\0\0\0\0", b"\x40\x11\0\0", V4_ADDRESSES, UDP] 42 of 16777229 =>
         Packet(16777215, 17, false, 34, 42, 4000, 53, 0);
-    // What is captured behind the packet's end is padding.
+    // What was captured after the packet's end is padding.
     1 [ETHERNET, IPV4, b"\x45\0", b"\0\x14", b"\0\0\0\0", b"\x40\x06\0\0", V4_ADDRESSES, ZEROS] 60 of 60 =>
         Transport(Short);
     1 [ETHERNET, IPV4, b"\x45\0", b"\0\x17", b"\0\0\0\0", b"\x40\x11\0\0", V4_ADDRESSES, UDP, ZEROS] 60 of 60 =>
@@ -251,15 +251,15 @@ const CHAINS: &[Row] = frames! {
         Packet(48, 6, true, 48, 48, 0, 0, 0);
     101 [V6, b"\0\x07\x2c\x40", V6_ADDRESSES, b"\x06\0\0\x08\0\0\0\x09"] 48 of 48 => Ip(Short);
     101 [V6, b"\0\x08\x2c\x40", V6_ADDRESSES, b"\x06\0\0\x08\0\0\0\x09"] 47 of 48 => Ip(Short);
-    // The protocol of a later fragment is what its header names: ESP, and 41, which isn't gone over either.
+    // The protocol of a later fragment is what its fragment header names: ESP, and 41, which isn't skipped either.
     101 [V6, b"\0\x10\x2c\x40", V6_ADDRESSES, b"\x32\0\0\x08\0\0\0\x09", UDP] 56 of 56 =>
         Packet(56, 50, true, 48, 56, 0, 0, 0);
     101 [V6, b"\0\x10\x2c\x40", V6_ADDRESSES, b"\x29\0\x10\x01\0\0\0\x09", UDP] 56 of 56 =>
         Packet(56, 41, true, 48, 56, 0, 0, 0);
-    // The second octet of a fragment header is no length.
+    // The second octet of a fragment header isn't a length.
     101 [V6, b"\0\x10\x2c\x40", V6_ADDRESSES, b"\x11\xff\0\0\0\0\0\x09", UDP] 56 of 56 =>
         Packet(56, 17, false, 48, 56, 4000, 53, 0);
-    // Chains: all five kinds, a kind again, and what follows a later fragment's header isn't looked at.
+    // Chains: all five kinds, a kind twice, and a later fragment, whose payload isn't looked at.
     101 [V6, b"\0\x40\0\x40", V6_ADDRESSES, b"\x2b\0\x01\x04\0\0\0\0", b"\x3c\0\x01\x04\0\0\0\0",
         b"\x2c\0\x01\x04\0\0\0\0", b"\x33\0\0\0\0\0\0\x09", b"\x06\x01\0\0\0\0\0\0\0\0\0\0", TCP_PORTS, b"\x50\x10",
             ZEROS] 104 of 104 => Packet(104, 6, false, 84, 104, 1025, 443, 16);
@@ -271,13 +271,13 @@ const CHAINS: &[Row] = frames! {
         Packet(64, 17, false, 56, 64, 4000, 53, 0);
     101 [V6, b"\0\x0f\0\x40", V6_ADDRESSES, b"\x2c\0\x01\x04\0\0\0\0", b"\x11\0\0\x08\0\0\0\x09", UDP] 64 of 64 =>
         Ip(Short);
-    // Headers that aren't gone over end the walk.
+    // Headers that aren't skipped end the walk.
     101 [V6, b"\0\x10\0\x40", V6_ADDRESSES, b"\x87\0\x01\x04\0\0\0\0", UDP] 56 of 56 =>
         Packet(56, 135, false, 48, 56, 0, 0, 0);
     101 [V6, b"\0\x08\x32\x40", V6_ADDRESSES, UDP] 48 of 48 => Packet(48, 50, false, 40, 48, 0, 0, 0);
     101 [V6, b"\0\x10\0\x40", V6_ADDRESSES, b"\x3b\0\x01\x04\0\0\0\0", UDP] 56 of 56 =>
         Packet(56, 59, false, 48, 56, 0, 0, 0);
-    // Offloaded, with an extension header; and two fragments behind a hop-by-hop header.
+    // A payload length of 0 with an extension header; and two fragments with a hop-by-hop header before them.
     101 [V6, b"\0\0\0\x40", V6_ADDRESSES, b"\x11\0\x01\x04\0\0\0\0", UDP] 56 of 9000 =>
         Packet(9000, 17, false, 48, 56, 4000, 53, 0);
     101 [V6, b"\0\0\0\x40", V6_ADDRESSES, b"\x11\0\x01\x04\0\0\0\0", UDP] 56 of 47 => Ip(Short);
@@ -323,7 +323,7 @@ fn ports_of(found: &IpView<'_>) -> Result<(u16, u16, u16), HeaderFault> {
     }
 }
 
-/// Whether the views tell of a frame what is wanted.
+/// Whether the views of a frame give the answer that is wanted.
 fn is_wanted(frame: &[u8], row: &Row) -> bool {
     let Some(link) = LinkType::of(row.link) else {
         return false;

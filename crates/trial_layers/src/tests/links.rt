@@ -1,4 +1,4 @@
-//! The numbers of the registry.
+//! The numbers of link types in the registry.
 
 use link_types::LinkType;
 

@@ -72,7 +72,7 @@ fn collect_in(
     Ok(steps)
 }
 
-// Wherever seat 1 stops, a forced collection of seat 0 gives what no shield of seat 1 stands on.
+// Wherever seat 1 stops, a forced collection of seat 0 gives back each slot that no shield of seat 1 stands on.
 #[test]
 fn seats_that_stop(rt: HostRuntime) -> Result<(), Fail> {
     let cases = [

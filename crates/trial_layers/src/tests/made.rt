@@ -1,9 +1,9 @@
-//! Captures by a seed.
+//! Captures that are made from a seed.
 
 use capture_maker::capture;
 use std::test::Fail;
 
-/// The capture of one packet of one key by the seed 1.
+/// The capture of one packet of one key that is made from seed 1.
 static ONE: [u8; 68] = [
     0xd4, 0xc3, 0xb2, 0xa1, 2, 0, 4, 0, 0, 0, 0, 0, 0, 0, 0, 0, 0xff, 0xff, 0, 0, 0x65, 0, 0, 0,
     0xe8, 3, 0, 0, 0, 0, 0, 0, 0x1c, 0, 0, 0, 0x22, 3, 0, 0, 0x45, 0, 3, 0x22, 0, 0, 0, 0, 0x40,

@@ -1,14 +1,14 @@
-//! Each error of an allocation becomes out of memory by `?`.
+//! Each error of an allocation becomes `NoMemory` by `?`.
 
 use no_memory::NoMemory;
 use std::alloc::{AllocError, AllocFailed, Global};
 
-/// Passes on by `?` that no memory was had.
+/// Turns a failed allocation into `NoMemory` by `?`.
 fn pass_on(failed: Result<u8, AllocError>) -> Result<u8, NoMemory> {
     Ok(failed?)
 }
 
-/// The same of a failure that gives its value back.
+/// Turns a failed allocation that gives its value back into `NoMemory` by `?`.
 fn pass_back(failed: Result<u8, AllocFailed<u8>>) -> Result<u8, NoMemory> {
     Ok(failed?)
 }

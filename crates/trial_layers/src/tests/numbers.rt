@@ -1,4 +1,4 @@
-//! Numbers read and appended, in both orders.
+//! Numbers read and appended, in both byte orders.
 
 use octets::{
     Endianness, append_u8, append_u16, append_u32, append_u64, append_u128, u16_at, u32_at,

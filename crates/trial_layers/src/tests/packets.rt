@@ -1,4 +1,4 @@
-//! Records of captures that are made byte by byte, with the answers that the formats' tables give.
+//! Records of captures that are made byte by byte, with the answers that the tables of the formats give.
 
 use Ignored::{BadHeader, BadTime, NotIp, Short, ShortTransport};
 use Kind::{BigMicros, BigNanos, LittleMicros, LittleNanos};
@@ -22,7 +22,7 @@ enum Kind {
     BigNanos,
 }
 
-/// What is wanted of a record.
+/// The answer that is wanted for a record.
 #[derive(Clone, Copy)]
 enum Want {
     No(Ignored),
@@ -31,7 +31,7 @@ enum Want {
     Gives(u8, u8, u16, u16, u64, u32, u16),
 }
 
-/// A record of a capture, with its frame in pieces, and what is wanted of it.
+/// A record of a capture, with its frame in pieces, and the answer that is wanted for it.
 struct Row {
     kind: Kind,
     link: u32,
@@ -61,10 +61,10 @@ macro_rules! records {
     };
 }
 
-/// A customer tag.
+/// A customer VLAN tag.
 const TAG: &[u8] = b"\x81\0\0\x05";
 
-/// The same with a total length of 0.
+/// An IPv4 header as [`V4_UDP`], but with a total length of 0, as offloading leaves it.
 const V4_OFFLOADED: &[u8] = b"\x45\0\0\0\0\0\0\0\x40\x11\0\0\xc0\0\x02\x01\xc0\0\x02\x02";
 
 /// TCP from port 1025 to port 443, a header of 20 octets with the control bits 0x010.

@@ -1,4 +1,4 @@
-//! Pieces as one seat and as two draw them.
+//! Pieces that one seat draws, and that two draw.
 
 ghost use Rattle.std.specs.Prelude.{◌≡◌, ◌<◌, ◌≤◌, ◌^◌, All, IfSome};
 ghost use Rattle.work_pieces.specs.Passes.{IsPassOf, IsFresh, seats_of};
@@ -6,7 +6,7 @@ ghost use Rattle.work_pieces.specs.Passes.{IsPassOf, IsFresh, seats_of};
 use std::test::Fail;
 use work_pieces::{DrawPass, Piece, Pieces};
 
-/// The piece of this number, start and end.
+/// The piece with this number, start and end.
 fn piece(number: u64, start: u64, end: u64) -> Option<Piece> {
     Some(Piece { number, start, end })
 }
@@ -33,7 +33,7 @@ fn take_pass(_pieces: &Pieces, passes: &mut Vec<DrawPass>) -> Option<DrawPass>
     passes.pop()
 }
 
-/// One pass for both.
+/// Unites two passes into one.
 fn unite_draws(pieces: &Pieces, first: DrawPass, second: DrawPass) -> DrawPass
     requires own { IsPassOf pieces.now first × IsPassOf pieces.now second }
     requires one { seats_of first ≡ 1 }

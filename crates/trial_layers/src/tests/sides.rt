@@ -9,7 +9,7 @@ use std::collections::VecDeque;
 use std::io::{self, Cursor, Read, Write};
 use std::test::Fail;
 
-/// Nine bytes, read in pieces of `piece` with the calls `fails` failing.
+/// Reads nine bytes in pieces of `piece`, where the calls with the numbers `fails` fail, and gives how many came.
 fn read_nine(rt: &HostRuntime, piece: usize, fails: &[u64], limit: u64) -> Result<usize, ReadError>
     requires { 0 < piece }
 {

@@ -8,7 +8,7 @@ use flow_key::FlowKey;
 use packet_accept::{Ignored, Packet};
 use std::test::Fail;
 
-/// A packet at this time, of so many octets.
+/// A packet at this time, with this number of octets.
 fn packet(time: u64, octets: u32) -> Packet
     ensures { result.time ≡ time }
 {

@@ -127,7 +127,7 @@ fn values_are_found_by_their_elements(rt: HostRuntime) -> Result<(), Fail> {
     assert!(rt; are_numbers(items));
     assert!(rt; number_of(None, 7, items) == 4000);
     assert!(rt; number_of(Some(29_305), 6, items) == 18);
-    // The first of two values of the element, which isn't that of the enterprise.
+    // The first of two values of the element, not that of the enterprise's element with the same number.
     assert!(rt; number_of(None, 6, items) == 258);
     assert!(rt; number_of(Some(29_305), 7, items) == 0);
     assert!(rt; number_of(None, 11, items) == 0);

@@ -13,14 +13,14 @@ use std::test::Fail;
 use trial_flows::{tcp_flow, udp_flow};
 use trial_samples::octets_of;
 
-/// What is wanted of a stream: its records as text, or its first fault.
+/// The answer that is wanted for a stream: its records as text, or its first fault.
 #[derive(Clone, Copy, Debug, PartialEq, Eq)]
 enum Want {
     Records(&'static str),
     Fault(StreamFault),
 }
 
-/// A stream in hexadecimal digits, and what is wanted.
+/// A stream in hexadecimal digits, and the answer that is wanted.
 struct Row {
     stream: &'static str,
     want: Want,
@@ -78,7 +78,7 @@ fn text_of(alloc: Global, records: &[DataRecord]) -> Result<String, AllocError> 
     Ok(text)
 }
 
-/// Each stream gives what is wanted of it.
+/// Checks that each stream gives the answer that is wanted.
 fn check_rows<R: Abort + AllocGlobal>(rt: &R, rows: &[Row]) -> Result<(), Fail> {
     for row in rows {
         let bytes = bytes_of(rt.alloc(), &[row.stream])?;
@@ -164,7 +164,7 @@ static STREAMS: &[Row] = streams! {
     "000a001c M 0002000c ffffffff 00070002" => Fault(BadTemplate { at: 20 });
     "000a0024 M 00020014 01000001 00070002 00ff0001 00070002" => Fault(BadTemplate { at: 28 });
     "000a0018 M 00020008 00ff0000" => Fault(Withdrawal { at: 20 });
-    // Records that take no byte, and a field that takes none.
+    // Records of no byte, and a field of no byte.
     "000a001c M 0002000c 01000001 00070000" => Fault(BadTemplate { at: 20 });
     "000a0025 M 00020010 01000002 00070000 00040001 01000005 11" => Records("1/256 7= 4=11;");
     // Variable lengths, by one byte and by three.
@@ -238,7 +238,7 @@ fn read_records(alloc: Global, bytes: &[u8]) -> Result<Vec<DataRecord>, Fail> {
     read_stream(alloc, bytes).map_err(|_| Fail::from("no stream"))
 }
 
-/// The flow record that the only data record of a stream is; both calls tell the same of it.
+/// The flow record that the only data record of a stream is, if it is one, which two calls must say alike.
 fn flow_in(alloc: Global, pieces: &[&str]) -> Result<Option<FlowRecord>, Fail> {
     let bytes = bytes_of(alloc, pieces)?;
     let records = read_records(alloc, bytes.as_slice())?;

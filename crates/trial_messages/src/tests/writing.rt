@@ -11,7 +11,7 @@ use std::thread::Threads;
 use trial_flows::{are_few, in_pieces, tcp_flow, udp_flow};
 use trial_samples::octets_of;
 
-/// The message with the templates, but for its first eight bytes.
+/// The message with the templates, without its first eight bytes.
 const TEMPLATES: &str = "0000000000000001000200640100000b00080004000c0004000700020\
     00b00020004000100060002000200080001000800980008009900080088000\
     10101000b001b0010001c001000070002000b000200040001000600020002000800010008009800080099000800880001";
@@ -129,8 +129,8 @@ fn a_failed_write_leaves_a_beginning(rt: HostRuntime) -> Result<(), Fail> {
     Ok(())
 }
 
-/// The message with the templates has 116 octets, and one of 28 records 1,364: 192 of these go out with it in one call
-/// of at most 262,144.
+/// The message with the templates has 116 octets, and a message of 28 records has 1,364: the former and 192 of the
+/// latter go out in one call of at most 262,144 octets.
 #[test]
 fn a_stream_goes_out_in_whole_messages(rt: HostRuntime) -> Result<(), Fail> {
     let mut records = Vec::new(rt.alloc());

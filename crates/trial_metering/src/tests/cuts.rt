@@ -9,7 +9,7 @@ use std::alloc::Global;
 use std::test::Fail;
 use std::thread::Threads;
 
-/// A file header: least byte first, microseconds, version 2.4, raw IP.
+/// A file header: little-endian, microseconds, version 2.4, raw IP.
 static HEADER: [u8; 24] = [
     0xd4, 0xc3, 0xb2, 0xa1, 2, 0, 4, 0, 0, 0, 0, 0, 0, 0, 0, 0, 0, 0, 4, 0, 101, 0, 0, 0,
 ];
@@ -25,7 +25,7 @@ static DAMAGE: [u8; 16] = [0xe8, 3, 0, 0, 0, 0, 0, 0, 1, 0, 4, 0, 1, 0, 4, 0];
 /// A record header that claims 100 captured bytes.
 static HUNDRED: [u8; 16] = [0xe8, 3, 0, 0, 0, 0, 0, 0, 100, 0, 0, 0, 100, 0, 0, 0];
 
-/// A capture: a file header, records of so many captured bytes, and some bytes behind them.
+/// A capture: a file header, records with these numbers of captured bytes, and some bytes after them.
 #[derive(Clone, Copy)]
 struct Row {
     header: &'static [u8],
@@ -48,7 +48,8 @@ fn bytes_of(alloc: Global, row: &Row) -> Result<Vec<u8>, Fail> {
     Ok(bytes)
 }
 
-/// How many records are tallied and how many bytes are left, or why not, of a source whose call of this number fails.
+/// How many records are tallied and how many bytes are left, or why metering failed, for a source whose read with this
+/// number fails.
 fn read<R: Threads + Sync>(
     rt: &R,
     alloc: Global,
@@ -72,7 +73,7 @@ fn records_that_windows_cut(rt: HostRuntime) -> Result<(), Fail> {
         (&[], b"", Ok((0, 0))),
         // The second record's header stands in two windows.
         (&[262_136, 100], b"", Ok((2, 0))),
-        // Its captured bytes do.
+        // Its captured bytes stand in two windows.
         (&[262_100, 100], b"", Ok((2, 0))),
         // The longest records, each of which fills a window.
         (&[262_144, 262_144, 0], b"", Ok((3, 0))),

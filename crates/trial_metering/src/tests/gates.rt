@@ -13,7 +13,7 @@ use meter_workers::Gate;
 use std::sync::atomic::{AtomicU64, Ordering};
 use std::test::Fail;
 
-/// A gate that tells when it was reached.
+/// A gate that sets a flag when a worker reaches it.
 #[derive(Drop)]
 struct Telling<'a> {
     reached: &'a AtomicU64,
@@ -25,7 +25,7 @@ impl<'a> Gate for Telling<'a> {
     }
 }
 
-/// A source that sees whether more than the first window is read before the gate was reached.
+/// A source that sees whether more than the first window is read before a worker reached the gate.
 #[derive(Drop)]
 struct Watched<'a> {
     inner: MemSource<'a>,

@@ -1,4 +1,4 @@
-//! Captures that are metered while they are read, and in windows: the same comes of both.
+//! Captures that are metered while they are read, and window by window: both give the same.
 
 mod rows;
 

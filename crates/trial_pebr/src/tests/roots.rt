@@ -79,7 +79,7 @@ fn attempt(
     (slot, found, replaced)
 }
 
-/// The same, where the check found the shield valid.
+/// Swaps in a word, as [`swap`] does, where the check found the shield valid.
 fn swap_if(
     roots: &Roots<Free>,
     pass: &mut RootPass<Free>,
@@ -242,9 +242,8 @@ fn stop_behind_check(roots: &Roots<Free>, pass: &mut RootPass<Free>, calls: usiz
     }
 }
 
-/// A collection by force, of two seats with one shield each. The steps that it takes are no value of the program, so
-/// its contract counts them, whatever the other pass was stopped at: `2 * (seats - 1) + (seats - 1) * shields + 4` are
-/// 7.
+/// A collection by force, with two seats of one shield each. No value of the program counts its steps, so its contract
+/// does, wherever the other pass was stopped: `2 * (seats - 1) + (seats - 1) * shields + 4` is 7.
 fn collect_by_force(roots: &Roots<Free>, pass: &mut RootPass<Free>) -> Collected
     requires of { IsOf roots.now pass.old }
     requires out { IsTrue (is_out (known_by_pass pass.old).status) }
@@ -356,8 +355,8 @@ fn a_collection_leaves_one(rt: HostRuntime) {
 #[test]
 fn a_pass_is_stopped_behind_each_call(rt: HostRuntime) {
     let alloc = rt.alloc();
-    // From its load on the second pass has a shield on the slot that the first one retires next: it is left. Behind six
-    // calls the second pass has retired that slot itself, and behind seven its shield is down.
+    // From its load on the second pass has a shield on the slot that the first one retires next, so this slot is left.
+    // After six calls the second pass has retired that slot itself, and after seven its shield is down.
     let rows: [(usize, usize); 9] = [
         (0, 0),
         (1, 0),
@@ -378,10 +377,10 @@ fn a_pass_is_stopped_behind_each_call(rt: HostRuntime) {
     }
 }
 
-/// Compiles where what is lent may be lent to several threads.
+/// Compiles only where a reference to the value may be shared with other threads.
 fn check_sync<T: Sync>(_value: &T) {}
 
-/// Compiles where the value may go to another thread, and gives it back.
+/// Compiles only where the value may be sent to another thread, and gives it back.
 fn check_send<T: Send>(value: T) -> T {
     value
 }

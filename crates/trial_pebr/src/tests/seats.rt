@@ -84,9 +84,10 @@ fn look(words: &Words<Free>, seat: &mut Seat<Free>) -> (Looked, bool)
     (looked, ejected)
 }
 
-/// What the first seat, which has retired a slot, noted, whether it raised the epoch, what its look found, whether it
-/// ejected, and whether the second seat was in afterwards, which pins between Advance and Look. It notes before Note or
-/// between too.
+/// The first seat, which has retired a slot, opens a scan and looks at the second seat, which pins between Advance and
+/// Look, and notes before the first seat's Note, or between Advance and Look too. Gives the epoch that the first seat
+/// noted, whether it raised the epoch, what its look found, whether it ejected, and whether the second seat was still
+/// in afterwards.
 fn pinned_between(
     words: &Words<Free>,
     first: &mut Seat<Free>,
@@ -162,7 +163,8 @@ fn contents_at_end(
 #[test]
 fn a_reader_pins_between_advance_and_look(rt: HostRuntime) {
     let alloc = rt.alloc();
-    // With the old epoch it may have loaded the retired slot, so it is ejected; with the new one it can't have.
+    // With the old epoch the second seat may have loaded the retired slot, so it is ejected; with the new one it can't
+    // have.
     let rows = [
         (true, (0, true, Looked::In(0), true, false)),
         (false, (0, true, Looked::Passed, false, true)),

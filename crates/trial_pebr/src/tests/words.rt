@@ -32,7 +32,7 @@ fn reach(words: &Words<Free>, seat: &mut Seat<Free>) -> (u64, usize)
     (epoch, slot)
 }
 
-/// The same, and a check: the epoch, and the slot, if the shield is valid.
+/// Does what [`reach`] does, and checks: the epoch, and the slot, if the shield is valid.
 fn protect(words: &Words<Free>, seat: &mut Seat<Free>) -> (u64, Option<usize>)
     requires at { IsAt words.now seat.old }
     requires out { IsTrue (is_out (known_of seat.old).status) }
@@ -158,7 +158,7 @@ fn pass(words: &Words<Free>, seat: &mut Seat<Free>, other: usize) -> (u64, bool,
     (noted, raised, looked, ejected)
 }
 
-/// Reads the shield of the other seat, which is passed, and gives what isn't kept.
+/// Reads the shield of the other seat, which was passed, and gives back what isn't kept.
 fn collect(words: &Words<Free>, seat: &mut Seat<Free>) -> (Option<usize>, (usize, usize))
     requires at { IsAt words.now seat.old }
     requires out { IsTrue (is_out (known_of seat.old).status) }
@@ -374,10 +374,10 @@ fn a_reader_that_is_passed(rt: HostRuntime) {
     assert_eq!(rt; content, 5);
 }
 
-/// Compiles where what is lent may be lent to several threads.
+/// Compiles only where a reference to the value may be shared with other threads.
 fn check_sync<T: Sync>(_value: &T) {}
 
-/// Compiles where the value may go to another thread, and gives it back.
+/// Compiles only where the value may be sent to another thread, and gives it back.
 fn check_send<T: Send>(value: T) -> T {
     value
 }

@@ -1,4 +1,4 @@
-//! What `pcapng` writes of a file, handed to the meter: one record of one packet and 28 octets.
+//! What `pcapng` writes for a file, handed to the meter: one record of one packet and 28 octets.
 
 use meter_io::{MemSink, MemSource};
 use meter_program::{Status, run};
@@ -30,7 +30,7 @@ fn words(alloc: Global, word: &str) -> Result<Vec<String>, Fail> {
     Ok(words)
 }
 
-/// What a command of the meter writes of these bytes, where it is done.
+/// What a command of the meter writes for these bytes, where the run is done.
 fn meter_output<'a, R: Threads + Sync + Abort>(
     rt: &R,
     alloc: Global,

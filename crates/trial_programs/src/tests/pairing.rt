@@ -46,16 +46,16 @@ const BI_EXCHANGE: &str =
 /// The header of a message of 308 octets at 1,700,000,000 s.
 const BI_HEADER: &str = "000a01346553f1000000000000000001";
 
-/// That of a message of 186 octets.
+/// The header of a message of 186 octets at the same time.
 const BI_DATA_HEADER: &str = "000a00ba6553f1000000000000000001";
 
-/// The same, behind one record.
+/// The same header, after a message with one record.
 const LATER_HEADER: &str = "000a00ba6553f1000000000100000001";
 
-/// That of a message of 308 octets at 1,001 s.
+/// The header of a message of 308 octets at 1,001 s.
 const ONE_HEADER: &str = "000a0134000003e90000000000000001";
 
-/// That of a message of 308 octets without a record.
+/// The header of a message of 308 octets at 0 s, for a stream without a record.
 const NONE_HEADER: &str = "000a0134000000000000000000000001";
 
 /// One run: the words, the pieces of the stream, the reads and the writes that fail, how it ends, and the pieces of
@@ -183,7 +183,7 @@ fn runs(rt: HostRuntime) -> Result<(), Fail> {
     Ok(())
 }
 
-/// Words that are no command, and words that are one.
+/// Words that aren't a command, and words that are one.
 #[test]
 fn command_lines(rt: HostRuntime) -> Result<(), Fail> {
     let alloc = rt.alloc();

@@ -1,4 +1,4 @@
-//! Records whose pairs were made out by hand from the rule.
+//! Records whose pairs were worked out by hand from the rule.
 
 ghost use Rattle.std.specs.Prelude.{◌+◌, ◌≤◌, ◌<◌, ◌^◌};
 
@@ -10,8 +10,8 @@ use pair_program::{Biflow, PairError, bi_layout, pair, pair_stream};
 use record_ledger::FlowRecord;
 use std::test::Fail;
 
-/// A record of one packet between 192.0.2.1 and 192.0.2.2, from the first to the second where `out`, over these ports
-/// of them, that begins at `first` and lasts `length` milliseconds.
+/// A record of one packet between 192.0.2.1 and 192.0.2.2, from the first to the second where `out`. `near` is the port
+/// of the first and `far` that of the second. The record begins at `first` and lasts `length` milliseconds.
 fn record(out: bool, near: u16, far: u16, first: u64, length: u32) -> FlowRecord
     requires { first + length < 2 ^ 64 }
 {

@@ -1,4 +1,4 @@
-//! Files made by hand from the format's rules, with what they tell; the run, its output and its statuses.
+//! Files made by hand from the format's rules, with the records that they have; the run, its output and its statuses.
 
 use Want::{Bad, Not, Told};
 use meter_io::{MemSink, MemSource};
@@ -7,8 +7,8 @@ use std::alloc::Global;
 use std::process::Abort;
 use std::test::Fail;
 
-/// What is wanted of a file: its records, as link type, seconds, fraction, original length and captured length; the
-/// place of a bad block; or that it is no such file.
+/// The answer that is wanted for a file: its records, as link type, seconds, fraction, original length and captured
+/// length; the offset of a bad block; or that it isn't a pcapng file.
 #[derive(Clone, Copy)]
 enum Want {
     Told(&'static [(u32, u32, u32, u32, usize)]),
@@ -16,7 +16,7 @@ enum Want {
     Not,
 }
 
-/// A file in pieces, and what is wanted of it.
+/// A file in pieces, and the answer that is wanted for it.
 struct Row {
     pieces: &'static [&'static [u8]],
     want: Want,
@@ -35,11 +35,11 @@ macro_rules! files {
 /// The fraction of a record without a time.
 const NO_TIME: u32 = u32::MAX;
 
-/// A section header, least octet first, 28 octets.
+/// A section header, little-endian, 28 octets.
 const SECTION: &[u8] =
     b"\x0a\x0d\x0d\x0a\x1c\0\0\0\x4d\x3c\x2b\x1a\x01\0\0\0\xff\xff\xff\xff\xff\xff\xff\xff\x1c\0\0\0";
 
-/// A section header, greatest octet first.
+/// A section header, big-endian.
 const BIG: &[u8] =
     b"\x0a\x0d\x0d\x0a\0\0\0\x1c\x1a\x2b\x3c\x4d\0\x01\0\0\xff\xff\xff\xff\xff\xff\xff\xff\0\0\0\x1c";
 
@@ -52,7 +52,7 @@ const COOKED: &[u8] = b"\x01\0\0\0\x14\0\0\0\x71\0\0\0\0\0\x04\0\x14\0\0\0";
 
 const WIRELESS: &[u8] = b"\x01\0\0\0\x14\0\0\0\x69\0\0\0\0\0\x04\0\x14\0\0\0";
 
-/// Ethernet, greatest octet first.
+/// An Ethernet interface, big-endian.
 const BIG_ETHERNET: &[u8] = b"\0\0\0\x01\0\0\0\x14\0\x01\0\0\0\x04\0\0\0\0\0\x14";
 
 /// The front of an Ethernet interface with 8 octets of options, and its second length; with 12; and with 16.
@@ -68,7 +68,7 @@ const WITH_16: &[u8] = b"\x01\0\0\0\x24\0\0\0\x01\0\0\0\0\0\x04\0";
 
 const END_16: &[u8] = b"\x24\0\0\0";
 
-/// Nanoseconds, and microseconds.
+/// Options for the resolution: nanoseconds, and microseconds.
 const NANOS: &[u8] = b"\x09\0\x01\0\x09\0\0\0";
 
 const MICROS: &[u8] = b"\x09\0\x01\0\x06\0\0\0";
@@ -96,7 +96,7 @@ const PACKET_LATE: &[u8] = b"\x06\0\0\0\x4c\0\0\0\0\0\0\0\0\0\0\x40\0\0\0\0\x2a\
 const PACKET_ODD: &[u8] =
     b"\x06\0\0\0\x4c\0\0\0\0\0\0\0\0\0\0\0\xd3\x02\x96\x49\x2a\0\0\0\x2a\0\0\0";
 
-/// The same, greatest octet first.
+/// The same, big-endian.
 const BIG_PACKET: &[u8] =
     b"\0\0\0\x06\0\0\0\x4c\0\0\0\0\0\0\0\0\x3b\x9a\xca\x00\0\0\0\x2a\0\0\0\x2a";
 
@@ -106,7 +106,7 @@ const BIG_AFTER: &[u8] = b"\0\0\0\0\0\x4c";
 const FRAME: &[u8] =
     b"\x02\0\0\0\0\x02\x02\0\0\0\0\x01\x08\0\x45\0\0\x1c\0\0\0\0\x40\x11\0\0\xc0\0\x02\x01\xc0\0\x02\x02\x0f\xa0\0\x35\0\x08\0\0";
 
-/// What stands behind it: padding, and the second length.
+/// What follows the frame in its block: padding, and the second length.
 const AFTER: &[u8] = b"\0\0\x4c\0\0\0";
 
 /// A simple packet of 4 octets, of which the original length is 60.
@@ -166,7 +166,7 @@ const INTERFACES: &[Row] = files! {
         Told(&[(1, 1000, 0, 42, 42), (113, 1000, 0, 42, 42), (101, 1000, 0, 42, 42)]);
     [SECTION, WIRELESS, PACKET, FRAME, AFTER] => Told(&[(105, 1000, 0, 42, 42)]);
     [SECTION, ETHERNET, PACKET_ON_1, FRAME, AFTER] => Bad(48);
-    // An interface that comes behind its packet.
+    // An interface that comes after its packet.
     [SECTION, PACKET, FRAME, AFTER, ETHERNET] => Bad(28);
     [SECTION, b"\x01\0\0\0\x10\0\0\0\x01\0\0\0\x10\0\0\0"] => Bad(28);
     // Resolutions: 10^0, 10^6, 10^9, 10^18, and too many; 2^0, 2^62, and too many.
@@ -217,7 +217,8 @@ const PACKETS: &[Row] = files! {
     [SECTION, ETHERNET, b"\x06\0\0\0\x1c\0\0\0\0\0\0\0\0\0\0\0\0\0\0\0\0\0\0\0\x1c\0\0\0"] => Bad(48);
     [SECTION, ETHERNET, b"\x06\0\0\0\x20\0\0\0\0\0\0\0\0\0\0\0\0\0\0\0\0\0\0\0\x05\0\0\0\x20\0\0\0"] =>
         Told(&[(1, 0, 0, 5, 0)]);
-    // One captured octet where no room is, and four where four are; the original length may be below.
+    // One captured octet where there is no room, and four where there is room for four; the original length may be
+    // less.
     [SECTION, ETHERNET, b"\x06\0\0\0\x20\0\0\0\0\0\0\0\0\0\0\0\0\0\0\0\x01\0\0\0\x05\0\0\0\x20\0\0\0"] => Bad(48);
     [SECTION, ETHERNET, b"\x06\0\0\0\x24\0\0\0\0\0\0\0\0\0\0\0\0\0\0\0\x01\0\0\0\0\0\0\0\x01\0\0\0\x24\0\0\0"] =>
         Told(&[(1, 0, 0, 0, 1)]);
@@ -231,7 +232,7 @@ const PACKETS: &[Row] = files! {
     [SECTION, SIMPLE, ETHERNET, PACKET, FRAME, AFTER] => Told(&[(0, 0, NO_TIME, 0, 0), (1, 1000, 0, 42, 42)]);
     [SECTION, b"\x03\0\0\0\x10\0\0\0\x3c\0\0\0\x10\0\0\0"] => Told(&[(0, 0, NO_TIME, 0, 0)]);
     [SECTION, b"\x03\0\0\0\x0c\0\0\0\x0c\0\0\0"] => Bad(28);
-    // A bad block behind packets, and only the first one counts.
+    // A bad block after packets; only the first bad block counts.
     [SECTION, ETHERNET, PACKET, FRAME, AFTER, PACKET_ON_1, FRAME, AFTER, b"\x05\0\0\0\x0b\0\0\0\x0b\0\0\0"] => Bad(124);
 };
 
@@ -244,7 +245,7 @@ fn all_bytes(alloc: Global, pieces: &[&[u8]]) -> Result<Vec<u8>, Fail> {
     Ok(all)
 }
 
-/// Whether a file tells what is wanted.
+/// Whether a file gives the answer that is wanted.
 fn is_told(rt: &impl Abort, alloc: Global, bytes: &[u8], want: Want) -> bool {
     let Ok(capture) = PngCapture::open(bytes) else {
         return matches!(want, Not);
@@ -331,7 +332,7 @@ fn captured_octets_are_a_part_of_the_file(rt: HostRuntime) -> Result<(), Fail> {
 /// The header of the capture that is written.
 const HEADER: &[u8] = b"\x4d\x3c\xb2\xa1\x02\0\x04\0\0\0\0\0\0\0\0\0\0\0\x04\0\x65\0\0\0";
 
-/// The record of the frame, 16 octets, in front of its IP packet.
+/// The record header for the frame, 16 octets, in front of its IP packet.
 const WRITTEN: &[u8] = b"\xe8\x03\0\0\0\0\0\0\x1c\0\0\0\x1c\0\0\0";
 
 /// The IP packet of the frame.

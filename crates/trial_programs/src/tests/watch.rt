@@ -1,4 +1,4 @@
-//! Whole runs: captures octet by octet, what is written of them, and how the runs end.
+//! Whole runs: captures octet by octet, what is written for them, and how the runs end.
 
 use meter_io::{MemSink, MemSource};
 use meter_workers::{Gate, OpenGate};
@@ -12,7 +12,7 @@ use watch_program::{WatchStatus, run_watch};
 /// A capture's header: little-endian, microseconds, Ethernet.
 const HEADER: &str = "d4c3b2a1 02000400 00000000 00000000 00000400 01000000";
 
-/// The same with link type 2.
+/// The same header with link type 2.
 const OTHER_LINK: &str = "d4c3b2a1 02000400 00000000 00000000 00000400 02000000";
 
 /// The header of a record of 42 bytes at 1000 s, and at 1001 s.
@@ -64,7 +64,7 @@ fn run_over<R: Threads + Sync, G: Gate>(
     })
 }
 
-/// Whether the text has so many lines of asks, each of which may stand there, and then this total.
+/// Whether the text has `asks` lines of asks, each of which an ask can give, and then this total.
 fn is_text(text: &str, asks: usize, total: &str) -> bool {
     let mut seen = 0usize;
     let mut ended = false;
@@ -83,19 +83,19 @@ fn is_text(text: &str, asks: usize, total: &str) -> bool {
     ended && seen == asks
 }
 
-/// A gate that holds who asks first until the one worker was at its first piece, and then some turns more.
+/// A gate that holds the asker at its first ask until the one worker has reached a piece, and then for some turns more.
 #[derive(Drop)]
 struct Late {
     begun: AtomicU64,
 }
 
-/// How often who asks looks for the worker before it gives up, and how often it looks again then.
+/// How often the asker looks for the worker before it gives up, and how often it looks again after that.
 const TURNS: u64 = 100_000_000;
 
 const MORE_TURNS: u64 = 10_000_000;
 
 impl Late {
-    /// Waits until the worker has begun, for so many turns at most.
+    /// Waits until the worker has begun, for at most this number of turns.
     fn wait(&self, turns: u64) {
         for _turn in 0..turns {
             if self.begun.load(Ordering::SeqCst) == 1 {
@@ -104,7 +104,7 @@ impl Late {
         }
     }
 
-    /// Looks so often whether the worker has begun: how often it had.
+    /// Looks this number of times whether the worker has begun, and gives how many times it had.
     fn look(&self, turns: u64) -> u64 {
         let mut begun = 0u64;
         for _turn in 0..turns {
@@ -144,7 +144,7 @@ fn two_packets(rt: HostRuntime) -> Result<(), Fail> {
     Ok(())
 }
 
-/// Where who asks begins behind the worker, the flow is held.
+/// Where the asker begins after the worker, the flow is held.
 #[test]
 fn a_flow_is_held(rt: HostRuntime) -> Result<(), Fail> {
     let alloc = rt.alloc();
@@ -318,7 +318,7 @@ fn a_failed_write_leaves_a_beginning(rt: HostRuntime) -> Result<(), Fail> {
     Ok(())
 }
 
-/// Words that are no command, and words that are one.
+/// Words that aren't a command, and words that are one.
 #[test]
 fn command_lines(rt: HostRuntime) -> Result<(), Fail> {
     let alloc = rt.alloc();

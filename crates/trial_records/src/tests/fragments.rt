@@ -1,4 +1,4 @@
-//! Worked fragments: words, bounds of the time-outs, ends of flows, sums.
+//! Worked examples of fragments: words, bounds of the time-outs, ends of flows, sums.
 
 ghost use Rattle.std.specs.Prelude.{◌+◌, ◌<◌, ◌^◌};
 
@@ -18,7 +18,7 @@ fn packet(source_port: u16, time: u64) -> Packet {
     }
 }
 
-/// A fragment of three packets from this port, over so many milliseconds.
+/// A fragment of three packets from this port, over `length` milliseconds from `first` on.
 fn fragment(source_port: u16, first: u64, length: u32) -> Fragment
     requires { first + length < 2 ^ 64 }
 {
@@ -54,8 +54,8 @@ macro_rules! words_with {
 /// The words of [`packet`] at 1000 s as a fragment.
 static WORDS: [u64; 10] = words_with!(0x411_0FA0_0035, 1, 1_000_000, 16);
 
-/// Words of no fragment: without a version, without a packet, first seen after the last time, with too many flags, and
-/// of version 5.
+/// Words that aren't a fragment: without a version, without a packet, with a first time after the last, with a flag
+/// above the twelve bits, and of version 5.
 static WRONG_WORDS: [[u64; 10]; 5] = [
     [0; 10],
     words_with!(0x411_0FA0_0035, 0, 1_000_000, 16),

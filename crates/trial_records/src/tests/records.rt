@@ -26,7 +26,7 @@ fn one_packet(source_port: u16, time: u64) -> Fragment {
     })
 }
 
-/// What a record is to have: port, packets, first, last and reason.
+/// What a record must have: port, packets, first time, last time and end reason.
 type Wanted = (u16, u64, u64, u64, u8);
 
 /// Gathers packets of these ports and times on one thread and on four, and compares each record.
@@ -46,7 +46,7 @@ fn expect(
     expect_on(rt, alloc, &parts, clock, records, 4)
 }
 
-/// Gathers fragments on so many threads, and compares each record.
+/// Gathers fragments on this number of threads, and compares each record.
 fn expect_on(
     rt: &(impl Abort + Threads + Sync),
     alloc: Global,
@@ -118,7 +118,7 @@ fn gaps_and_spans(rt: HostRuntime) -> Result<(), Fail> {
         &[(4000, 1_000_000), (4001, 1_301_000)],
         &ports,
     )?;
-    // Two ports with one last time stand by key.
+    // Two ports with the same last time are ordered by key.
     let tied = [
         (4000, 1, 1_000_000, 1_000_000, 4),
         (4001, 1, 1_000_000, 1_000_000, 4),
@@ -224,8 +224,8 @@ fn joins_again_below(rt: HostRuntime) -> Result<(), Fail> {
     Ok(())
 }
 
-/// Two fragments that end at one time, each longer than the active time-out, aren't joined: they stand by their first
-/// times, in whatever order they come.
+/// Two fragments that end at the same time, each longer than the active time-out, aren't joined. They are ordered by
+/// their first times, in whatever order they come.
 #[test]
 fn ties_stand_by_first_time(rt: HostRuntime) -> Result<(), Fail> {
     let one = wide_fragment(4000, 0, 2_000_000);

@@ -1,4 +1,4 @@
--- The options without a share, and else those with one.
+-- The options without a share, or else those with one.
 use Rattle.std.proofs.Common.{◌≡◌, ◌∙◌, ℕ, List, ap, Some, None, Option, Result, Ok, Err, map}
 use Rattle.std.specs.Prelude.{option_and_then, IfErr}
 use Rattle.std.specs.String.{string_bytes}

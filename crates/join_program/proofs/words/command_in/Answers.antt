@@ -1,4 +1,4 @@
--- The front of the words are options, and the others are files.
+-- The words at the front are options, and the others are files.
 use Rattle.std.proofs.Common.{◌≡◌, ◌∙◌, ℕ, List, Bool, false, true, cond, sym, ap, subst, Some, None, Option, Result}
 use Rattle.std.proofs.Common.{Ok, Err, map}
 use Rattle.std.proofs.Common.{take, drop, refl}

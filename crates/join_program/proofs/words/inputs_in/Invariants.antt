@@ -1,4 +1,4 @@
--- The files so far and those that are left have as many.
+-- The count so far and the standard inputs among the files that are left make the count of all.
 use Rattle.std.proofs.Common.{◌≡◌, ◌+◌, ◌≤◌, drop, filter, map, length}
 use Rattle.std.specs.Prelude.{codes}
 use Rattle.std.specs.Str.{bytes_eq}

@@ -1,4 +1,4 @@
--- The words so far, and those that are left, have as many.
+-- The count so far and the option words among those that are left make the count of all.
 use Rattle.std.proofs.Common.{◌≡◌, ◌+◌, ◌-◌, ◌≤◌, drop, map, length, false}
 use Rattle.std.specs.String.{string_bytes}
 use Rattle.join_program.specs.Words.{option_words}

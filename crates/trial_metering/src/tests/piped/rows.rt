@@ -1,4 +1,4 @@
-//! One table: what comes of captures with a queue is what comes of them without.
+//! One table: metering captures with a queue gives what metering them without one gives.
 
 ghost use Rattle.std.specs.Prelude.{◌≤◌, ◌^◌};
 
@@ -12,7 +12,7 @@ use std::sync::Wait;
 use std::test::Fail;
 use std::thread::Threads;
 
-/// A file header: least byte first, microseconds, version 2.4, raw IP.
+/// A file header: little-endian, microseconds, version 2.4, raw IP.
 static HEADER: [u8; 24] = [
     0xd4, 0xc3, 0xb2, 0xa1, 2, 0, 4, 0, 0, 0, 0, 0, 0, 0, 0, 0, 0, 0, 4, 0, 101, 0, 0, 0,
 ];
@@ -20,7 +20,7 @@ static HEADER: [u8; 24] = [
 /// A record header that claims 262,145 captured bytes.
 static DAMAGE: [u8; 16] = [0xe8, 3, 0, 0, 0, 0, 0, 0, 1, 0, 4, 0, 1, 0, 4, 0];
 
-/// A capture: a file header, records of so many captured bytes, and some bytes behind them.
+/// A capture: a file header, records with these numbers of captured bytes, and some bytes after them.
 #[derive(Clone, Copy)]
 struct Row {
     header: &'static [u8],
@@ -46,7 +46,7 @@ fn bytes_of(alloc: Global, row: &Row) -> Result<Vec<u8>, Fail> {
     Ok(bytes)
 }
 
-/// What comes of a capture without a queue, and that the same comes of it with one, by one worker and by three.
+/// What comes of a capture without a queue; checks that the same comes of it with a queue, by one worker and by three.
 fn outcome<R: Threads + Wait + Sync + Abort>(
     rt: &R,
     alloc: Global,

@@ -16,7 +16,7 @@ use Rattle.watch_program.proofs.watching.watch_capture.Goals as goal
 if-ok : {T E : Type 0} (r : Result T E) (x : T) (P : T → Type 0) → r ≡ Ok x → IfOk r P → P x
 if-ok r x P is h = subst (λ q. IfOk q P) is h
 
--- what holds of the file that the bytes are
+-- what holds of the capture file in the bytes
 of-file : (bytes : List ℕ) (file : CaptureFile) (P : CaptureFile → Type 0) → capture_file bytes ≡ Some file
     → IsCaptureOf P bytes → P file
 of-file bytes file P is has = subst (λ o. IsSomeAnd o P) is has

@@ -1,4 +1,4 @@
--- One flow record more.
+-- One more flow record.
 use Rattle.std.proofs.Common.{◌++◌, ◌∷◌, [], List, Err, ap, subst, arith}
 use Rattle.record_ledger.specs.declared.record.FlowRecord.{FlowRecord}
 use Rattle.join_program.specs.Joined.{AreFew}

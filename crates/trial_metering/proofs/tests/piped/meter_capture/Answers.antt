@@ -1,4 +1,4 @@
--- The parts are a rearrangement of what was handed, and so the other way round.
+-- The parts are a permutation of what was handed out, and so the other way round.
 use Rattle.std.proofs.lemmas.List.Sorted.{IsPermutation-sym}
 use Rattle.trial_metering.proofs.tests.piped.meter_capture.Goals as goal
 
