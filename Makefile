@@ -13,13 +13,13 @@ crate = $(subst -,_,$(1))
 .PHONY: help demo build test take check edits install deb clean
 
 help:
-	@echo "make demo                 meter a sample capture and show its records: the program as it is before any proof,"
-	@echo "                          in a minute or two, or the proved one where it is built"
-	@echo "make build                prove and build the programs, bin/romtyalig and those beside it; goes on where it was stopped"
+	@echo "make demo                 meter a sample capture and show its records: with the proved program where it is built,"
+	@echo "                          else with one built without proof, in a minute or two"
+	@echo "make build                prove and build the programs, bin/romtyalig and the others; resumes where it was stopped"
 	@echo "make test                 the gate: prove every crate from nothing, run all tests, then the checks of checks/"
 	@echo "make check                compare the program with other readers and meters (checks/)"
-	@echo "make edits                try all edits that the checker must refuse, those that the gate leaves out too (hours)"
-	@echo "make install PREFIX=DIR   install programs, pages and completions below DIR, $(PREFIX) by default"
+	@echo "make edits                try all edits that the checker must refuse, also those that the gate leaves out (hours)"
+	@echo "make install PREFIX=DIR   install programs, manual pages and completions below DIR, by default $(PREFIX)"
 	@echo "make deb                  write a Debian package of the programs into bin/"
 
 demo:
