@@ -43,7 +43,7 @@ bin/%: bin/.libraries
 	@echo "proved and built: $@"
 
 test:
-	@echo "The gate: an hour or two on four processors where nothing is proved yet, else the time of what changed."
+	@echo "The gate: an hour or two on four processors, or two; it proves everything from nothing."
 	rt ci
 	@$(MAKE) --no-print-directory take
 	@$(MAKE) --no-print-directory check
