@@ -6,6 +6,8 @@ pub mod RecordSteps
 pub mod SetSteps
 pub mod MessageSteps
 pub mod FlowFields
+pub mod FixedPlaces
+pub mod FlowPlaces
 pub mod Takings
 pub mod FlowLists
 pub mod Pieces

@@ -12,6 +12,8 @@ pub mod Sets
 pub mod Messages
 pub mod FlowFields
 pub mod FlowWith
+pub mod FlowTemplates
+pub mod FixedPlaces
 pub mod Numbers
 pub mod Flows
 pub mod Others

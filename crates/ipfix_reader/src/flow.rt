@@ -1,20 +1,24 @@
 //! Flow records among data records.
 
-ghost use Rattle.std.specs.Prelude.{◌≡◌, ◌⊎◌, ℕ};
+ghost use Rattle.std.specs.Prelude.{◌≡◌, ◌⊎◌, ◌+◌, ◌≤◌, ℕ, length};
 ghost use Rattle.flow_key.specs.Fields.{IsKeyOf};
 ghost use Rattle.flow_parts.specs.Fields.{IsPartOf};
 ghost use Rattle.ipfix_model.specs.Values.{AreNumbers};
 ghost use Rattle.ipfix_reader.specs.FlowFields.{IsFlowWith, fields_in};
 ghost use Rattle.ipfix_reader.specs.Flows.{flow};
-ghost use Rattle.ipfix_reader.specs.Numbers.{numbers_shown};
+ghost use Rattle.ipfix_reader.specs.FixedPlaces.{record_of};
+ghost use Rattle.ipfix_reader.specs.Numbers.{numbers_shown, fields_behind};
 
+use crate::flow_octets::FlowOctets;
+use crate::flow_template::FlowTemplate;
 use flow_key::FlowKey;
 use flow_parts::Fragment;
 use ipfix_model::elements::*;
 use ipfix_model::{DataRecord, FieldValue, V4_FIELDS, V6_FIELDS, are_values_of, number_of};
+use octets::Endianness;
 use record_ledger::FlowRecord;
 
-/// The numbers in the values of a flow record.
+/// The numbers in the values or the octets of a flow record.
 #[derive(Clone, Copy)]
 struct Numbers {
     source: u128,
@@ -49,6 +53,50 @@ pub fn flow_of(rec: &DataRecord) -> Option<FlowRecord>
         return flow_with(6, &numbers);
     }
     None
+}
+
+/// The flow record that the data record with these octets is, where it is one: as [`flow_of`] would find it in their
+/// values, but read at fixed places.
+pub fn flow_in(rec: FlowOctets<'_>) -> Option<FlowRecord>
+    ensures { result ≡ flow (record_of rec.entry) }
+{
+    let octets = rec.octets;
+    match rec.flow {
+        FlowTemplate::V4 => {
+            let source = u128::from(octets::u32_at(octets, 0));
+            let destination = u128::from(octets::u32_at(octets, 4));
+            flow_with(4, &numbers_behind(source, destination, octets, 8))
+        }
+        FlowTemplate::V6 => {
+            let source = octets::u128_at(octets, 0);
+            let destination = octets::u128_at(octets, 16);
+            flow_with(6, &numbers_behind(source, destination, octets, 32))
+        }
+    }
+}
+
+/// The numbers in the octets: those of the addresses, which are given, and of the fields behind them, from this place
+/// on.
+#[tactic(auto, unfolding(octets::specs::Numbers::number_at, octets::specs::Numbers::number))]
+fn numbers_behind(source: u128, destination: u128, octets: &[u8], place: usize) -> Numbers
+    requires { place + 40 ≤ length octets.now }
+    ensures { (version : ℕ)
+        → numbers_shown version result ≡ fields_behind version source destination place octets.now }
+{
+    let big = Endianness::Big;
+    Numbers {
+        source,
+        destination,
+        protocol: u128::from(octets[place + 4]),
+        source_port: u128::from(octets::u16_at(octets, place)),
+        destination_port: u128::from(octets::u16_at(octets, place + 2)),
+        packets: u128::from(big.u64_at(octets, place + 7)),
+        octets: u128::from(big.u64_at(octets, place + 15)),
+        first: u128::from(big.u64_at(octets, place + 23)),
+        last: u128::from(big.u64_at(octets, place + 31)),
+        flags: u128::from(octets::u16_at(octets, place + 5)),
+        reason: u128::from(octets[place + 39]),
+    }
 }
 
 /// The numbers in the values, each found by its element. Those of the addresses are given.

@@ -1,18 +1,25 @@
 //! What is known of the observation domains of a stream.
 
 ghost use Rattle.std.specs.Prelude.{◌≡◌, ◌<◌, [], OnOk, option_map};
+ghost use Rattle.std.specs.Option.{ForSome};
+ghost use Rattle.std.proofs.Props.{props};
 ghost use Rattle.ipfix_model.specs.Fields.{least_length};
+ghost use Rattle.ipfix_reader.specs.FlowTemplates.{flow_template_fields};
 
+use crate::flow_template::FlowTemplate;
 use indexmap::IndexMap;
 use ipfix_model::Template;
 use std::alloc::{AllocError, Global};
 use std::marker::Model;
 
-/// A template that is known: each record of it takes a byte or more.
+/// A template that is known, and which template of flows has its fields, where one has. Each record of it takes a byte
+/// or more.
 #[derive(Drop)]
 pub struct Known {
     pub template: Template,
+    pub flow: Option<FlowTemplate>,
     pub ghost takes_bytes: { 0 < least_length template.fields },
+    pub ghost of_flows: { ForSome flow (λ one. template.fields ≡ flow_template_fields one) } by { Prim.hlevel props },
 }
 
 /// The known templates, by observation domain and number.
@@ -56,7 +63,8 @@ impl TemplateTable {
         ensures { OnOk result (self.new ≡ with_template self.old domain template.id template.fields) }
     {
         let key = (domain, template.id);
-        self.known.insert(key, Known { template })?;
+        let flow = FlowTemplate::of(template.fields.items());
+        self.known.insert(key, Known { template, flow })?;
         Ok(())
     }
 }

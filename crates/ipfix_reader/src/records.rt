@@ -7,10 +7,13 @@ ghost use Rattle.ipfix_reader.specs.Outcome.{IsFaultOf};
 ghost use Rattle.ipfix_reader.specs.Records.{template_records, data_records};
 ghost use Rattle.ipfix_reader.specs.Cursors.{IsPaddingChecked};
 ghost use Rattle.ipfix_reader.specs.Cursors.{part_of};
+ghost use Rattle.ipfix_reader.specs.FlowTemplates.{flow_template_fields, flow_record_length};
 ghost use Rattle.ipfix_reader.specs.Taking.{IsTaken};
 
 use crate::cursor::Cursor;
 use crate::fault::{StreamError, StreamFault};
+use crate::flow_octets::FlowOctets;
+use crate::flow_template::FlowTemplate;
 use crate::known::{Known, TemplateTable};
 use crate::specifiers::template_of;
 use crate::taking::RecordTaker;
@@ -114,6 +117,9 @@ fn read_record<'a, T: RecordTaker>(
     ensures fault { IfErr result (λ error. (before : List DataRecord) → T.has_taken taker.old before
         → IsFaultOf (data_records domain number known.now.template.fields before (part_of part.entry)) error) }
 {
+    if let Some(flow) = known.flow {
+        return read_flow(alloc, domain, number, flow, taker, part);
+    }
     let beyond = StreamFault::BadLength { at: part.at };
     let (values, rest) = values_of(alloc, known.template.fields.items(), part, beyond)?;
     taker.take(DataRecord {
@@ -122,6 +128,37 @@ fn read_record<'a, T: RecordTaker>(
         fields: ValueList::of(values),
     })?;
     Ok(rest)
+}
+
+/// Reads one data record of a template of flows, and gives what lies behind it. No value of it is made.
+fn read_flow<'a, T: RecordTaker>(
+    alloc: Global,
+    domain: u32,
+    number: u16,
+    flow: FlowTemplate,
+    taker: &mut T,
+    part: Cursor<'a>,
+) -> Result<Cursor<'a>, StreamError>
+    requires { flow_record_length flow ≤ length part.bytes.now }
+    ensures ok { IfOk result (λ rest. (before : List DataRecord) → T.has_taken taker.old before
+        → IsTaken (T.has_taken taker.new) before 1
+        (data_records domain number (flow_template_fields flow) before (part_of part.entry))
+        (λ after. data_records domain number (flow_template_fields flow) after (part_of rest))) }
+    ensures shorter { IfOk result (λ rest. length rest.bytes.now < length part.entry.bytes.now) }
+    ensures memory { IfErr result (λ error. error ≡ StreamError.NoMemory) }
+{
+    let size = flow.record_length();
+    let octets = part.first_part(size).bytes;
+    taker.take_octets(
+        alloc,
+        FlowOctets {
+            domain,
+            template: number,
+            flow,
+            octets,
+        },
+    )?;
+    Ok(part.behind(size))
 }
 
 /// Checks that all bytes left at the end of a set are 0.

@@ -13,7 +13,7 @@ use crate::settings::Share;
 use crate::taken::Taken;
 use crate::taking::{TakeError, take};
 use ipfix_model::DataRecord;
-use ipfix_reader::{RecordTaker, flow_of};
+use ipfix_reader::{FlowOctets, RecordTaker, flow_in, flow_of};
 use no_memory::NoMemory;
 use record_ledger::FlowRecord;
 use std::alloc::Global;
@@ -91,6 +91,19 @@ impl<K: Begun> RecordTaker for FileTaker<K> {
             return Ok(());
         }
         match flow_of(&rec) {
+            Some(found) => self.take_flow(&found),
+            None => {
+                self.has_other = true;
+                Ok(())
+            }
+        }
+    }
+
+    fn take_octets(&mut self, _alloc: Global, rec: FlowOctets<'_>) -> Result<(), NoMemory> {
+        if self.has_other {
+            return Ok(());
+        }
+        match flow_in(rec) {
             Some(found) => self.take_flow(&found),
             None => {
                 self.has_other = true;
