@@ -15,6 +15,7 @@ use Rattle.join_program.specs.declared.status.FileFault.TheVariants.{ReadFault, 
 use Rattle.join_program.specs.declared.status.JoinStatus.{JoinStatus}
 use Rattle.join_program.specs.declared.status.JoinStatus.TheVariants.{Done, Usage, WriteFault, NoMemory, Refused}
 use Rattle.join_program.specs.Joined.{IsAnswer, IsExact, AreFew, together}
+use Rattle.join_program.specs.Laws.{ComeOf}
 use Rattle.join_program.specs.Statuses.{fault_line}
 use Rattle.join_program.specs.Words.{Asked, OneOf}
 
@@ -52,6 +53,8 @@ HaveGiven contents names inputs = AllZip (HasGiven contents) names inputs
 
 -- ---- all was done, or a write failed
 
+-- All files were read to their ends, and the output took the answer to joining them. A join of joins is a join: where
+-- the files come from other streams by joins, the answer is also one to joining these streams.
 pub record IsDone (asked : Asked) (files : Files) (output : Side) : Type 0 where
   pub inputs : List (List FlowRecord)
   pub given : HaveGiven files.contents asked.files inputs
@@ -59,6 +62,7 @@ pub record IsDone (asked : Asked) (files : Files) (output : Side) : Type 0 where
   pub written : List ℕ
   pub answer : IsAnswer asked inputs written
   pub exact : IsExact asked inputs written
+  pub joins : (first : List (List FlowRecord)) → ComeOf asked first inputs → IsAnswer asked first written
   pub taken : HasTaken output written
 
 -- The output took a beginning of the answer.

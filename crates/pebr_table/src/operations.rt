@@ -83,11 +83,13 @@ impl<V, K, P: TableRule<(), V, K>> Table<V, K, P> {
             .compare_exchange::<Exchanges<M>>(&mut seat.inner, word, old, new)
     }
 
-    /// A new seat, with a part of this one's view. It has made no operation.
+    /// A new seat, with a part of this one's view. Neither has made an operation: a call that is handed a seat at work
+    /// can't split a second one off, make an operation there, and unite the two, after which no list would have it.
     pub fn split<M: Split<V>>(&self, seat: &mut Seat<V>) -> Seat<V>
-        requires { (table_at seat.old ≡ table_of self.now) × (0 < (table_of self.now).words)
+        requires at { (table_at seat.old ≡ table_of self.now) × (0 < (table_of self.now).words)
             × Splits (P.holds (key_of self.now)) (id_of seat.old) (me_of seat.old).0 (M.left (me_of seat.old).0)
             (M.right (me_of seat.old).0) }
+        requires idle { operations_of seat.old ≡ [] }
         ensures old { (table_at seat.new ≡ table_at seat.old) × (id_of seat.new ≡ id_of seat.old)
             × (me_of seat.new ≡ (M.left (me_of seat.old).0, (me_of seat.old).1))
             × (operations_of seat.new ≡ operations_of seat.old) }

@@ -5,10 +5,11 @@ use Rattle.meter_io.specs.Sides.{Side}
 use Rattle.record_ledger.specs.declared.record.FlowRecord.{FlowRecord}
 use Rattle.join_program.specs.declared.status.JoinStatus.{JoinStatus}
 use Rattle.join_program.specs.declared.status.JoinStatus.TheVariants.{Done, Usage, WriteFault, NoMemory, Refused}
-use Rattle.join_program.specs.Joined.{AreJoined, AreGathered, AreFew, together, export_time}
+use Rattle.join_program.specs.Joined.{AreJoined, AreGathered, AreFew, IsAnswer, together, export_time}
 use Rattle.join_program.specs.Outcome.{Files, HaveGiven, files_seen}
 use Rattle.join_program.specs.Taking.{EmitMeans, JoinMeans, asked_of}
 use Rattle.join_program.specs.Words.{Asked}
+use Rattle.join_program.proofs.Nested.{any_answered}
 use Rattle.join_program.proofs.running.join_files.Goals as goal
 
 module _ (asked : Asked) (files : Files) (output : Side) (inputs : List (List FlowRecord))
@@ -17,15 +18,19 @@ module _ (asked : Asked) (files : Files) (output : Side) (inputs : List (List Fl
     (gathered : AreGathered asked inputs clock records) where
   means : (status : JoinStatus) → EmitMeans asked.size (export_time clock) records output status
       → JoinMeans asked files output status
-  means Done e = record {
-    inputs = inputs;
-    given = given;
-    few = few;
-    written = e.0;
-    answer = record { clock = clock; records = records; joined = joined; layout = e.1; decoded = e.2 };
-    exact = record { clock = clock; records = records; gathered = gathered; layout = e.1 };
-    taken = e.3;
-  }
+  means Done e =
+      let answer : IsAnswer asked inputs e.0 =
+          record { clock = clock; records = records; joined = joined; layout = e.1; decoded = e.2 } in
+      record {
+        inputs = inputs;
+        given = given;
+        few = few;
+        written = e.0;
+        answer = answer;
+        exact = record { clock = clock; records = records; gathered = gathered; layout = e.1 };
+        joins = λ first come. any_answered asked first inputs e.0 come answer;
+        taken = e.3;
+      }
   means WriteFault e = record {
     inputs = inputs;
     given = given;

@@ -7,8 +7,8 @@ use Rattle.pebr_words.proofs.Splits.{splits}
 use Rattle.pebr_words.proofs.OpeningViews.{next_view}
 use Rattle.pebr_words.proofs.words.Words.split_one.Goals as goal
 
-pub split-inner-requires : goal.split-inner-requires
-split-inner-requires g c =
+pub split-inner-requires-clause-at : goal.split-inner-requires-clause-at
+split-inner-requires-clause-at g c =
     let words = c.args.self.now in
     let view = ap (λ (m : Me (Unit {0}) (List (Held _))). m.0) c.requires.view in
     let next = next_view words.shape g.P.RootProtocol.first c.args.number words.shape.seats c.requires.at.1 in (
