@@ -4,8 +4,8 @@
 #     checks/readme.sh
 #
 # The blocks marked `run: sample`, `run: report` and `run: capture`, and the commands for pcapng and for cutting in the text, are
-# taken out of README.md and run in a folder with bin/, examples/ and man/. The last line that the first prints must be the one that
-# README.md shows, and standard error must have the counts that it names. The capture is of the loopback interface, with datagrams
+# taken out of README.md and run in a folder with bin/, examples/ and man/. What the first prints must be the records that README.md
+# shows, and standard error must have the counts that it names. The capture is of the loopback interface, with datagrams
 # that this script sends. Besides, the programs are installed below a folder, and a manual page is read. What needs a program
 # that is missing (packages python3-ipfix, miller, gnuplot-nox, tcpdump, wireshark-common, man-db), or the right to capture,
 # is skipped with one line. The status is not 0 where anything differs.
@@ -70,9 +70,9 @@ reported() {
 }
 
 sample() {
-    block "shown by: sample" | paste -sd ' ' >wanted
-    block "run: sample" | typed out && [ -s wanted ] && tail -n 1 out | cmp - wanted &&
-        [ "$(wc -l <out)" -eq 4 ] && [ "$(grep -c 'flowEndReason=4$' out)" -eq 3 ] &&
+    # A line that begins with spaces goes on with the line before it.
+    block "shown by: sample" | sed -e :a -e '$!N; s/\n  */ /; ta' -e 'P; D' >wanted
+    block "run: sample" | typed out && [ "$(wc -l <wanted)" -eq 4 ] && cmp out wanted &&
         reported 'captured 10' 'accepted 9' 'not-ip 1' 'records 4'
 }
 
