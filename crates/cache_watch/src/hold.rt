@@ -11,7 +11,7 @@ ghost use Rattle.pebr_roots.specs.Passes.{shape_at, known_by_pass, note_by, past
 ghost use Rattle.pebr_roots.specs.Orders.{HasMade};
 ghost use Rattle.pebr_roots.specs.Passes as roots;
 ghost use Rattle.flow_cache.specs.Shown.{means_of, roots_of};
-ghost use Rattle.flow_cache.specs.Trying.{AreProtected};
+ghost use Rattle.flow_cache.specs.Trying.{AreProtected, HasOnlyStepped};
 ghost use Rattle.cache_watch.specs.Holding.{IsHolding, IsHeld, IsAbsent, note_holding};
 ghost use Rattle.cache_watch.specs.Trying.{IsTried, note_tried};
 
@@ -49,11 +49,7 @@ fn leave(cache: &PebrCache, seat: &mut RootPass<CacheRule>, held: Option<Hold>)
     ensures out { IsTrue (is_out (known_by_pass seat.new).status) }
     ensures held { IfSome held (λ _. (known_by_pass seat.new).shields ≡ (known_by_pass seat.old).shields) }
     ensures down { held ≡ None → IsTrue (list_all is_down (known_by_pass seat.new).shields) }
-    ensures past { past_by seat.new ≡ record (past_by seat.old) {
-      last = (past_by seat.new).last;
-      steps =
-          (past_by seat.new).steps;
-    } }
+    ensures past { HasOnlyStepped (past_by seat.old) (past_by seat.new) }
     ensures sure { IsSure IsWhole (shape_at (roots_of cache.now)) (known_by_pass seat.new) (past_by seat.new) }
     ensures few { HasMade 5 (operations_by seat.old) (operations_by seat.new) }
 {

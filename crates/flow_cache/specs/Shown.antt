@@ -1,10 +1,8 @@
 -- What the cache and its passes mean.
-use Rattle.std.specs.Prelude.{◌≡◌, ◌⊎◌, ℕ, ◌+◌, ◌*◌, ◌<◌, List, Option}
-use Rattle.flow_parts.specs.declared.fragment.Fragment.{Fragment}
+use Rattle.std.specs.Prelude.{◌≡◌, ◌⊎◌, ℕ, ◌+◌, ◌*◌, ◌<◌, List}
 use Rattle.cache_face.specs.Meaning.{CacheMeans, PassMeans}
 use Rattle.cache_face.specs.Notes.{Note, first_note, empty_note}
 use Rattle.pebr_core.specs.Frames.{retired_count}
-use Rattle.pebr_core.specs.State.{Seat}
 use Rattle.pebr_core.specs.declared.kinds.Shape.{Shape}
 use Rattle.pebr_table.specs.Operations.{Op}
 use Rattle.pebr_words.specs.Pasts.{Lost, was_ejected, found_other, Ejection, History}
@@ -63,12 +61,9 @@ tries_of pass = lost_by (seat_of pass)
 abbrev pub past_of : PebrPass → History
 past_of pass = past_by (seat_of pass)
 
--- The number that its seat acts as, what the seat knows, and the operations on words that it made, the newest first.
+-- The number that its seat acts as, and the operations on words that it made, the newest first.
 abbrev pub number_of : PebrPass → ℕ
 number_of pass = number_by (seat_of pass)
-
-abbrev pub known_of : PebrPass → Seat
-known_of pass = known_by_pass (seat_of pass)
 
 abbrev pub operations_of : PebrPass → List Op
 operations_of pass = operations_by (seat_of pass)

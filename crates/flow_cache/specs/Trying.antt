@@ -49,6 +49,14 @@ pub record AreProtected (set : ℕ) (known : Seat) (past : History) : Type 0 whe
 abbrev pub IsUnlost : History → History → Type 0
 IsUnlost old new = (new.lost ≡ old.lost) × (new.has_lost ≡ false)
 
+-- The history is as it was, but for what the last step answered and how many there were.
+abbrev pub HasOnlyStepped : History → History → Type 0
+HasOnlyStepped old new = new ≡ record old { last = new.last; steps = new.steps }
+
+-- The history is as it was, but for what the last step answered, how many there were, and what was read.
+abbrev pub HasOnlyRead : History → History → Type 0
+HasOnlyRead old new = new ≡ record old { last = new.last; steps = new.steps; reads = new.reads }
+
 -- What was read before is read still.
 abbrev pub HasMore : List Read → List Read → Type 0
 HasMore old new = (slot word value : ℕ) → written_at old slot word ≡ Some value → written_at new slot word ≡ Some value
@@ -81,3 +89,8 @@ HasPut limits set note note' old new own how out =
 -- One more try was lost, at a set.
 abbrev pub HasLostTry : ℕ → History → History → Type 0
 HasLostTry set old new = (try : Lost) × (new.lost ≡ try ∷ old.lost) × IsTryOf set try
+
+-- A try put nothing in: the note and the fresh slots are as they were, and one more try was lost, at a set.
+abbrev pub HasNotPut : ℕ → Note → Note → Seat → Seat → History → History → Type 0
+HasNotPut set note note' known known' old new =
+    (note' ≡ note) × (known'.fresh ≡ known.fresh) × HasLostTry set old new

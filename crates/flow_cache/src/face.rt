@@ -9,8 +9,9 @@ ghost use Rattle.cache_face.specs.Tries.{HasLost};
 ghost use Rattle.flow_cache.specs.Closed.{metered_by};
 ghost use Rattle.flow_cache.specs.Collecting.{CollectsFrom};
 ghost use Rattle.flow_cache.specs.Shown.{means_of, shown_of, tries_of, retired_of, ejections_of, slots_of, IsOf};
-ghost use Rattle.flow_cache.specs.Shown.{past_of, IsTryOf, shape_of_roots, number_of, known_of, operations_of};
+ghost use Rattle.flow_cache.specs.Shown.{past_of, IsTryOf, seat_of, shape_of_roots, number_of, operations_of};
 ghost use Rattle.pebr_roots.specs.Orders.{HasMade};
+ghost use Rattle.pebr_roots.specs.Passes.{known_by_pass};
 ghost use Rattle.pebr_words.specs.Pasts.{Lost};
 
 use crate::cache::{PebrCache, PebrPass};
@@ -46,8 +47,9 @@ impl FlowCache for PebrCache {
             (tries_of pass.old) (tries_of pass.new) }
         ensures retired { retired_of pass.new ≤ slots_of self.now }
         ensures ejections { retired_of pass.old ≢ slots_of self.now → ejections_of pass.new ≡ ejections_of pass.old }
-        ensures collects { CollectsFrom (shape_of_roots self.now) (number_of pass.old) (known_of pass.old)
-            (past_of pass.old) (past_of pass.new) (operations_of pass.old) (operations_of pass.new) }
+        ensures collects { CollectsFrom (shape_of_roots self.now) (number_of pass.old)
+            (known_by_pass (seat_of pass.old)) (past_of pass.old) (past_of pass.new) (operations_of pass.old)
+            (operations_of pass.new) }
         ensures few { HasMade (12 * ((means_of self.now).seats - 1) + 209) (operations_of pass.old)
             (operations_of pass.new) }
     {

@@ -30,8 +30,8 @@
 //!
 //! # What is proved
 //!
-//! [`CacheRule`] is the protocol of the roots: between any two steps of the threads the packets of all passes are
-//! shared out by the entries and the fragments that were handed out. [`PebrCache`] is a
+//! [`CacheRule`] is the protocol of the roots: between any two steps of the threads the entries and all fragments that
+//! were handed out are reached, by permuting and joining joinable ones, from all that were put in. [`PebrCache`] is a
 //! [`FlowCache`](cache_face::FlowCache): what `meter` answers is the choice over the four entries that the pass's
 //! history has (`specs/Reading.antt`), and each lost try is a step in this history. [`PebrCache::meter_stopping`] calls
 //! a [`Stop`] at each [`Point`] of a try, and has the same contract. `specs/Trying.antt` says how far a try is.

@@ -14,7 +14,7 @@ ghost use Rattle.flow_cache.specs.Collecting.{HasCollected, HasBegun, HasSpared,
 ghost use Rattle.flow_cache.specs.Outcome.{HaveLost, IsOutcome};
 ghost use Rattle.flow_cache.specs.Shown as shown;
 ghost use Rattle.flow_cache.specs.Shown.{means_of, shown_of, past_of, tries_of, retired_of, ejections_of, slots_of};
-ghost use Rattle.flow_cache.specs.Shown.{IsTryOf, shape_of_roots, number_of, known_of, operations_of};
+ghost use Rattle.flow_cache.specs.Shown.{IsTryOf, seat_of, shape_of_roots, number_of, operations_of};
 ghost use Rattle.flow_cache.specs.Trying.{IsOwn, IsResting};
 
 use crate::cache::{PebrCache, PebrPass};
@@ -164,8 +164,9 @@ impl PebrCache {
             (tries_of pass.old) (tries_of pass.new) }
         ensures retired { retired_of pass.new ≤ slots_of self.now }
         ensures ejections { retired_of pass.old ≢ slots_of self.now → ejections_of pass.new ≡ ejections_of pass.old }
-        ensures collects { CollectsFrom (shape_of_roots self.now) (number_of pass.old) (known_of pass.old)
-            (past_of pass.old) (past_of pass.new) (operations_of pass.old) (operations_of pass.new) }
+        ensures collects { CollectsFrom (shape_of_roots self.now) (number_of pass.old)
+            (known_by_pass (seat_of pass.old)) (past_of pass.old) (past_of pass.new) (operations_of pass.old)
+            (operations_of pass.new) }
         ensures few { HasMade (12 * ((means_of self.now).seats - 1) + 209) (operations_of pass.old)
             (operations_of pass.new) }
     {

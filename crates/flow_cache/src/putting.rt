@@ -16,7 +16,8 @@ ghost use Rattle.pebr_roots.specs.Passes.{IsSame};
 ghost use Rattle.cache_choice.specs.Chosen.{out_of};
 ghost use Rattle.flow_cache.specs.declared.act.CacheAct.TheVariants.{Puts};
 ghost use Rattle.flow_cache.specs.Collecting.{HasCollected, HasSpared};
-ghost use Rattle.flow_cache.specs.Trying.{IsOwn, IsResting, AreProtected, HasPut, HasLostTry};
+ghost use Rattle.flow_cache.specs.Trying.{IsOwn, IsResting, AreProtected, HasOnlyStepped};
+ghost use Rattle.flow_cache.specs.Trying.{HasPut, HasNotPut, HasLostTry};
 
 use crate::act::CacheAct;
 use crate::cache::PebrCache;
@@ -115,9 +116,8 @@ impl PebrCache {
         ensures done { IsTrue result → HasPut self.now.timeouts set (note_by first_note pass.old)
             (note_by first_note pass.new) (past_by pass.old) (past_by pass.new) own.now metered.new.how
             metered.new.out }
-        ensures undone { result ≡ false → (note_by first_note pass.new ≡ note_by first_note pass.old)
-            × ((known_by_pass pass.new).fresh ≡ (known_by_pass pass.old).fresh)
-            × HasLostTry set (past_by pass.old) (past_by pass.new) }
+        ensures undone { result ≡ false → HasNotPut set (note_by first_note pass.old) (note_by first_note pass.new)
+            (known_by_pass pass.old) (known_by_pass pass.new) (past_by pass.old) (past_by pass.new) }
         ensures untouched { result ≡ false → metered.new.out ≡ None }
         ensures few { HasSpared (shape_at self.now.roots) (number_by pass.old) 51 (operations_by pass.old)
             (operations_by pass.new) }
@@ -163,9 +163,8 @@ impl PebrCache {
         ensures done { IsTrue result → HasPut self.now.timeouts set (note_by first_note pass.old)
             (note_by first_note pass.new) (past_by pass.old) (past_by pass.new) own.now metered.new.how
             metered.new.out }
-        ensures undone { result ≡ false → (note_by first_note pass.new ≡ note_by first_note pass.old)
-            × ((known_by_pass pass.new).fresh ≡ (known_by_pass pass.old).fresh)
-            × HasLostTry set (past_by pass.old) (past_by pass.new) }
+        ensures undone { result ≡ false → HasNotPut set (note_by first_note pass.old) (note_by first_note pass.new)
+            (known_by_pass pass.old) (known_by_pass pass.new) (past_by pass.old) (past_by pass.new) }
         ensures untouched { result ≡ false → metered.new.out ≡ None }
         ensures few { HasSpared (shape_at self.now.roots) (number_by pass.old) 62 (operations_by pass.old)
             (operations_by pass.new) }
@@ -184,11 +183,7 @@ impl PebrCache {
         ensures known { known_by_pass pass.new ≡ record (known_by_pass pass.old)
             { shields = (known_by_pass pass.new).shields } }
         ensures down { IsTrue (list_all is_down (known_by_pass pass.new).shields) }
-        ensures past { past_by pass.new ≡ record (past_by pass.old) {
-          last = (past_by pass.new).last;
-          steps =
-              (past_by pass.new).steps;
-        } }
+        ensures past { HasOnlyStepped (past_by pass.old) (past_by pass.new) }
         ensures few { HasSpared (shape_at self.now.roots) (number_by pass.old) 4 (operations_by pass.old)
             (operations_by pass.new) }
     {
@@ -213,11 +208,7 @@ impl PebrCache {
         ensures note { note_by first_note pass.new
             ≡ (if passes_by then note_with (note_by first_note pass.old) own.now (Some own.now)
             else note_by first_note pass.old) }
-        ensures past { past_by pass.new ≡ record (past_by pass.old) {
-          last = (past_by pass.new).last;
-          steps =
-              (past_by pass.new).steps;
-        } }
+        ensures past { HasOnlyStepped (past_by pass.old) (past_by pass.new) }
         ensures sure { IsSure IsWhole (shape_at self.now.roots) (known_by_pass pass.new) (past_by pass.new) }
         ensures few { HasSpared (shape_at self.now.roots) (number_by pass.old) 5 (operations_by pass.old)
             (operations_by pass.new) }

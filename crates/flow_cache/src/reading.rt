@@ -14,7 +14,7 @@ ghost use Rattle.pebr_roots.specs.Orders.{HasMade};
 ghost use Rattle.flow_cache.specs.Collecting.{HasCollected, HasSpared};
 ghost use Rattle.flow_cache.specs.Reading.{words_read, entries_read, set_read};
 ghost use Rattle.flow_cache.specs.Shown.{roots_of};
-ghost use Rattle.flow_cache.specs.Trying.{AreLoaded, AreProtected, IsUnlost, HasMore, HasTen, HasReadTen};
+ghost use Rattle.flow_cache.specs.Trying.{AreLoaded, AreProtected, IsUnlost, HasOnlyRead, HasMore, HasTen, HasReadTen};
 
 use crate::cache::PebrCache;
 use crate::protocol::CacheRule;
@@ -103,12 +103,7 @@ impl PebrCache {
         ensures same { IsSame (roots_of self.now) pass.old pass.new }
         ensures note { note_by first_note pass.new ≡ note_by first_note pass.old }
         ensures known { known_by_pass pass.new ≡ known_by_pass pass.old }
-        ensures past { past_by pass.new ≡ record (past_by pass.old) {
-          last = (past_by pass.new).last;
-          steps =
-              (past_by pass.new).steps;
-          reads = (past_by pass.new).reads;
-        } }
+        ensures past { HasOnlyRead (past_by pass.old) (past_by pass.new) }
         ensures grown { HasReadTen (slot_at (known_by_pass pass.old) place) result (past_by pass.old).reads
             (past_by pass.new).reads }
         ensures more { HasMore (past_by pass.old).reads (past_by pass.new).reads }
@@ -132,12 +127,7 @@ impl PebrCache {
         ensures same { IsSame self.now.roots pass.old pass.new }
         ensures note { note_by first_note pass.new ≡ note_by first_note pass.old }
         ensures known { known_by_pass pass.new ≡ known_by_pass pass.old }
-        ensures past { past_by pass.new ≡ record (past_by pass.old) {
-          last = (past_by pass.new).last;
-          steps =
-              (past_by pass.new).steps;
-          reads = (past_by pass.new).reads;
-        } }
+        ensures past { HasOnlyRead (past_by pass.old) (past_by pass.new) }
         ensures grown { HasReadTen (slot_at (known_by_pass pass.old) place) (entry_of words.new)
             (past_by pass.old).reads
             (past_by pass.new).reads }
@@ -165,12 +155,7 @@ impl PebrCache {
         ensures same { IsSame self.now.roots pass.old pass.new }
         ensures note { note_by first_note pass.new ≡ note_by first_note pass.old }
         ensures known { known_by_pass pass.new ≡ known_by_pass pass.old }
-        ensures past { past_by pass.new ≡ record (past_by pass.old) {
-          last = (past_by pass.new).last;
-          steps =
-              (past_by pass.new).steps;
-          reads = (past_by pass.new).reads;
-        } }
+        ensures past { HasOnlyRead (past_by pass.old) (past_by pass.new) }
         ensures ten { (place : ℕ) → place < 4 → HasTen (past_by pass.new).reads
             (slot_at (known_by_pass pass.old) place) }
         ensures entries { (set : ℕ) → AreProtected set (known_by_pass pass.old) (past_by pass.old)
@@ -192,12 +177,7 @@ impl PebrCache {
         ensures same { IsSame (roots_of self.now) pass.old pass.new }
         ensures note { note_by first_note pass.new ≡ note_by first_note pass.old }
         ensures known { known_by_pass pass.new ≡ known_by_pass pass.old }
-        ensures past { past_by pass.new ≡ record (past_by pass.old) {
-          last = (past_by pass.new).last;
-          steps =
-              (past_by pass.new).steps;
-          reads = (past_by pass.new).reads;
-        } }
+        ensures past { HasOnlyRead (past_by pass.old) (past_by pass.new) }
         ensures ten { (place : ℕ) → place < 4 → HasTen (past_by pass.new).reads
             (slot_at (known_by_pass pass.old) place) }
         ensures entries { (set : ℕ) → AreProtected set (known_by_pass pass.old) (past_by pass.old)

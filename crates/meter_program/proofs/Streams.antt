@@ -8,7 +8,7 @@ use Rattle.record_ledger.specs.declared.record.FlowRecord.{FlowRecord}
 use Rattle.capture_tally.specs.declared.tally.Tally.{Tally}
 use Rattle.ipfix_writer.specs.Layout.{IsLayout, IsLayoutOf, BeginsLayout}
 use Rattle.ipfix_reader.specs.Flows.{flows_of}
-use Rattle.meter_program.specs.Gathering.{export_time}
+use Rattle.meter_program.specs.ExportTime.{export_time}
 use Rattle.meter_program.specs.Summary.{summary}
 use Rattle.meter_io.specs.Sides.{Side, HasTaken, HasBegun, HasFailed}
 use Rattle.meter_program.specs.Metering.{IsWritten, WroteBoth, WroteSome}

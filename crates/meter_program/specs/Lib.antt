@@ -1,7 +1,7 @@
 pub mod Seen
 pub mod Statuses
 pub mod Summary
-pub mod Gathering
+pub mod ExportTime
 pub mod Words
 pub mod Shows
 pub mod Showing

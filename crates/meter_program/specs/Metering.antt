@@ -24,7 +24,7 @@ use Rattle.meter_program.specs.declared.status.Status.{Status}
 use Rattle.meter_program.specs.declared.status.Status.TheVariants.{Done, ReadFault, WriteFault, NotCapture, LinkUnknown}
 use Rattle.meter_program.specs.declared.status.Status.TheVariants.{Damaged, TooLarge, NoMemory, Usage, NotStream}
 use Rattle.meter_program.specs.declared.status.Status.TheVariants.{BadSchedule}
-use Rattle.meter_program.specs.Gathering.{export_time}
+use Rattle.meter_program.specs.ExportTime.{export_time}
 use Rattle.meter_program.specs.Summary.{summary}
 use Rattle.meter_io.specs.Sides.{Side, IsRead, HasTaken, HasBegun, HasTakenOrFailed, HasFailed, IsUntouched}
 

@@ -20,7 +20,7 @@ use Rattle.meter_program.specs.declared.status.Status.{Status}
 use Rattle.meter_program.specs.declared.status.Status.TheVariants.{Done, ReadFault, WriteFault, NotCapture, LinkUnknown}
 use Rattle.meter_program.specs.declared.status.Status.TheVariants.{Damaged, TooLarge, NoMemory, Usage, NotStream}
 use Rattle.meter_program.specs.declared.status.Status.TheVariants.{BadSchedule}
-use Rattle.meter_program.specs.Gathering.{export_time}
+use Rattle.meter_program.specs.ExportTime.{export_time}
 use Rattle.meter_program.specs.Shows.{text_of}
 use Rattle.meter_program.specs.Summary.{count_line, summary}
 use Rattle.meter_program.specs.Statuses.{fault_line}

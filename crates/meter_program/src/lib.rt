@@ -24,8 +24,8 @@
 //!
 //! `specs/Outcome.antt` says what a run means, by its words and its status: that is the contract of `run`, and the file
 //! to read first. `Seen` there is what is seen of input, output and standard error before and after; `Words` the
-//! command lines; `Shows`, `Summary` and `Replays` the texts; `Statuses` exit statuses and lines; `Gathering` the
-//! export time; `Metering` what metering, gathering and writing say of one another, for every program that meters.
+//! command lines; `Shows`, `Summary` and `Replays` the texts; `Statuses` exit statuses and lines; `ExportTime`
+//! the export time; `Metering` what metering, gathering and writing say of one another, for every program that meters.
 //! `Showing` and `Replaying` are the code's own.
 #![tactic(auto)]
 

@@ -2,7 +2,7 @@
 
 ghost use Rattle.std.specs.Prelude.{◌≡◌, ◌≤◌, ◌<◌, ◌*◌, ◌^◌, ℕ, List, IfOk, OnErr};
 ghost use Rattle.std.specs.Option.{ForSome};
-ghost use Rattle.meter_program.specs.Gathering.{export_time};
+ghost use Rattle.meter_program.specs.ExportTime.{export_time};
 ghost use Rattle.meter_program.specs.Metering.{IsWritten, WriteMeans};
 ghost use Rattle.meter_program.specs.Outcome.{Ends};
 ghost use Rattle.meter_io.specs.Causes.{HasCause};

@@ -23,7 +23,7 @@ use Rattle.ipfix_writer.specs.Layout.{encode_flow, IsLayoutOf}
 use Rattle.ipfix_writer.specs.Encoding.{template_message}
 use Rattle.ipfix_writer.proofs.OneLayout.{parts-same, stream-same}
 use Rattle.capture_maker.specs.Made.{capture_of}
-use Rattle.meter_program.specs.Gathering.{export_time}
+use Rattle.meter_program.specs.ExportTime.{export_time}
 use Rattle.meter_program.specs.Outcome.{IsMetered, IsTested}
 use Rattle.meter_program.specs.Summary.{count_line, ignored_lines, summary}
 use Rattle.trial_runs.proofs.Uncut.{some-same, nothing-cuts}

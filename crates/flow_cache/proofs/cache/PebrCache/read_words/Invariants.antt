@@ -7,7 +7,7 @@ use Rattle.pebr_words.specs.Ruled.{HasReadWhole}
 use Rattle.pebr_roots.specs.Under.{slot_at}
 use Rattle.pebr_roots.specs.Passes.{shape_at, known_by_pass, number_by, note_by, past_by, operations_by, IsSame}
 use Rattle.flow_cache.specs.Collecting.{HasSpared}
-use Rattle.flow_cache.specs.Trying.{HasMore}
+use Rattle.flow_cache.specs.Trying.{HasOnlyRead, HasMore}
 use Rattle.flow_cache.proofs.cache.PebrCache.read_words.Given as goal
 
 abbrev pub invariant-loop-word : goal.invariant-loop-word
@@ -17,12 +17,7 @@ invariant-loop-word l = record {
   same : IsSame l.self.roots l.initial.pass l.pass;
   note : note_by first_note l.pass ≡ note_by first_note l.initial.pass;
   known : known_by_pass l.pass ≡ known_by_pass l.initial.pass;
-  past : past_by l.pass ≡ record (past_by l.initial.pass) {
-    last = (past_by l.pass).last;
-    steps =
-        (past_by l.pass).steps;
-    reads = (past_by l.pass).reads;
-  };
+  past : HasOnlyRead (past_by l.initial.pass) (past_by l.pass);
   grown : (reads : List Read) × ((past_by l.pass).reads ≡ reads ++ (past_by l.initial.pass).reads)
       × (length reads ≡ l.word) × ((k : ℕ) → k < l.word
       → written_at reads (slot_at (known_by_pass l.initial.pass) l.place) k ≡ Some (slice_index l.words k));
