@@ -5,12 +5,10 @@ ghost use Rattle.std.specs.Prelude.{◌≡◌, ◌≤◌, length};
 use crate::elements::*;
 use crate::fields::{FieldList, FieldSpec, VARIABLE_LENGTH};
 
-/// A template: its number, whether it is an options template, and its fields. A template record counts its fields in
-/// 16 bits.
+/// A template: its number and its fields. A template record counts its fields in 16 bits.
 #[derive(Drop)]
 pub struct Template {
     pub id: u16,
-    pub options: bool,
     pub fields: FieldList,
     pub ghost counted: { length fields ≤ 65535 },
 }

@@ -8,6 +8,7 @@ use Rattle.ipfix_model.specs.declared.values.FieldValue.{FieldValue}
 use Rattle.ipfix_model.specs.declared.values.DataRecord.{DataRecord}
 use Rattle.ipfix_model.specs.Elements.{source_ipv4_address, destination_ipv4_address, source_ipv6_address}
 use Rattle.ipfix_model.specs.Elements.{destination_ipv6_address}
+use Rattle.ipfix_model.specs.Sizes.{counts_length, v4_record_length, v6_record_length}
 use Rattle.ipfix_model.specs.Templates.{v4_fields, v6_fields}
 use Rattle.octets.specs.Numbers.{number_at}
 use Rattle.ipfix_reader.specs.declared.flow_octets.FlowOctets.{FlowOctets}
@@ -110,7 +111,7 @@ fields_taken version source destination place octets = record {
 }
 
 fields_behind-taken : (version source source' destination destination' place : ℕ) (octets : List ℕ)
-    → place + 40 ≤ length octets → source ≡ source' → destination ≡ destination'
+    → place + 5 + counts_length ≤ length octets → source ≡ source' → destination ≡ destination'
     → fields_behind version source destination place octets
     ≡ fields_taken version source' destination' place octets
 fields_behind-taken version source source' destination destination' place octets long source_is destination_is =
@@ -143,7 +144,7 @@ fields_behind-taken version source source' destination destination' place octets
     }
 
 -- they are the numbers in the values of the data record
-fields_in-v4 : (octets : List ℕ) → 48 ≤ length octets
+fields_in-v4 : (octets : List ℕ) → v4_record_length ≤ length octets
     → fields_behind 4 (number_at 0 4 octets) (number_at 4 4 octets) 8 octets
     ≡ fields_in 4 source_ipv4_address destination_ipv4_address (values_at 0 v4_fields octets)
 fields_in-v4 octets long =
@@ -151,7 +152,7 @@ fields_in-v4 octets long =
     (number_taken 4 4 octets) 8 octets (omega arith) (number_at-taken 0 4 octets (omega arith))
     (number_at-taken 4 4 octets (omega arith))
 
-fields_in-v6 : (octets : List ℕ) → 72 ≤ length octets
+fields_in-v6 : (octets : List ℕ) → v6_record_length ≤ length octets
     → fields_behind 6 (number_at 0 16 octets) (number_at 16 16 octets) 32 octets
     ≡ fields_in 6 source_ipv6_address destination_ipv6_address (values_at 0 v6_fields octets)
 fields_in-v6 octets long =
@@ -166,8 +167,8 @@ pub flow-octets_v4 : (rec : FlowOctets) (shown : FlowFields) (answer : Option Fl
 unfolding record_of
 flow-octets_v4 rec shown answer is shown_is answers =
     let octets = rec.octets.now in
-    let long : length octets ≡ 48 = rec.whole ∙ ap flow_record_length is in
-    let inside : 48 ≤ length octets = omega arith in
+    let long : length octets ≡ v4_record_length = rec.whole ∙ ap flow_record_length is in
+    let inside : v4_record_length ≤ length octets = omega arith in
     rw is
     (flow-v4 (record { domain = rec.domain; template = rec.template; fields = values_at 0 v4_fields octets })
     (values_at 0 v4_fields octets) shown answer refl (are_values_of-at 0 v4_fields octets inside)
@@ -179,8 +180,8 @@ pub flow-octets_v6 : (rec : FlowOctets) (shown : FlowFields) (answer : Option Fl
 unfolding record_of
 flow-octets_v6 rec shown answer is shown_is answers =
     let octets = rec.octets.now in
-    let long : length octets ≡ 72 = rec.whole ∙ ap flow_record_length is in
-    let inside : 72 ≤ length octets = omega arith in
+    let long : length octets ≡ v6_record_length = rec.whole ∙ ap flow_record_length is in
+    let inside : v6_record_length ≤ length octets = omega arith in
     rw is
     (flow-v6 (record { domain = rec.domain; template = rec.template; fields = values_at 0 v6_fields octets })
     (values_at 0 v6_fields octets) shown answer refl refl (are_values_of-at 0 v6_fields octets inside)

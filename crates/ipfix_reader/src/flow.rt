@@ -3,6 +3,7 @@
 ghost use Rattle.std.specs.Prelude.{◌≡◌, ◌⊎◌, ◌+◌, ◌≤◌, ℕ, length};
 ghost use Rattle.flow_key.specs.Fields.{IsKeyOf};
 ghost use Rattle.flow_parts.specs.Fields.{IsPartOf};
+ghost use Rattle.ipfix_model.specs.Sizes.{counts_length};
 ghost use Rattle.ipfix_model.specs.Values.{AreNumbers};
 ghost use Rattle.ipfix_reader.specs.FlowFields.{IsFlowWith, fields_in};
 ghost use Rattle.ipfix_reader.specs.Flows.{flow};
@@ -76,10 +77,10 @@ pub fn flow_in(rec: FlowOctets<'_>) -> Option<FlowRecord>
 }
 
 /// The numbers in the octets: those of the addresses, which are given, and of the fields behind them, from this place
-/// on.
+/// on: ports and protocol in 5 octets, and then flags, counts, times and end reason.
 #[tactic(auto, unfolding(octets::specs::Numbers::number_at, octets::specs::Numbers::number))]
 fn numbers_behind(source: u128, destination: u128, octets: &[u8], place: usize) -> Numbers
-    requires { place + 40 ≤ length octets.now }
+    requires { place + 5 + counts_length ≤ length octets.now }
     ensures { (version : ℕ)
         → numbers_shown version result ≡ fields_behind version source destination place octets.now }
 {

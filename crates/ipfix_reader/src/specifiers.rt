@@ -39,7 +39,6 @@ pub fn template_of<'a>(
     let (fields, rest) = fields_of(alloc, count, part.behind(header), bad)?;
     let template = Template {
         id: part.u16_at(0),
-        options,
         fields: FieldList::of(fields),
     };
     if template.least() == 0 {

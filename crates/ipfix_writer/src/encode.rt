@@ -90,8 +90,8 @@ pub fn append_key(buffer: &mut Vec<u8>, flow: &FlowRecord)
     append_u8(buffer, key.protocol);
 }
 
-/// Appends the values behind the key, 35 octets in network order: flags, packets, octets, first and last time, and end
-/// reason.
+/// Appends the values behind the key, `counts_length` octets in network order: flags, packets, octets, first and last
+/// time, and end reason.
 #[tactic(auto, unfolding(crate::specs::DataParts::counts_part))]
 pub fn append_counts(buffer: &mut Vec<u8>, flow: &FlowRecord)
     requires { length buffer.old.items + counts_length ≤ vec_capacity buffer.old }

@@ -16,7 +16,6 @@ fn least_of(rt: &HostRuntime, fields: &[FieldSpec]) -> Result<u64, Fail>
 {
     let template = Template {
         id: 256,
-        options: false,
         fields: FieldList::of(fields.to_vec(rt.alloc())?),
     };
     Ok(template.least())
