@@ -20,7 +20,7 @@ module _ (asked : Asked) (files : Files) (output : Side) (inputs : List (List Fl
       → JoinMeans asked files output status
   means Done e =
       let answer : IsAnswer asked inputs e.0 =
-          record { clock = clock; records = records; joined = joined; layout = e.1; decoded = e.2 } in
+      record { clock = clock; records = records; joined = joined; layout = e.1; decoded = e.2 } in
       record {
         inputs = inputs;
         given = given;
