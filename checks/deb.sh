@@ -4,8 +4,8 @@
 #     checks/deb.sh
 #
 # The package is built and unpacked into a folder. There the programs meter the sample capture, which must give the stream that
-# the programs of bin/ give, and the examples of the package print and draw it. `dpkg` installs it into another folder, with a list of
-# packages of its own, where the programs meter the sample too. Each program has its page and its completions, and the pages
+# the programs of bin/ give, and the examples of the package print and draw it. `dpkg` installs it into another folder, with a list
+# of packages of its own, where the programs meter the sample too. Each program has its page and its completions, and the pages
 # have the version of the package. lintian must find no error and no warning. Two builds must be the same, byte for byte. One line
 # for each; a program that is missing (dpkg-deb, strip; lintian), and a right that dpkg lacks, is skipped with one line. The status
 # is not 0 where anything differs.
