@@ -79,12 +79,13 @@ check: build $(CHECKS:%=bin/%)
 	checks/one_set.sh
 	checks/watch.sh
 	checks/pipe.sh
+	python3 checks/splits.py
 	python3 checks/second_meter.py 20000
 	python3 checks/second_reader.py 20000
 	python3 checks/second_pairer.py 2000
 	python3 checks/second_pcapng.py 2000
 	python3 checks/second_maker.py
-	python3 checks/second_joiner.py 300
+	python3 checks/second_joiner.py 2000
 
 # No part of the gate, nor of `make check`.
 edits:

@@ -4,10 +4,11 @@
 #     checks/deb.sh
 #
 # The package is built and unpacked into a folder. There the programs meter the sample capture, which must give the stream that
-# the programs of bin/ give, and the examples of the package print and draw it. Each program has its page and its completions,
-# and the pages have the version of the package. lintian must find no error and no warning. Two builds must be the same, byte for
-# byte. One line for each; a program that is missing (dpkg-deb, strip; lintian) is skipped with one line. The status is not 0
-# where anything differs.
+# the programs of bin/ give, and the examples of the package print and draw it. `dpkg` installs it into another folder, with a list
+# of packages of its own, where the programs meter the sample too. Each program has its page and its completions, and the pages
+# have the version of the package. lintian must find no error and no warning. Two builds must be the same, byte for byte. One line
+# for each; a program that is missing (dpkg-deb, strip; lintian), and a right that dpkg lacks, is skipped with one line. The status
+# is not 0 where anything differs.
 set -u
 
 top=$(dirname "$(cd "$(dirname "$0")" && pwd)")
@@ -28,11 +29,14 @@ trap 'rm -rf "$work"' EXIT
 trap 'exit 2' HUP INT TERM
 cd "$work" || exit 2
 differ=0
+# What is shown, and the function that shows it, with its words.
 row() {
-    if "$2" >said 2>&1; then
-        echo "same: $1"
+    local name=$1
+    shift
+    if "$@" >said 2>&1; then
+        echo "same: $name"
     else
-        echo "DIFFERS: $1"
+        echo "DIFFERS: $name"
         sed 's/^/    /' said | head -n 20
         differ=$((differ + 1))
     fi
@@ -45,9 +49,20 @@ export SOURCE_DATE_EPOCH
 built() { package=$("$top/packaging/deb.sh" "$work/once") && dpkg-deb -x "$package" "$work/root" && [ -s "$package" ]; }
 again() { cmp "$("$top/packaging/deb.sh" "$work/twice")" "$package"; }
 sample() {
-    local capture=root/usr/share/doc/romtyalig/examples/web-exchange.pcap
-    root/usr/bin/romtyalig meter <"$capture" >flows.ipfix && "$top/bin/romtyalig" meter <"$capture" | cmp - flows.ipfix &&
-        root/usr/bin/romtyalig-pair pair <flows.ipfix >biflows.ipfix && [ -s biflows.ipfix ]
+    local folder=$1 capture=$1/usr/share/doc/romtyalig/examples/web-exchange.pcap
+    "$folder/usr/bin/romtyalig" meter <"$capture" >flows.ipfix && "$top/bin/romtyalig" meter <"$capture" | cmp - flows.ipfix &&
+        "$folder/usr/bin/romtyalig-pair" pair <flows.ipfix >biflows.ipfix && [ -s biflows.ipfix ]
+}
+# Installs the package into a folder that has no other, so without libc6, whatever this system's settings leave out.
+install_there() {
+    mkdir -p target/var/lib/dpkg/info target/var/lib/dpkg/updates
+    : >target/var/lib/dpkg/status
+    dpkg --root="$work/target" --log="$work/log" --force-not-root --force-depends --path-include='*' --install "$package" >told 2>&1
+}
+installed() {
+    cat told
+    # shellcheck disable=SC2016 # a field of dpkg's
+    [ "$(dpkg-query --admindir=target/var/lib/dpkg -Wf '${db:Status-Abbrev}' romtyalig)" = "ii " ]
 }
 named() {
     root/usr/bin/romtyalig show <flows.ipfix >lines && root/usr/share/doc/romtyalig/examples/named.py <lines >names &&
@@ -80,7 +95,13 @@ clean() { timeout 300 lintian --allow-root --fail-on error,warning --tag-display
 row "the package is built" built
 if [ "$differ" -eq 0 ]; then
     row "a second build" again
-    row "the sample by the programs of the package" sample
+    row "the sample by the programs of the package" sample root
+    if ! install_there && grep -qE 'superuser|not permitted|Permission denied' told; then
+        echo "skipped: the package installed into a folder, dpkg has no right to"
+    else
+        row "the package is installed into a folder" installed
+        row "the sample by the programs installed there" sample target
+    fi
     row "pages and version" pages
     row "completions" completions
     if command -v python3 >/dev/null; then row "named.py of the package" named; else echo "skipped: no python3"; fi

@@ -1,16 +1,16 @@
 #!/usr/bin/env python3
-"""Finds the places where a `NoMemory`, of whatever enum, is made of something else than want of memory.
+"""Finds the places where a `NoMemory`, of whatever enum, is made of something else than lack of memory.
 
     no_memory.py CRATES      looks at CRATES/*/src, without tests
     no_memory.py --planted   looks at lines that are written here, right and wrong ones
 
 A place makes a `NoMemory` rightly in one of these:
 
-- an arm each of whose alternatives is want of memory: `NoMemory` of any enum, `AllocError` or `AllocFailed`; or whose guard is
+- an arm each of whose alternatives is lack of memory: `NoMemory` of any enum, `AllocError` or `AllocFailed`; or whose guard is
   that the error's kind is `OutOfMemory`;
 - a closure over an `AllocError` or an `AllocFailed`;
 - an `impl From` of `NoMemory`, `AllocError` or `AllocFailed`;
-- behind `let Ok(..) = CALL else` or `if CALL.is_err()`, where CALL is a call of the standard library that fails for want of memory
+- behind `let Ok(..) = CALL else` or `if CALL.is_err()`, where CALL is a call of the standard library that fails for lack of memory
   alone (ALLOCATES), or one of these crates whose error is `NoMemory`.
 """
 
@@ -18,10 +18,11 @@ import pathlib
 import re
 import sys
 
-# Errors that say nothing but want of memory.
+# Errors that say nothing but lack of memory.
 MEMORY = ("NoMemory", "AllocError", "AllocFailed")
 
-# Calls of the standard library and of the toolchain's crates that fail for want of memory alone.
+# Calls of the standard library and of the toolchain's crates that fail for lack of memory alone.
+# But a queue's `push`, whose first word is the runtime, fails where the queue is full or closed.
 ALLOCATES = {"push", "extend_from_slice", "with_capacity", "of_words", "collect", "to_vec", "reserve"}
 
 PLANTED_RIGHT = """
@@ -33,6 +34,11 @@ fn h() -> Result<A, S> { i().map_err(|_error: AllocError| S::NoMemory) }
 fn j() -> S { match k() { Err(error) if error.kind() == ErrorKind::OutOfMemory => S::NoMemory, Err(_) => S::Usage, } }
 impl From<NoMemory> for S { fn from(_error: NoMemory) -> S { S::NoMemory } }
 fn l() -> S { let Ok(x) = a() else { return S::NoMemory; }; x }
+fn m() -> S { let mut s = S::Done; if list.push(1).is_err() { s = S::NoMemory; } s }
+fn n() -> Ran { match d() { Err(Words::NoMemory) => Ran { state: S::NoMemory, count: 0 }, Ok(ran) => ran, } }
+fn o() -> Ran { if list.push(1).is_err() { return Ran { count: 0, state: S::NoMemory }; } Ran { count: 1, state: S::Done } }
+impl Reads for S { type Error = NoMemory; fn p(error: NoMemory) -> S { q(error) } }
+struct Ran { error: NoMemory, count: u64 }
 """
 
 PLANTED_WRONG = """
@@ -49,6 +55,11 @@ fn a() -> Result<(), NoMemory> { b().ok_or(NoMemory) }
 impl From<Damaged> for S { fn from(_error: Damaged) -> S { S::NoMemory } }
 fn a() -> S { match b() { Err(error) if error.kind() == ErrorKind::Other => S::NoMemory, Err(_) => S::Usage, Ok(s) => s, } }
 fn a() -> S { match b() { Ok(s) => s, Err(_) => { note(); S::NoMemory } } }
+fn a() -> S { let mut s = S::Done; if kept { s = S::NoMemory; } s }
+fn a() -> Ran { if kept { return b(); } Ran { state: S::NoMemory, count: 0 } }
+fn a() -> S { if spare.push(rt, batch).is_err() { return S::NoMemory; } S::Done }
+fn a() -> Ran { match b() { Ok(ran) => ran, Err(_) => Ran { count: 0, state: S::NoMemory }, } }
+fn a<W>(w: W) -> S where W: Wait { s = S::NoMemory; s }
 """
 
 
@@ -96,7 +107,7 @@ def last_part(text):
 
 
 def is_memory_arm(pattern):
-    """Whether each alternative of an arm's pattern is want of memory."""
+    """Whether each alternative of an arm's pattern is lack of memory."""
     pattern, _, guard = pattern.partition(" if ")
     if guard:
         return re.fullmatch(r"\s*error\.kind\(\)\s*==\s*ErrorKind::OutOfMemory\s*", guard) is not None
@@ -108,7 +119,7 @@ def is_memory_arm(pattern):
 
 
 class Sources:
-    """The code of the crates, and which of their functions fail for want of memory alone."""
+    """The code of the crates, and which of their functions fail for lack of memory alone."""
 
     def __init__(self, files):
         self.files = {name: code_of(text) for name, text in files.items()}
@@ -120,7 +131,7 @@ class Sources:
                 self.errors.setdefault(made.group(1), []).append((file, owners, error))
 
     def allocates(self, call, file):
-        """Whether a call in a file fails for want of memory alone: by the functions of its name in the file, else in
+        """Whether a call in a file fails for lack of memory alone: by the functions of its name in the file, else in
         the crate, else anywhere."""
         call = call.strip().removesuffix(".is_err()").strip()
         depth, end = 0, len(call)
@@ -133,6 +144,8 @@ class Sources:
         if not call.endswith(")") or not named:
             return False
         owner, name = named.groups()
+        if name == "push" and re.match(r"\(\s*&?(?:self\.)?rt\s*,", call[end:]):
+            return False
         if name in ALLOCATES:
             return True
         made = [one for one in self.errors.get(name, []) if not owner or owner in one[1]]
@@ -141,7 +154,7 @@ class Sources:
         return bool(made) and all(error in MEMORY for _, _, error in made)
 
     def is_right(self, file, place):
-        """Whether the `NoMemory` that is made at this place is made of want of memory."""
+        """Whether the `NoMemory` that is made at this place is made of lack of memory."""
         code = self.files[file]
         start = max(code.rfind(mark, 0, place) for mark in ";{}") + 1
         local = code[start:place]
@@ -158,6 +171,10 @@ class Sources:
                 depth += {"}": 1, "{": -1}.get(code[opened], 0)
             start = max(code.rfind(mark, 0, opened) for mark in ";{}") + 1
             header = code[start:opened].strip()
+            literal = re.search(r"(?:^|(?<![=!])=|=>|\breturn|[(,:|])\s*((?:\w+::)*[A-Z]\w*)$", header)
+            if literal and not re.search(r"\b(?:fn|impl|trait)\b", header):
+                # The brace of a struct's value: it is judged as if that stood here.
+                return self.is_right(file, code.rfind(literal.group(1), 0, opened))
             if header.endswith("=>"):
                 return is_memory_arm(last_part(header[:-2]))
             bound = re.search(r"\blet\s+Ok\(.*?\)\s*=\s*(.*)\belse$", header, re.S)
@@ -175,13 +192,18 @@ class Sources:
             return False
 
     @staticmethod
-    def is_made(before, after):
+    def is_made(before, path, after):
         """Whether a name between these is a value: not a type, and not a pattern."""
         if re.match(r"\s*\)*\s*(?:=>|\||if\b)", after) or "matches!(" in before:
             return False
         stripped = before.rstrip()
         ends = ("(", "return", "=>", "{", "|", ";", ",", "else")
-        return re.match(r"\s*[);,}]", after) is not None and (not stripped or stripped.endswith(ends))
+        begun = not stripped or stripped.endswith(ends)
+        # What is assigned or bound, but not what is compared, nor a `type` item.
+        begun = begun or re.search(r"(?<![=!<>])=$", stripped) and not re.search(r"\btype\b[^;{}]*$", stripped)
+        # A field's value: behind a colon stands a type, but a variant of an enum is a value.
+        begun = begun or stripped.endswith(":") and re.search(r"\b[A-Z]\w*::$", path)
+        return re.match(r"\s*[);,}]", after) is not None and bool(begun)
 
     def wrong(self):
         """The places that make a `NoMemory` of something else: file, line and the line's text."""
@@ -190,7 +212,7 @@ class Sources:
                 place = re.search(r"(?:\w+::)*$", code[: found.start()]).start()
                 line_start = code.rfind("\n", 0, place) + 1
                 before, after = code[line_start:place], code[found.end() :]
-                if not self.is_made(before, after):
+                if not self.is_made(before, code[place : found.start()], after):
                     continue
                 if not self.is_right(name, place):
                     yield name, code.count("\n", 0, place) + 1, code[line_start : code.find("\n", place)].strip()
@@ -231,9 +253,9 @@ def main(words):
         return 2
     found = list(sources.wrong())
     for name, line, text in found:
-        print(f"{name}:{line}: no want of memory: {text}")
+        print(f"{name}:{line}: not of lack of memory: {text}")
     if not found:
-        print(f"want of memory comes from an allocation alone: {len(paths)} files")
+        print(f"lack of memory comes from an allocation alone: {len(paths)} files")
     return 1 if found else 0
 
 

@@ -4,7 +4,8 @@
 #     checks/operators.sh
 #
 # Each block there that is marked `run: NAME, with PROGRAM` is taken as it stands and run in a folder with the files that it
-# names. One line for each; a block whose program is missing is skipped with one line. The status is not 0 where any differs.
+# names; that of a compressed capture also with `xz -dc` and `zstd -dc`, of which the text above it says that they work as well.
+# One line for each; a block whose program is missing is skipped with one line. The status is not 0 where any differs.
 #
 # ROMTYALIG, ROMTYALIG_PIPE, ROMTYALIG_PCAPNG, ROMTYALIG_PAIR, ROMTYALIG_JOIN and ROMTYALIG_WATCH are the programs' paths
 # (bin/romtyalig, bin/romtyalig-pipe, bin/romtyalig-pcapng, bin/romtyalig-pair, bin/romtyalig-join and bin/romtyalig-watch unless set).
@@ -43,6 +44,8 @@ cd "$work" || exit 2
 
 cp examples/web-exchange.pcap capture.pcap
 gzip -k capture.pcap
+command -v xz >/dev/null && xz -k capture.pcap
+command -v zstd >/dev/null && zstd -q -k capture.pcap
 python3 - <<'PYTHON'
 # The capture in two, cut behind its fourth record.
 import struct
@@ -108,7 +111,8 @@ block() {
 same=0
 differ=0
 
-# Runs a block and then its comparison: compare NAME PROGRAM COMPARISON, with several programs in one word
+# Runs a block and then its comparison: compare NAME PROGRAM COMPARISON, with several programs in one word. For another form of a
+# block, FORM of BLOCK, a fourth word edits its commands: what `sed` is to do.
 compare() {
     for needed in $2; do
         if ! command -v "$needed" >/dev/null; then
@@ -116,7 +120,7 @@ compare() {
             return
         fi
     done
-    block "$1" >commands
+    block "${1##* of }" | sed "${4-}" >commands
     if [ -s commands ] && bash -eu commands >out 2>said && "$3"; then
         echo "same: $1"
         same=$((same + 1))
@@ -128,6 +132,8 @@ compare() {
 }
 
 same_stream() { cmp flows.ipfix wanted.ipfix && rm flows.ipfix; }
+# The same, of a command that the document names in passing.
+named_stream() { grep -qF "\`$(cut -d ' ' -f 1,2 commands)\`" "$top/docs/OPERATORS.md" && same_stream; }
 same_lines() { cmp out lines; }
 # By type and code: how many packets each address sent, and the flow of the two requests.
 same_types() {
@@ -177,6 +183,10 @@ same_collected() {
 compare progress pv same_stream
 compare compressed zcat same_stream
 compare pipelined zcat same_stream
+# Without this file the two that follow can't run the command as it stood.
+rm capture.pcap.gz
+compare "xz -dc of compressed" xz named_stream 's/zcat capture.pcap.gz/xz -dc capture.pcap.xz/'
+compare "zstd -dc of compressed" zstd named_stream 's/zcat capture.pcap.gz/zstd -dc capture.pcap.zst/'
 compare several mergecap same_stream
 compare join romtyalig-join same_stream
 if [ -e capture.pcapng ]; then

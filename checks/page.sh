@@ -47,6 +47,7 @@ path_of() {
     case $1 in
     pipe) echo "$pipe" ;;
     pair) echo "$pair" ;;
+    join) echo "$join" ;;
     watch) echo "$watch" ;;
     *) echo "$program" ;;
     esac
@@ -64,9 +65,11 @@ in_zsh() {
         grep -o "'--[a-z]*=" | tr -d "'=" | sort
 }
 
-# What the command's program says of words, reading nothing.
+# What the command's program says of words, reading nothing; the words of join end with a file, here an empty one.
 status_of() {
-    "$(path_of "$1")" "$@" </dev/null >/dev/null 2>&1
+    local files=()
+    [ "$1" = join ] && files=(/dev/null)
+    "$(path_of "$1")" "$@" ${files[@]+"${files[@]}"} </dev/null >/dev/null 2>&1
     echo $?
 }
 
@@ -79,13 +82,16 @@ is_taken() {
     return 1
 }
 
-for command in meter show make schedule selftest pipe pair watch; do
+for command in meter show make schedule selftest pipe pair join watch; do
     wanted=$(in_page "$command")
     for place in operators bash zsh; do
         [ "$wanted" = "$("in_$place" "$command")" ] || differs "options of $command in $place"
     done
-    given=()
-    [ "$command" = make ] || [ "$command" = selftest ] && given=(--seed=1 --packets=1)
+    case $command in
+    make | selftest) given=(--seed=1 --packets=1) ;;
+    join) given=(--part=1 --parts=1) ;;
+    *) given=() ;;
+    esac
     [ "$(status_of "$command" ${given[@]+"${given[@]}"})" -ne 2 ] || differs "$command is refused"
     for option in $wanted; do
         others=()
@@ -100,10 +106,9 @@ for command in meter show make schedule selftest pipe pair watch; do
     done
 done
 
-# The options of join, whose words end with files, and of which two stand together or not at all.
-wanted=$(in_page join)
-for place in operators bash zsh; do
-    [ "$wanted" = "$("in_$place" join)" ] || differs "options of join in $place"
+# Two options of join stand together or not at all.
+for alone in --part=1 --parts=1; do
+    [ "$(status_of join "$alone")" -eq 2 ] || differs "join takes $alone alone"
 done
 
 # The examples of the pages, in a folder with the files that they name.

@@ -44,7 +44,7 @@ run() {
 differ=0
 refused=0
 
-# Whether what such a run left is right, where want of memory is told by this line.
+# Whether what such a run left is right, where lack of memory is told by this line.
 is_right() {
     case $1 in
     0) cmp -s "$work/out" "$work/wanted" ;;
@@ -53,7 +53,7 @@ is_right() {
     esac
 }
 
-# All runs of a program and its words on an input, where want of memory is told by this line.
+# All runs of a program and its words on an input, where lack of memory is told by this line.
 try_all() {
     local line=$1 input=$2 number count status
     shift 2

@@ -7,7 +7,9 @@ The flow records of examples/web-exchange.pcap, of a capture that is made here a
 through examples/report.sh, twice: the second page must be the same. Each table of the page is compared with what this program
 makes of the lines of `show`, and the heights of the bars in both figures with the table of steps. Headless chromium opens each
 page, dark at the width of a phone and light at that of a desktop: what it shows must be the same, and no wider than its window.
-PICTURES=FOLDER keeps pictures. Skipped with one line where a package is missing (python3-ipfix, miller, gnuplot-nox; chromium).
+PICTURES=FOLDER keeps pictures. It also prints the fullest page: pdftotext must find the heads of the sections and tables there, in
+their order; where it is missing, the PDF must have pages and some size. Skipped with one line where a package is missing
+(python3-ipfix, miller, gnuplot-nox; chromium; poppler-utils).
 The status is 1 where anything differs. ROMTYALIG and ROMTYALIG_PAIR are the programs' paths (bin/romtyalig and
 bin/romtyalig-pair unless set).
 """
@@ -139,14 +141,17 @@ def tables_of(flows: list[Flow], biflows: list[Flow] | None) -> dict[str, list[t
 
 
 class Page(HTMLParser):
-    """The text of the cells of each table by its id, the three totals, and the bars of each figure: heights by group."""
+    """The text of the cells of each table by its id, the three totals, the bars of each figure: heights by group, and the heads
+    that are printed: of sections and tables, without those of the steps, which stand behind a word to click on."""
 
     def __init__(self, text: str) -> None:
         super().__init__()
         self.tables: dict[str, list[list[str]]] = {}
         self.totals: dict[str, int] = {}
         self.bars: dict[str, list[list[float]]] = {}
+        self.heads: list[str] = []
         self.table = self.figure = self.total = None
+        self.in_details = self.in_head = False
         self.in_cell = False
         self.feed(text)
 
@@ -156,6 +161,11 @@ class Page(HTMLParser):
             self.table = self.tables.setdefault(given["id"], [])
         elif tag == "tr" and self.table is not None:
             self.table.append([])
+        elif tag == "details":
+            self.in_details = True
+        elif tag in ("h2", "th") and not self.in_details:
+            self.in_head = True
+            self.heads.append("")
         elif tag == "td":
             self.in_cell = True
             self.table[-1].append("")
@@ -170,6 +180,8 @@ class Page(HTMLParser):
 
     def handle_endtag(self, tag: str) -> None:
         self.in_cell = self.in_cell and tag != "td"
+        self.in_head = self.in_head and tag not in ("h2", "th")
+        self.in_details = self.in_details and tag != "details"
         if tag == "svg":
             self.figure = None
 
@@ -179,6 +191,8 @@ class Page(HTMLParser):
             self.total = None
         elif self.in_cell:
             self.table[-1][-1] += data
+        elif self.in_head:
+            self.heads[-1] += data
 
     def rows(self, name: str) -> list[tuple]:
         """The rows of a table of bars: a label and numbers."""
@@ -276,6 +290,24 @@ def browser_fault(path: Path, flows: list[Flow], biflows: list[Flow] | None, fol
     return ""
 
 
+def print_fault(path: Path, folder: Path) -> str:
+    """What is wrong with a page as the browser prints it."""
+    printed = folder / "printed.pdf"
+    browser([f"--print-to-pdf={printed}", "--no-pdf-header-footer", path.as_uri()], folder)
+    octets = printed.read_bytes()
+    # A page without sections is a PDF of some 20,000 octets.
+    if not re.search(rb"/Type */Page\b", octets) or len(octets) < 50_000:
+        return "printed: no pages, or too small a file"
+    if shutil.which("pdftotext"):
+        text, at = "".join(ran(["pdftotext", "-layout", printed, "-"]).decode().split()), 0
+        for head in Page(path.read_text()).heads:
+            found = text.find("".join(head.split()), at)
+            if found < 0:
+                return f"printed: no head {head!r} in its place"
+            at = found + len("".join(head.split()))
+    return ""
+
+
 def main() -> None:
     for needed, package in (("ipfix2csv", "python3-ipfix"), ("mlr", "miller"), ("gnuplot", "gnuplot-nox")):
         if not shutil.which(needed):
@@ -283,7 +315,9 @@ def main() -> None:
             return
     opens = shutil.which("chromium") is not None
     if not opens:
-        print("skipped: the pages in a browser, no chromium")
+        print("skipped: the pages in a browser and in print, no chromium")
+    elif not shutil.which("pdftotext"):
+        print("skipped: the heads in print, no pdftotext (package poppler-utils)")
     differs = 0
     captures = {"web-exchange": (TOP / "examples" / "web-exchange.pcap").read_bytes(), "made": made_capture(),
                 "nothing": generate.capture([])}
@@ -304,6 +338,10 @@ def main() -> None:
                     fault = browser_fault(page, flows, biflows if both else None, folder)
                 print(f"DIFFERS: {page.stem}: {fault}" if fault else f"same: {page.stem}, records {len(flows)}")
                 differs += bool(fault)
+        if opens:
+            fault = print_fault(folder / "made-biflows.html", folder)
+            print(f"DIFFERS: made-biflows: {fault}" if fault else "same: made-biflows in print")
+            differs += bool(fault)
     sys.exit(1 if differs else 0)
 
 

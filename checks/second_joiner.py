@@ -3,7 +3,7 @@
 
     python3 checks/second_joiner.py [SETS [SEED]]
 
-Each of the sets (300 unless given) is some packets of few keys, cut into some captures in a random way, each metered by this
+Each of the sets (2,000 unless given) is some packets of few keys, cut into some captures in a random way, each metered by this
 program into a stream. `romtyalig-join` of the program, at ROMTYALIG_JOIN or bin/romtyalig-join, must write the very bytes that
 this one writes: of all records, and of each share of several; where joins are made of joins; and where nothing cuts a session,
 what metering all packets as one capture gives. The shares together must have just the records of the whole. The first difference
@@ -108,7 +108,7 @@ def compare(chance: random.Random, folder: Path, place: int, seed: int) -> tuple
 
 
 def main() -> None:
-    wanted = int(sys.argv[1]) if len(sys.argv) > 1 else 300
+    wanted = int(sys.argv[1]) if len(sys.argv) > 1 else 2000
     seed = int(sys.argv[2]) if len(sys.argv) > 2 else 1
     chance = random.Random(seed)
     streams = cut = 0

@@ -1,20 +1,21 @@
 #!/bin/bash
-# The programs that meter in a shell, as an operator meets them: each command's exit status and the lines that it leaves on
-# standard error.
+# The programs that meter, and the one that joins, in a shell, as an operator meets them: each command's exit status and the lines
+# that it leaves on standard error.
 #
 #     checks/shell.sh
 #
-# One line for each row of the table at the end. The status is not 0 where any differs. ROMTYALIG and ROMTYALIG_PIPE are the
-# programs' paths (bin/romtyalig and bin/romtyalig-pipe unless set).
+# One line for each row of the table at the end. The status is not 0 where any differs. ROMTYALIG, ROMTYALIG_PIPE and
+# ROMTYALIG_JOIN are the programs' paths (bin/romtyalig, bin/romtyalig-pipe and bin/romtyalig-join unless set).
 set -u
 
 here=$(cd "$(dirname "$0")" && pwd)
 top=$(dirname "$here")
 program=${ROMTYALIG:-$top/bin/romtyalig}
 pipe=${ROMTYALIG_PIPE:-$top/bin/romtyalig-pipe}
+join=${ROMTYALIG_JOIN:-$top/bin/romtyalig-join}
 export LC_ALL=C
 
-for needed in "$program" "$pipe"; do
+for needed in "$program" "$pipe" "$join"; do
     if [ ! -x "$needed" ]; then
         echo "no program at $needed" >&2
         exit 2
@@ -27,18 +28,20 @@ cd "$work" || exit 2
 mkdir bin folder
 ln -s "$program" bin/romtyalig
 ln -s "$pipe" bin/romtyalig-pipe
+ln -s "$join" bin/romtyalig-join
 PATH="$work/bin:$PATH"
 capture=$top/examples/web-exchange.pcap
 export capture
 romtyalig meter <"$capture" >whole 2>summary
 head -c 100 whole >begun
 head -c 40 "$capture" | tail -c 16 >rest
+cp "$capture" capture.pcap
 
 same=0
 differ=0
 
-# A command, its exit status, what standard error has, and what standard output has: row NAME STATUS NOTES OUTPUT COMMAND. The
-# stderr and the output are files.
+# A command, its exit status, what standard error has, and what standard output has: row NAME STATUS LINES OUTPUT COMMAND. The
+# lines and the output are files.
 row() {
     : >stderr
     : >output
@@ -93,5 +96,18 @@ row "an empty input of the pipeline" 4 "$(line "not a capture")" none 'romtyalig
 row "a slow input of the pipeline" 0 summary whole '{ head -c 300 "$capture"; sleep 1; tail -c +301 "$capture"; } | romtyalig-pipe pipe'
 row "a full device of the pipeline" 3 none none 'romtyalig-pipe pipe <"$capture" >/dev/full'
 row "the summary of the pipeline to a full device" 3 none whole 'romtyalig-pipe pipe <"$capture" 2>/dev/full'
+
+row "a stream to join" 0 none whole 'romtyalig-join join whole'
+row "a stream from standard input to join" 0 none whole 'romtyalig-join join - <whole'
+row "no words of the joiner" 2 none none 'romtyalig-join <whole'
+row "a wrong word of the joiner" 2 none none 'romtyalig-join meter whole'
+row "no file to join" 2 none none 'romtyalig-join join <whole'
+row "a folder to join" 1 "$(line "folder: read fault")" none 'romtyalig-join join folder'
+row "a missing file to join" 1 "$(line "missing: read fault")" none 'romtyalig-join join missing'
+row "a missing file behind a stream to join" 1 "$(line "missing: read fault")" none 'romtyalig-join join whole missing'
+row "a capture to join" 9 "$(line "capture.pcap: not a stream: version at 0")" none 'romtyalig-join join capture.pcap'
+row "a stream cut off to join" 9 "$(line "begun: not a stream: cut at 0")" none 'romtyalig-join join whole begun'
+row "a full device of the joiner" 3 none none 'romtyalig-join join whole >/dev/full'
+row "the line of the joiner to a full device" 1 none none 'romtyalig-join join missing 2>/dev/full'
 echo "$same the same, $differ that differ"
 [ "$differ" -eq 0 ]
