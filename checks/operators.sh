@@ -69,6 +69,13 @@ with open('old-tags.pcap', 'wb') as out:
         place, tagged = place + 16 + held, not tagged
 
 
+def write(name, frames):
+    with open(name, 'wb') as out:
+        out.write(struct.pack('<LHHLLLL', 0xA1B2C3D4, 2, 4, 0, 0, 65535, 101))
+        for number, frame in enumerate(frames):
+            out.write(struct.pack('<4L', 1_700_000_000 + number, 0, len(frame), len(frame)) + frame)
+
+
 # An IPv4 packet, its addresses by their last octet.
 def packet(protocol, source, target, payload):
     addresses = bytes((10, 0, 0, source, 10, 0, 0, target))
@@ -78,11 +85,18 @@ def packet(protocol, source, target, payload):
 # Two echo requests, a reply, and a port unreachable that quotes a datagram.
 datagram = packet(17, 1, 2, bytes.fromhex('0005000600080000'))
 kinds = [(1, 2, '0800', b''), (2, 1, '0000', b''), (1, 2, '0800', b''), (2, 1, '0303', datagram)]
-with open('icmp.pcap', 'wb') as out:
-    out.write(struct.pack('<LHHLLLL', 0xA1B2C3D4, 2, 4, 0, 0, 65535, 101))
-    for number, (source, target, kind, quoted) in enumerate(kinds):
-        frame = packet(1, source, target, bytes.fromhex(kind) + bytes(6) + quoted)
-        out.write(struct.pack('<4L', 1_700_000_000 + number, 0, len(frame), len(frame)) + frame)
+write('icmp.pcap', [packet(1, *ends, bytes.fromhex(kind) + bytes(6) + quoted) for *ends, kind, quoted in kinds])
+
+
+# An ICMPv6 packet, likewise.
+def packet_of_six(source, target, kind):
+    payload = bytes.fromhex(kind) + bytes(6)
+    addresses = bytes.fromhex(f'20010db8{source:024x}20010db8{target:024x}')
+    return struct.pack('>LHBB', 6 << 28, len(payload), 58, 64) + addresses + payload
+
+
+# Two echo requests and a reply.
+write('icmpv6.pcap', [packet_of_six(1, 2, '8000'), packet_of_six(2, 1, '8100'), packet_of_six(1, 2, '8000')])
 PYTHON
 command -v editcap >/dev/null && editcap -F pcapng capture.pcap capture.pcapng
 romtyalig meter <capture.pcap >wanted.ipfix 2>/dev/null
@@ -141,6 +155,11 @@ same_types() {
     tr -s ' \t' ' ' <out | sort | cmp - wanted && romtyalig show <flows.ipfix 2>/dev/null >got &&
         [ "$(wc -l <got)" -eq 1 ] && grep -q ' 8=10.0.0.1 .* 4=1 .* 2=2 ' got
 }
+# The flow of the two requests over IPv6.
+same_requests() {
+    romtyalig show <flows.ipfix 2>/dev/null >got && [ "$(wc -l <got)" -eq 1 ] &&
+        grep -q ' 27=2001:db8::1 .* 4=58 .* 2=2 ' got
+}
 same_dump() {
     grep -o 'octetDeltaCount *: *[0-9]*' out | grep -o '[0-9]*$' >got
     values 1 | cmp - got
@@ -196,6 +215,8 @@ else
 fi
 compare tags "tshark editcap mergecap" same_stream
 compare icmp tshark same_types
+compare "IPv6 of icmp" tshark same_requests \
+    "1d; s/icmp.pcap/icmpv6.pcap/; s/icmp.type == 8/$(grep -o 'icmpv6.type == [0-9]*' "$top/docs/OPERATORS.md")/"
 cp wanted.ipfix flows.ipfix
 compare show romtyalig same_lines
 compare text ipfixDump same_dump

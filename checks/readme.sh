@@ -69,6 +69,8 @@ reported() {
     done
 }
 
+toolchain() { [ -n "$toolchain" ] && grep -qF "\`$toolchain\`" "$top/docs/PROVED.md"; }
+
 sample() {
     # A line that begins with spaces goes on with the line before it.
     block "shown by: sample" | sed -e :a -e '$!N; s/\n  */ /; ta' -e 'P; D' >wanted
@@ -123,6 +125,12 @@ installed() {
         cmp "$top/bin/romtyalig" installed/bin/romtyalig && [ -s installed/share/man/man1/romtyalig.1 ]
 }
 
+toolchain=$(sed -n 's/.*`rt version` says `\([^`]*\)`.*/\1/p' "$top/README.md")
+if [ -n "$toolchain" ] && [ "$(rt version 2>&1)" != "$toolchain" ]; then
+    echo "skipped: toolchain, $(rt version 2>&1 | head -n 1)"
+else
+    row toolchain toolchain
+fi
 row sample sample python3
 search=$(block "run: sample" | head -n 1)
 row report report ipfix2csv mlr gnuplot

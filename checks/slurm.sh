@@ -234,6 +234,19 @@ parts_are_whole() {
     "$program" show <"$work/whole.ipfix" 2>/dev/null | sort | cmp - "$work/of_parts"
 }
 
+by_time_outs() {
+    local capture name
+    rm -r "$work/streams" "$work"/whole*.ipfix && mkdir "$work/other" || return
+    TIMEOUTS="--idle 1 --active 2" submit 1 && wait_for 600 are_gone || return
+    for capture in "$work"/captures/*.pcap; do
+        name=$(basename "$capture" .pcap).ipfix
+        "$program" meter --idle 1 --active 2 <"$capture" >"$work/other/$name" 2>/dev/null &&
+            cmp "$work/streams/$name" "$work/other/$name" || return
+    done
+    "$joiner" join --idle 1 --active 2 "$work"/other/*.ipfix 2>/dev/null | cmp - "$work/whole.ipfix" &&
+        ! cmp -s "$work/whole.ipfix" "$work/wanted.ipfix"
+}
+
 mkdir "$work/run" "$work/log" "$work/state" "$work/spool"
 ln -s "$top/examples" "$work/examples"
 write_configuration
@@ -249,4 +262,5 @@ row "submitted again, one task meters, and all is joined" one_is_left
 row "submitted again, nothing is done" nothing_is_left
 row "sixteen captures joined, and all packets metered as one" whole_is_one
 row "the records of four parts, and of the whole" parts_are_whole
+row "with other time-outs" by_time_outs
 exit $((differ > 0))
