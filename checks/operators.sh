@@ -56,17 +56,22 @@ for _ in range(4):
 open('first.pcap', 'wb').write(capture[:place])
 open('second.pcap', 'wb').write(capture[:24] + capture[place:])
 
-# The capture with a tag of type 0x9100 in every second frame.
-with open('old-tags.pcap', 'wb') as out:
-    out.write(capture[:24])
-    place, tagged = 24, False
-    while place < len(capture):
-        seconds, fraction, held, length = struct.unpack_from('<4L', capture, place)
-        frame = capture[place + 16:place + 16 + held]
-        if tagged:
-            frame, length = frame[:12] + bytes.fromhex('91000005') + frame[12:], length + 4
-        out.write(struct.pack('<4L', seconds, fraction, len(frame), length) + frame)
-        place, tagged = place + 16 + held, not tagged
+# The capture with so many tags of type 0x9100 in its frames, in turn.
+def write_tagged(name, tags):
+    with open(name, 'wb') as out:
+        out.write(capture[:24])
+        place, number = 24, 0
+        while place < len(capture):
+            seconds, fraction, held, length = struct.unpack_from('<4L', capture, place)
+            frame = capture[place + 16:place + 16 + held]
+            tag = bytes.fromhex('91000005') * tags[number % len(tags)]
+            out.write(struct.pack('<4L', seconds, fraction, held + len(tag), length + len(tag)))
+            out.write(frame[:12] + tag + frame[12:])
+            place, number = place + 16 + held, number + 1
+
+
+write_tagged('old-tags.pcap', [0, 1])
+write_tagged('two-tags.pcap', [0, 1, 2])
 
 
 def write(name, frames):
@@ -158,7 +163,7 @@ same_types() {
 # The flow of the two requests over IPv6.
 same_requests() {
     romtyalig show <flows.ipfix 2>/dev/null >got && [ "$(wc -l <got)" -eq 1 ] &&
-        grep -q ' 27=2001:db8::1 .* 4=58 .* 2=2 ' got
+        grep -q ' 27=20010db80*1 .* 4=58 .* 2=2 ' got
 }
 same_dump() {
     grep -o 'octetDeltaCount *: *[0-9]*' out | grep -o '[0-9]*$' >got
@@ -214,6 +219,9 @@ else
     echo "skipped: pcapng, no editcap"
 fi
 compare tags "tshark editcap mergecap" same_stream
+# A first run that ends at a file, by the line that the text above the block names, and then all lines with that file.
+compare "two of tags" "tshark editcap mergecap" same_stream "H; s/old-tags/two-tags/; \$s/.*/$(
+    grep -o 'mergecap -F pcap -w once.pcap [^`]*' "$top/docs/OPERATORS.md")/; \$!b; p; x; s/^\n//; s/old-tags/once/g"
 compare icmp tshark same_types
 compare "IPv6 of icmp" tshark same_requests \
     "1d; s/icmp.pcap/icmpv6.pcap/; s/icmp.type == 8/$(grep -o 'icmpv6.type == [0-9]*' "$top/docs/OPERATORS.md")/"

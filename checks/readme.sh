@@ -3,8 +3,8 @@
 #
 #     checks/readme.sh
 #
-# The blocks marked `run: sample`, `run: report` and `run: capture`, and the commands for pcapng and for cutting in the text, are
-# taken out of README.md and run in a folder with bin/, examples/ and man/. What the first prints must be the records that README.md
+# The blocks marked `run: sample`, `run: report` and `run: capture`, and the commands for pcapng, for cutting and for parts in the
+# text, are taken out of README.md and run in a folder with bin/, examples/ and man/. What the first prints must be the records that it
 # shows, and standard error must have the counts that it names. The capture is of the loopback interface, with datagrams
 # that this script sends. Besides, the programs are installed below a folder, and a manual page is read. What needs a program
 # that is missing (packages python3-ipfix, miller, gnuplot-nox, tcpdump, wireshark-common, man-db), or the right to capture,
@@ -110,6 +110,18 @@ cut() {
     bin/romtyalig meter <"$(ls piece_*.pcap)" 2>stderr | cmp - examples/web-exchange.ipfix
 }
 
+# The parts are together the records of the whole.
+parts() {
+    local command part
+    command=$(sed -n 's/.*`\(romtyalig-join join --part K [^`]*\)`.*/\1/p' "$top/README.md")
+    cp examples/web-exchange.ipfix large.ipfix
+    for part in 1 2 3; do
+        echo "$command" | sed "s/ K / $part /; s/ N / 3 /" | typed "part-$part" || return 1
+        bin/romtyalig show <"part-$part" 2>stderr || return 1
+    done | sort >out
+    bin/romtyalig show <large.ipfix 2>stderr | sort | cmp - out
+}
+
 # Of all interfaces tcpdump writes Linux cooked mode, in version 2 (link type 276) unless told.
 any_interface() {
     tcpdump -i any -c 20 -w any.pcap 2>stderr && tcpdump -i any -y LINUX_SLL -c 20 -w cooked.pcap 2>stderr || return 1
@@ -143,6 +155,7 @@ else
 fi
 row pcapng pcapng editcap
 row cut cut editcap
+row parts parts
 row "manual page" page man
 row install installed make
 exit "$differ"

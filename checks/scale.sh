@@ -137,6 +137,10 @@ is_refused() {
         [ ! -e streams/bad.ipfix ] && grep -q '^streams/bad.ipfix: not made, status [0-9]*: .' said.err &&
         [ "$(find streams -type f | wc -l)" -eq 4 ]
 }
+by_steps() {
+    four_captures && mkdir streams && find captures -name '*.pcap' -exec examples/many.sh --meter streams {} ';' >/dev/null &&
+        examples/many.sh --join captures streams flows.ipfix >/dev/null && same_stream
+}
 by_time_outs() {
     four_captures && TIMEOUTS="--idle 1 --active 2" many >/dev/null && meter_each captures other &&
         ! cmp -s streams/00.ipfix other/00.ipfix &&
@@ -152,6 +156,7 @@ compare parts romtyalig-join four_streams same_parts
 compare order romtyalig-join three_streams same_one
 row "many.sh goes on where it was stopped" goes_on
 row "many.sh by parts" by_parts
+row "many.sh by its single steps" by_steps
 row "many.sh and a capture that is refused" is_refused
 row "many.sh with other time-outs" by_time_outs
 exit $((differ > 0))
