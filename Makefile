@@ -16,7 +16,7 @@ help:
 	@echo "make demo                 meter a sample capture and show its records: with the proved program where it is built,"
 	@echo "                          else with one built without proof, in a minute or two"
 	@echo "make build                prove and build the programs, bin/romtyalig and the others; resumes where it was stopped"
-	@echo "make test                 the gate: prove every crate from nothing, run all tests, then the checks of checks/"
+	@echo "make test                 the gate: prove every crate, run all tests, then the checks of checks/; what an earlier run proved is kept"
 	@echo "make check                compare the program with other readers and meters (checks/)"
 	@echo "make edits                try all edits that the checker must refuse, also those that the gate leaves out (hours)"
 	@echo "make install PREFIX=DIR   install programs, manual pages and completions below DIR, by default $(PREFIX)"
@@ -43,7 +43,7 @@ bin/%: bin/.libraries
 	@echo "proved and built: $@"
 
 test:
-	@echo "The gate: an hour or two on four processors, or two; it proves everything from nothing."
+	@echo "The gate: an hour or two on two processors or four, where nothing was proved yet."
 	rt ci
 	@$(MAKE) --no-print-directory take
 	@$(MAKE) --no-print-directory check

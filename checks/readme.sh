@@ -116,8 +116,8 @@ parts() {
     command=$(sed -n 's/.*`\(romtyalig-join join --part K [^`]*\)`.*/\1/p' "$top/README.md")
     cp examples/web-exchange.ipfix large.ipfix
     for part in 1 2 3; do
-        echo "$command" | sed "s/ K / $part /; s/ N / 3 /" | typed "part-$part" || return 1
-        bin/romtyalig show <"part-$part" 2>stderr || return 1
+        echo "$command" | sed "s/ K / $part /; s/-K/-$part/; s/ N / 3 /" | typed told || return 1
+        bin/romtyalig show <"part-$part.ipfix" 2>stderr || return 1
     done | sort >out
     bin/romtyalig show <large.ipfix 2>stderr | sort | cmp - out
 }

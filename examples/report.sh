@@ -171,11 +171,11 @@ figure() {
     gnuplot >"$work/svg" <<GNUPLOT
 set terminal svg size 560,270 dynamic font "sans-serif,15" name "$1"
 set format x "$format" timedate
-set xtics $mark / 1000.0 nomirror
+set xtics $mark / 1000.0 nomirror out
 unset mxtics
 set key off
 set border 3
-set ytics ($(marks "$2")) nomirror
+set ytics ($(marks "$2")) nomirror out
 set yrange [0:$(marks "$2" | awk '{ print $NF }')]
 set grid ytics lc rgb "#808080" lw 0.5
 set style fill solid 1 noborder
@@ -251,7 +251,7 @@ legend() {
 
 over_time() {
     local each marks=
-    [ "$mark" -ge 1000 ] || marks=" Below stand minutes and seconds."
+    [ "$mark" -ge 1000 ] || marks=" The axis shows minutes and seconds."
     each=$(awk -v step="$step" 'BEGIN {
         if (step < 1000) print step " ms"
         else if (step < 60000) print step / 1000 " s"
@@ -299,7 +299,7 @@ answers() {
         ' then sort -nr all -f label then head -n 10 then cut -o -f label,octets,back_octets "$work/answered.csv" |
         bars biflows biflow "octets out" "octets back" |
         section "Top biflows" "The ten answered flows with most octets both ways. Out is the way that began first; \
-where both began in one millisecond it may be the other. Bars show it."
+where both began in one millisecond it may be the other. Bars show the octets both ways."
 }
 
 head_of_page() {
