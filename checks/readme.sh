@@ -6,9 +6,9 @@
 # The blocks marked `run: sample`, `run: report` and `run: capture`, and the commands for pcapng, for cutting and for parts in the
 # text, are taken out of README.md and run in a folder with bin/, examples/ and man/. What the first prints must be the records that it
 # shows, and standard error must have the counts that it names. The capture is of the loopback interface, with datagrams
-# that this script sends. Besides, the programs are installed below a folder, and a manual page is read. What needs a program
-# that is missing (packages python3-ipfix, miller, gnuplot-nox, tcpdump, wireshark-common, man-db), or the right to capture,
-# is skipped with one line. The status is not 0 where anything differs.
+# that this script sends. Besides, the programs are installed below a folder, a manual page is read, and a call is found by the
+# command of docs/PROVED.md. What needs a program that is missing (packages python3-ipfix, miller, gnuplot-nox, tcpdump,
+# wireshark-common, man-db, git), another toolchain or the right to capture is skipped with one line. The status is not 0 where anything differs.
 # shellcheck disable=SC2016,SC2317,SC2329 # rows and the trap call functions by their names; marks have backticks
 set -u
 
@@ -129,6 +129,12 @@ any_interface() {
     bin/romtyalig meter <any.pcap 2>stderr >flows.ipfix || reported 'link type 276'
 }
 
+# The command by which docs/PROVED.md finds a call.
+calls() {
+    (cd "$top" && sed -n "s/.*\`\(git grep [^\`]*\)\` finds a call.*/\1/p" docs/PROVED.md | bash -eu) >out 2>stderr &&
+        grep -q '^crates/meter_program/src/running.rt:' out
+}
+
 page() { man man/romtyalig.1 2>stderr | grep -q 'short-transport'; }
 
 # What is built is installed as it is.
@@ -157,5 +163,10 @@ row pcapng pcapng editcap
 row cut cut editcap
 row parts parts
 row "manual page" page man
+if git -C "$top" rev-parse >/dev/null 2>&1; then
+    row calls calls git
+else
+    echo "skipped: calls, no git or no clone"
+fi
 row install installed make
 exit "$differ"
