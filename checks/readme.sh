@@ -8,7 +8,8 @@
 # shows, and standard error must have the counts that it names. The capture is of the loopback interface, with datagrams
 # that this script sends. Besides, the programs are installed below a folder, a manual page is read, and a call is found by the
 # command of docs/PROVED.md. What needs a program that is missing (packages python3-ipfix, miller, gnuplot-nox, tcpdump,
-# wireshark-common, man-db, git), another toolchain or the right to capture is skipped with one line. The status is not 0 where anything differs.
+# wireshark-common, man-db, git), another toolchain or the right to capture is skipped with one line. The status is not 0
+# where anything differs.
 # shellcheck disable=SC2016,SC2317,SC2329 # rows and the trap call functions by their names; marks have backticks
 set -u
 
