@@ -10,7 +10,7 @@ use Rattle.std.proofs.lemmas.List.{length-append, length-take, drop-drop}
 use Rattle.meter_io.specs.Sides.{Side, HasFailed, IsRead}
 use Rattle.pcap_reader.specs.File.{CaptureFile, capture_file, IsKnownLink}
 use Rattle.pcap_reader.specs.Records.{begins_with_damage, rest_of, rest_offset, tail_of, damage_of}
-use Rattle.pcap_reader.specs.Windows.{grown_file, part_with, front_of, GoesOn, GrowsFromFront}
+use Rattle.pcap_reader.specs.Parts.{grown_file, part_with, front_of, GoesOn, GrowsFromFront}
 use Rattle.pcap_reader.specs.Views.{headed_by, part_of}
 use Rattle.pcap_reader.specs.declared.head.Head.{Head}
 use Rattle.pcap_reader.specs.declared.head.CaptureError.{CaptureError}

@@ -10,7 +10,7 @@ use Rattle.std.proofs.lemmas.List.{length-append, length-drop, take-append-drop}
 use Rattle.pcap_reader.specs.File.{CaptureFile, capture_file, IsKnownLink}
 use Rattle.pcap_reader.specs.Records.{records_of, rest_of, rest_offset, tail_of, damage_of, most_captured}
 use Rattle.pcap_reader.specs.Index.{Offsets, IsIndexOf}
-use Rattle.pcap_reader.specs.Windows.{grown_file, part_with, front_of, GoesOn, GrowsFromFront}
+use Rattle.pcap_reader.specs.Parts.{grown_file, part_with, front_of, GoesOn, GrowsFromFront}
 use Rattle.pcap_reader.specs.Views.{part_of, headed_by}
 use Rattle.pcap_reader.specs.declared.head.Head.{Head}
 use Rattle.packet_accept.specs.Packets.{answers_of}

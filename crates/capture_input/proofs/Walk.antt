@@ -6,7 +6,7 @@ use Rattle.std.specs.Option.{option_map}
 use Rattle.std.proofs.lemmas.List.{length-append, length-map}
 use Rattle.pcap_reader.specs.File.{CaptureFile, capture_file}
 use Rattle.pcap_reader.specs.Records.{PacketRecord, parts_of, packet_record, records_of, rest_of, damage_of}
-use Rattle.pcap_reader.specs.Windows.{grown_file, part_with, GoesOn}
+use Rattle.pcap_reader.specs.Parts.{grown_file, part_with, GoesOn}
 use Rattle.pcap_reader.specs.Views.{part_of}
 use Rattle.pcap_reader.specs.declared.head.Head.{Head}
 use Rattle.pcap_reader.proofs.Cutting.{few_parts}

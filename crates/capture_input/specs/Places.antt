@@ -2,7 +2,7 @@
 use Rattle.std.specs.Prelude.{◌≡◌, ℕ, ◌≤◌, List, [], ◌++◌, length, drop, Some, None}
 use Rattle.pcap_reader.specs.File.{CaptureFile, capture_file}
 use Rattle.pcap_reader.specs.Records.{rest_of, damage_of}
-use Rattle.pcap_reader.specs.Windows.{part_with}
+use Rattle.pcap_reader.specs.Parts.{part_with}
 use Rattle.pcap_reader.specs.Views.{part_of}
 use Rattle.pcap_reader.specs.declared.head.Head.{Head}
 

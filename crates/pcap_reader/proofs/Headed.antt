@@ -11,7 +11,7 @@ use Rattle.octets.specs.declared.endianness.Endianness.TheVariants.{Big}
 use Rattle.octets.specs.Numbers.{ordered_number_at}
 use Rattle.octets.proofs.Reading.{number-drop-append}
 use Rattle.pcap_reader.specs.File.{CaptureFile, capture_file, file_header_len, told_by_magic, is_version_2_4}
-use Rattle.pcap_reader.specs.Windows.{grown_file, front_of, GrowsFromFront}
+use Rattle.pcap_reader.specs.Parts.{grown_file, front_of, GrowsFromFront}
 use Rattle.pcap_reader.specs.Records.{packet_record}
 use Rattle.pcap_reader.proofs.InParts.{at_front}
 

@@ -9,7 +9,7 @@ use Rattle.std.proofs.lemmas.List.Folds.{concat-append}
 use Rattle.pcap_reader.specs.File.{CaptureFile}
 use Rattle.pcap_reader.specs.Records.{begins_with_record, begins_with_damage, packet_record, parts_of, rest_of}
 use Rattle.pcap_reader.specs.Records.{rest_offset, records_of, damage_of}
-use Rattle.pcap_reader.specs.Windows.{grown_file, front_of, part_with, parts_from, place_behind, IsReadIn}
+use Rattle.pcap_reader.specs.Parts.{grown_file, front_of, part_with, parts_from, place_behind, IsReadIn}
 use Rattle.pcap_reader.proofs.Parts.{record_parts-rest}
 use Rattle.pcap_reader.proofs.Joined.{grows, goes_on, damage_stays, next_part}
 

@@ -11,7 +11,7 @@ use Rattle.octets.specs.declared.endianness.Endianness.{Endianness}
 use Rattle.pcap_reader.specs.File.{CaptureFile}
 use Rattle.pcap_reader.specs.Records.{claimed_len, most_captured, begins_with_record, begins_with_damage, parts_of}
 use Rattle.pcap_reader.specs.Records.{rest_of, rest_offset, tail_of, damage_of, packet_record, IsRecord, IsCutInto}
-use Rattle.pcap_reader.specs.Windows.{grown_file, part_with, GoesOn, BeginsWithMore}
+use Rattle.pcap_reader.specs.Parts.{grown_file, part_with, GoesOn, BeginsWithMore}
 use Rattle.pcap_reader.proofs.Cutting.{file_is_cut, file_is_cut_once, claimed_len-append, ends_at}
 use Rattle.pcap_reader.proofs.Parts.{record_parts-record, record_parts-rest}
 use Rattle.pcap_reader.proofs.Search.{damage-no_record}

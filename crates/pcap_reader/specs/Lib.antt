@@ -5,5 +5,5 @@ pub mod File
 pub mod Records
 pub mod Index
 pub mod Views
-pub mod Windows
+pub mod Parts
 pub mod Front

@@ -5,8 +5,8 @@ ghost use Rattle.std.specs.List.{AllByRecursion};
 ghost use Rattle.std.specs.Option.{option_map};
 ghost use Rattle.pcap_reader.specs.File.{CaptureFile, capture_file, file_header_len};
 ghost use Rattle.pcap_reader.specs.Records.{most_captured, records_of, rest_of, rest_offset, tail_of, damage_of};
-ghost use Rattle.pcap_reader.specs.Windows.{grown_file, part_with, place_behind, IsReadIn, GoesOn, GrowsFromFront};
-ghost use Rattle.pcap_reader.specs.Windows.{BeginsWithMore};
+ghost use Rattle.pcap_reader.specs.Parts.{grown_file, part_with, place_behind, IsReadIn, GoesOn, GrowsFromFront};
+ghost use Rattle.pcap_reader.specs.Parts.{BeginsWithMore};
 
 /// The law of parts. The records of a file are those of its parts in order, where each part but the first begins with
 /// the rest of the one before, and the file's rest is the last part's. Damage in a part is the file's damage, its

@@ -18,7 +18,7 @@ pub struct Shape {
     pub seats: usize,
     /// Shields of each seat, 1 to 8.
     pub shields: usize,
-    /// Retired slots that a seat gathers before it collects, 1 to 1,024.
+    /// Retired slots that a seat holds before it collects, 1 to 1,024.
     pub batch: usize,
     /// Words of each slot, 1 to 16.
     pub width: usize,

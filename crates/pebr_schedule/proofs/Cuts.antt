@@ -36,17 +36,17 @@ left None = 0
 left (Some text) = suc (length text)
 
 -- one more number
-pub numbers_more : (front : List ℕ) (word : List ℕ) (words : List (List ℕ)) (value : ℕ) → number_of word ≡ Some value
-    → joined front (numbers_of (word ∷ words)) ≡ joined (front ++ value ∷ []) (numbers_of words)
-numbers_more front word words value h = ap
-    (λ o. joined front (option_and_then (λ number. option_map (λ ns. number ∷ ns) (numbers_of words)) o)) h
-    ∙ step (numbers_of words)
+pub numbers_more : (front : List ℕ) (piece : List ℕ) (pieces : List (List ℕ)) (value : ℕ) → number_of piece ≡ Some value
+    → joined front (numbers_of (piece ∷ pieces)) ≡ joined (front ++ value ∷ []) (numbers_of pieces)
+numbers_more front piece pieces value h = ap
+    (λ o. joined front (option_and_then (λ number. option_map (λ ns. number ∷ ns) (numbers_of pieces)) o)) h
+    ∙ step (numbers_of pieces)
   where
     step : (o : Option (List ℕ)) → joined front (option_map (λ ns. value ∷ ns) o) ≡ joined (front ++ value ∷ []) o
     step None = refl
     step (Some ns) = ap (λ l. Some l) (sym (append_assoc front (value ∷ []) ns))
 
-pub numbers_stop : (front : List ℕ) (word : List ℕ) (words : List (List ℕ)) → number_of word ≡ None
-    → joined front (numbers_of (word ∷ words)) ≡ None
-numbers_stop front word words h =
-    ap (λ o. joined front (option_and_then (λ number. option_map (λ ns. number ∷ ns) (numbers_of words)) o)) h
+pub numbers_stop : (front : List ℕ) (piece : List ℕ) (pieces : List (List ℕ)) → number_of piece ≡ None
+    → joined front (numbers_of (piece ∷ pieces)) ≡ None
+numbers_stop front piece pieces h =
+    ap (λ o. joined front (option_and_then (λ number. option_map (λ ns. number ∷ ns) (numbers_of pieces)) o)) h

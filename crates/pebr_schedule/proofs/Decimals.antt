@@ -80,8 +80,8 @@ number_decimal n low =
 own : IsNumeralModel (λ ds. list_all is_digit ds ≡ true) (λ ds. fold shifted 0 ds)
 own = numerals_by_fold (λ ds. list_all is_digit ds ≡ true) (search rules) (λ n ds. fold shifted n ds) (search rules)
 
-numeral_parts : (word : List ℕ) → is_numeral word ≡ true
-    → (list_all is_digit word ≡ true) × (0 < length word) × (get_or word 0 0 ≡ 48 → length word ≡ 1)
+numeral_parts : (piece : List ℕ) → is_numeral piece ≡ true
+    → (list_all is_digit piece ≡ true) × (0 < length piece) × (get_or piece 0 0 ≡ 48 → length piece ≡ 1)
 numeral_parts [] h = absurd (false≢true h)
 numeral_parts (d ∷ []) h = (and_from (is_digit d) true h refl, omega arith, λ _. refl)
 numeral_parts (d ∷ e ∷ ds) h =
@@ -93,17 +93,17 @@ numeral_parts (d ∷ e ∷ ds) h =
           (eqb-false d 48 (not-true (eqb d 48) inner.1) zero_first),
     )
 
--- a word that stands for a number is the number in decimal
-pub decimal_number : (word : List ℕ) (n : ℕ) → number_of word ≡ Some n → (word ≡ decimal n) × (n < 2 ^ 64)
-decimal_number word n h = pick (is_numeral word) (ltb (value_of word) (2 ^ 64)) refl refl h
+-- a piece that stands for a number is the number in decimal
+pub decimal_number : (piece : List ℕ) (n : ℕ) → number_of piece ≡ Some n → (piece ≡ decimal n) × (n < 2 ^ 64)
+decimal_number piece n h = pick (is_numeral piece) (ltb (value_of piece) (2 ^ 64)) refl refl h
   where
-    pick : (a b : Bool) → is_numeral word ≡ a → ltb (value_of word) (2 ^ 64) ≡ b
-        → cond (a && b) (Some (value_of word)) None ≡ Some n → (word ≡ decimal n) × (n < 2 ^ 64)
+    pick : (a b : Bool) → is_numeral piece ≡ a → ltb (value_of piece) (2 ^ 64) ≡ b
+        → cond (a && b) (Some (value_of piece)) None ≡ Some n → (piece ≡ decimal n) × (n < 2 ^ 64)
     pick true true numeral low e =
-        let same : value_of word ≡ n = same_Some (value_of word) n e in
-        let below = ltb-true (value_of word) (2 ^ 64) low in
-        let parts = numeral_parts word numeral in
-        (sym (decimal-digits_value own word parts.0 parts.1 parts.2 below) ∙ ap decimal same, omega arith)
+        let same : value_of piece ≡ n = same_Some (value_of piece) n e in
+        let below = ltb-true (value_of piece) (2 ^ 64) low in
+        let parts = numeral_parts piece numeral in
+        (sym (decimal-digits_value own piece parts.0 parts.1 parts.2 below) ∙ ap decimal same, omega arith)
     pick true false numeral low e = absurd (none-some n e)
     pick false b numeral low e = absurd (none-some n e)
 

@@ -1,4 +1,4 @@
--- Words, numbers, lines and steps: what is read has its one spelling, and what has this spelling is read.
+-- Pieces, numbers, lines and steps: what is read has its one spelling, and what has this spelling is read.
 use Rattle.std.proofs.Common.{◌≡◌, ℕ, ◌<◌, ◌^◌, ◌≤◌, Bool, true, false, not, ◌&&◌, List, [], ◌∷◌, ◌++◌, map, Option}
 use Rattle.std.proofs.Common.{Some, None, option_map, option_and_then, cond, codes, decimal, bytes_eq, refl, sym, ◌∙◌}
 use Rattle.std.proofs.Common.{ap, subst, arith, eqb, leb, append-nil}
@@ -50,17 +50,17 @@ joined-pieces at (b ∷ bs) = joined_step at b bs (some_piece at bs) (joined-pie
 
 -- the byte isn't among these
 abbrev pub lacks : ℕ → List ℕ → Bool
-lacks at word = list_all (λ b. not (eqb b at)) word
+lacks at piece = list_all (λ b. not (eqb b at)) piece
 
-pieces-lacking : (at : ℕ) (word : List ℕ) → lacks at word ≡ true → pieces_of at word ≡ word ∷ []
+pieces-lacking : (at : ℕ) (piece : List ℕ) → lacks at piece ≡ true → pieces_of at piece ≡ piece ∷ []
 pieces-lacking at [] h = refl
 pieces-lacking at (b ∷ bs) h =
     let parts = and_parts (not (eqb b at)) (lacks at bs) h in
     ap (λ t. cond t ([] ∷ pieces_of at bs) (with_front b (pieces_of at bs))) (not-true (eqb b at) parts.0)
     ∙ ap (with_front b) (pieces-lacking at bs parts.1)
 
-pub pieces-at : (at : ℕ) (word rest : List ℕ) → lacks at word ≡ true
-    → pieces_of at (word ++ at ∷ rest) ≡ word ∷ pieces_of at rest
+pub pieces-at : (at : ℕ) (piece rest : List ℕ) → lacks at piece ≡ true
+    → pieces_of at (piece ++ at ∷ rest) ≡ piece ∷ pieces_of at rest
 pieces-at at [] rest h = ap (λ t. cond t ([] ∷ pieces_of at rest) (with_front at (pieces_of at rest)))
     (eq-eqb at at refl)
 pieces-at at (b ∷ bs) rest h =
@@ -74,7 +74,7 @@ digit-lacks at b low h =
     let above = leb-true 48 b (and_parts (leb 48 b) (leb b 57) h).0 in
     ap not (ne_eqb b at (λ e. omega arith))
 
-digits-lack : (at : ℕ) (word : List ℕ) → at < 48 → list_all is_digit word ≡ true → lacks at word ≡ true
+digits-lack : (at : ℕ) (piece : List ℕ) → at < 48 → list_all is_digit piece ≡ true → lacks at piece ≡ true
 digits-lack at [] low h = refl
 digits-lack at (b ∷ bs) low h =
     let parts = and_parts (is_digit b) (list_all is_digit bs) h in
@@ -86,13 +86,13 @@ abbrev pub AreNumbers : List ℕ → Type 0
 AreNumbers [] = Unit {0}
 AreNumbers (n ∷ ns) = (n < 2 ^ 64) × AreNumbers ns
 
-pieces-words : (word : List ℕ) (ns : List ℕ) → lacks 32 word ≡ true → AreNumbers ns
-    → pieces_of 32 (word ++ numbers_text ns) ≡ word ∷ map decimal ns
-pieces-words word [] h k = ap (pieces_of 32) (append-nil word) ∙ pieces-lacking 32 word h
-pieces-words word (n ∷ ns) h k =
-    pieces-at 32 word (decimal n ++ numbers_text ns) h
-    ∙ ap (λ ps. word ∷ ps)
-    (pieces-words (decimal n) ns (digits-lack 32 (decimal n) (omega arith) (decimal_digits n k.0)) k.1)
+pieces-spelled : (piece : List ℕ) (ns : List ℕ) → lacks 32 piece ≡ true → AreNumbers ns
+    → pieces_of 32 (piece ++ numbers_text ns) ≡ piece ∷ map decimal ns
+pieces-spelled piece [] h k = ap (pieces_of 32) (append-nil piece) ∙ pieces-lacking 32 piece h
+pieces-spelled piece (n ∷ ns) h k =
+    pieces-at 32 piece (decimal n ++ numbers_text ns) h
+    ∙ ap (λ ps. piece ∷ ps)
+    (pieces-spelled (decimal n) ns (digits-lack 32 (decimal n) (omega arith) (decimal_digits n k.0)) k.1)
 
 numbers-decimals : (ns : List ℕ) → AreNumbers ns → numbers_of (map decimal ns) ≡ Some ns
 numbers-decimals [] k = refl
@@ -101,8 +101,8 @@ numbers-decimals (n ∷ ns) k =
     (number_decimal n k.0)
     ∙ ap (option_map (λ numbers. n ∷ numbers)) (numbers-decimals ns k.1)
 
-numbers-read : (words : List (List ℕ)) (ns : List ℕ) → numbers_of words ≡ Some ns
-    → (words ≡ map decimal ns) × AreNumbers ns
+numbers-read : (pieces : List (List ℕ)) (ns : List ℕ) → numbers_of pieces ≡ Some ns
+    → (pieces ≡ map decimal ns) × AreNumbers ns
 numbers-read [] ns h = subst (λ l. ([] ≡ map decimal l) × AreNumbers l) (same_Some [] ns h) (refl, tt)
 numbers-read (w ∷ ws) ns h = first (numbers-read ws) (number_of w) refl h
   where
@@ -122,43 +122,43 @@ numbers-read (w ∷ ws) ns h = first (numbers-read ws) (number_of w) refl h
     first others None is e = absurd (none-some ns e)
     first others (Some n) is e = second n is (numbers_of ws) others e
 
-joined-words : (word : List ℕ) (ns : List ℕ) → joined_by 32 (word ∷ map decimal ns) ≡ word ++ numbers_text ns
-joined-words word [] = sym (append-nil word)
-joined-words word (n ∷ ns) = ap (λ l. word ++ 32 ∷ l) (joined-words (decimal n) ns)
+joined-spelled : (piece : List ℕ) (ns : List ℕ) → joined_by 32 (piece ∷ map decimal ns) ≡ piece ++ numbers_text ns
+joined-spelled piece [] = sym (append-nil piece)
+joined-spelled piece (n ∷ ns) = ap (λ l. piece ++ 32 ∷ l) (joined-spelled (decimal n) ns)
 
-pub words-lack : (word : List ℕ) (ns : List ℕ) → lacks 10 word ≡ true → AreNumbers ns
-    → lacks 10 (word ++ numbers_text ns) ≡ true
-words-lack word [] h k = ap (lacks 10) (append-nil word) ∙ h
-words-lack word (n ∷ ns) h k =
-    list_all-append (λ b. not (eqb b 10)) word (32 ∷ (decimal n ++ numbers_text ns))
-    ∙ and_from (lacks 10 word) (lacks 10 (32 ∷ (decimal n ++ numbers_text ns))) h
-    (words-lack (decimal n) ns (digits-lack 10 (decimal n) (omega arith) (decimal_digits n k.0)) k.1)
+pub spelled-lack : (piece : List ℕ) (ns : List ℕ) → lacks 10 piece ≡ true → AreNumbers ns
+    → lacks 10 (piece ++ numbers_text ns) ≡ true
+spelled-lack piece [] h k = ap (lacks 10) (append-nil piece) ∙ h
+spelled-lack piece (n ∷ ns) h k =
+    list_all-append (λ b. not (eqb b 10)) piece (32 ∷ (decimal n ++ numbers_text ns))
+    ∙ and_from (lacks 10 piece) (lacks 10 (32 ∷ (decimal n ++ numbers_text ns))) h
+    (spelled-lack (decimal n) ns (digits-lack 10 (decimal n) (omega arith) (decimal_digits n k.0)) k.1)
 
--- A line of a word and numbers
+-- A line of a name and numbers
 
 pub line-read : {A : Type 0} (known : List ℕ → List ℕ → Option A) (text : List ℕ) (a : A)
     → line_with known (pieces_of 32 text) ≡ Some a
     → (name : List ℕ) × (ns : List ℕ) × (text ≡ name ++ numbers_text ns) × AreNumbers ns × (known name ns ≡ Some a)
 line-read {A} known text a h = pick (pieces_of 32 text) (joined-pieces 32 text) h
   where
-    found : (name : List ℕ) (words : List (List ℕ)) → joined_by 32 (name ∷ words) ≡ text → (o : Option (List ℕ))
-        → numbers_of words ≡ o → option_and_then (known name) o ≡ Some a
+    found : (name : List ℕ) (pieces : List (List ℕ)) → joined_by 32 (name ∷ pieces) ≡ text → (o : Option (List ℕ))
+        → numbers_of pieces ≡ o → option_and_then (known name) o ≡ Some a
         → (n : List ℕ) × (ns : List ℕ) × (text ≡ n ++ numbers_text ns) × AreNumbers ns × (known n ns ≡ Some a)
-    found name words whole None is e = absurd (none-some a e)
-    found name words whole (Some ns) is e =
-        let read = numbers-read words ns is in
-        (name, ns, sym whole ∙ (ap (λ ws. joined_by 32 (name ∷ ws)) read.0 ∙ joined-words name ns), read.1, e)
+    found name pieces whole None is e = absurd (none-some a e)
+    found name pieces whole (Some ns) is e =
+        let read = numbers-read pieces ns is in
+        (name, ns, sym whole ∙ (ap (λ ws. joined_by 32 (name ∷ ws)) read.0 ∙ joined-spelled name ns), read.1, e)
 
     pick : (ps : List (List ℕ)) → joined_by 32 ps ≡ text → line_with known ps ≡ Some a
         → (n : List ℕ) × (ns : List ℕ) × (text ≡ n ++ numbers_text ns) × AreNumbers ns × (known n ns ≡ Some a)
     pick [] whole e = absurd (none-some a e)
-    pick (name ∷ words) whole e = found name words whole (numbers_of words) refl e
+    pick (name ∷ pieces) whole e = found name pieces whole (numbers_of pieces) refl e
 
 pub line-written : {A : Type 0} (known : List ℕ → List ℕ → Option A) (name : List ℕ) (ns : List ℕ) (a : A)
     → lacks 32 name ≡ true → AreNumbers ns → known name ns ≡ Some a
     → line_with known (pieces_of 32 (name ++ numbers_text ns)) ≡ Some a
 line-written known name ns a h k e =
-    ap (line_with known) (pieces-words name ns h k) ∙ (ap (option_and_then (known name)) (numbers-decimals ns k) ∙ e)
+    ap (line_with known) (pieces-spelled name ns h k) ∙ (ap (option_and_then (known name)) (numbers-decimals ns k) ∙ e)
 
 -- Steps
 
@@ -172,7 +172,7 @@ are-numbers : (ns : List ℕ) → AreSmall ns → AreNumbers ns
 are-numbers [] h = tt
 are-numbers (n ∷ ns) h = (small-number n h.0, are-numbers ns h.1)
 
--- a step is that of its word and numbers
+-- a step is that of its name and numbers
 one-known : (name : List ℕ) (i : ℕ) (s : Step) → AreSmall (i ∷ []) → step_of_one name i ≡ Some s
     → step_with name (i ∷ []) ≡ Some s
 one-known name i s h e = ap (λ b. cond b (step_of_one name i) None) (small-from i h.0) ∙ e
@@ -250,7 +250,7 @@ pub step-written : (s : Step) → IsWritable s → step_of (step_text s) ≡ Som
 step-written s h = line-written step_with (name_of s) (numbers_in s) s (name-lacks s).0 (writable-numbers s h)
     (step-known s h)
 
--- what a known word and numbers tell of the step
+-- what a known name and numbers tell of the step
 abbrev Tells : List ℕ → List ℕ → Step → Type 0
 Tells name ns s = (name ≡ name_of s) × (ns ≡ numbers_in s) × IsWritable s
 
@@ -264,8 +264,8 @@ when_small : (b : Bool) (o : Option Step) (s : Step) → cond b o None ≡ Some 
 when_small true o s e = (refl, e)
 when_small false o s e = absurd (none-some s e)
 
-pub named : (name word : List ℕ) → bytes_eq name word ≡ true → name ≡ word
-named name word h = (bytes_eq-Decides name word).0 h
+pub named : (name other : List ℕ) → bytes_eq name other ≡ true → name ≡ other
+named name other h = (bytes_eq-Decides name other).0 h
 
 one-tells : (name : List ℕ) (i : ℕ) (s : Step) → AreSmall (i ∷ []) → step_of_one name i ≡ Some s → Tells name (i ∷ []) s
 one-tells name i s h =

@@ -33,8 +33,8 @@ all_digits (d ∷ ds) zero h inside = (and_parts (is_digit d) (list_all is_digit
 all_digits (d ∷ ds) (suc i) h inside = all_digits ds i (and_parts (is_digit d) (list_all is_digit ds) h).1 (omega arith)
 
 -- each byte of a numeral is a digit
-pub numeral_digit : (word : List ℕ) (i : ℕ) → is_numeral word ≡ true → i < length word
-    → is_digit (get_or word i 0) ≡ true
+pub numeral_digit : (piece : List ℕ) (i : ℕ) → is_numeral piece ≡ true → i < length piece
+    → is_digit (get_or piece i 0) ≡ true
 numeral_digit [] i h inside = absurd (omega arith)
 numeral_digit (d ∷ []) zero h inside = h
 numeral_digit (d ∷ []) (suc i) h inside = absurd (omega arith)
@@ -48,21 +48,21 @@ pub digit_low : (byte : ℕ) → is_digit byte ≡ true → 48 ≤ byte
 digit_low byte h = leb-true 48 byte (and_parts (leb 48 byte) (leb byte 57) h).0
 
 -- a numeral is a number, unless it stands for 2^64 or more
-pub number_large : (word : List ℕ) → 2 ^ 64 ≤ value_of word → number_of word ≡ None
-number_large word h = pick (is_numeral word)
+pub number_large : (piece : List ℕ) → 2 ^ 64 ≤ value_of piece → number_of piece ≡ None
+number_large piece h = pick (is_numeral piece)
   where
-    large : ltb (value_of word) (2 ^ 64) ≡ false
-    large = le-ltb (value_of word) (2 ^ 64) h
+    large : ltb (value_of piece) (2 ^ 64) ≡ false
+    large = le-ltb (value_of piece) (2 ^ 64) h
 
-    pick : (b : Bool) → cond (b && ltb (value_of word) (2 ^ 64)) (Some (value_of word)) None ≡ None
-    pick true = ap (λ t. cond t (Some (value_of word)) None) large
+    pick : (b : Bool) → cond (b && ltb (value_of piece) (2 ^ 64)) (Some (value_of piece)) None ≡ None
+    pick true = ap (λ t. cond t (Some (value_of piece)) None) large
     pick false = refl
 
-pub number_small : (word : List ℕ) → is_numeral word ≡ true → value_of word < 2 ^ 64
-    → number_of word ≡ Some (value_of word)
-number_small word h low =
-    ap (λ t. cond (t && ltb (value_of word) (2 ^ 64)) (Some (value_of word)) None) h
-    ∙ ap (λ t. cond t (Some (value_of word)) None) (lt-ltb (value_of word) (2 ^ 64) low)
+pub number_small : (piece : List ℕ) → is_numeral piece ≡ true → value_of piece < 2 ^ 64
+    → number_of piece ≡ Some (value_of piece)
+number_small piece h low =
+    ap (λ t. cond (t && ltb (value_of piece) (2 ^ 64)) (Some (value_of piece)) None) h
+    ∙ ap (λ t. cond t (Some (value_of piece)) None) (lt-ltb (value_of piece) (2 ^ 64) low)
 
 every_digit : (digits : List ℕ) → ((k : ℕ) → k < length digits → is_digit (get_or digits k 0) ≡ true)
     → list_all is_digit digits ≡ true
@@ -71,8 +71,8 @@ every_digit (d ∷ ds) h = ap (λ b. b && list_all is_digit ds) (h 0 (omega arit
     ∙ every_digit ds (λ k lt. h (suc k) (omega arith))
 
 -- digits are a numeral where there is one, or the first isn't 0
-pub numeral_by : (word : List ℕ) → ((k : ℕ) → k < length word → is_digit (get_or word k 0) ≡ true) → 0 < length word
-    → is_numeral word ≡ (eqb (length word) 1 || not (eqb (get_or word 0 0) 48))
+pub numeral_by : (piece : List ℕ) → ((k : ℕ) → k < length piece → is_digit (get_or piece k 0) ≡ true) → 0 < length piece
+    → is_numeral piece ≡ (eqb (length piece) 1 || not (eqb (get_or piece 0 0) 48))
 numeral_by [] h inside = absurd (omega arith)
 numeral_by (d ∷ []) h inside = h 0 (omega arith)
 numeral_by (d ∷ e ∷ ds) h inside =
@@ -85,17 +85,17 @@ numeral_by (d ∷ e ∷ ds) h inside =
     and_true true = refl
     and_true false = refl
 
-pub no_numeral : (word : List ℕ) → length word ≡ 0 → is_numeral word ≡ false
+pub no_numeral : (piece : List ℕ) → length piece ≡ 0 → is_numeral piece ≡ false
 no_numeral [] h = refl
 no_numeral (d ∷ ds) h = absurd (omega arith)
 
-pub not_numeral : (word : List ℕ) → is_numeral word ≡ false → number_of word ≡ None
-not_numeral word h = ap (λ b. cond (b && ltb (value_of word) (2 ^ 64)) (Some (value_of word)) None) h
+pub not_numeral : (piece : List ℕ) → is_numeral piece ≡ false → number_of piece ≡ None
+not_numeral piece h = ap (λ b. cond (b && ltb (value_of piece) (2 ^ 64)) (Some (value_of piece)) None) h
 
--- a word with a byte that isn't a digit isn't a numeral
-pub numeral_spoiled : (word : List ℕ) (i : ℕ) → i < length word → is_digit (get_or word i 0) ≡ false
-    → is_numeral word ≡ false
-numeral_spoiled word i inside h = elim (cases_Bool (is_numeral word)) as (λ _. is_numeral word ≡ false) [
-  | inl holds ↦ absurd (false≢true (sym h ∙ numeral_digit word i holds inside))
+-- a piece with a byte that isn't a digit isn't a numeral
+pub numeral_spoiled : (piece : List ℕ) (i : ℕ) → i < length piece → is_digit (get_or piece i 0) ≡ false
+    → is_numeral piece ≡ false
+numeral_spoiled piece i inside h = elim (cases_Bool (is_numeral piece)) as (λ _. is_numeral piece ≡ false) [
+  | inl holds ↦ absurd (false≢true (sym h ∙ numeral_digit piece i holds inside))
   | inr fails ↦ fails
 ]

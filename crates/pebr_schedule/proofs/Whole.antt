@@ -13,7 +13,7 @@ use Rattle.pebr_schedule.specs.Printed.{line}
 use Rattle.pebr_schedule.specs.Spelled.{numbers_text, name_of, numbers_in, AreWritable, IsPrintable, step_text}
 use Rattle.pebr_schedule.specs.Spelled.{shape_text, spelled_text}
 use Rattle.pebr_schedule.proofs.Lines.{some_piece, lines_first}
-use Rattle.pebr_schedule.proofs.Spelling.{joined_by, joined-pieces, lacks, pieces-at, AreNumbers, words-lack, line-read}
+use Rattle.pebr_schedule.proofs.Spelling.{joined_by, joined-pieces, lacks, pieces-at, AreNumbers, spelled-lack, line-read}
 use Rattle.pebr_schedule.proofs.Spelling.{line-written, named, name-lacks, writable-numbers, step-written, step-read}
 
 -- The first line
@@ -137,7 +137,7 @@ steps-written number [] h = refl
 steps-written number (s ∷ steps) h =
     ap (steps_of number)
     (line-pieces (step_text s) (lines_text steps)
-    (words-lack (name_of s) (numbers_in s) (name-lacks s).1 (writable-numbers s h.0)))
+    (spelled-lack (name_of s) (numbers_in s) (name-lacks s).1 (writable-numbers s h.0)))
     ∙ (steps-cut number (step_text s) (lines_text steps) s (step-written s h.0)
     ∙ ap (with_step (Some s) number) (steps-written (number + 1) steps h.1))
 
@@ -146,7 +146,7 @@ pub whole-written : (shape : Shape) (steps : List Step) → IsPrintable shape �
 whole-written shape steps h k =
     lines_first (shape_text shape) (lines_text steps) (pieces_of 10 (spelled_text shape steps))
     (line-pieces (shape_text shape) (lines_text steps)
-    (words-lack (codes "core") (shape.roots ∷ shape.seats ∷ shape.shields ∷ shape.batch ∷ shape.width ∷ []) refl
+    (spelled-lack (codes "core") (shape.roots ∷ shape.seats ∷ shape.shields ∷ shape.batch ∷ shape.width ∷ []) refl
     (shape-numbers shape h)))
     ∙ (ap (λ o. with_shape o (steps_of 2 (pieces_of 10 (lines_text steps)))) (shape-written shape h)
     ∙ ap (with_shape (Some shape)) (steps-written 2 steps k))

@@ -1,5 +1,5 @@
 -- The text of a schedule: a line for the shape of a core, and a line for each step. Each line ends with the byte 10;
--- words and numbers of a line have one space between them.
+-- the name and the numbers of a line have one space between them.
 use Rattle.std.specs.Prelude.{ℕ, ◌+◌, Bool, ◌&&◌, List, [], ◌∷◌, Option, Some, None, Result, Ok, Err, option_and_then}
 use Rattle.std.specs.Prelude.{if◌then◌else◌, nat_le, bytes_eq, codes}
 use Rattle.pebr_core.specs.declared.kinds.Shape.{Shape}
@@ -71,10 +71,10 @@ shape_with name (roots ∷ seats ∷ shields ∷ batch ∷ width ∷ []) =
     else None
 shape_with name (roots ∷ seats ∷ shields ∷ batch ∷ width ∷ more ∷ others) = None
 
--- a line of a word and numbers
+-- a line of a name and numbers
 abbrev pub line_with : {A : Type 0} → (List ℕ → List ℕ → Option A) → List (List ℕ) → Option A
 line_with known [] = None
-line_with known (name ∷ words) = option_and_then (known name) (numbers_of words)
+line_with known (name ∷ pieces) = option_and_then (known name) (numbers_of pieces)
 
 -- the line of a step
 abbrev pub step_of : List ℕ → Option Step

@@ -1,4 +1,4 @@
--- Lines, words and numbers of a schedule.
+-- Lines, pieces and numbers of a schedule.
 use Rattle.std.specs.Prelude.{ℕ, ◌+◌, ◌*◌, ◌-◌, ◌^◌, Bool, false, not, ◌&&◌, List, [], ◌∷◌, Option, Some, None}
 use Rattle.std.specs.Prelude.{option_map, option_and_then, if◌then◌else◌, ◌==◌, nat_lt, nat_le, fold}
 use Rattle.std.specs.List.{list_all}
@@ -19,13 +19,13 @@ value_of digits = fold (λ number digit. number * 10 + (digit - 48)) 0 digits
 
 -- a number: decimal digits without a leading zero, below 2 ^ 64
 abbrev pub number_of : List ℕ → Option ℕ
-number_of word = if is_numeral word && nat_lt (value_of word) (2 ^ 64) then Some (value_of word) else None
+number_of piece = if is_numeral piece && nat_lt (value_of piece) (2 ^ 64) then Some (value_of piece) else None
 
--- the numbers that the words stand for, where each is a number
+-- the numbers that the pieces stand for, where each is a number
 abbrev pub numbers_of : List (List ℕ) → Option (List ℕ)
 numbers_of [] = Some []
-numbers_of (word ∷ words) = option_and_then (λ number. option_map (λ numbers. number ∷ numbers) (numbers_of words))
-    (number_of word)
+numbers_of (piece ∷ pieces) = option_and_then (λ number. option_map (λ numbers. number ∷ numbers) (numbers_of pieces))
+    (number_of piece)
 
 -- a byte before some pieces belongs to the first of them
 abbrev pub with_front : ℕ → List (List ℕ) → List (List ℕ)

@@ -9,7 +9,7 @@ use Rattle.pebr_schedule.specs.Printed.{line}
 abbrev pub numbers_text : List ℕ → List ℕ
 numbers_text numbers = flat_map (λ number. 32 ∷ decimal number) numbers
 
--- the word of a step
+-- the name of a step
 abbrev pub name_of : Step → List ℕ
 name_of (step.Note i) = codes "note"
 name_of (step.Pin i) = codes "pin"

@@ -5,7 +5,7 @@ ghost use Rattle.pebr_core.specs.Kept.{IsWithinLimits};
 ghost use Rattle.pebr_schedule.specs.Grammar.{is_small, step_of_one, step_of_two, step_of_three, step_of_four};
 ghost use Rattle.pebr_schedule.specs.Grammar.{step_with, shape_with, step_of, shape_of};
 
-use crate::words::{cut, numbers};
+use crate::pieces::{cut, numbers};
 use pebr_core::{NoMemory, Shape, Step};
 use std::alloc::Global;
 

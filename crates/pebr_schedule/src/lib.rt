@@ -7,9 +7,9 @@
 #![tactic(auto)]
 
 mod grammar;
+mod pieces;
 mod printing;
 mod reading;
-mod words;
 
 pub use pebr_core::NoMemory;
 pub use printing::print;

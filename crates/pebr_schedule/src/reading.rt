@@ -9,7 +9,7 @@ ghost use Rattle.pebr_schedule.specs.Numbers.{pieces_of};
 ghost use Rattle.pebr_schedule.specs.Grammar.{steps_of, schedule_of};
 
 use crate::grammar::{shape_of, step_of};
-use crate::words::cut;
+use crate::pieces::cut;
 use pebr_core::{NoMemory, Shape, Step};
 use std::alloc::Global;
 
@@ -32,7 +32,7 @@ pub enum ScheduleError {
 }
 
 /// Reads a schedule. Each schedule has exactly one text: a line `core R N H B W`, and a line for each
-/// step, of its word and its numbers, in decimal and with one space between them; each line ends with
+/// step, of its name and its numbers, in decimal and with one space between them; each line ends with
 /// a line feed. The numbers of a step are at most 65,535, but a value to write is any number below
 /// 2^64. The shape has 1 to 64 roots, 1 to 16 seats, 1 to 8 shields of a seat, a batch of 1 to 64 and
 /// 1 to 10 words of a slot. Whether the steps are enabled isn't looked at.

@@ -6,7 +6,7 @@ use meter_io::MemSink;
 use std::alloc::Global;
 use std::test::Fail;
 use std::thread::Threads;
-use trial_samples::{octets_of, words_of};
+use trial_samples::{octets_of, words_in};
 
 mod refused;
 mod splits;
@@ -34,7 +34,7 @@ fn join(
     line: &str,
     files: &[Held],
 ) -> Result<Ran, Fail> {
-    let words = words_of(alloc, line)?;
+    let words = words_in(alloc, line)?;
     let mut opener = HeldFiles::new(files);
     let mut output = MemSink::open(alloc, 65_536, 1000, &[])?;
     let mut stderr = MemSink::open(alloc, 1000, 1000, &[])?;

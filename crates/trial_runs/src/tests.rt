@@ -8,7 +8,7 @@ use std::alloc::Global;
 use std::process::Abort;
 use std::test::Fail;
 use std::thread::Threads;
-use trial_samples::{octets_of, words_of};
+use trial_samples::{octets_of, words_in};
 
 mod captures;
 mod extremes;
@@ -69,7 +69,7 @@ fn run_by<R: Threads + Sync + AllocGlobal, G: Gate>(
     gate: &G,
 ) -> Result<Ran, Fail> {
     let alloc = rt.alloc();
-    let words = words_of(alloc, line)?;
+    let words = words_in(alloc, line)?;
     let mut source = MemSource::new(input, 1000, &[]);
     let mut output = MemSink::open(alloc, 65_536, 65_536, &[])?;
     let mut stderr = MemSink::open(alloc, 1000, 1000, &[])?;

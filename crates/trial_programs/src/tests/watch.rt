@@ -6,7 +6,7 @@ use std::alloc::Global;
 use std::sync::atomic::{AtomicU64, Ordering};
 use std::test::Fail;
 use std::thread::Threads;
-use trial_samples::{octets_of, words_of};
+use trial_samples::{octets_of, words_in};
 use watch_program::{WatchStatus, run_watch};
 
 /// A capture's header: little-endian, microseconds, Ethernet.
@@ -53,7 +53,7 @@ fn run_over<R: Threads + Sync, G: Gate>(
     (reads, writes): (&[u64], &[u64]),
     gate: &G,
 ) -> Result<Ran, Fail> {
-    let words = words_of(alloc, line)?;
+    let words = words_in(alloc, line)?;
     let bytes = octets_of(alloc, capture)?;
     let mut input = MemSource::new(bytes.as_slice(), 50, reads);
     let mut output = MemSink::open(alloc, 65_536, 10, writes).map_err(|_| Fail::from("no memory"))?;

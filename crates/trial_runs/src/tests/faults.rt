@@ -9,7 +9,7 @@ use meter_program::{Status, run};
 use meter_workers::OpenGate;
 use std::test::Fail;
 use std::thread::Threads;
-use trial_samples::words_of;
+use trial_samples::words_in;
 
 /// How a run ended, and how many bytes its output and its standard error took.
 type Ended = (Status, usize, usize);
@@ -29,7 +29,7 @@ fn run_faulty<R: Threads + Sync + AllocGlobal>(
     let (read, write, piece, report) = faulty;
     let (reads, writes, reportings) = ([read], [write], [report]);
     let alloc = rt.alloc();
-    let words = words_of(alloc, line)?;
+    let words = words_in(alloc, line)?;
     let mut source = MemSource::new(input, 50, reads.as_slice());
     let mut output = MemSink::open(alloc, 4096, piece.max(1), writes.as_slice())?;
     let mut stderr = MemSink::open(alloc, 4096, 64, reportings.as_slice())?;

@@ -9,7 +9,7 @@ use std::alloc::Global;
 use std::sync::Wait;
 use std::test::Fail;
 use std::thread::Threads;
-use trial_samples::{octets_of, words_of};
+use trial_samples::{octets_of, words_in};
 
 mod faults;
 mod gates;
@@ -56,7 +56,7 @@ pub(super) fn run_piped<R: Threads + Wait + Sync, G: Gate>(
     input: &[u8],
     gate: &G,
 ) -> Result<Ran, Fail> {
-    let words = words_of(alloc, line)?;
+    let words = words_in(alloc, line)?;
     let mut source = MemSource::new(input, 1000, &[]);
     let (mut output, mut stderr) = (sink(alloc)?, sink(alloc)?);
     let status = run_pipe(
@@ -78,7 +78,7 @@ pub(super) fn run_piped<R: Threads + Wait + Sync, G: Gate>(
 
 /// A run of `meter` over this input.
 fn run_meter<R: Threads + Sync>(rt: &R, alloc: Global, input: &[u8]) -> Result<Ran, Fail> {
-    let words = words_of(alloc, "meter")?;
+    let words = words_in(alloc, "meter")?;
     let mut source = MemSource::new(input, 1000, &[]);
     let (mut output, mut stderr) = (sink(alloc)?, sink(alloc)?);
     let status = run(

@@ -4,7 +4,7 @@ use super::check_run;
 use command_words::OptionsError;
 use meter_program::{Command, Status, command_of};
 use std::test::Fail;
-use trial_samples::words_of;
+use trial_samples::words_in;
 
 /// What a line asks for: 1 for `meter` with its settings in the order of their options, 2 for `show`, 3 for `make` with
 /// its seed, packets and keys, 4 for `schedule`, 5 for `selftest` with those of `make`.
@@ -78,7 +78,7 @@ static COMMANDS: [(&str, [u64; 7]); 24] = [
 #[test]
 fn commands_have_their_settings(rt: HostRuntime) -> Result<(), Fail> {
     for (line, wanted) in COMMANDS {
-        let words = words_of(rt.alloc(), line)?;
+        let words = words_in(rt.alloc(), line)?;
         let asked = command_of(rt.alloc(), words.as_slice()).map(numbers_of);
         assert_eq!(rt; asked, Ok(wanted), "{line}");
     }

@@ -7,7 +7,7 @@ use meter_program::Status;
 use meter_workers::OpenGate;
 use pipe_program::run_pipe;
 use std::test::Fail;
-use trial_samples::{octets_of, words_of};
+use trial_samples::{octets_of, words_in};
 
 /// Lines that aren't command lines.
 static USAGE: [&str; 4] = ["", "meter", "pipe --piece 1", "pipe --workers 63"];
@@ -83,7 +83,7 @@ static FAULTS: [((u64, u64, u64), Ended); 9] = [
 fn reads_and_writes_can_fail(rt: HostRuntime) -> Result<(), Fail> {
     let alloc = rt.alloc();
     let input = capture_of(alloc, TWO_PACKETS.as_slice())?;
-    let words = words_of(alloc, "pipe --workers 2")?;
+    let words = words_in(alloc, "pipe --workers 2")?;
     for ((read, write, report), wanted) in FAULTS {
         let (reads, writes, reportings) = ([read], [write], [report]);
         let mut source = MemSource::new(input.as_slice(), 50, reads.as_slice());

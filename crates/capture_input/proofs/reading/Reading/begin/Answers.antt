@@ -4,7 +4,7 @@ use Rattle.std.specs.Prelude.{IfOk}
 use Rattle.pcap_reader.specs.Records.{PacketRecord}
 use Rattle.capture_input.specs.Filling.{WindowState}
 use Rattle.pcap_reader.specs.Views.{headed_by}
-use Rattle.pcap_reader.specs.Windows.{front_of}
+use Rattle.pcap_reader.specs.Parts.{front_of}
 use Rattle.packet_accept.specs.Packets.{answers_of, answer_to}
 use Rattle.capture_input.specs.declared.reading.Reading.{Reading}
 use Rattle.capture_input.specs.Giving.{HasFilled}

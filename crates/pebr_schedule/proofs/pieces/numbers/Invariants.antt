@@ -2,7 +2,7 @@ use Rattle.std.proofs.Common.{◌≡◌, option_copied}
 use Rattle.pebr_schedule.specs.Numbers.{numbers_of}
 use Rattle.pebr_schedule.specs.Rest.{pieces_after}
 use Rattle.pebr_schedule.proofs.Cuts.{joined, left}
-use Rattle.pebr_schedule.proofs.words.numbers.Given as goal
+use Rattle.pebr_schedule.proofs.pieces.numbers.Given as goal
 
 -- the numbers so far and those of what is left are all
 abbrev pub invariant-loop-rest : goal.invariant-loop-rest

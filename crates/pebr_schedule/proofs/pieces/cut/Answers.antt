@@ -2,7 +2,7 @@ use Rattle.std.proofs.Common.{◌∙◌, ◌∷◌, ◌+◌, ap, sym, take, drop
 use Rattle.std.proofs.lemmas.List.{take_rest}
 use Rattle.pebr_schedule.specs.Numbers.{pieces_of}
 use Rattle.pebr_schedule.proofs.Cuts.{cut_at, cut_none}
-use Rattle.pebr_schedule.proofs.words.cut.Goals as goal
+use Rattle.pebr_schedule.proofs.pieces.cut.Goals as goal
 
 pub returns-then-byte-at-clause-pieces : goal.returns-then-byte-at-clause-pieces
 returns-then-byte-at-clause-pieces c =

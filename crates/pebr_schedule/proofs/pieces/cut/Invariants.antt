@@ -1,5 +1,5 @@
 use Rattle.std.proofs.Common.{◌≢◌, ℕ, ◌<◌, get_or}
-use Rattle.pebr_schedule.proofs.words.cut.Given as goal
+use Rattle.pebr_schedule.proofs.pieces.cut.Given as goal
 
 -- the byte isn't among those so far
 abbrev pub invariant-loop-place : goal.invariant-loop-place

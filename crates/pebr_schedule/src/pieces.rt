@@ -29,27 +29,27 @@ fn is_digit(byte: u8) -> bool
     b'0' <= byte && byte <= b'9'
 }
 
-/// Whether a word is decimal digits alone, at least one, without a leading zero.
-fn is_numeral(word: &[u8]) -> bool
-    ensures { result ≡ is_numeral word.now }
+/// Whether a piece is decimal digits alone, at least one, without a leading zero.
+fn is_numeral(piece: &[u8]) -> bool
+    ensures { result ≡ is_numeral piece.now }
 {
-    for byte in word {
+    for byte in piece {
         if !is_digit(*byte) {
             return false;
         }
     }
-    !word.is_empty() && (word.len() == 1 || word[0] != b'0')
+    !piece.is_empty() && (piece.len() == 1 || piece[0] != b'0')
 }
 
-/// The number that a word stands for: decimal digits without a leading zero, below 2^64. Else none.
-pub fn number(word: &[u8]) -> Option<u64>
-    ensures { result ≡ number_of word.now }
+/// The number that a piece stands for: decimal digits without a leading zero, below 2^64. Else none.
+pub fn number(piece: &[u8]) -> Option<u64>
+    ensures { result ≡ number_of piece.now }
 {
-    if !is_numeral(word) {
+    if !is_numeral(piece) {
         return None;
     }
     let mut number = 0u64;
-    for byte in word {
+    for byte in piece {
         match number_with_digit(number, *byte) {
             Some(more) => number = more,
             None => return None,
@@ -67,17 +67,17 @@ fn number_with_digit(number: u64, digit: u8) -> Option<u64>
     tens.checked_add(u64::from(digit - b'0'))
 }
 
-/// The numbers that the words of a text stand for, with one space between them; none where one of the
-/// words isn't a number.
+/// The numbers that the pieces of a text stand for, with one space between them; none where one of the
+/// pieces isn't a number.
 pub fn numbers(alloc: Global, text: Option<&[u8]>) -> Result<Option<Vec<u64>>, NoMemory>
     ensures { IfOk result (λ found. option_map (λ numbers. numbers.items) found
         ≡ numbers_of (pieces_after 32 (option_copied text.entry))) }
 {
     let mut numbers = Vec::new(alloc);
     let mut rest = text;
-    while let Some(words) = rest {
-        let (word, after) = cut(words, b' ');
-        let Some(value) = number(word) else {
+    while let Some(left) = rest {
+        let (piece, after) = cut(left, b' ');
+        let Some(value) = number(piece) else {
             return Ok(None);
         };
         push(&mut numbers, value)?;
