@@ -9,4 +9,4 @@ mod lines;
 
 pub use hexadecimal::octets_of;
 pub use keys::{tcp_over_ipv6, udp_key};
-pub use lines::words_of;
+pub use lines::words_in;
