@@ -54,7 +54,7 @@ fn two_packets_stream(alloc: Global) -> Result<Vec<u8>, Fail> {
 }
 
 /// How a run over some input ended, what it wrote, and what it reported.
-#[derive(Drop)]
+#[derive(PartialEq, Eq, Drop)]
 struct Ran {
     status: Status,
     output: Vec<u8>,
@@ -73,16 +73,30 @@ fn run_by<R: Threads + Sync + AllocGlobal, G: Gate>(
     let mut source = MemSource::new(input, 1000, &[]);
     let mut output = MemSink::open(alloc, 65_536, 65_536, &[])?;
     let mut stderr = MemSink::open(alloc, 1000, 1000, &[])?;
-    let status = run(
-        rt,
-        alloc,
-        words.as_slice(),
-        &mut source,
-        &mut output,
-        &mut stderr,
-        &mut PebrCaches::new(),
-        gate,
-    );
+    let status = status_of(rt, &words, &mut source, (&mut output, &mut stderr), gate);
+    ran_to(alloc, status, &output, &stderr)
+}
+
+/// The status of a run.
+fn status_of<R: Threads + Sync + AllocGlobal, G: Gate>(
+    rt: &R,
+    words: &[String],
+    source: &mut MemSource<'_>,
+    (output, stderr): (&mut MemSink<'_>, &mut MemSink<'_>),
+    gate: &G,
+) -> Status {
+    let alloc = rt.alloc();
+    let caches = &mut PebrCaches::new();
+    run(rt, alloc, words, source, output, stderr, caches, gate)
+}
+
+/// A run that ended so, with what these two hold.
+fn ran_to(
+    alloc: Global,
+    status: Status,
+    output: &MemSink<'_>,
+    stderr: &MemSink<'_>,
+) -> Result<Ran, Fail> {
     Ok(Ran {
         status,
         output: output.held().to_vec(alloc)?,

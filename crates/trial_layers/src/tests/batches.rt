@@ -1,8 +1,8 @@
 //! Batches that one pass puts and others take, on one thread.
 
-ghost use Rattle.std.specs.Prelude.{◌≡◌, ◌<◌, [], All, IfOk};
+ghost use Rattle.std.specs.Prelude.{◌≡◌, ◌<◌, [], All, IfOk, OnOk};
 ghost use Rattle.batch_queue.specs.Batches.{count_of, IsBefore};
-ghost use Rattle.batch_queue.specs.Passes.{IsPassOf, IsReaders, put_of, reader_of, IsOpen};
+ghost use Rattle.batch_queue.specs.Passes.{IsPassOf, IsFresh, IsReaders, put_of, others_of, reader_of, IsOpen};
 ghost use Rattle.batch_queue.specs.declared.batch.Batch.{Batch};
 
 use batch_queue::{Batch, BatchQueue, Feed, NoMemory, QueuePass};
@@ -77,13 +77,20 @@ fn open_queue(alloc: Global) -> Result<(BatchQueue, Feed, QueuePass, QueuePass),
     ensures reader { IfOk result (λ r. IsReaders (reader_of r.1) × IsOpen r.1 × (put_of (reader_of r.1) ≡ [])) }
 {
     let (queue, reader, mut passes) = BatchQueue::open(alloc, 2, 2)?;
-    let Some(third) = passes.pop() else {
-        return Err(NoMemory);
-    };
-    let Some(second) = passes.pop() else {
-        return Err(NoMemory);
-    };
+    let third = take_pass(&queue, &mut passes)?;
+    let second = take_pass(&queue, &mut passes)?;
     Ok((queue, reader, second, third))
+}
+
+/// The last of the passes that were opened.
+fn take_pass(_queue: &BatchQueue, passes: &mut Vec<QueuePass>) -> Result<QueuePass, NoMemory>
+    requires { All (λ pass. IsPassOf _queue.now pass × IsFresh pass × (¬ IsReaders pass) × (others_of pass ≡ 0))
+        passes.old.items }
+    ensures last { IfOk result (λ pass. IsPassOf _queue.now pass) }
+    ensures others { OnOk result (All
+        (λ pass. IsPassOf _queue.now pass × IsFresh pass × (¬ IsReaders pass) × (others_of pass ≡ 0)) passes.new.items) }
+{
+    passes.pop().ok_or(NoMemory)
 }
 
 #[test]

@@ -1,10 +1,11 @@
 //! File headers, cuts of a file into records, and fields in both byte orders.
 
-ghost use Rattle.std.specs.Prelude.{◌<◌};
+ghost use Rattle.std.specs.Prelude.{◌<◌, ◌^◌, length};
+ghost use Rattle.pcap_reader.specs.Views.{file_of};
 
 use capture_input::{FillEnd, Window};
 use meter_io::{Failed, MemSource};
-use pcap_reader::{Capture, CaptureError, Head, IndexError, RecordIndex};
+use pcap_reader::{Capture, CaptureError, Head, IndexError, Record, RecordIndex};
 use std::alloc::Global;
 use std::process::Abort;
 use std::test::Fail;
@@ -185,6 +186,34 @@ static ORDERS: [(&str, &str, bool, u32); 4] = [
     ),
 ];
 
+/// Checks the fields of a record whose captured part is this.
+fn check_record(rt: &impl Abort, read: &Record<'_>, captured: &[u8], header: &str) {
+    assert!(rt;
+        read.seconds == 0x0102_0304 && read.fraction == 0x0506_0708,
+        "{header}"
+    );
+    assert!(rt;
+        read.original == 0x090a_0b0c && read.captured == captured,
+        "{header}"
+    );
+}
+
+/// Checks the two records of a file with this header, and the four octets behind them.
+fn check_records(
+    rt: &impl Abort,
+    alloc: Global,
+    capture: &Capture<'_>,
+    header: &str,
+) -> Result<(), Fail>
+    requires { length (file_of capture.now).bytes < 2 ^ 32 }
+{
+    let index = capture.index(alloc).ok().ok_or("an index")?;
+    assert!(rt; index.count() == 2 && index.tail() == 4, "{header}");
+    check_record(rt, &capture.record(&index, 0), b"one", header);
+    check_record(rt, &capture.record(&index, 1), b"two", header);
+    Ok(())
+}
+
 #[test]
 fn fields_in_either_order(rt: HostRuntime) -> Result<(), Fail> {
     for (header, record, nanos, link) in ORDERS {
@@ -198,18 +227,7 @@ fn fields_in_either_order(rt: HostRuntime) -> Result<(), Fail> {
             "{header}"
         );
         assert!(rt; file.len() < 1 << 32);
-        let index = capture.index(rt.alloc()).ok().ok_or("an index")?;
-        assert!(rt; index.count() == 2 && index.tail() == 4, "{header}");
-        for (n, captured) in [(0, b"one"), (1, b"two")] {
-            assert!(rt; n < index.count());
-            let read = capture.record(&index, n);
-            assert!(rt;
-                read.seconds == 0x0102_0304 && read.fraction == 0x0506_0708,
-                "{header}"
-            );
-            assert!(rt; read.original == 0x090a_0b0c, "{header}");
-            assert!(rt; read.captured == captured.as_slice(), "{header}");
-        }
+        check_records(&rt, rt.alloc(), &capture, header)?;
     }
     Ok(())
 }
@@ -254,6 +272,21 @@ fn what_ends_the_filling_of_a_window(rt: HostRuntime) -> Result<(), Fail> {
     Ok(())
 }
 
+/// Reads a part of one record with 42 captured octets and a tail so long, and gives the index back.
+fn read_part(
+    rt: &impl Abort,
+    part: Capture<'_>,
+    index: RecordIndex,
+    tail: u64,
+) -> Result<RecordIndex, Fail>
+    requires { length (file_of part).bytes < 2 ^ 32 }
+{
+    let index = part.index_into(index).ok().ok_or("an index")?;
+    assert!(rt; index.count() == 1 && index.tail() == tail);
+    assert!(rt; part.record(&index, 0).captured == [0; 42].as_slice());
+    Ok(index)
+}
+
 #[test]
 fn two_parts_of_a_capture(rt: HostRuntime) -> Result<(), Fail> {
     let alloc = rt.alloc();
@@ -267,12 +300,8 @@ fn two_parts_of_a_capture(rt: HostRuntime) -> Result<(), Fail> {
     window.keep(24);
     let mut index = RecordIndex::with_room(alloc, 262_184)?;
     for tail in [7, 4] {
-        let part = Capture::part(head, window.bytes());
-        assert!(rt; window.bytes().len() < 1 << 32);
-        index = part.index_into(index).ok().ok_or("an index")?;
-        assert!(rt; index.count() == 1 && index.tail() == tail);
-        assert!(rt; part.record(&index, 0).captured == [0; 42].as_slice());
         assert!(rt; window.bytes().len() == 58 + tail as usize);
+        index = read_part(&rt, Capture::part(head, window.bytes()), index, tail)?;
         window.keep(58);
         assert!(rt; window.fill(&mut source, 55).is_ok());
     }

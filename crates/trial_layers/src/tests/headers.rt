@@ -109,9 +109,8 @@ const LINK_PARTS: &[Row] = frames! {
     101 [b"\x04"] 1 of 28 => Link(NotIp);
 };
 
-/// IPv4: header lengths, total lengths, padding, fragments, and TCP.
-const IPV4_PACKETS: &[Row] = frames! {
-    // Header lengths 0, 4, 5, 6 and 15, and another version.
+/// IPv4: header lengths 0, 4, 5, 6 and 15, and another version.
+const IPV4_HEADER_LENGTHS: &[Row] = frames! {
     101 [b"\x40\0", b"\0\x1c", b"\0\0\0\0", b"\x40\x11\0\0", V4_ADDRESSES, UDP] 28 of 28 => Ip(BadHeader);
     101 [b"\x44\0", b"\0\x1c", b"\0\0\0\0", b"\x40\x11\0\0", V4_ADDRESSES, UDP] 28 of 28 => Ip(BadHeader);
     101 [b"\x44\0", b"\0\x1c", b"\0\0\0\0", b"\x40\x11\0\0", V4_ADDRESSES, UDP] 19 of 28 => Ip(Short);
@@ -128,6 +127,10 @@ const IPV4_PACKETS: &[Row] = frames! {
         OPTION, OPTION, OPTION, OPTION, OPTION] 60 of 60 => Packet(60, 1, false, 60, 60, 0, 0, 0);
     101 [b"\x4f\0", b"\0\x3b", b"\0\0\0\0", b"\x40\x01\0\0", V4_ADDRESSES, OPTION, OPTION, OPTION, OPTION, OPTION,
         OPTION, OPTION, OPTION, OPTION, OPTION] 60 of 60 => Ip(BadHeader);
+};
+
+/// IPv4: total lengths, padding, fragments, and TCP.
+const IPV4_PACKETS: &[Row] = frames! {
     // Total lengths around the header's, of 0, and beyond what is captured.
     101 [b"\x45\0", b"\0\x13", b"\0\0\0\0", b"\x40\x01\0\0", V4_ADDRESSES, UDP] 28 of 28 => Ip(BadHeader);
     101 [b"\x45\0", b"\0\x01", b"\0\0\0\0", b"\x40\x01\0\0", V4_ADDRESSES, UDP] 28 of 28 => Ip(BadHeader);
@@ -381,6 +384,12 @@ fn check(rt: &impl Abort, alloc: Global, rows: &[Row]) -> Result<(), AllocError>
 #[test]
 fn link_parts(rt: HostRuntime) -> Result<(), Fail> {
     check(&rt, rt.alloc(), LINK_PARTS)?;
+    Ok(())
+}
+
+#[test]
+fn ipv4_header_lengths(rt: HostRuntime) -> Result<(), Fail> {
+    check(&rt, rt.alloc(), IPV4_HEADER_LENGTHS)?;
     Ok(())
 }
 

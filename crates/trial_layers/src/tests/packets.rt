@@ -1,5 +1,8 @@
 //! Records of captures that are made byte by byte, with the answers that the tables of the formats give.
 
+ghost use Rattle.std.specs.Prelude.{◌<◌, ◌^◌, length};
+ghost use Rattle.pcap_reader.specs.Views.{file_of};
+
 use Ignored::{BadHeader, BadTime, NotIp, Short, ShortTransport};
 use Kind::{BigMicros, BigNanos, LittleMicros, LittleNanos};
 use Want::{Gives, No};
@@ -272,12 +275,19 @@ fn two_packets_of_a_flow(rt: HostRuntime) -> Result<(), Fail> {
     }
     assert!(rt; file.len() < 1 << 32);
     let capture = Capture::open(file.as_slice()).ok().ok_or("a capture")?;
+    check_two(&rt, alloc, &capture)
+}
+
+/// Checks the packets of its two records, a second apart.
+fn check_two(rt: &impl Abort, alloc: Global, capture: &Capture<'_>) -> Result<(), Fail>
+    requires { length (file_of capture.now).bytes < 2 ^ 32 }
+{
     let index = capture.index(alloc).ok().ok_or("an index")?;
     assert!(rt; index.count() == 2);
     for n in 0..2 {
         let record = capture.record(&index, n);
         let want = Gives(4, 17, 4000, 53, 1_000_000 + 1000 * n, 28, 0);
-        assert!(rt; accept(&capture, &record, n) == wanted_answer(want, n));
+        assert!(rt; accept(capture, &record, n) == wanted_answer(want, n));
     }
     Ok(())
 }

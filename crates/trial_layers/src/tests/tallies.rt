@@ -82,6 +82,17 @@ fn of_all_causes() -> Tally
     }
 }
 
+/// The tally of all six records.
+fn of_both() -> Tally {
+    Tally {
+        captured: 6,
+        accepted: 1,
+        ignored: [1; 5],
+        octets: 28,
+        clock: Some(60),
+    }
+}
+
 #[test]
 fn two_tallies_are_added_up(rt: HostRuntime) -> Result<(), Fail> {
     let mut added = Tally::new();
@@ -90,11 +101,7 @@ fn two_tallies_are_added_up(rt: HostRuntime) -> Result<(), Fail> {
     assert_eq!(rt; added, one);
     let other = of_all_causes();
     let both = one.sum_with(&other);
-    assert_eq!(rt; both.captured, 6);
-    assert_eq!(rt; both.accepted, 1);
-    assert_eq!(rt; both.ignored, [1; 5]);
-    assert_eq!(rt; both.octets, 28);
-    assert_eq!(rt; both.clock, Some(60));
+    assert_eq!(rt; both, of_both());
     assert_eq!(rt; other.sum_with(&one), both);
     let none = Tally::new();
     assert_eq!(rt; none.sum_with(&one), one);

@@ -93,8 +93,8 @@ fn are_numbers(values: &[FieldValue]) -> bool
     true
 }
 
-#[test]
-fn values_are_found_by_their_elements(rt: HostRuntime) -> Result<(), Fail> {
+/// Four values of two octets each: one of the element 7, and three of the element 6, the first of them an enterprise's.
+fn four_values(rt: &HostRuntime) -> Result<ValueList, Fail> {
     let mut values = Vec::new(rt.alloc());
     for (element, enterprise, bytes) in [
         (7, None, [15, 160]),
@@ -102,9 +102,14 @@ fn values_are_found_by_their_elements(rt: HostRuntime) -> Result<(), Fail> {
         (6, None, [1, 2]),
         (6, None, [3, 4]),
     ] {
-        values.push(value(&rt, element, enterprise, bytes.as_slice())?)?;
+        values.push(value(rt, element, enterprise, bytes.as_slice())?)?;
     }
-    let list = ValueList::of(values);
+    Ok(ValueList::of(values))
+}
+
+#[test]
+fn values_have_the_lengths_of_their_fields(rt: HostRuntime) -> Result<(), Fail> {
+    let list = four_values(&rt)?;
     let field = |element, enterprise, length| FieldSpec {
         element,
         length,
@@ -122,6 +127,12 @@ fn values_are_found_by_their_elements(rt: HostRuntime) -> Result<(), Fail> {
     assert!(rt; !are_values_of(wide.as_slice(), list.items()));
     let (front, _) = fields.as_slice().split_at(3);
     assert!(rt; !are_values_of(front, list.items()));
+    Ok(())
+}
+
+#[test]
+fn values_are_found_by_their_elements(rt: HostRuntime) -> Result<(), Fail> {
+    let list = four_values(&rt)?;
     let items = list.items();
     assert!(rt; are_numbers(items));
     assert!(rt; number_of(None, 7, items) == 4000);

@@ -38,12 +38,12 @@ const TAIL: &str = "00000000 00000000 00000001";
 
 /// The pieces of a text between its letters `M`, with [`TAIL`] for each of these.
 fn push_pieces<'a>(pieces: &mut Vec<&'a str>, text: &'a str) -> Result<(), Fail> {
-    for (count, piece) in text.split('M').enumerate() {
-        if count > 0 {
-            pieces.push(TAIL)?;
-        }
+    for piece in text.split('M') {
         pieces.push(piece)?;
+        pieces.push(TAIL)?;
     }
+    // None stands behind the last piece.
+    pieces.pop();
     Ok(())
 }
 

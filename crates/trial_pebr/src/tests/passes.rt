@@ -9,6 +9,7 @@ ghost use Rattle.pebr_roots.specs.Passes.{shape_at, known_by_pass, count_by_pass
 ghost use Rattle.pebr_roots.specs.Passes.{IsUnitedPass, IsOpenedPass};
 
 use crate::tests::free::Free;
+use crate::tests::pairs::both_of;
 use pebr_roots::{Checked, NoMemory, ReplaceEnd, RootPass, Roots, Shape};
 use std::alloc::Global;
 
@@ -109,13 +110,8 @@ fn two(alloc: Global) -> Result<(Roots<Free>, RootPass<Free>, RootPass<Free>), N
         batch: 1,
         width: 1,
     };
-    let (roots, mut passes) = Roots::<Free>::open(alloc, shape, (), &[5, 6])?;
-    let Some(second) = passes.pop() else {
-        return Err(NoMemory);
-    };
-    let Some(first) = passes.pop() else {
-        return Err(NoMemory);
-    };
+    let (roots, passes) = Roots::<Free>::open(alloc, shape, (), &[5, 6])?;
+    let (first, second) = both_of(passes)?;
     Ok((roots, first, second))
 }
 

@@ -11,6 +11,7 @@ ghost use Rattle.pebr_roots.specs.Passes.{shape_at, known_by_pass, operations_by
 ghost use Rattle.pebr_roots.specs.Passes.{IsUnitedPass, IsOpenedPass};
 
 use crate::tests::free::Free;
+use crate::tests::pairs::both_of;
 use pebr_roots::{Collected, ReplaceEnd, RootPass, Roots};
 use pebr_shields::{Checked, NoMemory, Shape};
 use std::alloc::Global;
@@ -233,12 +234,21 @@ fn stop_behind_check(roots: &Roots<Free>, pass: &mut RootPass<Free>, calls: usiz
     }
     if calls > 5 {
         swap(roots, pass, 6);
+        stop_behind_swap(roots, pass, calls);
     }
+}
+
+/// The calls behind the replacement.
+fn stop_behind_swap(roots: &Roots<Free>, pass: &mut RootPass<Free>, calls: usize)
+    requires of { IsOf roots.now pass.old }
+    requires entered { is_out (known_by_pass pass.old).status ≡ false }
+    ensures { IsOf roots.now pass.new }
+{
     if calls > 6 {
         roots.clear(pass);
-    }
-    if calls > 7 {
-        roots.leave(pass, None);
+        if calls > 7 {
+            roots.leave(pass, None);
+        }
     }
 }
 
@@ -298,13 +308,8 @@ fn two(alloc: Global) -> Result<(Roots<Free>, RootPass<Free>, RootPass<Free>), N
         batch: 1,
         width: 1,
     };
-    let (roots, mut passes) = Roots::<Free>::open(alloc, shape, (), &[5])?;
-    let Some(second) = passes.pop() else {
-        return Err(NoMemory);
-    };
-    let Some(first) = passes.pop() else {
-        return Err(NoMemory);
-    };
+    let (roots, passes) = Roots::<Free>::open(alloc, shape, (), &[5])?;
+    let (first, second) = both_of(passes)?;
     Ok((roots, first, second))
 }
 

@@ -8,6 +8,7 @@ ghost use Rattle.pebr_words.specs.Seats.{IsAt, IsStill, IsUnited, IsOpenedSeat, 
 ghost use Rattle.pebr_words.specs.Seats.{count_of};
 
 use crate::tests::free::Free;
+use crate::tests::pairs::both_of;
 use no_memory::NoMemory;
 use pebr_core::{LAST_EPOCH, valid_shields_protect};
 use pebr_words::{Looked, Seat, Shape, Words};
@@ -132,13 +133,8 @@ fn two(alloc: Global) -> Result<(Words<Free>, Seat<Free>, Seat<Free>), NoMemory>
         batch: 1,
         width: 1,
     };
-    let (words, mut seats) = Words::<Free>::open(alloc, shape, (), &[5, 6])?;
-    let Some(second) = seats.pop() else {
-        return Err(NoMemory);
-    };
-    let Some(first) = seats.pop() else {
-        return Err(NoMemory);
-    };
+    let (words, seats) = Words::<Free>::open(alloc, shape, (), &[5, 6])?;
+    let (first, second) = both_of(seats)?;
     Ok((words, first, second))
 }
 

@@ -8,6 +8,7 @@ ghost use Rattle.pebr_words.specs.Seats.{IsAt, IsStill, IsUnited, IsOpenedSeat, 
 ghost use Rattle.pebr_words.specs.Seats.{count_of};
 
 use crate::tests::free::Free;
+use crate::tests::pairs::both_of;
 use no_memory::NoMemory;
 use pebr_core::{LAST_EPOCH, Shape, valid_shields_protect};
 use pebr_words::{Looked, Seat, Words};
@@ -307,13 +308,8 @@ fn two(alloc: Global) -> Result<(Words<Free>, Seat<Free>, Seat<Free>), NoMemory>
         batch: 1,
         width: 1,
     };
-    let (words, mut seats) = Words::<Free>::open(alloc, shape, (), &[5])?;
-    let Some(second) = seats.pop() else {
-        return Err(NoMemory);
-    };
-    let Some(first) = seats.pop() else {
-        return Err(NoMemory);
-    };
+    let (words, seats) = Words::<Free>::open(alloc, shape, (), &[5])?;
+    let (first, second) = both_of(seats)?;
     Ok((words, first, second))
 }
 
@@ -382,6 +378,18 @@ fn check_send<T: Send>(value: T) -> T {
     value
 }
 
+/// Whether this is the first of two seats as they are opened: it has the slots 1 to 3, and none retired.
+fn is_first_as_opened(seat: &Seat<Free>) -> bool {
+    let counts = (
+        seat.number(),
+        seat.noted(),
+        seat.fresh_len(),
+        seat.retired_len(),
+    );
+    let fresh = [0, 1, 3, 4].map(|slot| seat.is_fresh(slot));
+    counts == (0, 0, 3, 0) && fresh == [false, true, true, false] && !seat.is_retired(0)
+}
+
 #[test]
 fn threads_share_words(rt: HostRuntime) {
     let alloc = rt.alloc();
@@ -390,12 +398,6 @@ fn threads_share_words(rt: HostRuntime) {
     };
     check_sync(&words);
     let first = check_send(first);
-    assert_eq!(rt; first.number(), 0);
-    assert_eq!(rt; second.number(), 1);
-    assert_eq!(rt; first.noted(), 0);
-    assert!(rt; first.is_fresh(1) && first.is_fresh(3) && !first.is_fresh(0) && !first.is_fresh(4));
-    assert!(rt; !first.is_retired(0));
-    assert_eq!(rt; first.retired_len(), 0);
-    assert_eq!(rt; first.fresh_len(), 3);
-    assert_eq!(rt; words.shape().seats, 2);
+    assert!(rt; is_first_as_opened(&first));
+    assert_eq!(rt; (second.number(), words.shape().seats), (1, 2));
 }

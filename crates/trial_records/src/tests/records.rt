@@ -337,10 +337,15 @@ fn takes_in(timeouts: &Timeouts, part: &Fragment, packet: &Packet) -> bool
     ensures packets { IsTrue result → part.now.packets + 1 < 2 ^ 64 }
     ensures octets { IsTrue result → part.now.octets + packet.now.octets < 2 ^ 64 }
 {
-    part.packets < 1000
-        && part.octets < 1_000_000
-        && packet.octets < 100
-        && timeouts.fits(part, packet)
+    has_room(part, packet) && timeouts.fits(part, packet)
+}
+
+/// Whether both are so small that a sum of theirs fits.
+fn has_room(part: &Fragment, packet: &Packet) -> bool
+    ensures packets { IsTrue result → part.now.packets + 1 < 2 ^ 64 }
+    ensures octets { IsTrue result → part.now.octets + packet.now.octets < 2 ^ 64 }
+{
+    part.packets < 1000 && part.octets < 1_000_000 && packet.octets < 100
 }
 
 #[test]

@@ -35,12 +35,22 @@ fn check_records<R: Threads + Sync + Abort + AllocGlobal>(
     capture: &[u8],
     lines: &str,
 ) -> Result<(), Fail> {
-    let metered = run_by(rt, "meter", capture, &OpenGate)?;
-    assert_eq!(rt; metered.status, Status::Done, "{name}");
-    let showed = run_by(rt, "show", metered.output.as_slice(), &OpenGate)?;
-    assert_eq!(rt; showed.status, Status::Done, "{name}");
-    assert_eq!(rt; showed.output.as_slice(), lines.as_bytes(), "{name}");
+    let metered = done_by(rt, name, "meter", capture)?;
+    let showed = done_by(rt, name, "show", &metered)?;
+    assert_eq!(rt; showed.as_slice(), lines.as_bytes(), "{name}");
     Ok(())
+}
+
+/// What a run that ends as it should writes; `name` tells the run.
+fn done_by<R: Threads + Sync + Abort + AllocGlobal>(
+    rt: &R,
+    name: &str,
+    line: &str,
+    input: &[u8],
+) -> Result<Vec<u8>, Fail> {
+    let ran = run_by(rt, line, input, &OpenGate)?;
+    assert_eq!(rt; ran.status, Status::Done, "{name}");
+    Ok(ran.output)
 }
 
 /// A side of a flow: an address and a port in hexadecimal.
@@ -49,17 +59,31 @@ type End = (&'static str, &'static str);
 /// A packet of TCP or UDP over IPv4: its millisecond, protocol, source, destination, octets and TCP flags.
 type Sent = (u32, u8, End, End, u16, u16);
 
-/// The hexadecimal digits of a record with such a packet, of which 54 bytes are captured.
+/// The hexadecimal digits of the header of a record with such a packet, of which 54 bytes are captured.
+fn sent_header(alloc: Global, second: u32, millisecond: u32, octets: u16) -> Result<String, Fail> {
+    let second = second.saturating_add(millisecond / 1000).swap_bytes();
+    let microsecond = (millisecond % 1000 * 1000).swap_bytes();
+    let original = (14 + octets as u32).swap_bytes();
+    let text = format!(in alloc; "{second:08x}{microsecond:08x}36000000{original:08x}")?;
+    Ok(text)
+}
+
+/// The hexadecimal digits of the sides of such a packet.
+fn sent_sides(alloc: Global, (source, from): End, (destination, to): End) -> Result<String, Fail> {
+    let text = format!(in alloc; "{source}{destination}{from}{to}")?;
+    Ok(text)
+}
+
+/// The hexadecimal digits of a record with such a packet.
 fn sent_record(alloc: Global, second: u32, sent: &Sent) -> Result<String, Fail> {
-    let (millisecond, protocol, (source, from), (destination, to), octets, flags) = sent;
-    let second = second.saturating_add(*millisecond / 1000).swap_bytes();
-    let microsecond = (*millisecond % 1000 * 1000).swap_bytes();
-    let original = (14 + *octets as u32).swap_bytes();
-    let bits = *flags % 4096 + 0x5000;
-    let text = format!(in alloc;
-        "{second:08x}{microsecond:08x}36000000{original:08x}0200000000020200000000010800\
-        4500{octets:04x}0000000040{protocol:02x}0000{source}{destination}{from}{to}0000000000000000{bits:04x}000000000000"
+    let (millisecond, protocol, source, destination, octets, flags) = *sent;
+    let mut text = sent_header(alloc, second, millisecond, octets)?;
+    let sides = sent_sides(alloc, source, destination)?;
+    let bits = flags % 4096 + 0x5000;
+    let frame = format!(in alloc;
+        "02000000000202000000000108004500{octets:04x}0000000040{protocol:02x}0000{sides}0000000000000000{bits:04x}000000000000"
     )?;
+    text.push_str(&frame)?;
     Ok(text)
 }
 
@@ -226,12 +250,18 @@ static GAPS: [(&str, &[(u32, u32, u16)], &[Line]); 9] = [
 /// What `show` says of such records.
 fn lines_of(alloc: Global, records: &[Line]) -> Result<String, Fail> {
     let mut text = String::new(alloc);
-    for (port, packets, octets, first, last, reason) in records {
-        let line = format!(in alloc;
-            "256 8=192.0.2.1 12=192.0.2.2 7={port} 11=53 4=17 6=0 2={packets} 1={octets} 152={first} 153={last} 136={reason}\n"
-        )?;
-        text.push_str(line.as_str())?;
+    for record in records {
+        text.push_str(&line_of(alloc, record)?)?;
     }
+    Ok(text)
+}
+
+/// What it says of one.
+fn line_of(alloc: Global, record: &Line) -> Result<String, Fail> {
+    let (port, packets, octets, first, last, reason) = record;
+    let text = format!(in alloc;
+        "256 8=192.0.2.1 12=192.0.2.2 7={port} 11=53 4=17 6=0 2={packets} 1={octets} 152={first} 153={last} 136={reason}\n"
+    )?;
     Ok(text)
 }
 
@@ -409,27 +439,37 @@ fn other_inputs_are_refused(rt: HostRuntime) -> Result<(), Fail> {
     Ok(())
 }
 
-#[test]
-fn messages_are_filled(rt: HostRuntime) -> Result<(), Fail> {
-    let alloc = rt.alloc();
+/// A capture of 29 packets, each of a flow of its own.
+fn flows_of_29(alloc: Global) -> Result<Vec<u8>, Fail> {
     let mut packets = Vec::new(alloc);
     for port in 4000..4029u16 {
         packets.push((1000, 0, port))?;
     }
-    let capture = capture_of(alloc, packets.as_slice())?;
-    let ran = run_by(&rt, "meter", capture.as_slice(), &OpenGate)?;
-    assert_eq!(rt; (ran.status, ran.output.len()), (Status::Done, 1548));
-    // A message of 1,364 bytes and one of 68, with the sequence numbers 0 and 28.
-    for (at, wanted) in [
-        (116, "000a0554"),
-        (124, "00000000"),
-        (1480, "000a0044"),
-        (1488, "0000001c"),
-    ] {
-        let number = ran.output.as_slice().get(at..at + 4).unwrap_or(&[]);
-        assert_eq!(rt; number, octets_of(alloc, &[wanted])?.as_slice(), "at {at}");
+    capture_of(alloc, &packets)
+}
+
+/// Octets of the stream of these flows: a message of 1,364 bytes and one of 68, with the sequence numbers 0 and 28.
+static FILLED: [(usize, [u8; 4]); 4] = [
+    (116, [0x00, 0x0a, 0x05, 0x54]),
+    (124, [0, 0, 0, 0]),
+    (1480, [0x00, 0x0a, 0x00, 0x44]),
+    (1488, [0, 0, 0, 28]),
+];
+
+#[test]
+fn messages_are_filled(rt: HostRuntime) -> Result<(), Fail> {
+    let stream = done_by(&rt, "29 flows", "meter", &flows_of_29(rt.alloc())?)?;
+    assert_eq!(rt; stream.len(), 1548);
+    for (at, wanted) in FILLED {
+        assert_eq!(rt; stream.get(at..at + 4), Some(wanted.as_slice()), "at {at}");
     }
-    let showed = run_by(&rt, "show", ran.output.as_slice(), &OpenGate)?;
+    Ok(())
+}
+
+#[test]
+fn records_of_two_messages_are_shown(rt: HostRuntime) -> Result<(), Fail> {
+    let stream = done_by(&rt, "29 flows", "meter", &flows_of_29(rt.alloc())?)?;
+    let showed = run_by(&rt, "show", &stream, &OpenGate)?;
     let lines = showed.output.iter().filter(|byte| **byte == b'\n').count();
     assert_eq!(rt; (showed.status, lines), (Status::Done, 29));
     assert_eq!(rt; showed.stderr.as_slice(), b"records 29\n".as_slice());

@@ -63,16 +63,14 @@ fn check_line<R: Threads + Wait + Sync + Abort + AllocGlobal>(
     stream: &[u8],
     summary: &str,
 ) -> Result<(), Fail> {
-    let (status, output, stderr) = if line.starts_with("pipe") {
-        let ran = run_piped(rt, rt.alloc(), line, capture, &OpenGate)?;
-        (ran.status, ran.output, ran.stderr)
+    let ran = if line.starts_with("pipe") {
+        run_piped(rt, line, capture, &OpenGate)?
     } else {
-        let ran = run_by(rt, line, capture, &OpenGate)?;
-        (ran.status, ran.output, ran.stderr)
+        run_by(rt, line, capture, &OpenGate)?
     };
-    assert_eq!(rt; status, Status::Done, "{line}");
-    assert_eq!(rt; output.as_slice(), stream, "{line}");
-    assert_eq!(rt; stderr.as_slice(), summary.as_bytes(), "{line}");
+    assert_eq!(rt; ran.status, Status::Done, "{line}");
+    assert_eq!(rt; ran.output.as_slice(), stream, "{line}");
+    assert_eq!(rt; ran.stderr.as_slice(), summary.as_bytes(), "{line}");
     Ok(())
 }
 

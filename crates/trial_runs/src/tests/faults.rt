@@ -1,11 +1,10 @@
 //! Runs whose reads and writes fail, and the exit statuses.
 
-use super::{two_packets, two_packets_stream};
+use super::{status_of, two_packets, two_packets_stream};
 use Status::{Done, ReadFault, WriteFault};
-use flow_cache::PebrCaches;
 use ipfix_reader::StreamFault;
 use meter_io::{MemSink, MemSource};
-use meter_program::{Status, run};
+use meter_program::Status;
 use meter_workers::OpenGate;
 use std::test::Fail;
 use std::thread::Threads;
@@ -33,14 +32,11 @@ fn run_faulty<R: Threads + Sync + AllocGlobal>(
     let mut source = MemSource::new(input, 50, reads.as_slice());
     let mut output = MemSink::open(alloc, 4096, piece.max(1), writes.as_slice())?;
     let mut stderr = MemSink::open(alloc, 4096, 64, reportings.as_slice())?;
-    let status = run(
+    let status = status_of(
         rt,
-        alloc,
-        words.as_slice(),
+        &words,
         &mut source,
-        &mut output,
-        &mut stderr,
-        &mut PebrCaches::new(),
+        (&mut output, &mut stderr),
         &OpenGate,
     );
     Ok((status, output.held().len(), stderr.held().len()))

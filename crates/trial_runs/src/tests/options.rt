@@ -3,6 +3,7 @@
 use command_words::{OptionRule, OptionsError, values_of};
 use std::alloc::Global;
 use std::test::Fail;
+use trial_samples::words_in;
 
 static TABLE: [OptionRule<'static>; 3] = [
     OptionRule {
@@ -27,10 +28,7 @@ static TABLE: [OptionRule<'static>; 3] = [
 
 /// Whether these words, with spaces between them, have these values; none where they are refused.
 fn gives(alloc: Global, line: &str, wanted: Option<[u64; 3]>) -> Result<bool, Fail> {
-    let mut words = Vec::new(alloc);
-    for word in line.split(' ') {
-        words.push(String::from_str(alloc, word)?)?;
-    }
+    let words = words_in(alloc, line)?;
     match values_of(alloc, TABLE.as_slice(), words.as_slice()) {
         Ok(values) => Ok(wanted.is_some_and(|wanted| values.as_slice() == wanted.as_slice())),
         Err(OptionsError::NotOptions) => Ok(wanted.is_none()),

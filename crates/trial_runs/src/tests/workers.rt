@@ -54,8 +54,13 @@ static SETTINGS: [&str; 6] = [
 
 /// The octets of these pieces behind a first one.
 fn behind(alloc: Global, first: &str, pieces: &[&str]) -> Result<Vec<u8>, Fail> {
-    let mut octets = octets_of(alloc, &[first])?;
-    octets.extend_from_slice(octets_of(alloc, pieces)?.as_slice())?;
+    let octets = octets_of(alloc, &[first])?;
+    joined(octets, &octets_of(alloc, pieces)?)
+}
+
+/// These octets with more behind them.
+fn joined(mut octets: Vec<u8>, more: &[u8]) -> Result<Vec<u8>, Fail> {
+    octets.extend_from_slice(more)?;
     Ok(octets)
 }
 
@@ -66,10 +71,9 @@ pub(super) fn exchange_capture(alloc: Global) -> Result<Vec<u8>, Fail> {
 
 /// The stream of the exchange, its records in one message.
 pub(super) fn exchange_stream(alloc: Global) -> Result<Vec<u8>, Fail> {
-    let mut stream = octets_of(alloc, &["000a0074 6553f100", TEMPLATES])?;
+    let templates = octets_of(alloc, &["000a0074 6553f100", TEMPLATES])?;
     let header = "000a00d4 6553f100 00000000 00000001 0100 00c4";
-    stream.extend_from_slice(behind(alloc, header, RECORDS.as_slice())?.as_slice())?;
-    Ok(stream)
+    joined(templates, &behind(alloc, header, RECORDS.as_slice())?)
 }
 
 #[test]

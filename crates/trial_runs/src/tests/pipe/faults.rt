@@ -1,29 +1,38 @@
 //! Runs that refuse, and those whose reads or writes fail.
 
-use super::{TWO_PACKETS, capture_of, run_piped};
-use flow_cache::PebrCaches;
+use super::{run_piped, status_of};
+use crate::tests::two_packets;
 use meter_io::{MemSink, MemSource};
 use meter_program::Status;
 use meter_workers::OpenGate;
-use pipe_program::run_pipe;
+use std::process::Abort;
+use std::sync::Wait;
 use std::test::Fail;
+use std::thread::Threads;
 use trial_samples::{octets_of, words_in};
 
 /// Lines that aren't command lines.
 static USAGE: [&str; 4] = ["", "meter", "pipe --piece 1", "pipe --workers 63"];
 
+/// Runs a command line over an input, and checks that it is refused with this status and report; `name` tells the run.
+fn check_refused<R: Threads + Wait + Sync + Abort + AllocGlobal>(
+    rt: &R,
+    name: &str,
+    line: &str,
+    input: &[u8],
+    (status, report): (Status, &str),
+) -> Result<(), Fail> {
+    let ran = run_piped(rt, line, input, &OpenGate)?;
+    assert_eq!(rt; (ran.status, ran.output.len()), (status, 0), "{name}");
+    assert_eq!(rt; ran.stderr.as_slice(), report.as_bytes(), "{name}");
+    Ok(())
+}
+
 #[test]
 fn other_words_are_refused(rt: HostRuntime) -> Result<(), Fail> {
-    let alloc = rt.alloc();
     for line in USAGE {
-        let ran = run_piped(&rt, alloc, line, b"not read", &OpenGate)?;
-        assert_eq!(rt; ran.status, Status::Usage, "{line}");
-        assert_eq!(rt; ran.output.len(), 0, "{line}");
-        assert_eq!(rt;
-            ran.stderr.as_slice(),
-            b"usage: pipe\n".as_slice(),
-            "{line}"
-        );
+        let refused = (Status::Usage, "usage: pipe\n");
+        check_refused(&rt, line, line, b"not read", refused)?;
     }
     Ok(())
 }
@@ -50,13 +59,9 @@ static REFUSED: [(&str, Status, &str); 4] = [
 
 #[test]
 fn other_inputs_are_refused(rt: HostRuntime) -> Result<(), Fail> {
-    let alloc = rt.alloc();
-    for (input, status, line) in REFUSED {
-        let input_octets = octets_of(alloc, &[input])?;
-        let ran = run_piped(&rt, alloc, "pipe", input_octets.as_slice(), &OpenGate)?;
-        assert_eq!(rt; ran.status, status, "{input}");
-        assert_eq!(rt; ran.output.len(), 0, "{input}");
-        assert_eq!(rt; ran.stderr.as_slice(), line.as_bytes(), "{input}");
+    for (input, status, report) in REFUSED {
+        let octets = octets_of(rt.alloc(), &[input])?;
+        check_refused(&rt, input, "pipe", &octets, (status, report))?;
     }
     Ok(())
 }
@@ -79,28 +84,37 @@ static FAULTS: [((u64, u64, u64), Ended); 9] = [
     ((99, 99, 3), (Status::Done, 184, 117)),
 ];
 
+/// A run over this input, of which such calls fail.
+fn run_faulty<R: Threads + Wait + Sync + AllocGlobal>(
+    rt: &R,
+    words: &[String],
+    input: &[u8],
+    (read, write, report): (u64, u64, u64),
+) -> Result<Ended, Fail> {
+    let (reads, writes, reportings) = ([read], [write], [report]);
+    let mut source = MemSource::new(input, 50, reads.as_slice());
+    let mut output = MemSink::open(rt.alloc(), 4096, 100, writes.as_slice())?;
+    let mut stderr = MemSink::open(rt.alloc(), 4096, 64, reportings.as_slice())?;
+    let status = status_of(
+        rt,
+        words,
+        &mut source,
+        (&mut output, &mut stderr),
+        &OpenGate,
+    );
+    Ok((status, output.held().len(), stderr.held().len()))
+}
+
 #[test]
 fn reads_and_writes_can_fail(rt: HostRuntime) -> Result<(), Fail> {
-    let alloc = rt.alloc();
-    let input = capture_of(alloc, TWO_PACKETS.as_slice())?;
-    let words = words_in(alloc, "pipe --workers 2")?;
-    for ((read, write, report), wanted) in FAULTS {
-        let (reads, writes, reportings) = ([read], [write], [report]);
-        let mut source = MemSource::new(input.as_slice(), 50, reads.as_slice());
-        let mut output = MemSink::open(alloc, 4096, 100, writes.as_slice())?;
-        let mut stderr = MemSink::open(alloc, 4096, 64, reportings.as_slice())?;
-        let status = run_pipe(
-            &rt,
-            alloc,
-            words.as_slice(),
-            &mut source,
-            &mut output,
-            &mut stderr,
-            &mut PebrCaches::new(),
-            &OpenGate,
+    let input = two_packets(rt.alloc())?;
+    let words = words_in(rt.alloc(), "pipe --workers 2")?;
+    for (calls, wanted) in FAULTS {
+        assert_eq!(rt;
+            run_faulty(&rt, &words, &input, calls)?,
+            wanted,
+            "{calls:?}"
         );
-        let ended = (status, output.held().len(), stderr.held().len());
-        assert_eq!(rt; ended, wanted, "calls {read}, {write} and {report}");
     }
     Ok(())
 }

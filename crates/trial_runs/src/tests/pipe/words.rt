@@ -1,30 +1,33 @@
 //! Command lines.
 
 use command_words::OptionsError;
-use pipe_program::settings_of;
+use pipe_program::{PipeSettings, settings_of};
 use std::alloc::Global;
 use std::test::Fail;
+use trial_samples::words_in;
 
 /// What a line of words with single spaces between them asks for, in the order of the options; nothing where it is no
 /// command line.
 fn numbers(alloc: Global, line: &str) -> Result<Option<[u64; 7]>, Fail> {
-    let mut words = Vec::new(alloc);
-    for word in line.split(' ') {
-        words.push(String::from_str(alloc, word)?)?;
-    }
-    match settings_of(alloc, words.as_slice()) {
-        Ok(s) => Ok(Some([
-            s.idle as u64,
-            s.active as u64,
-            s.workers as u64,
-            s.sets,
-            s.queue as u64,
-            s.batch as u64,
-            s.size as u64,
-        ])),
+    let words = words_in(alloc, line)?;
+    match settings_of(alloc, &words) {
+        Ok(settings) => Ok(Some(numbers_in(&settings))),
         Err(OptionsError::NotOptions) => Ok(None),
         Err(OptionsError::NoMemory) => Err(Fail::from("no memory")),
     }
+}
+
+/// The values of the options, in their order.
+fn numbers_in(s: &PipeSettings) -> [u64; 7] {
+    [
+        s.idle as u64,
+        s.active as u64,
+        s.workers as u64,
+        s.sets,
+        s.queue as u64,
+        s.batch as u64,
+        s.size as u64,
+    ]
 }
 
 /// Lines that aren't command lines.
@@ -66,8 +69,12 @@ fn other_words_ask_for_nothing(rt: HostRuntime) -> Result<(), Fail> {
     for line in OTHERS {
         assert_eq!(rt; numbers(rt.alloc(), line)?, None, "{line}");
     }
-    assert_eq!(rt; settings_of(rt.alloc(), &[]), Err(OptionsError::NotOptions));
     Ok(())
+}
+
+#[test]
+fn no_word_asks_for_nothing(rt: HostRuntime) {
+    assert_eq!(rt; settings_of(rt.alloc(), &[]), Err(OptionsError::NotOptions));
 }
 
 /// Lines, and what they ask for.

@@ -1,17 +1,11 @@
-use Rattle.trial_pebr.proofs.Pairs.{two_of}
+use Rattle.std.proofs.Common.{get_or, subst, arith}
 use Rattle.pebr_words.specs.Seats.{IsOpenedSeat}
 use Rattle.trial_pebr.proofs.tests.seats.two.Goals as goal
 
 pub returns-clause-first : goal.returns-clause-first
-returns-clause-first c =
-    let opened = c.in_ok-words.ensures.seats in
-    (two_of (λ n s. IsOpenedSeat c.in_ok-words.words tt n s) c.in_ok-words.seats.items c.pop.new.self.items
-    c.pop-2.new.self.items c.in-Some-pop.first c.in-Some.second c.in-Some.ensures.items c.in-Some-pop.ensures.items
-    opened.0 opened.1).0
+returns-clause-first c = subst (λ l. IsOpenedSeat c.in_ok-words.words tt 0 (get_or l 0 c.in_ok-first.first))
+    c.in_ok-first.ensures (c.in_ok-words.ensures.seats.1 0 c.in_ok-first.first (omega arith))
 
 pub returns-clause-second : goal.returns-clause-second
-returns-clause-second c =
-    let opened = c.in_ok-words.ensures.seats in
-    (two_of (λ n s. IsOpenedSeat c.in_ok-words.words tt n s) c.in_ok-words.seats.items c.pop.new.self.items
-    c.pop-2.new.self.items c.in-Some-pop.first c.in-Some.second c.in-Some.ensures.items c.in-Some-pop.ensures.items
-    opened.0 opened.1).1
+returns-clause-second c = subst (λ l. IsOpenedSeat c.in_ok-words.words tt 1 (get_or l 1 c.in_ok-first.second))
+    c.in_ok-first.ensures (c.in_ok-words.ensures.seats.1 1 c.in_ok-first.second (omega arith))
