@@ -82,19 +82,30 @@ fn text_of(alloc: Global, records: &[DataRecord]) -> Result<String, AllocError> 
 fn check_rows<R: Abort + AllocGlobal>(rt: &R, rows: &[Row]) -> Result<(), Fail> {
     for row in rows {
         let bytes = bytes_of(rt.alloc(), &[row.stream])?;
-        match read_stream(rt.alloc(), bytes.as_slice()) {
-            Ok(records) => {
-                let text = text_of(rt.alloc(), records.as_slice())?;
-                match row.want {
-                    Records(wanted) => assert_eq!(rt; text.as_str(), wanted),
-                    Fault(_) => assert!(rt; false, "{} is read", row.stream),
-                }
-            }
-            Err(StreamError::Fault(fault)) => assert_eq!(rt; Fault(fault), row.want),
-            Err(StreamError::NoMemory) => return Err(Fail::from("no memory")),
-        }
+        check_row(rt, row, &bytes)?;
     }
     Ok(())
+}
+
+/// Checks that the stream of a row, whose octets are these, gives the answer that is wanted.
+fn check_row<R: Abort + AllocGlobal>(rt: &R, row: &Row, bytes: &[u8]) -> Result<(), Fail> {
+    match read_stream(rt.alloc(), bytes) {
+        Ok(records) => {
+            let text = text_of(rt.alloc(), &records)?;
+            assert!(rt; is_text_of(&text, row.want), "{}: {text}", row.stream);
+        }
+        Err(StreamError::Fault(fault)) => assert_eq!(rt; Fault(fault), row.want),
+        Err(StreamError::NoMemory) => return Err(Fail::from("no memory")),
+    }
+    Ok(())
+}
+
+/// Whether records are wanted, and this is their text.
+fn is_text_of(text: &str, want: Want) -> bool {
+    match want {
+        Records(wanted) => text == wanted,
+        Fault(_) => false,
+    }
 }
 
 #[test]
@@ -241,16 +252,27 @@ fn read_records(alloc: Global, bytes: &[u8]) -> Result<Vec<DataRecord>, Fail> {
 /// The flow record that the only data record of a stream is, if it is one, which two calls must say alike.
 fn flow_in(alloc: Global, pieces: &[&str]) -> Result<Option<FlowRecord>, Fail> {
     let bytes = bytes_of(alloc, pieces)?;
-    let records = read_records(alloc, bytes.as_slice())?;
-    let flows = match read_flows(alloc, bytes.as_slice()) {
-        Ok(flows) => flows,
-        Err(FlowsError::NotFlows(0)) => Vec::new(alloc),
-        Err(_) => return Err(Fail::from("no stream of flow records")),
-    };
-    match records.as_slice() {
-        [only] if flow_of(only) == flows.first().copied() => Ok(flow_of(only)),
-        [_] => Err(Fail::from("not that flow record")),
+    let flow = flow_of_only(alloc, &bytes)?;
+    if first_flow(alloc, &bytes)? != flow {
+        return Err(Fail::from("not that flow record"));
+    }
+    Ok(flow)
+}
+
+/// The flow record that the only data record of a stream is, if it is one.
+fn flow_of_only(alloc: Global, bytes: &[u8]) -> Result<Option<FlowRecord>, Fail> {
+    match read_records(alloc, bytes)?.as_slice() {
+        [only] => Ok(flow_of(only)),
         _ => Err(Fail::from("not one record")),
+    }
+}
+
+/// The first flow record of a stream whose first data record may be none.
+fn first_flow(alloc: Global, bytes: &[u8]) -> Result<Option<FlowRecord>, Fail> {
+    match read_flows(alloc, bytes) {
+        Ok(flows) => Ok(flows.first().copied()),
+        Err(FlowsError::NotFlows(0)) => Ok(None),
+        Err(_) => Err(Fail::from("no stream of flow records")),
     }
 }
 
@@ -397,17 +419,20 @@ fn the_first_other_record_is_told(rt: HostRuntime) -> Result<(), Fail> {
     Ok(())
 }
 
+/// A stream of one record with one value so long.
+fn long_stream(alloc: Global, head: &str, set: &str, length: usize) -> Result<Vec<u8>, Fail> {
+    let mut bytes = bytes_of(alloc, &[head, "0002000c 01000001 0052ffff", set])?;
+    bytes.resize(bytes.len().saturating_add(length), b'a')?;
+    Ok(bytes)
+}
+
 #[test]
 fn long_values_are_read(rt: HostRuntime) -> Result<(), Fail> {
-    let template = "0002000c 01000001 0052ffff";
     for (head, set, length) in [
         ("000a011f M", "01000103 fe", 254),
         ("000a0122 M", "01000106 ff00ff", 255),
     ] {
-        let mut bytes = bytes_of(rt.alloc(), &[head, template, set])?;
-        for _ in 0..length {
-            bytes.push(b'a')?;
-        }
+        let bytes = long_stream(rt.alloc(), head, set, length)?;
         let records = read_records(rt.alloc(), bytes.as_slice())?;
         assert_eq!(rt; records.len(), 1);
         for field in records[0].fields.items() {

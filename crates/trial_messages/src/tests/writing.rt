@@ -1,6 +1,8 @@
 //! Streams whose bytes were written out by hand from RFC 7011, sections 3.1 to 3.4.
 
-use flow_parts::Timeouts;
+ghost use Rattle.std.specs.Prelude.{◌≤◌, ◌<◌, ◌^◌};
+
+use flow_parts::{Fragment, Timeouts};
 use ipfix_writer::{Emitter, emit_all, layout};
 use meter_io::{Failed, MemSink};
 use record_ledger::{FlowRecord, RecordList, gather};
@@ -61,16 +63,22 @@ fn streams_are_laid_out_as_written_by_hand(rt: HostRuntime) -> Result<(), Fail> 
     Ok(())
 }
 
+/// The fragments of records.
+fn parts_of(alloc: Global, records: &[FlowRecord]) -> Result<Vec<Fragment>, Fail> {
+    let mut parts = Vec::new(alloc);
+    for record in records {
+        parts.push(record.part)?;
+    }
+    Ok(parts)
+}
+
 /// The records, each of a key of its own, in the written order.
 fn listed(
     rt: &(impl Abort + Threads + Sync),
     alloc: Global,
     records: &[FlowRecord],
 ) -> Result<RecordList, Fail> {
-    let mut parts = Vec::new(alloc);
-    for record in records {
-        parts.push(record.part)?;
-    }
+    let parts = parts_of(alloc, records)?;
     assert!(rt; are_few(&parts));
     let list = in_pieces(alloc, &parts)?;
     Ok(gather(
@@ -83,15 +91,46 @@ fn listed(
     )?)
 }
 
+/// How many messages are written of records, and how many octets the sink then has. It takes so many octets a call, and
+/// fails at one call.
+fn emitted(
+    alloc: Global,
+    list: &RecordList,
+    size: usize,
+    piece: usize,
+    fails: u64,
+) -> Result<(Result<u64, Failed>, usize), Fail>
+    requires size { (116 ≤ size) × (size < 2 ^ 16) }
+    requires some { 0 < piece }
+{
+    let emitter = Emitter::open(alloc, size, 1000)?;
+    let fails = [fails];
+    let mut sink = MemSink::open(alloc, 1 << 19, piece, fails.as_slice())?;
+    let end = emit_all(emitter, list, &mut sink);
+    Ok((end, sink.held().len()))
+}
+
+/// Records over IPv4 of one packet each, so many and from this source port on.
+fn udp_flows(alloc: Global, from: u16, count: u16) -> Result<Vec<FlowRecord>, Fail> {
+    let mut records = Vec::new(alloc);
+    for place in 0..count {
+        records.push(udp_flow(from.wrapping_add(place), 1, 28, 1_000_000))?;
+    }
+    Ok(records)
+}
+
+/// Thirty records over IPv4, and one over IPv6 before the last.
+fn mixed_flows(alloc: Global) -> Result<Vec<FlowRecord>, Fail> {
+    let mut records = udp_flows(alloc, 4000, 29)?;
+    records.push(tcp_flow(1025, 443, 76, 16))?;
+    records.push(udp_flow(1, 1, 28, 1_000_000))?;
+    Ok(records)
+}
+
 /// The record over IPv6 ends before those over IPv4, so it comes first.
 #[test]
 fn messages_are_filled(rt: HostRuntime) -> Result<(), Fail> {
-    let mut records = Vec::new(rt.alloc());
-    for port in 4000..4029u16 {
-        records.push(udp_flow(port, 1, 28, 1_000_000))?;
-    }
-    records.push(tcp_flow(1025, 443, 76, 16))?;
-    records.push(udp_flow(1, 1, 28, 1_000_000))?;
+    let records = mixed_flows(rt.alloc())?;
     for (count, size, messages, length) in [
         (0, 1400, 1, 116),
         (28, 1400, 2, 116 + 1364),
@@ -103,13 +142,11 @@ fn messages_are_filled(rt: HostRuntime) -> Result<(), Fail> {
         (31, 65_535, 2, 116 + 16 + 2 * 4 + 30 * 48 + 72),
     ] {
         assert!(rt; count <= records.len() && size >= 116 && size < 65_536);
-        let emitter = Emitter::open(rt.alloc(), size, 1000)?;
-        let mut sink = MemSink::open(rt.alloc(), 4096, 4096, &[])?;
         let (first, _) = records.as_slice().split_at(count);
         let list = listed(&rt, rt.alloc(), first)?;
-        let end = emit_all(emitter, &list, &mut sink);
+        let emitted = emitted(rt.alloc(), &list, size, 4096, 0)?;
         assert!(rt;
-            end == Ok(messages) && sink.held().len() == length,
+            emitted == (Ok(messages), length),
             "{count} records, size {size}"
         );
     }
@@ -120,11 +157,9 @@ fn messages_are_filled(rt: HostRuntime) -> Result<(), Fail> {
 fn a_failed_write_leaves_a_beginning(rt: HostRuntime) -> Result<(), Fail> {
     let records = [udp_flow(4000, 1, 28, 1_000_000)];
     let list = listed(&rt, rt.alloc(), records.as_slice())?;
-    for (fails, held) in [([1], 0), ([2], 60), ([3], 120), ([4], 180)] {
-        let emitter = Emitter::open(rt.alloc(), 1400, 1000)?;
-        let mut sink = MemSink::open(rt.alloc(), 4096, 60, fails.as_slice())?;
-        let end = emit_all(emitter, &list, &mut sink);
-        assert!(rt; end == Err(Failed) && sink.held().len() == held);
+    for (fails, held) in [(1, 0), (2, 60), (3, 120), (4, 180)] {
+        let emitted = emitted(rt.alloc(), &list, 1400, 60, fails)?;
+        assert!(rt; emitted == (Err(Failed), held));
     }
     Ok(())
 }
@@ -133,16 +168,11 @@ fn a_failed_write_leaves_a_beginning(rt: HostRuntime) -> Result<(), Fail> {
 /// latter go out in one call of at most 262,144 octets.
 #[test]
 fn a_stream_goes_out_in_whole_messages(rt: HostRuntime) -> Result<(), Fail> {
-    let mut records = Vec::new(rt.alloc());
-    for place in 0..6000u16 {
-        records.push(udp_flow(place, 1, 28, 1_000_000))?;
-    }
+    let records = udp_flows(rt.alloc(), 0, 6000)?;
     let list = listed(&rt, rt.alloc(), records.as_slice())?;
-    for (fails, held) in [([1], 0), ([2], 116 + 192 * 1364)] {
-        let emitter = Emitter::open(rt.alloc(), 1400, 1000)?;
-        let mut sink = MemSink::open(rt.alloc(), 1 << 19, 1 << 19, fails.as_slice())?;
-        let end = emit_all(emitter, &list, &mut sink);
-        assert!(rt; end == Err(Failed) && sink.held().len() == held);
+    for (fails, held) in [(1, 0), (2, 116 + 192 * 1364)] {
+        let emitted = emitted(rt.alloc(), &list, 1400, 1 << 19, fails)?;
+        assert!(rt; emitted == (Err(Failed), held));
     }
     Ok(())
 }
