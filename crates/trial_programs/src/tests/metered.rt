@@ -8,6 +8,7 @@ use std::alloc::Global;
 use std::process::Abort;
 use std::test::Fail;
 use std::thread::Threads;
+use trial_samples::words_in;
 use turn_cache::TurnCaches;
 
 /// A section, an Ethernet interface, and one enhanced packet at 1000 s: UDP over IPv4 from 192.0.2.1 port 4000 to
@@ -23,13 +24,6 @@ const FILE: &[u8] =
 const LINE: &str =
     "256 8=192.0.2.1 12=192.0.2.2 7=4000 11=53 4=17 6=0 2=1 1=28 152=1000000 153=1000000 136=4\n";
 
-/// One word.
-fn words(alloc: Global, word: &str) -> Result<Vec<String>, Fail> {
-    let mut words = Vec::new(alloc);
-    words.push(String::from_str(alloc, word)?)?;
-    Ok(words)
-}
-
 /// What a command of the meter writes for these bytes, where the run is done.
 fn meter_output<'a, R: Threads + Sync + Abort>(
     rt: &R,
@@ -37,7 +31,7 @@ fn meter_output<'a, R: Threads + Sync + Abort>(
     word: &str,
     bytes: &[u8],
 ) -> Result<MemSink<'a>, Fail> {
-    let words = words(alloc, word)?;
+    let words = words_in(alloc, word)?;
     let mut input = MemSource::new(bytes, 65_536, &[]);
     let mut output = MemSink::open(alloc, 1 << 16, 65_536, &[]).expect(rt, "memory");
     let mut stderr = MemSink::open(alloc, 1 << 16, 65_536, &[]).expect(rt, "memory");
@@ -55,14 +49,20 @@ fn meter_output<'a, R: Threads + Sync + Abort>(
     Ok(output)
 }
 
+/// The capture that `pcapng` writes for the file, where the run is done.
+fn capture_written<'a>(rt: &impl Abort, alloc: Global) -> Result<MemSink<'a>, Fail> {
+    let words = words_in(alloc, "pcapng")?;
+    let mut input = MemSource::new(FILE, 65_536, &[]);
+    let mut capture = MemSink::open(alloc, 1 << 16, 65_536, &[]).expect(rt, "memory");
+    let status = run_png(alloc, words.as_slice(), &mut input, &mut capture);
+    assert!(rt; status == PngStatus::Done);
+    Ok(capture)
+}
+
 #[test]
 fn the_meter_reads_what_is_written(rt: HostRuntime) -> Result<(), Fail> {
     let alloc = rt.alloc();
-    let words = words(alloc, "pcapng")?;
-    let mut input = MemSource::new(FILE, 65_536, &[]);
-    let mut capture = MemSink::open(alloc, 1 << 16, 65_536, &[]).expect(&rt, "memory");
-    let status = run_png(alloc, words.as_slice(), &mut input, &mut capture);
-    assert!(rt; status == PngStatus::Done);
+    let capture = capture_written(&rt, alloc)?;
     assert_eq!(rt; capture.held().len(), 68);
     let stream = meter_output(&rt, alloc, "meter", capture.held())?;
     let text = meter_output(&rt, alloc, "show", stream.held())?;

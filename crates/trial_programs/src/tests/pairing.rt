@@ -4,9 +4,8 @@ use ipfix_reader::StreamFault;
 use meter_io::{MemSink, MemSource};
 use pair_program::{PairStatus, run_pair};
 use std::alloc::Global;
-use std::process::Abort;
 use std::test::Fail;
-use trial_samples::octets_of;
+use trial_samples::{octets_of, words_in};
 
 /// The message with the templates of flows.
 const TEMPLATES: &str =
@@ -58,10 +57,10 @@ const ONE_HEADER: &str = "000a0134000003e90000000000000001";
 /// The header of a message of 308 octets at 0 s, for a stream without a record.
 const NONE_HEADER: &str = "000a0134000000000000000000000001";
 
-/// One run: the words, the pieces of the stream, the reads and the writes that fail, how it ends, and the pieces of
+/// One run: the command line, the pieces of the stream, the reads and the writes that fail, how it ends, and the pieces of
 /// what is written. The source gives 50 bytes a read, and the sink takes 100 bytes a write.
 struct Run {
-    words: &'static [&'static str],
+    line: &'static str,
     stream: &'static [&'static str],
     reads: &'static [u64],
     writes: &'static [u64],
@@ -71,7 +70,7 @@ struct Run {
 
 const RUNS: [Run; 11] = [
     Run {
-        words: &["pair"],
+        line: "pair",
         stream: &[TEMPLATES, EXCHANGE],
         reads: &[],
         writes: &[],
@@ -79,7 +78,7 @@ const RUNS: [Run; 11] = [
         written: &[BI_HEADER, BI_TEMPLATES, BI_DATA_HEADER, BI_EXCHANGE],
     },
     Run {
-        words: &["pair", "--size", "308", "--idle=86400"],
+        line: "pair --size 308 --idle=86400",
         stream: &[TEMPLATES, ONE],
         reads: &[],
         writes: &[],
@@ -87,7 +86,7 @@ const RUNS: [Run; 11] = [
         written: &[ONE_HEADER, BI_TEMPLATES, ONE],
     },
     Run {
-        words: &["pair"],
+        line: "pair",
         stream: &[TEMPLATES],
         reads: &[],
         writes: &[],
@@ -95,7 +94,7 @@ const RUNS: [Run; 11] = [
         written: &[NONE_HEADER, BI_TEMPLATES],
     },
     Run {
-        words: &["pair"],
+        line: "pair",
         stream: &[],
         reads: &[],
         writes: &[],
@@ -103,7 +102,7 @@ const RUNS: [Run; 11] = [
         written: &[NONE_HEADER, BI_TEMPLATES],
     },
     Run {
-        words: &["pair", "--size", "307"],
+        line: "pair --size 307",
         stream: &[TEMPLATES],
         reads: &[1],
         writes: &[],
@@ -111,7 +110,7 @@ const RUNS: [Run; 11] = [
         written: &[],
     },
     Run {
-        words: &["pair"],
+        line: "pair",
         stream: &[TEMPLATES],
         reads: &[2],
         writes: &[],
@@ -119,7 +118,7 @@ const RUNS: [Run; 11] = [
         written: &[],
     },
     Run {
-        words: &["pair"],
+        line: "pair",
         stream: &[TEMPLATES],
         reads: &[],
         writes: &[1],
@@ -127,7 +126,7 @@ const RUNS: [Run; 11] = [
         written: &[],
     },
     Run {
-        words: &["pair"],
+        line: "pair",
         stream: &[ONE],
         reads: &[],
         writes: &[1],
@@ -135,7 +134,7 @@ const RUNS: [Run; 11] = [
         written: &[],
     },
     Run {
-        words: &["pair"],
+        line: "pair",
         stream: &[BI_HEADER, BI_TEMPLATES, BI_DATA_HEADER, BI_EXCHANGE],
         reads: &[],
         writes: &[1],
@@ -143,7 +142,7 @@ const RUNS: [Run; 11] = [
         written: &[],
     },
     Run {
-        words: &["pair"],
+        line: "pair",
         stream: &[BI_HEADER, BI_TEMPLATES, ONE, LATER_HEADER, BI_EXCHANGE],
         reads: &[],
         writes: &[1],
@@ -151,7 +150,7 @@ const RUNS: [Run; 11] = [
         written: &[],
     },
     Run {
-        words: &["pair"],
+        line: "pair",
         stream: &[BI_HEADER, BI_TEMPLATES, ONE, BI_DATA_HEADER, BI_EXCHANGE],
         reads: &[],
         writes: &[1],
@@ -160,61 +159,61 @@ const RUNS: [Run; 11] = [
     },
 ];
 
+/// How a run of a command line over a stream ends, of which these reads and writes fail, and what it writes.
+fn run_over(
+    alloc: Global,
+    line: &str,
+    stream: &[u8],
+    (reads, writes): (&[u64], &[u64]),
+) -> Result<(PairStatus, Vec<u8>), Fail> {
+    let words = words_in(alloc, line)?;
+    let mut input = MemSource::new(stream, 50, reads);
+    let mut output = MemSink::open(alloc, 1 << 20, 100, writes)?;
+    let status = run_pair(alloc, &words, &mut input, &mut output);
+    Ok((status, output.held().to_vec(alloc)?))
+}
+
 /// Whether a run ends and writes as it should.
-fn is_run(rt: &impl Abort, alloc: Global, run: &Run) -> Result<bool, Fail> {
+fn is_run(alloc: Global, run: &Run) -> Result<bool, Fail> {
     let stream = octets_of(alloc, run.stream)?;
-    let wanted = octets_of(alloc, run.written)?;
-    let mut words: Vec<String> = Vec::new(alloc);
-    for word in run.words {
-        words.push(String::from_str(alloc, word)?)?;
-    }
-    let mut input = MemSource::new(&stream, 50, run.reads);
-    let mut output = MemSink::open(alloc, 1 << 20, 100, run.writes).expect(rt, "memory");
-    let status = run_pair(alloc, words.as_slice(), &mut input, &mut output);
-    Ok(status == run.status && output.held() == wanted.as_slice())
+    let (status, written) = run_over(alloc, run.line, &stream, (run.reads, run.writes))?;
+    Ok(status == run.status && written == octets_of(alloc, run.written)?)
 }
 
 #[test]
 fn runs(rt: HostRuntime) -> Result<(), Fail> {
-    let alloc = rt.alloc();
     for (n, run) in RUNS.iter().enumerate() {
-        assert!(rt; is_run(&rt, alloc, run)?, "run {n}");
+        assert!(rt; is_run(rt.alloc(), run)?, "run {n}");
     }
     Ok(())
 }
 
-/// Words that aren't a command, and words that are one.
+/// Command lines, and how a run without input ends.
+static LINES: [(&str, PairStatus); 18] = [
+    ("pair --idle 1 --size=308", PairStatus::Done),
+    ("pair --size 65535 --idle=86400", PairStatus::Done),
+    ("pair --idle=00000000000000000007", PairStatus::Done),
+    ("", PairStatus::Usage),
+    ("Pair", PairStatus::Usage),
+    ("pair pair", PairStatus::Usage),
+    ("pair --", PairStatus::Usage),
+    ("pair --idle", PairStatus::Usage),
+    ("pair --idle=", PairStatus::Usage),
+    ("pair --idle 0", PairStatus::Usage),
+    ("pair --idle 86401", PairStatus::Usage),
+    ("pair --idle +5", PairStatus::Usage),
+    ("pair --idel 5", PairStatus::Usage),
+    ("pair --idle 5 --idle=5", PairStatus::Usage),
+    ("pair --idle 5 6", PairStatus::Usage),
+    ("pair --size 307", PairStatus::Usage),
+    ("pair --size 65536", PairStatus::Usage),
+    ("pair --active 5", PairStatus::Usage),
+];
+
 #[test]
 fn command_lines(rt: HostRuntime) -> Result<(), Fail> {
-    let alloc = rt.alloc();
-    let lines: [(&str, PairStatus); 18] = [
-        ("pair --idle 1 --size=308", PairStatus::Done),
-        ("pair --size 65535 --idle=86400", PairStatus::Done),
-        ("pair --idle=00000000000000000007", PairStatus::Done),
-        ("", PairStatus::Usage),
-        ("Pair", PairStatus::Usage),
-        ("pair pair", PairStatus::Usage),
-        ("pair --", PairStatus::Usage),
-        ("pair --idle", PairStatus::Usage),
-        ("pair --idle=", PairStatus::Usage),
-        ("pair --idle 0", PairStatus::Usage),
-        ("pair --idle 86401", PairStatus::Usage),
-        ("pair --idle +5", PairStatus::Usage),
-        ("pair --idel 5", PairStatus::Usage),
-        ("pair --idle 5 --idle=5", PairStatus::Usage),
-        ("pair --idle 5 6", PairStatus::Usage),
-        ("pair --size 307", PairStatus::Usage),
-        ("pair --size 65536", PairStatus::Usage),
-        ("pair --active 5", PairStatus::Usage),
-    ];
-    for (line, wanted) in lines {
-        let mut words: Vec<String> = Vec::new(alloc);
-        for word in line.split(' ') {
-            words.push(String::from_str(alloc, word)?)?;
-        }
-        let mut input = MemSource::new(&[], 50, &[]);
-        let mut output = MemSink::open(alloc, 1 << 10, 100, &[]).expect(&rt, "memory");
-        let status = run_pair(alloc, words.as_slice(), &mut input, &mut output);
+    for (line, wanted) in LINES {
+        let (status, _) = run_over(rt.alloc(), line, &[], (&[], &[]))?;
         assert!(rt; status == wanted, "{line}");
     }
     Ok(())
@@ -223,17 +222,11 @@ fn command_lines(rt: HostRuntime) -> Result<(), Fail> {
 /// A write that fails leaves what was written before it.
 #[test]
 fn a_failed_write_leaves_a_beginning(rt: HostRuntime) -> Result<(), Fail> {
-    let alloc = rt.alloc();
-    let mut words: Vec<String> = Vec::new(alloc);
-    words.push(String::from_str(alloc, "pair")?)?;
-    let stream = octets_of(alloc, [TEMPLATES].as_slice())?;
-    let mut input = MemSource::new(&stream, 50, &[]);
-    let mut output = MemSink::open(alloc, 1 << 20, 100, &[3]).expect(&rt, "memory");
-    let status = run_pair(alloc, words.as_slice(), &mut input, &mut output);
-    assert!(rt; status == PairStatus::WriteFault);
-    let whole = octets_of(alloc, [NONE_HEADER, BI_TEMPLATES].as_slice())?;
-    assert_eq!(rt; output.held().len(), 200);
-    assert!(rt; whole.as_slice().starts_with(output.held()));
+    let stream = octets_of(rt.alloc(), [TEMPLATES].as_slice())?;
+    let (status, written) = run_over(rt.alloc(), "pair", &stream, (&[], &[3]))?;
+    assert!(rt; status == PairStatus::WriteFault && written.len() == 200);
+    let whole = octets_of(rt.alloc(), [NONE_HEADER, BI_TEMPLATES].as_slice())?;
+    assert!(rt; whole.starts_with(&written));
     Ok(())
 }
 

@@ -79,6 +79,13 @@ fn records_are_put_together_with_their_mates(rt: HostRuntime) -> Result<(), Fail
             [both(query, reply), one_way(other)].as_slice()
         )?
     );
+    Ok(())
+}
+
+#[test]
+fn mates_stand_within_the_idle_time_out(rt: HostRuntime) -> Result<(), Fail> {
+    let query = record(true, 40_000, 80, 1_000_000, 200);
+    let reply = record(false, 40_000, 80, 1_000_010, 100);
     let later = record(false, 40_000, 80, 1_300_200, 0);
     let too_late = record(false, 40_000, 80, 1_300_201, 0);
     assert!(rt;

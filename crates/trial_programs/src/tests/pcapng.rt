@@ -277,16 +277,28 @@ fn is_told(rt: &impl Abort, alloc: Global, bytes: &[u8], want: Want) -> bool {
     true
 }
 
-#[test]
-fn files_tell_their_packets(rt: HostRuntime) -> Result<(), Fail> {
-    let alloc = rt.alloc();
-    for table in [BLOCKS, INTERFACES, PACKETS] {
-        for (n, row) in table.iter().enumerate() {
-            let file = all_bytes(alloc, row.pieces)?;
-            assert!(rt; is_told(&rt, alloc, &file, row.want), "row {n}");
-        }
+/// Checks that each file of a table gives the answer that is wanted.
+fn check_files(rt: &impl Abort, alloc: Global, rows: &[Row]) -> Result<(), Fail> {
+    for (n, row) in rows.iter().enumerate() {
+        let file = all_bytes(alloc, row.pieces)?;
+        assert!(rt; is_told(rt, alloc, &file, row.want), "row {n}");
     }
     Ok(())
+}
+
+#[test]
+fn files_have_their_blocks(rt: HostRuntime) -> Result<(), Fail> {
+    check_files(&rt, rt.alloc(), BLOCKS)
+}
+
+#[test]
+fn files_have_their_interfaces(rt: HostRuntime) -> Result<(), Fail> {
+    check_files(&rt, rt.alloc(), INTERFACES)
+}
+
+#[test]
+fn files_have_their_packets(rt: HostRuntime) -> Result<(), Fail> {
+    check_files(&rt, rt.alloc(), PACKETS)
 }
 
 /// The front of an enhanced packet with 262,144 captured octets, and with one more; the second lengths.
@@ -388,25 +400,35 @@ const RUNS: &[Run] = runs! {
     ["pcapng"] [] [] [1] => PngStatus::NotPcapng, [];
 };
 
-/// Whether a run ends and writes as it should.
-fn is_run(rt: &impl Abort, alloc: Global, run: &Run) -> Result<bool, Fail> {
-    let file = all_bytes(alloc, run.pieces)?;
-    let wanted = all_bytes(alloc, run.written)?;
-    let mut words: Vec<String> = Vec::new(alloc);
-    for word in run.words {
-        words.push(String::from_str(alloc, word)?)?;
+/// These words, as a command line has them.
+fn command(alloc: Global, words: &[&str]) -> Result<Vec<String>, Fail> {
+    let mut command = Vec::new(alloc);
+    for word in words {
+        command.push(String::from_str(alloc, word)?)?;
     }
-    let mut input = MemSource::new(&file, 7, run.reads);
-    let mut output = MemSink::open(alloc, 1 << 20, 5, run.writes).expect(rt, "memory");
-    let status = run_png(alloc, words.as_slice(), &mut input, &mut output);
-    Ok(status == run.status && output.held() == wanted.as_slice())
+    Ok(command)
+}
+
+/// How a run over this file ends, and what it writes.
+fn run_over(alloc: Global, run: &Run, file: &[u8]) -> Result<(PngStatus, Vec<u8>), Fail> {
+    let words = command(alloc, run.words)?;
+    let mut input = MemSource::new(file, 7, run.reads);
+    let mut output = MemSink::open(alloc, 1 << 20, 5, run.writes)?;
+    let status = run_png(alloc, &words, &mut input, &mut output);
+    Ok((status, output.held().to_vec(alloc)?))
+}
+
+/// Whether a run ends and writes as it should.
+fn is_run(alloc: Global, run: &Run) -> Result<bool, Fail> {
+    let file = all_bytes(alloc, run.pieces)?;
+    let (status, written) = run_over(alloc, run, &file)?;
+    Ok(status == run.status && written == all_bytes(alloc, run.written)?)
 }
 
 #[test]
 fn runs(rt: HostRuntime) -> Result<(), Fail> {
-    let alloc = rt.alloc();
     for (n, run) in RUNS.iter().enumerate() {
-        assert!(rt; is_run(&rt, alloc, run)?, "run {n}");
+        assert!(rt; is_run(rt.alloc(), run)?, "run {n}");
     }
     Ok(())
 }
