@@ -53,10 +53,14 @@ static ONE: Setting = Setting {
 
 /// The fragments of a list, copied into one piece.
 fn in_one(alloc: Global, parts: PartList) -> Result<Vec<Fragment>, Fail> {
-    let pieces = parts.into_pieces()?;
+    all_of(alloc, &parts.into_pieces()?)
+}
+
+/// The fragments of these pieces.
+fn all_of(alloc: Global, pieces: &[Vec<Fragment>]) -> Result<Vec<Fragment>, Fail> {
     let mut all = Vec::new(alloc);
-    for piece in pieces.as_slice() {
-        all.extend_from_slice(piece.as_slice())?;
+    for piece in pieces {
+        all.extend_from_slice(piece)?;
     }
     Ok(all)
 }

@@ -13,6 +13,19 @@ use std::alloc::Global;
 use std::process::Abort;
 use std::test::Fail;
 
+/// How many records stand in a window from this octet on, and how many octets are left behind them.
+fn count_in(alloc: Global, head: Head, window: &[u8], from: usize) -> Result<(u64, usize), Fail> {
+    let bytes = window.get(from..).ok_or("a header alone")?;
+    if bytes.len() >= 1 << 32 {
+        return Err(Fail::from("a long window"));
+    }
+    let index = Capture::part(head, bytes)
+        .index(alloc)
+        .ok()
+        .ok_or("an index")?;
+    Ok((index.count(), index.tail() as usize))
+}
+
 /// How many records stand in each window of a capture.
 fn counts(rt: &impl Abort, alloc: Global, bytes: &[u8]) -> Result<Vec<u64>, Fail> {
     let mut source = MemSource::new(bytes, bytes.len().max(1), &[]);
@@ -22,19 +35,12 @@ fn counts(rt: &impl Abort, alloc: Global, bytes: &[u8]) -> Result<Vec<u64>, Fail
     let mut from = 24;
     let mut counts = Vec::new(alloc);
     for _window in 0..10 {
-        assert!(rt; window.bytes().len() < 1 << 32);
-        let Some((_, bytes)) = window.bytes().split_at_checked(from) else {
-            return Err(Fail::from("a header alone"));
-        };
-        let part = Capture::part(head, bytes);
-        let index = part.index(alloc).ok().ok_or("an index")?;
-        counts.push(index.count())?;
+        let (count, tail) = count_in(alloc, head, window.bytes(), from)?;
+        counts.push(count)?;
         if end == Ok(FillEnd::Ended) {
             return Ok(counts);
         }
-        let keep = (from + bytes.len())
-            .checked_sub(index.tail() as usize)
-            .ok_or("a tail")?;
+        let keep = window.bytes().len().saturating_sub(tail);
         assert!(rt; keep <= window.bytes().len());
         window.keep(keep);
         from = 0;
