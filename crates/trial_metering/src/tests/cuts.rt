@@ -10,7 +10,7 @@ use std::test::Fail;
 use std::thread::Threads;
 
 /// A file header: little-endian, microseconds, version 2.4, raw IP.
-const HEADER: [u8; 24] = [
+pub(super) const HEADER: [u8; 24] = [
     0xd4, 0xc3, 0xb2, 0xa1, 2, 0, 4, 0, 0, 0, 0, 0, 0, 0, 0, 0, 0, 0, 4, 0, 101, 0, 0, 0,
 ];
 
@@ -20,7 +20,7 @@ const UNKNOWN: [u8; 24] = [
 ];
 
 /// A record header that claims 262,145 captured bytes.
-const DAMAGE: [u8; 16] = [0xe8, 3, 0, 0, 0, 0, 0, 0, 1, 0, 4, 0, 1, 0, 4, 0];
+pub(super) const DAMAGE: [u8; 16] = [0xe8, 3, 0, 0, 0, 0, 0, 0, 1, 0, 4, 0, 1, 0, 4, 0];
 
 /// A record header that claims 100 captured bytes.
 const HUNDRED: [u8; 16] = [0xe8, 3, 0, 0, 0, 0, 0, 0, 100, 0, 0, 0, 100, 0, 0, 0];
@@ -33,18 +33,23 @@ struct Row {
     behind: &'static [u8],
 }
 
-/// The bytes of a capture.
-fn bytes_of(alloc: Global, row: &Row) -> Result<Vec<u8>, Fail> {
+/// The bytes of a capture: a file header, records with these numbers of captured bytes, and some bytes after them.
+pub(super) fn bytes_of(
+    alloc: Global,
+    header: &[u8],
+    records: &[u32],
+    behind: &[u8],
+) -> Result<Vec<u8>, Fail> {
     let mut bytes = Vec::new(alloc);
-    bytes.extend_from_slice(row.header)?;
-    for captured in row.records {
+    bytes.extend_from_slice(header)?;
+    for captured in records {
         bytes.extend_from_slice(&[0xe8, 3, 0, 0, 0, 0, 0, 0])?;
         bytes.extend_from_slice(&captured.to_le_bytes())?;
         bytes.extend_from_slice(&captured.to_le_bytes())?;
         let data = vec![in alloc; 0u8; *captured as usize]?;
         bytes.extend_from_slice(&data)?;
     }
-    bytes.extend_from_slice(row.behind)?;
+    bytes.extend_from_slice(behind)?;
     Ok(bytes)
 }
 
@@ -59,7 +64,7 @@ fn read<R: Threads + Sync>(
 ) -> Result<Result<(u64, u64), MeterFault>, Fail>
     requires { limit ≤ 2 ^ 30 }
 {
-    let bytes = bytes_of(alloc, row)?;
+    let bytes = bytes_of(alloc, row.header, row.records, row.behind)?;
     let fails = [fails];
     let mut source = MemSource::new(&bytes, 100_000, fails.as_slice());
     let setting = Setting { limit, ..ONE };

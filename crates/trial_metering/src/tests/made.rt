@@ -40,8 +40,7 @@ fn counts(rt: &impl Abort, alloc: Global, bytes: &[u8]) -> Result<Vec<u64>, Fail
         if end == Ok(FillEnd::Ended) {
             return Ok(counts);
         }
-        let keep = window.bytes().len().saturating_sub(tail);
-        assert!(rt; keep <= window.bytes().len());
+        let keep = window.bytes().len().checked_sub(tail).ok_or("a tail")?;
         window.keep(keep);
         from = 0;
         end = window.fill(&mut source, LIMIT);

@@ -4,6 +4,7 @@ ghost use Rattle.std.specs.Prelude.{◌≤◌, ◌^◌};
 
 use super::{LIMIT, Outcome, SMALL, Setting, meter_capture};
 use crate::Meeting;
+use crate::tests::cuts::{DAMAGE, HEADER, bytes_of};
 use capture_maker::capture;
 use meter_workers::{MeterFault, OpenGate};
 use std::alloc::Global;
@@ -11,14 +12,6 @@ use std::process::Abort;
 use std::sync::Wait;
 use std::test::Fail;
 use std::thread::Threads;
-
-/// A file header: little-endian, microseconds, version 2.4, raw IP.
-static HEADER: [u8; 24] = [
-    0xd4, 0xc3, 0xb2, 0xa1, 2, 0, 4, 0, 0, 0, 0, 0, 0, 0, 0, 0, 0, 0, 4, 0, 101, 0, 0, 0,
-];
-
-/// A record header that claims 262,145 captured bytes.
-static DAMAGE: [u8; 16] = [0xe8, 3, 0, 0, 0, 0, 0, 0, 1, 0, 4, 0, 1, 0, 4, 0];
 
 /// A capture: a file header, records with these numbers of captured bytes, and some bytes after them.
 #[derive(Clone, Copy)]
@@ -29,21 +22,6 @@ struct Row {
     limit: u64,
     fails: u64,
     want: Result<(u64, u64), MeterFault>,
-}
-
-/// The bytes of a capture.
-fn bytes_of(alloc: Global, row: &Row) -> Result<Vec<u8>, Fail> {
-    let mut bytes = Vec::new(alloc);
-    bytes.extend_from_slice(row.header)?;
-    for captured in row.records {
-        bytes.extend_from_slice(&[0xe8, 3, 0, 0, 0, 0, 0, 0])?;
-        bytes.extend_from_slice(&captured.to_le_bytes())?;
-        bytes.extend_from_slice(&captured.to_le_bytes())?;
-        let data = vec![in alloc; 0u8; *captured as usize]?;
-        bytes.extend_from_slice(&data)?;
-    }
-    bytes.extend_from_slice(row.behind)?;
-    Ok(bytes)
 }
 
 /// What comes of a capture without a queue; checks that the same comes of it with a queue, by one worker and by three.
@@ -134,7 +112,7 @@ fn the_same_comes_of_cut_and_refused_captures(rt: HostRuntime) -> Result<(), Fai
     ];
     for row in rows {
         assert!(rt; row.limit <= 1 << 30);
-        let bytes = bytes_of(rt.alloc(), &row)?;
+        let bytes = bytes_of(rt.alloc(), row.header, row.records, row.behind)?;
         let done = outcome(&rt, rt.alloc(), &bytes, SMALL, row.limit, row.fails)?;
         let told = done.map(|outcome| (outcome.tally.captured, outcome.tail));
         assert_eq!(rt; told, row.want, "{:?}", row.records);
