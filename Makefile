@@ -29,7 +29,7 @@ build: $(PROGRAMS:%=bin/%)
 
 # The libraries below the programs, with a line for each.
 bin/.libraries: crates.txt $(SOURCES)
-	@echo "Proving what the programs stand on: about three quarters of an hour on four processors with nothing else to do," \
+	@echo "Proving what the programs stand on: by estimate three quarters of an hour on four processors with nothing else to do," \
 	    "where nothing is proved yet; else the time of what changed."
 	@tools/prove.sh $(call crate,$(PROGRAMS))
 	@mkdir -p bin
