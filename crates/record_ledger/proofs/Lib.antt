@@ -6,6 +6,7 @@ pub mod Filtered
 pub mod Gathered
 pub mod InPlace
 pub mod Keyed
+pub mod Leads
 pub mod Lying
 pub mod Made
 pub mod Matched

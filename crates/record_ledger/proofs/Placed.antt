@@ -29,11 +29,12 @@ use Rattle.flow_parts.proofs.Members.{All-one}
 use Rattle.record_ledger.proofs.Filtered.{IsPermutation-filter, NotLess, one_sorted}
 use Rattle.record_ledger.proofs.Gathered.{has_key, key_from_test}
 use Rattle.record_ledger.proofs.Keyed.{rises_filter}
+use Rattle.record_ledger.proofs.Leads.{less_is, leading_first}
 use Rattle.record_ledger.proofs.Rising.{rises_from_sorted, not_less_shorter, keys_tie}
 use Rattle.record_ledger.specs.Lawful.{of_key}
 use Rattle.record_ledger.specs.Buckets.{seat_order, AreFirst, EndInTurn}
 use Rattle.record_ledger.specs.Buckets.{Bucket, item_at, record_at, IsPlaceOf, IsPlace, listed, records_at, place_order}
-use Rattle.record_ledger.specs.Buckets.{records_of}
+use Rattle.record_ledger.specs.Buckets.{records_of, leading_number}
 
 sorted_more : {X : Type 0} (lt : X → X → Bool) (x : X) (xs : List X) → All (λ y. lt y x ≡ false) xs → IsSortedBy lt xs
     → (k : ℕ) (d : X) → k + 1 < length (x ∷ xs) → lt (get_or (x ∷ xs) (k + 1) d) (get_or (x ∷ xs) k d) ≡ false
@@ -90,15 +91,6 @@ options_total = record { antisymm = back; trans = onward; congr = alike }
     alike (Some r) None t e = absurd (cc)
     alike (Some r) (Some s) None e = refl
     alike (Some r) (Some s) (Some u) e = o.congr r s u e
-
--- numbers and their order
-less_is : (x y : ℕ) → x < y → nat_cmp x y ≡ Less
-less_is x y l = go (nat_cmp x y) (ranked x y (nat_cmp x y) refl)
-  where
-    go : (o : Ordering) → MatchOrdering o (x < y) (x ≡ y) (y < x) → o ≡ Less
-    go Less h = refl
-    go Equal h = absurd (omega (arith, h, l))
-    go Greater h = absurd (omega (arith, h, l))
 
 least_is : (x y : ℕ) → y ≤ x → is_lt (nat_cmp x y) ≡ false
 least_is x y l = go (nat_cmp x y) (ranked x y (nat_cmp x y) refl)
@@ -163,12 +155,19 @@ first_on n i ps h = record {
     low p (inl l) = omega (arith, l)
     low p (inr b) = omega (arith, b.0)
 
--- not less by the first, a tie by the second, and not less by the third of three comparisons
-in_three : (o k t : Ordering) → is_lt o ≡ false → k ≡ Equal → is_lt t ≡ false
-    → is_lt (ordering_then o (ordering_then k t)) ≡ false
-in_three Less k t e f g = absurd (let never : true ≡ false = e in cc)
-in_three Equal k t e f g = ap (λ k. is_lt (ordering_then k t)) f ∙ g
-in_three Greater k t e f g = refl
+-- not less by the first, ties by the two that follow, and not less by the last of four comparisons
+in_four : (o n k t : Ordering) → is_lt o ≡ false → n ≡ Equal → k ≡ Equal → is_lt t ≡ false
+    → is_lt (ordering_then o (ordering_then n (ordering_then k t))) ≡ false
+in_four Less n k t e m f g = absurd (let never : true ≡ false = e in cc)
+in_four Equal n k t e m f g = (λ i. is_lt (ordering_then (m i) (ordering_then (f i) t))) ∙ g
+in_four Greater n k t e m f g = refl
+
+-- not less by the first three of four comparisons
+not_less_nested : (o n k t : Ordering) → is_lt (ordering_then o (ordering_then n (ordering_then k t))) ≡ false
+    → is_lt (ordering_then o (ordering_then n k)) ≡ false
+not_less_nested Less n k t e = e
+not_less_nested Equal n k t e = not_less_shorter n k t e
+not_less_nested Greater n k t e = refl
 
 abbrev has_at : FlowKey → Option FlowRecord → Bool
 has_at key None = false
@@ -178,9 +177,9 @@ module _ (bs : List Bucket) where
   -- one more record of a bucket has its place
   pub more_placed : (before : List FlowRecord) (n i : ℕ) (b : Bucket) (r : FlowRecord) (ps qs : List Place) (p : Place)
       → slice_get bs n ≡ Some b → i < length b.items → r ≡ get_or b.items i r
-      → p.bucket ≡ n → p.at ≡ i → p.last ≡ r.part.last → qs ≡ ps ++ p ∷ []
+      → p.bucket ≡ n → p.at ≡ i → p.last ≡ r.part.last → p.leading ≡ leading_number r.part.key → qs ≡ ps ++ p ∷ []
       → AllZip (IsPlaceOf bs) (before ++ take i b.items) ps → AllZip (IsPlaceOf bs) (before ++ take (i + 1) b.items) qs
-  more_placed before n i b r ps qs p e l is eb ea el eq h =
+  more_placed before n i b r ps qs p e l is eb ea el ek eq h =
       let here : record_at bs p ≡ Some r =
       ap (λ m. item_at (slice_get bs m) p.at) eb ∙ ap (λ o. item_at o p.at) e ∙ ap (slice_get b.items) ea
       ∙ slice_get_read b.items (length b.items) i r refl l is in
@@ -191,7 +190,7 @@ module _ (bs : List Bucket) where
       subst (λ l. AllZip (IsPlaceOf bs) l qs) more
       (subst (AllZip (IsPlaceOf bs) ((before ++ take i b.items) ++ r ∷ [])) (sym eq)
       (AllZip-append (IsPlaceOf bs) (before ++ take i b.items) ps (r ∷ []) (p ∷ []) h
-      (record { here = here; last = el }, tt)))
+      (record { here = here; last = el; leading = ek }, tt)))
 
   -- the records of one more bucket
   pub bucket_taken : (i : ℕ) (b : Bucket) → i < length bs → b ≡ get_or bs i b
@@ -204,18 +203,21 @@ module _ (bs : List Bucket) where
 
   places_total : IsTotalOrder (place_order bs)
   places_total = then_total (on_total (λ (p : Place). p.last) nat_cmp_total)
-      (then_total (on_total (record_at bs) options_total) seats_total)
+      (then_total (on_total (λ (p : Place). p.leading) nat_cmp_total)
+      (then_total (on_total (record_at bs) options_total) seats_total))
 
   -- only a place itself ties with it
   places_exact : (p q : Place) → place_order bs p q ≡ Equal → p ≡ q
   places_exact p q e =
-      let one = tied_second (nat_cmp p.last q.last) _ e in
+      let ties = tied_second (nat_cmp p.last q.last) _ e in
+      let one = tied_second (nat_cmp p.leading q.leading) _ ties in
       let two = tied_second (option_cmp (λ (r s : FlowRecord). key_order r.part.key s.part.key) (record_at bs p)
       (record_at bs q)) _ one in
       let last = tied_numbers p.last q.last (tied_first _ _ e) in
+      let leading = tied_numbers p.leading q.leading (tied_first _ _ ties) in
       let bucket = tied_numbers p.bucket q.bucket (tied_first _ _ two) in
       let at = tied_numbers p.at q.at (tied_second (nat_cmp p.bucket q.bucket) _ two) in
-      λ i. record { last = last i; bucket = bucket i; at = at i }
+      λ i. record { last = last i; leading = leading i; bucket = bucket i; at = at i }
 
   pub places_weak : IsStrictWeakOrder (λ (p q : Place). is_lt (place_order bs p q))
   places_weak = ranks_by places_total (λ (p : Place). p)
@@ -236,11 +238,13 @@ module _ (bs : List Bucket) where
 
   -- places stand as their records do
   same_order : (r s : FlowRecord) (p q : Place) → IsPlaceOf bs r p → IsPlaceOf bs s q
-      → ordering_then (nat_cmp p.last q.last)
-      (option_cmp (λ (r s : FlowRecord). key_order r.part.key s.part.key) (record_at bs p) (record_at bs q))
+      → ordering_then (nat_cmp p.last q.last) (ordering_then (nat_cmp p.leading q.leading)
+      (option_cmp (λ (r s : FlowRecord). key_order r.part.key s.part.key) (record_at bs p) (record_at bs q)))
       ≡ written_order r s
-  same_order r s p q h k = λ i. ordering_then (nat_cmp (h.last i) (k.last i))
-      (option_cmp (λ (r s : FlowRecord). key_order r.part.key s.part.key) (h.here i) (k.here i))
+  same_order r s p q h k =
+      (λ i. ordering_then (nat_cmp (h.last i) (k.last i)) (ordering_then (nat_cmp (h.leading i) (k.leading i))
+      (option_cmp (λ (r s : FlowRecord). key_order r.part.key s.part.key) (h.here i) (k.here i))))
+      ∙ ap (ordering_then (nat_cmp r.part.last s.part.last)) (leading_first r.part.key s.part.key)
 
   after_all : (r : FlowRecord) (p : Place) → IsPlaceOf bs r p → (rs : List FlowRecord) (ps : List Place)
       → AllZip (IsPlaceOf bs) rs ps → All (λ q. is_lt (place_order bs q p) ≡ false) ps
@@ -250,7 +254,8 @@ module _ (bs : List Bucket) where
   after_all r p h (s ∷ rs) [] z k = absurd z
   after_all r p h (s ∷ rs) (q ∷ ps) z k =
       All-cons (λ s. is_lt (written_order s r) ≡ false) s rs
-      (sym (ap is_lt (same_order s r q p z.0 h)) ∙ not_less_shorter (nat_cmp q.last p.last) _ (seat_order q p)
+      (sym (ap is_lt (same_order s r q p z.0 h)) ∙ not_less_nested (nat_cmp q.last p.last) (nat_cmp q.leading p.leading)
+      _ (seat_order q p)
       (All-head (λ q. is_lt (place_order bs q p) ≡ false) q ps k))
       (after_all r p h rs ps z.1 (All-tail (λ q. is_lt (place_order bs q p) ≡ false) q ps k))
 
@@ -339,9 +344,12 @@ module _ (bs : List Bucket) where
         let one : r.part.key ≡ key = key_from_test key r (sym (ap (has_at key) h.here) ∙ a) in
         let two : s.part.key ≡ key = key_from_test key s (sym (ap (has_at key) k.here) ∙ b) in
         let last : p.last ≤ q.last = (let l = up (one ∙ sym two) in omega (arith, l, h.last, k.last)) in
-        in_three (nat_cmp q.last p.last)
+        in_four (nat_cmp q.last p.last) (nat_cmp q.leading p.leading)
         (option_cmp (λ (r s : FlowRecord). key_order r.part.key s.part.key) (record_at bs q) (record_at bs p))
         (seat_order q p) (least_is q.last p.last last)
+        ((λ i. nat_cmp (k.leading i) (h.leading i))
+        ∙ (λ i. nat_cmp (leading_number s.part.key) (leading_number ((one ∙ sym two) i)))
+        ∙ tied_itself nat_cmp_total (leading_number s.part.key))
         ((λ i. option_cmp (λ (r s : FlowRecord). key_order r.part.key s.part.key) (k.here i) (h.here i))
         ∙ keys_tie s.part.key r.part.key (two ∙ sym one))
         (ap is_lt (seats_total.antisymm q p ∙ ap ordering_reverse ahead))

@@ -1,6 +1,6 @@
 -- The code's own: records in buckets, and places in them. No law speaks of these.
 use Rattle.std.specs.Prelude.{◌≡◌, ℕ, suc, ◌<◌, ◌≤◌, List, [], ◌∷◌, Option, Some, None, slice_get, length, flat_map}
-use Rattle.std.specs.Prelude.{All, IsPermutation, ⊤}
+use Rattle.std.specs.Prelude.{All, IsPermutation, ⊤, ◌==◌, ◌+◌, ◌-◌, ◌*◌, ◌^◌, if◌then◌else◌}
 use Rattle.std.specs.Option.{option_cmp}
 use Rattle.std.specs.Ordering.{nat_cmp, ordering_then}
 use Rattle.std.specs.declared.cmp.Ordering.{Ordering}
@@ -8,6 +8,7 @@ use Rattle.std.specs.declared.cmp.Ordering.TheVariants.{Less}
 use Rattle.std.specs.declared.vec.Vec.{Vec}
 use Rattle.std.specs.declared.alloc.Global.{Global}
 use Rattle.flow_key.specs.Key.{set_number, key_order}
+use Rattle.flow_key.specs.declared.key.FlowKey.{FlowKey}
 use Rattle.flow_parts.specs.declared.fragment.Fragment.{Fragment}
 use Rattle.flow_parts.specs.declared.timeouts.Timeouts.{Timeouts}
 use Rattle.flow_parts.specs.Reaching.{Reaches}
@@ -55,10 +56,16 @@ item_at (Some b) at = slice_get b.items at
 abbrev pub record_at : List Bucket → Place → Option FlowRecord
 record_at buckets place = item_at (slice_get buckets place.bucket) place.at
 
--- The place is that of the record, with its last time.
+-- The addresses of a key of version 4 as one number, and the greatest number of 64 bits for a key of version 6. No key
+-- comes before one whose number is less.
+abbrev pub leading_number : FlowKey → ℕ
+leading_number k = if k.version == 4 then k.source * 2 ^ 32 + k.destination else 2 ^ 64 - 1
+
+-- The place is that of the record, with its last time and the leading number of its key.
 pub record IsPlaceOf (buckets : List Bucket) (r : FlowRecord) (place : Place) : Type 0 where
   pub here : record_at buckets place ≡ Some r
   pub last : place.last ≡ r.part.last
+  pub leading : place.leading ≡ leading_number r.part.key
 
 -- There is a record at the place.
 abbrev pub IsPlace : List Bucket → Place → Type 0
@@ -76,12 +83,18 @@ records_at buckets order = flat_map (λ (place : Place). listed (record_at bucke
 abbrev pub seat_order : Place → Place → Ordering
 seat_order one other = ordering_then (nat_cmp one.bucket other.bucket) (nat_cmp one.at other.at)
 
--- How two places stand: by their last times, then by the keys of their records, then by where they are.
-abbrev pub place_order : List Bucket → Place → Place → Ordering
-place_order buckets one other = ordering_then (nat_cmp one.last other.last) (ordering_then
+-- How two places stand by the keys of their records, then by where they are.
+abbrev pub record_order : List Bucket → Place → Place → Ordering
+record_order buckets one other = ordering_then
     (option_cmp (λ (r s : FlowRecord). key_order r.part.key s.part.key) (record_at buckets one)
     (record_at buckets other))
-    (seat_order one other))
+    (seat_order one other)
+
+-- How two places stand: by their last times, then by the leading numbers of their records' keys, then by these keys,
+-- then by where they are.
+abbrev pub place_order : List Bucket → Place → Place → Ordering
+place_order buckets one other = ordering_then (nat_cmp one.last other.last) (ordering_then
+    (nat_cmp one.leading other.leading) (record_order buckets one other))
 
 -- The places are of buckets below the number, and rise by bucket, then by place in it.
 pub record AreFirst (buckets : ℕ) (order : List Place) : Type 0 where

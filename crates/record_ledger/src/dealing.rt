@@ -12,10 +12,10 @@ use no_memory::NoMemory;
 use std::alloc::Global;
 
 /// About how many fragments a bucket is made for.
-const BUCKET: usize = 4096;
+const BUCKET: usize = 1024;
 
 /// The most buckets that are made.
-const MOST_BUCKETS: usize = 1024;
+const MOST_BUCKETS: usize = 8192;
 
 /// How many fragments of a piece are dealt before their room in it is let go.
 const LET_GO: usize = 4096;
@@ -56,7 +56,7 @@ fn count_of(pieces: &[Vec<Fragment>]) -> usize {
     count
 }
 
-/// How many buckets are made for so many fragments: a power of two, about one for each 4,096 of them, at most 1,024.
+/// How many buckets are made for so many fragments: a power of two, about one for each 1,024 of them, at most 8,192.
 fn bucket_count(fragments: usize) -> usize
     ensures { 1 ≤ result }
 {

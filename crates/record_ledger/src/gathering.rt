@@ -33,7 +33,7 @@ use std::thread::Threads;
 ///
 /// The fragments are dealt to buckets by their keys; at most `threads` threads sort, join and give reasons there, and
 /// then sort the places of all records. It takes the time of sorting. The fragments of `parts` are let go as soon as
-/// they are dealt; what is held is a record for each part, and 24 bytes for its place in the order.
+/// they are dealt; what is held is a record for each part, and 32 bytes for its place in the order.
 ///
 /// # Errors
 ///

@@ -14,10 +14,12 @@
 //! [`laws`] holds laws about lawful lists, as contracts.
 #![tactic(auto)]
 
+mod arranging;
 mod dealing;
 mod gathering;
 mod joining;
 pub mod laws;
+mod leading;
 mod orders;
 mod place;
 mod placing;
@@ -26,6 +28,7 @@ mod record;
 mod record_list;
 mod settling;
 mod sorting;
+mod spreading;
 
 pub use gathering::gather;
 pub use no_memory::NoMemory;

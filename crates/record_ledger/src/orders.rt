@@ -2,11 +2,13 @@
 
 ghost use Rattle.std.specs.Prelude.{◌≡◌, IsPermutation, IsSorted, option_copied};
 ghost use Rattle.std.specs.Option.{option_cmp};
+ghost use Rattle.std.specs.Ordering.{nat_cmp, ordering_then};
 ghost use Rattle.flow_key.specs.Key.{key_order};
 ghost use Rattle.record_ledger.specs.Order.{joining_order, number_order};
-ghost use Rattle.record_ledger.specs.Buckets.{place_order, record_at, seat_order};
+ghost use Rattle.record_ledger.specs.Buckets.{place_order, record_at, record_order, seat_order};
 ghost use Rattle.record_ledger.specs.declared.record.FlowRecord.{FlowRecord};
 
+use crate::arranging::arrange;
 use crate::place::Place;
 use crate::record::FlowRecord;
 use flow_parts::Fragment;
@@ -18,10 +20,12 @@ pub fn sort_by_key(records: &mut Vec<FlowRecord>)
     ensures permutation { IsPermutation records.old.items records.new.items }
     ensures order { IsSorted (λ (one other : FlowRecord). joining_order one.part other.part) records.new.items }
 {
+    arrange(records.as_mut_slice());
     records.sort_unstable_by(|one, other| by_key(one, other));
 }
 
 /// How two records stand in the order of joining.
+#[inline]
 fn by_key(one: &FlowRecord, other: &FlowRecord) -> Ordering
     ensures { result ≡ joining_order one.now.part other.now.part }
 {
@@ -44,19 +48,37 @@ fn by_numbers(one: &Fragment, other: &Fragment) -> Ordering
     one.last.cmp(&other.last).then(times)
 }
 
-/// How two places stand in the written order of their records: by last time, which is in the place, and only where two
-/// tie by the keys, which are looked up in the buckets. Places whose records tie by both stand as the records lie in
-/// the buckets.
+/// How two places stand in the written order of their records: by last time and by the leading number of the key, which
+/// are in the place, and only where two tie by the keys, which are looked up in the buckets. Places whose records tie
+/// by all of these stand as the records lie in the buckets.
+#[inline]
 pub fn by_place(buckets: &[Vec<FlowRecord>], one: &Place, other: &Place) -> Ordering
     ensures { result ≡ place_order buckets.now one.now other.now }
 {
     match one.last.cmp(&other.last) {
-        Ordering::Equal => {
-            let keys = by_found(record_at(buckets, one), record_at(buckets, other));
-            keys.then(by_seat(one, other))
-        }
+        Ordering::Equal => by_leading(buckets, one, other),
         apart => apart,
     }
+}
+
+/// How two places stand by the leading numbers of their records' keys, and where these tie by the records.
+#[inline]
+fn by_leading(buckets: &[Vec<FlowRecord>], one: &Place, other: &Place) -> Ordering
+    ensures { result ≡ ordering_then (nat_cmp one.now.leading other.now.leading)
+        (record_order buckets.now one.now other.now) }
+{
+    match one.leading.cmp(&other.leading) {
+        Ordering::Equal => by_record(buckets, one, other),
+        apart => apart,
+    }
+}
+
+/// How two places stand by the keys of their records, and then as these lie in the buckets.
+fn by_record(buckets: &[Vec<FlowRecord>], one: &Place, other: &Place) -> Ordering
+    ensures { result ≡ record_order buckets.now one.now other.now }
+{
+    let keys = by_found(record_at(buckets, one), record_at(buckets, other));
+    keys.then(by_seat(one, other))
 }
 
 /// How two places stand by bucket, then by place in it.
@@ -67,7 +89,7 @@ fn by_seat(one: &Place, other: &Place) -> Ordering
 }
 
 /// How two records stand by key, where there are both.
-fn by_found(one: Option<&FlowRecord>, other: Option<&FlowRecord>) -> Ordering
+pub fn by_found(one: Option<&FlowRecord>, other: Option<&FlowRecord>) -> Ordering
     ensures { result ≡ option_cmp (λ (r s : FlowRecord). key_order r.part.key s.part.key) (option_copied one.entry)
         (option_copied other.entry) }
 {

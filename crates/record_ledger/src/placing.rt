@@ -5,6 +5,7 @@ ghost use Rattle.std.specs.List.{AllZip};
 ghost use Rattle.record_ledger.specs.declared.record.FlowRecord.{FlowRecord};
 ghost use Rattle.record_ledger.specs.Buckets.{Bucket, records_of, IsPlaceOf, AreFirst};
 
+use crate::leading::leading_number;
 use crate::place::Place;
 use crate::record::FlowRecord;
 use no_memory::NoMemory;
@@ -44,8 +45,10 @@ fn add_places(
     ensures first { OnOk result (AreFirst bucket order.old.items → AreFirst (bucket + 1) order.new.items) }
 {
     for at in 0..buckets[bucket].len() {
+        let part = &buckets[bucket][at].part;
         order.push(Place {
-            last: buckets[bucket][at].part.last,
+            last: part.last,
+            leading: leading_number(&part.key),
             bucket,
             at,
         })?;

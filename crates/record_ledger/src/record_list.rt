@@ -17,7 +17,7 @@ use std::thread::Threads;
 
 /// Records in the written order: by last time, then by key. Contracts see it as the list.
 ///
-/// The records stay in the buckets that they were gathered in; beside them lies their order, 24 bytes for each.
+/// The records stay in the buckets that they were gathered in; beside them lies their order, 32 bytes for each.
 #[derive(Drop)]
 pub struct RecordList {
     buckets: Vec<Vec<FlowRecord>>,

@@ -7,19 +7,16 @@ ghost use Rattle.record_ledger.specs.Buckets.{place_order};
 use crate::orders::by_place;
 use crate::place::Place;
 use crate::record::FlowRecord;
-use std::cmp::Ordering;
+use crate::spreading::{RANGES, spread};
 use std::thread::{Threads, join_mut};
 
-/// Fewer places than these are sorted by one thread.
+/// Fewer places than these are sorted as they lie, by one thread.
 const FEW: usize = 8192;
-
-/// How many places are looked at for one that is near the middle.
-const SAMPLE: usize = 33;
 
 /// Sorts places into the written order of their records, by at most `threads` threads.
 ///
-/// The threads sort parts of the list that stand in order among each other; a last sort of all then finds them in
-/// order.
+/// Many are first brought into ranges of time, which threads sort, each by itself; a last sort of all then finds them
+/// in order.
 pub fn sort_places<R: Threads + Sync>(
     rt: &R,
     buckets: &[Vec<FlowRecord>],
@@ -29,14 +26,12 @@ pub fn sort_places<R: Threads + Sync>(
     ensures permutation { IsPermutation order.old.items order.new.items }
     ensures order { IsSorted (place_order buckets.now) order.new.items }
 {
-    sort_parts(rt, buckets, order.as_mut_slice(), threads);
+    sort_ranges(rt, buckets, order.as_mut_slice(), threads);
     order.sort_unstable_by(|one, other| by_place(buckets, one, other));
 }
 
-/// Sorts places by at most `threads` threads. Few places are sorted by one thread; of many, those before one near the
-/// middle are moved in front of it, and each side is sorted by threads of its own.
-#[cycle(parts)]
-fn sort_parts<R: Threads + Sync>(
+/// Brings places into ranges of time, where they are many, and sorts these by at most `threads` threads.
+fn sort_ranges<R: Threads + Sync>(
     rt: &R,
     buckets: &[Vec<FlowRecord>],
     order: &mut [Place],
@@ -45,67 +40,96 @@ fn sort_parts<R: Threads + Sync>(
     ensures permutation { IsPermutation order.old order.new }
     ensures many { length order.new ≡ length order.old }
 {
-    if threads < 2 || order.len() < FEW {
-        order.sort_unstable_by(|one, other| by_place(buckets, one, other));
-    } else {
-        let middle = part_places(buckets, order);
-        let (low, high) = order.split_at_mut(middle);
-        sort_both(rt, buckets, low, high, threads);
+    if order.len() >= FEW {
+        let mut starts = [0; RANGES];
+        spread(order, &mut starts);
+        sort_parts(rt, buckets, order, &starts, threads);
     }
 }
 
-/// Sorts two lists of places at once, by at most `threads` threads together.
+/// Sorts places by at most `threads` threads. `starts` tells where each of their ranges begins, in a list of which they
+/// are a part.
+#[cycle(parts)]
+fn sort_parts<R: Threads + Sync>(
+    rt: &R,
+    buckets: &[Vec<FlowRecord>],
+    order: &mut [Place],
+    starts: &[usize],
+    threads: usize,
+)
+    ensures permutation { IsPermutation order.old order.new }
+    ensures many { length order.new ≡ length order.old }
+{
+    if threads < 2 || starts.len() < 2 {
+        sort_in_turn(buckets, order, starts);
+    } else {
+        let (low, high) = order.split_at_mut(before_middle(starts, order.len()));
+        sort_both(rt, buckets, low, high, starts, threads);
+    }
+}
+
+/// Sorts the places before the middle range and those from it on at once, by at most `threads` threads together.
 #[cycle(parts)]
 fn sort_both<R: Threads + Sync>(
     rt: &R,
     buckets: &[Vec<FlowRecord>],
     low: &mut [Place],
     high: &mut [Place],
+    starts: &[usize],
     threads: usize,
 )
     requires threads { 2 ≤ threads }
+    requires starts { 2 ≤ length starts.now }
     ensures low { IsPermutation low.old low.new }
     ensures high { IsPermutation high.old high.new }
 {
+    let middle = middle_of(starts, low.len().saturating_add(high.len()));
+    let (first, second) = starts.split_at(middle);
     let some = threads / 2;
     let rest = threads - some;
     let mut left = ||
         requires { IsSync R.row }
         ensures { IsPermutation low.entry.now low.exit.now }
-    { sort_parts(rt, buckets, low, some) };
+    { sort_parts(rt, buckets, low, first, some) };
     let mut right = ||
         requires { IsSync R.row }
         ensures { IsPermutation high.entry.now high.exit.now }
-    { sort_parts(rt, buckets, high, rest) };
+    { sort_parts(rt, buckets, high, second, rest) };
     join_mut(rt, &mut left, &mut right);
 }
 
-/// Moves the places that come before one near the middle to the front, and tells how many they are.
-fn part_places(buckets: &[Vec<FlowRecord>], order: &mut [Place]) -> usize
-    requires some { 0 < length order.old }
-    ensures permutation { IsPermutation order.old order.new }
-    ensures many { length order.new ≡ length order.old }
-    ensures place { result ≤ length order.old }
+/// How many of so many places are before the middle range.
+fn before_middle(starts: &[usize], count: usize) -> usize
+    requires { 2 ≤ length starts.now }
+    ensures { result ≤ count }
 {
-    let middle = middle_of(buckets, order);
-    let mut before = 0;
-    for at in 0..order.len() {
-        let comes_before = by_place(buckets, &order[at], &middle) == Ordering::Less;
-        order.swap(at, before);
-        before += comes_before as usize;
-    }
-    before
+    let middle = middle_of(starts, count);
+    starts[middle].saturating_sub(starts[0]).min(count)
 }
 
-/// A place near the middle of the order: the middle one of some that lie evenly in the list.
-fn middle_of(buckets: &[Vec<FlowRecord>], order: &[Place]) -> Place
-    requires some { 0 < length order.now }
+/// The first range that begins in the second half of so many places, but neither the first of all nor none.
+fn middle_of(starts: &[usize], count: usize) -> usize
+    requires { 2 ≤ length starts.now }
+    ensures { (1 ≤ result) × (result < length starts.now) }
 {
-    let step = order.len() / SAMPLE;
-    let mut sample = [order[0]; SAMPLE];
-    for at in 0..SAMPLE {
-        sample[at] = order[at * step];
+    let half = starts[0].saturating_add(count / 2);
+    starts
+        .partition_point(|start| *start < half)
+        .clamp(1, starts.len() - 1)
+}
+
+/// Sorts places range by range.
+fn sort_in_turn(buckets: &[Vec<FlowRecord>], order: &mut [Place], starts: &[usize])
+    ensures permutation { IsPermutation order.old order.new }
+    ensures many { length order.new ≡ length order.old }
+{
+    if starts.len() < 2 {
+        order.sort_unstable_by(|one, other| by_place(buckets, one, other));
+    } else {
+        let (first, second) = starts.split_at(starts.len() / 2);
+        let before = second[0].saturating_sub(first[0]).min(order.len());
+        let (low, high) = order.split_at_mut(before);
+        sort_in_turn(buckets, low, first);
+        sort_in_turn(buckets, high, second);
     }
-    sample.sort_unstable_by(|one, other| by_place(buckets, one, other));
-    sample[SAMPLE / 2]
 }

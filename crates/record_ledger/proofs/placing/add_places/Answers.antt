@@ -39,7 +39,7 @@ loop-at-preserved c =
           c.push.new.self.items _ e low
           (subst (λ (v : Bucket). c.index.result.now ≡ get_or v.items c.loop-at.at c.index.result.now) same
           c.index.ensures)
-          refl refl refl c.in_ok-push.ensures.items
+          refl refl refl c.leading_number.ensures c.in_ok-push.ensures.items
           (c.loop-at.invariant.placed before b e h);
       first = λ h. more_ahead c.args.bucket c.loop-at.at c.loop-at.order.items c.push.new.self.items _ refl refl
           c.in_ok-push.ensures.items (c.loop-at.invariant.first h);

@@ -48,20 +48,24 @@ four_set (x ∷ y ∷ z ∷ w ∷ v ∷ vs) a b c d long = absurd (omega (arith,
 
 pub returns-clause-ten : goal.returns-clause-ten
 returns-clause-ten c =
-    let a = c.read_words in let b = c.read_words-2 in let d = c.read_words-3 in let e = c.read_words-4 in
+    let f = c.read_firsts-firsts in
+    let a = c.read_rest in let b = c.read_rest-2 in let d = c.read_rest-3 in let e = c.read_rest-4 in
     let known = known_by_pass c.args.pass.now in
     let r : List Read = (past_by e.new.pass).reads in
+    let at_a : slot_at (known_by_pass f.new.pass) 0 ≡ slot_at known 0 =
+    ap (λ (s : Seat). slot_at s 0) f.ensures.known in
     let at_b : slot_at (known_by_pass a.new.pass) 1 ≡ slot_at known 1 =
-    ap (λ (s : Seat). slot_at s 1) a.ensures.known in
+    ap (λ (s : Seat). slot_at s 1) (a.ensures.known ∙ f.ensures.known) in
     let at_d : slot_at (known_by_pass b.new.pass) 2 ≡ slot_at known 2 =
-    ap (λ (s : Seat). slot_at s 2) (b.ensures.known ∙ a.ensures.known) in
+    ap (λ (s : Seat). slot_at s 2) (b.ensures.known ∙ a.ensures.known ∙ f.ensures.known) in
     let at_e : slot_at (known_by_pass d.new.pass) 3 ≡ slot_at known 3 =
-    ap (λ (s : Seat). slot_at s 3) (d.ensures.known ∙ b.ensures.known ∙ a.ensures.known) in
+    ap (λ (s : Seat). slot_at s 3) (d.ensures.known ∙ b.ensures.known ∙ a.ensures.known ∙ f.ensures.known) in
     let from_b = more_more (past_by b.new.pass).reads (past_by d.new.pass).reads r d.ensures.more e.ensures.more in
     let from_a = more_more (past_by a.new.pass).reads (past_by b.new.pass).reads r b.ensures.more from_b in
     each_of_four (λ place. HasTen r (slot_at known place))
-    (ten_stay (past_by a.new.pass).reads r (slot_at known 0) from_a
-    (has_ten (past_by a.new.pass).reads (slot_at known 0) a.new.words a.ensures.long a.ensures.read))
+    (subst (HasTen r) at_a (ten_stay (past_by a.new.pass).reads r (slot_at (known_by_pass f.new.pass) 0) from_a
+    (has_ten (past_by a.new.pass).reads (slot_at (known_by_pass f.new.pass) 0) a.new.words a.ensures.long
+    a.ensures.read)))
     (subst (HasTen r) at_b (ten_stay (past_by b.new.pass).reads r (slot_at (known_by_pass a.new.pass) 1) from_b
     (has_ten (past_by b.new.pass).reads (slot_at (known_by_pass a.new.pass) 1) b.new.words b.ensures.long
     b.ensures.read)))
@@ -73,18 +77,22 @@ returns-clause-ten c =
 
 pub returns-clause-entries : goal.returns-clause-entries
 returns-clause-entries c set protected =
-    let a = c.read_words in let b = c.read_words-2 in let d = c.read_words-3 in let e = c.read_words-4 in
+    let f = c.read_firsts-firsts in
+    let a = c.read_rest in let b = c.read_rest-2 in let d = c.read_rest-3 in let e = c.read_rest-4 in
     let known = known_by_pass c.args.pass.now in
     let past : History = past_by e.new.pass in
     let loads : past.loads ≡ (past_by c.args.pass.now).loads =
     ap (λ (p : History). p.loads) e.ensures.past ∙ ap (λ (p : History). p.loads) d.ensures.past
-    ∙ ap (λ (p : History). p.loads) b.ensures.past ∙ ap (λ (p : History). p.loads) a.ensures.past in
+    ∙ ap (λ (p : History). p.loads) b.ensures.past ∙ ap (λ (p : History). p.loads) a.ensures.past
+    ∙ ap (λ (p : History). p.loads) f.ensures.past in
+    let at_a : slot_at (known_by_pass f.new.pass) 0 ≡ slot_at known 0 =
+    ap (λ (s : Seat). slot_at s 0) f.ensures.known in
     let at_b : slot_at (known_by_pass a.new.pass) 1 ≡ slot_at known 1 =
-    ap (λ (s : Seat). slot_at s 1) a.ensures.known in
+    ap (λ (s : Seat). slot_at s 1) (a.ensures.known ∙ f.ensures.known) in
     let at_d : slot_at (known_by_pass b.new.pass) 2 ≡ slot_at known 2 =
-    ap (λ (s : Seat). slot_at s 2) (b.ensures.known ∙ a.ensures.known) in
+    ap (λ (s : Seat). slot_at s 2) (b.ensures.known ∙ a.ensures.known ∙ f.ensures.known) in
     let at_e : slot_at (known_by_pass d.new.pass) 3 ≡ slot_at known 3 =
-    ap (λ (s : Seat). slot_at s 3) (d.ensures.known ∙ b.ensures.known ∙ a.ensures.known) in
+    ap (λ (s : Seat). slot_at s 3) (d.ensures.known ∙ b.ensures.known ∙ a.ensures.known ∙ f.ensures.known) in
     let from_b = more_more (past_by b.new.pass).reads
     (past_by d.new.pass).reads past.reads d.ensures.more e.ensures.more in
     let from_a = more_more (past_by a.new.pass).reads (past_by b.new.pass).reads past.reads b.ensures.more from_b in
@@ -94,8 +102,8 @@ returns-clause-entries c set protected =
     ap (map entry_of) (four_set c.args.contents.now a.new.words b.new.words d.new.words e.new.words c.told-contents)
     ∙ same_four (entry_of a.new.words) (entry_of b.new.words) (entry_of d.new.words) (entry_of e.new.words)
     (entry 0) (entry 1) (entry 2) (entry 3)
-    (read_so a.new.words (past_by a.new.pass).reads past.reads (slot_at known 0) (slot_at known 0)
-    a.ensures.long a.ensures.read from_a refl)
+    (read_so a.new.words (past_by a.new.pass).reads past.reads (slot_at (known_by_pass f.new.pass) 0) (slot_at known 0)
+    a.ensures.long a.ensures.read from_a at_a)
     (read_so b.new.words (past_by b.new.pass).reads past.reads (slot_at (known_by_pass a.new.pass) 1) (slot_at known 1)
     b.ensures.long b.ensures.read from_b at_b)
     (read_so d.new.words (past_by d.new.pass).reads past.reads (slot_at (known_by_pass b.new.pass) 2) (slot_at known 2)
@@ -106,7 +114,8 @@ returns-clause-entries c set protected =
 
 pub returns-clause-whole : goal.returns-clause-whole
 returns-clause-whole c =
-    let a = c.read_words in let b = c.read_words-2 in let d = c.read_words-3 in let e = c.read_words-4 in
+    let f = c.read_firsts-firsts in
+    let a = c.read_rest in let b = c.read_rest-2 in let d = c.read_rest-3 in let e = c.read_rest-4 in
     subst (All IsWhole)
     (sym (four_set c.args.contents.now a.new.words b.new.words d.new.words e.new.words c.told-contents))
     (all_four IsWhole a.new.words b.new.words d.new.words e.new.words a.ensures.whole b.ensures.whole d.ensures.whole
@@ -117,12 +126,27 @@ returns-clause-few c =
     let shape = shape_at c.args.self.now.roots in
     let me : ℕ = number_by c.args.pass.now in
     let x = operations_by c.args.pass.now in
-    let a = c.read_words in let b = c.read_words-2 in let d = c.read_words-3 in let e = c.read_words-4 in
-    let at_a : number_by a.new.pass ≡ me = a.ensures.same.still.1 in
+    let f = c.read_firsts-firsts in
+    let a = c.read_rest in let b = c.read_rest-2 in let d = c.read_rest-3 in let e = c.read_rest-4 in
+    let at_f : number_by f.new.pass ≡ me = f.ensures.same.still.1 in
+    let at_a : number_by a.new.pass ≡ me = a.ensures.same.still.1 ∙ at_f in
     let at_b : number_by b.new.pass ≡ me = b.ensures.same.still.1 ∙ at_a in
     let at_d : number_by d.new.pass ≡ me = d.ensures.same.still.1 ∙ at_b in
-    spared_on shape me 30 10 (number_by d.new.pass) x (operations_by d.new.pass) (operations_by e.new.pass) at_d
-    (spared_on shape me 20 10 (number_by b.new.pass) x (operations_by b.new.pass) (operations_by d.new.pass) at_b
-    (spared_on shape me 10 10 (number_by a.new.pass) x (operations_by a.new.pass) (operations_by b.new.pass) at_a
-    a.ensures.few b.ensures.few) d.ensures.few)
+    spared_on shape me 31 9 (number_by d.new.pass) x (operations_by d.new.pass) (operations_by e.new.pass) at_d
+    (spared_on shape me 22 9 (number_by b.new.pass) x (operations_by b.new.pass) (operations_by d.new.pass) at_b
+    (spared_on shape me 13 9 (number_by a.new.pass) x (operations_by a.new.pass) (operations_by b.new.pass) at_a
+    (spared_on shape me 4 9 (number_by f.new.pass) x (operations_by f.new.pass) (operations_by a.new.pass) at_f
+    f.ensures.few a.ensures.few) b.ensures.few) d.ensures.few)
     e.ensures.few
+
+-- what was read first is read so still, when the fourth is read
+pub read_rest-requires-4-clause-before : goal.read_rest-requires-4-clause-before
+read_rest-requires-4-clause-before c =
+    let f = c.read_firsts-firsts in let a = c.read_rest in let b = c.read_rest-2 in let d = c.read_rest-3 in
+    let slot : ℕ = slot_at (known_by_pass c.args.pass.now) 3 in
+    let value : ℕ = slice_index f.result 3 in
+    let at_d : slot_at (known_by_pass d.new.pass) 3 ≡ slot = ap (λ (s : Seat). slot_at s 3)
+    (d.ensures.known ∙ b.ensures.known ∙ a.ensures.known ∙ f.ensures.known) in
+    subst (λ n. written_at (past_by d.new.pass).reads n 0 ≡ Some value) (sym at_d)
+    (d.ensures.more slot 0 value (b.ensures.more slot 0 value (a.ensures.more slot 0 value
+    (f.ensures.read 3 (omega arith)))))

@@ -1,4 +1,4 @@
-use Rattle.std.proofs.Common.{◌≡◌, ◌∙◌, List, ℕ, Option, Some, None, sym, ap}
+use Rattle.std.proofs.Common.{◌≡◌, ◌∙◌, List, ℕ, Option, Some, None, refl, sym, ap}
 use Rattle.flow_parts.specs.declared.fragment.Fragment.{Fragment}
 use Rattle.cache_face.specs.Choice.{IsSmallEntry}
 use Rattle.cache_face.specs.Keeping.{IsWhole, entry_of}
@@ -30,7 +30,7 @@ returns-clause-entry c =
 
 pub returns-clause-grown : goal.returns-clause-grown
 returns-clause-grown c =
-    let g = c.read_words.ensures.grown in
+    let g = (c.read_words.ensures.grown refl) in
     record { reads = g.reads; grown = g.grown; many = g.many; ten = g.ten; shows = g.shows ∙ sym c.entry.ensures }
 
 pub returns-clause-small : goal.returns-clause-small

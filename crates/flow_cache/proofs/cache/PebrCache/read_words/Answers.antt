@@ -1,4 +1,4 @@
-use Rattle.std.proofs.Common.{rules, ◌≡◌, ◌≢◌, ◌+◌, ◌<◌, ◌∙◌, [], ◌∷◌, ℕ, List, Some, length, set, refl, sym, ap, subst}
+use Rattle.std.proofs.Common.{rules, ◌≡◌, ◌≢◌, ◌+◌, ◌-◌, ◌<◌, ◌∙◌, [], ◌∷◌, ℕ, List, Some, length, set, refl, sym, ap, subst}
 use Rattle.std.proofs.Common.{arith}
 use Rattle.std.specs.Prelude.{slice_index}
 use Rattle.std.proofs.lemmas.List.{length-set, get_or-set_same, get_or-set_other}
@@ -12,6 +12,7 @@ use Rattle.pebr_words.specs.Ruled.{HasReadWhole}
 use Rattle.pebr_roots.specs.Under.{slot_at}
 use Rattle.pebr_roots.specs.Passes.{shape_at, known_by_pass, past_by}
 use Rattle.flow_cache.specs.Reading.{words_read}
+use Rattle.flow_cache.specs.Collecting.{HasSpared}
 use Rattle.flow_cache.specs.Trying.{HasMore}
 use Rattle.flow_cache.proofs.Histories.{word_here, word_else, read_more, more_more, found_read}
 use Rattle.flow_cache.proofs.Sets.{has_ten, words_are}
@@ -32,19 +33,28 @@ next_word reads slot word value words low before k lt = dite (ℕ_discrete k wor
     (λ (apart : k ≢ word). word_else reads slot word value k (λ e. apart (sym e)) ∙ before k (omega (arith, lt, apart))
     ∙ ap (λ n. Some n) (sym (get_or-set_other words word k value 0 apart)))
 
+none_before : {n : ℕ} → n ≡ 0 → 0 ≡ n
+none_before e = sym e
+
+self_less : (n : ℕ) → n - n ≡ 0
+self_less n = omega arith
+
 pub loop-word-init : goal.loop-word-init
 loop-word-init c = record {
-  low = omega arith;
+  high = omega arith;
+  low = (let l = c.requires.from in omega (arith, l));
   long = search rules;
   same = search rules;
   note = refl;
   known = refl;
   past = refl;
-  grown = ([], refl, refl, λ k lt. absurd (omega (arith, lt)));
+  grown = λ none. ([], refl, none_before none, λ k lt. absurd (omega (arith, none, lt)));
   more = λ slot word value is. is;
-  read = λ k lt. absurd (omega (arith, lt));
+  read = c.requires.before;
   whole = λ some. absurd (omega (arith, some));
-  few = spared_none _ _ _ _ refl;
+  few = subst (λ n. HasSpared (shape_at c.args.self.now.roots) (number_by c.args.pass.now) n
+      (operations_by c.args.pass.now) (operations_by c.args.pass.now)) (sym (self_less c.args.from))
+      (spared_none _ _ _ _ refl);
 }
 
 pub loop-word-preserved : goal.loop-word-preserved
@@ -66,14 +76,16 @@ loop-word-preserved c =
     let rest : History → History =
     λ p. record p { last = (past_by new).last; steps = (past_by new).steps; reads = (past_by new).reads } in
     let low : word < length c.loop-word.words = (let l = before.long in omega (arith, l, c.loop-word-test.true)) in
+    let one : word + 1 - c.args.from ≡ (word - c.args.from) + 1 = (let h = before.high in omega (arith, h)) in
     record {
+      high = (let h = before.high in omega (arith, h));
       low = omega (arith, c.loop-word-test.true);
       long = length-set c.loop-word.words word value ∙ before.long;
       same = go_on roots c.args.pass.now old new before.same c.read.ensures.same;
       note = c.read.ensures.note ∙ before.note;
       known = c.read.ensures.known ∙ before.known;
       past = ap rest c.read.ensures.step.past ∙ ap rest before.past;
-      grown = (let g = before.grown in (
+      grown = λ none. (let g = before.grown none in (
         record { slot = slot; word = word; value = value } ∷ g.0,
         reads ∙ ap (λ (rs : List Read). record { slot = slot; word = word; value = value } ∷ rs) g.1,
         (let many = g.2 in omega (arith, many)),
@@ -85,17 +97,19 @@ loop-word-preserved c =
           (sym reads) (next_word (past_by old).reads slot word value c.loop-word.words low before.read k lt);
       whole = λ some content read. c.read.ensures.whole content
           (subst (λ n. HasReadWhole (shape_at roots) (past_by new) n content) (sym slot_is) read);
-      few = spared_on (shape_at roots) (number_by c.args.pass.now) word 1 (number_by old)
+      few = subst (λ n. HasSpared (shape_at roots) (number_by c.args.pass.now) n (operations_by c.args.pass.now)
+          (operations_by new)) (sym one)
+          (spared_on (shape_at roots) (number_by c.args.pass.now) (word - c.args.from) 1 (number_by old)
           (operations_by c.args.pass.now)
           (operations_by old) (operations_by new) before.same.still.1 before.few
           (read_spares (shape_at roots) (number_by old) (ap (λ (s : Shape). s.shields) c.args.self.now.shaped)
           (slot_at (known_by_pass old) place) word c.read.ensures.step.made.0 (operations_by old) (operations_by new)
-          c.read.ensures.step.made.2);
+          c.read.ensures.step.made.2));
     }
 
 pub returns-clause-grown : goal.returns-clause-grown
-returns-clause-grown c =
-    let g = c.loop-word.invariant.grown in
+returns-clause-grown c none =
+    let g = c.loop-word.invariant.grown none in
     let words : List ℕ = c.loop-word.words in
     let slot : ℕ = slot_at (known_by_pass c.args.pass.now) c.args.place in
     let whole : c.loop-word.word ≡ 10 = (let t = c.loop-word-test.false in let l = c.loop-word.invariant.low in
@@ -116,12 +130,13 @@ returns-clause-whole c =
     let end = c.loop-word.pass in
     let slot : ℕ = slot_at (known_by_pass c.args.pass.now) c.args.place in
     let wide : (shape_at c.args.self.now.roots).width ≡ 10 = ap (λ (s : Shape). s.width) c.args.self.now.shaped in
-    before.whole (let t = c.loop-word-test.false in omega (arith, t)) c.loop-word.words (
+    before.whole (let t = c.loop-word-test.false in let f = c.requires.from in omega (arith, t, f)) c.loop-word.words (
       before.long ∙ sym wide,
       λ word lt. found_read (past_by end).reads slot word (slice_index c.loop-word.words word)
           (before.read word (let t = c.loop-word-test.false in omega (arith, lt, wide, t))),
     )
 
 pub returns-clause-few : goal.returns-clause-few
-returns-clause-few c = spared_in (shape_at c.args.self.now.roots) (number_by c.args.pass.now) c.loop-word.word 10
-    (operations_by c.args.pass.now) (operations_by c.loop-word.pass) c.loop-word.invariant.low c.loop-word.invariant.few
+returns-clause-few c = spared_in (shape_at c.args.self.now.roots) (number_by c.args.pass.now)
+    (c.loop-word.word - c.args.from) (10 - c.args.from) (operations_by c.args.pass.now) (operations_by c.loop-word.pass)
+    (let l = c.loop-word.invariant.low in omega (arith, l)) c.loop-word.invariant.few
