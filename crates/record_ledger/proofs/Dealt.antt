@@ -92,6 +92,14 @@ last_dealt A F rest dealt X Y e h k = IsPermutation-trans A (rest ++ (dealt ++ X
     (subst (IsPermutation A) (ap (λ l. l ++ X) e ∙ append_assoc rest dealt X) h)
     (IsPermutation-append_right rest (dealt ++ X) Y k)
 
+-- the next fragment of some is dealt
+pub next_dealt : (A left rest : List Fragment) (part : Fragment) (X Y : List Fragment) → left ≡ part ∷ rest
+    → IsPermutation A (left ++ X) → IsPermutation (part ∷ X) Y → IsPermutation A (rest ++ Y)
+next_dealt A left rest part X Y e h k = IsPermutation-trans A (rest ++ part ∷ X) (rest ++ Y)
+    (IsPermutation-trans A (part ∷ (rest ++ X)) (rest ++ part ∷ X)
+    (subst (IsPermutation A) (ap (λ l. l ++ X) e) h) (behind part rest X))
+    (IsPermutation-append_right rest (part ∷ X) Y k)
+
 -- the last piece is dealt
 pub piece_dealt : (A : List Fragment) (pieces rest : List (Vec Fragment Global)) (piece : Vec Fragment Global)
     (X Y : List Fragment) → pieces ≡ rest ++ piece ∷ [] → IsPermutation A (items_of pieces ++ X)

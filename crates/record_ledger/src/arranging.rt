@@ -12,7 +12,7 @@ use crate::record::FlowRecord;
 use std::cmp::Ordering;
 
 /// The most records that are arranged: half as many again as a bucket is made for.
-const MOST: usize = 1536;
+const MOST: usize = 6144;
 
 /// Where a record lies, and the leading number of its key.
 #[derive(Clone, Copy, Debug)]

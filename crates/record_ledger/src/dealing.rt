@@ -12,13 +12,17 @@ use no_memory::NoMemory;
 use std::alloc::Global;
 
 /// About how many fragments a bucket is made for.
-const BUCKET: usize = 1024;
+const BUCKET: usize = 4096;
 
 /// The most buckets that are made.
-const MOST_BUCKETS: usize = 8192;
+const MOST_BUCKETS: usize = 1024;
 
 /// How many fragments of a piece are dealt before their room in it is let go.
 const LET_GO: usize = 4096;
+
+/// How many records a bucket has room for beside its share, and what part of its share besides: keys don't spread evenly.
+const SPARE: usize = 64;
+const SPARE_PART: usize = 8;
 
 /// Fragments as records, with no reason yet, each in the bucket of its key.
 ///
@@ -35,16 +39,16 @@ pub fn deal(alloc: Global, parts: PartList) -> Result<Vec<Vec<FlowRecord>>, NoMe
     Ok(buckets)
 }
 
-/// Empty buckets, each with room for the fragments of these pieces that will be dealt to it.
+/// Empty buckets, each with room for its share of the fragments of these pieces, and somewhat more.
 fn buckets_for(alloc: Global, pieces: &[Vec<Fragment>]) -> Result<Vec<Vec<FlowRecord>>, NoMemory>
     ensures some { IfOk result (λ buckets. 1 ≤ length buckets.items) }
     ensures none { IfOk result (λ buckets. records_of buckets.items ≡ []) }
 {
-    let mut counts = vec![in alloc; 0usize; bucket_count(count_of(pieces))]?;
-    for piece in pieces {
-        count_piece(piece, &mut counts);
-    }
-    empty_buckets(alloc, &counts)
+    let fragments = count_of(pieces);
+    let count = bucket_count(fragments);
+    let share = fragments / count;
+    let room = share.saturating_add(share / SPARE_PART).saturating_add(SPARE);
+    empty_buckets(alloc, count, room)
 }
 
 /// How many fragments the pieces have.
@@ -56,7 +60,7 @@ fn count_of(pieces: &[Vec<Fragment>]) -> usize {
     count
 }
 
-/// How many buckets are made for so many fragments: a power of two, about one for each 1,024 of them, at most 8,192.
+/// How many buckets are made for so many fragments: a power of two, about one for each 4,096 of them, at most 1,024.
 fn bucket_count(fragments: usize) -> usize
     ensures { 1 ≤ result }
 {
@@ -65,30 +69,19 @@ fn bucket_count(fragments: usize) -> usize
         .next_power_of_two()
 }
 
-/// Adds to the count of each bucket how many fragments of a piece will be dealt to it.
-fn count_piece(piece: &[Fragment], counts: &mut [usize])
-    requires { 1 ≤ length counts.old }
-    ensures { length counts.new ≡ length counts.old }
-{
-    for part in piece {
-        let bucket = part.key.set_of(counts.len() as u64) as usize;
-        counts[bucket] = counts[bucket].saturating_add(1);
-    }
-}
-
-/// An empty bucket for each count, with room for that many records.
-fn empty_buckets(alloc: Global, counts: &[usize]) -> Result<Vec<Vec<FlowRecord>>, NoMemory>
-    ensures many { IfOk result (λ buckets. length buckets.items ≡ length counts.now) }
+/// So many empty buckets, each with room for so many records.
+fn empty_buckets(alloc: Global, count: usize, room: usize) -> Result<Vec<Vec<FlowRecord>>, NoMemory>
+    ensures many { IfOk result (λ buckets. length buckets.items ≡ count) }
     ensures none { IfOk result (λ buckets. records_of buckets.items ≡ []) }
 {
-    let mut buckets = Vec::with_capacity(alloc, counts.len())?;
-    for count in counts {
-        buckets.push(Vec::with_capacity(alloc, *count)?)?;
+    let mut buckets = Vec::with_capacity(alloc, count)?;
+    for _made in 0..count {
+        buckets.push(Vec::with_capacity(alloc, room)?)?;
     }
     Ok(buckets)
 }
 
-/// Deals the fragments of a piece, the last one first, and lets their room go, 4,096 at a time.
+/// Deals the fragments of a piece, the last ones first, 4,096 at a time, whose room is then let go.
 fn deal_piece(piece: Vec<Fragment>, buckets: &mut [Vec<FlowRecord>]) -> Result<(), NoMemory>
     requires { 1 ≤ length buckets.old }
     ensures many { length buckets.new ≡ length buckets.old }
@@ -97,11 +90,25 @@ fn deal_piece(piece: Vec<Fragment>, buckets: &mut [Vec<FlowRecord>]) -> Result<(
     ensures by_key { OnOk result (AreByKey buckets.old → AreByKey buckets.new) }
 {
     let mut piece = piece;
-    while let Some(part) = piece.pop() {
-        deal_part(&part, buckets)?;
-        if piece.len() % LET_GO == 0 {
-            piece.shrink_to_fit();
-        }
+    while !piece.is_empty() {
+        let left = (piece.len() - 1) / LET_GO * LET_GO;
+        deal_parts(&piece[left..], buckets)?;
+        piece.truncate(left);
+        piece.shrink_to_fit();
+    }
+    Ok(())
+}
+
+/// Deals fragments.
+fn deal_parts(parts: &[Fragment], buckets: &mut [Vec<FlowRecord>]) -> Result<(), NoMemory>
+    requires { 1 ≤ length buckets.old }
+    ensures many { length buckets.new ≡ length buckets.old }
+    ensures whole { OnOk result (IsPermutation (parts.now ++ parts_of (records_of buckets.old))
+        (parts_of (records_of buckets.new))) }
+    ensures by_key { OnOk result (AreByKey buckets.old → AreByKey buckets.new) }
+{
+    for part in parts {
+        deal_part(part, buckets)?;
     }
     Ok(())
 }

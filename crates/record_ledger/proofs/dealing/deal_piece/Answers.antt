@@ -1,28 +1,32 @@
--- Each turn deals the last fragment that is left.
-use Rattle.std.proofs.Common.{◌∷◌, ◌++◌, [], sym, ◌∙◌, subst, IsPermutation}
+-- Each turn deals the last fragments that are left.
+use Rattle.std.proofs.Common.{◌≡◌, ◌≤◌, ◌/◌, ◌*◌, ◌-◌, ◌++◌, ℕ, List, length, take, drop, refl, sym, ap, ◌∙◌, subst, arith}
+use Rattle.std.proofs.Common.{IsPermutation, take-append-drop}
+use Rattle.std.proofs.lemmas.List.{take_all, length-drop}
+use Rattle.flow_parts.specs.declared.fragment.Fragment.{Fragment}
 use Rattle.record_ledger.specs.Lawful.{parts_of}
 use Rattle.record_ledger.specs.Buckets.{records_of}
 use Rattle.record_ledger.proofs.Dealt.{last_dealt}
 use Rattle.record_ledger.proofs.dealing.deal_piece.Goals as goal
 
-pub loop-part-preserved : goal.loop-part-preserved
-loop-part-preserved c = record {
-  many = c.deal_part.ensures.many ∙ c.loop-part.invariant.many;
-  whole = last_dealt (c.args.piece.items ++ parts_of (records_of c.args.buckets.now)) c.loop-part.piece.items
-      c.pop.new.self.items (c.in-Some.part ∷ []) (parts_of (records_of c.loop-part.buckets))
-      (parts_of (records_of c.deal_part.new.buckets)) c.in-Some.ensures.items c.loop-part.invariant.whole
-      c.in_ok-deal_part.ensures.whole;
-  by_key = λ before. c.in_ok-deal_part.ensures.by_key (c.loop-part.invariant.by_key before);
-}
+-- what is lent from a place on is what is left there
+from_on : (left : ℕ) (items lent : List Fragment) → lent ≡ items → take (length lent - left) (drop left lent) ≡ drop left items
+from_on left items lent same = take_all (length lent - left) (drop left lent) (omega (arith, length-drop left lent))
+    ∙ ap (drop left) same
 
-pub loop-part-preserved-then-len-eq0 : goal.loop-part-preserved-then-len-eq0
-loop-part-preserved-then-len-eq0 c = record {
-  many = c.deal_part.ensures.many ∙ c.loop-part.invariant.many;
-  whole = subst (λ left. IsPermutation (c.args.piece.items ++ parts_of (records_of c.args.buckets.now))
-      (left ++ parts_of (records_of c.deal_part.new.buckets))) (sym c.shrink_to_fit.ensures.items)
-      (last_dealt (c.args.piece.items ++ parts_of (records_of c.args.buckets.now)) c.loop-part.piece.items
-      c.pop.new.self.items (c.in-Some.part ∷ []) (parts_of (records_of c.loop-part.buckets))
-      (parts_of (records_of c.deal_part.new.buckets)) c.in-Some.ensures.items c.loop-part.invariant.whole
-      c.in_ok-deal_part.ensures.whole);
-  by_key = λ before. c.in_ok-deal_part.ensures.by_key (c.loop-part.invariant.by_key before);
-}
+pub loop-piece-preserved : goal.loop-piece-preserved
+loop-piece-preserved c =
+    let items : List Fragment = c.loop-piece.piece.items in
+    let left = (c.len.result - 1) / 4096 * 4096 in
+    let before = parts_of (records_of c.loop-piece.buckets) in
+    let after = parts_of (records_of c.deal_parts.new.buckets) in
+    let all = c.args.piece.items ++ parts_of (records_of c.args.buckets.now) in
+    record {
+      many = c.deal_parts.ensures.many ∙ c.loop-piece.invariant.many;
+      whole = subst (λ rest. IsPermutation all (rest ++ after))
+          (sym (c.shrink_to_fit.ensures.items ∙ c.truncate.ensures.items))
+          (last_dealt all items (take left items) (drop left items) before after (sym (take-append-drop left items))
+          c.loop-piece.invariant.whole
+          (subst (λ parts. IsPermutation (parts ++ before) after)
+          (from_on left items c.deref.result.now c.deref.ensures.value) c.in_ok-deal_parts.ensures.whole));
+      by_key = λ before. c.in_ok-deal_parts.ensures.by_key (c.loop-piece.invariant.by_key before);
+    }

@@ -4,13 +4,13 @@ use Rattle.record_ledger.specs.Lawful.{parts_of}
 use Rattle.record_ledger.specs.Buckets.{records_of, AreByKey}
 use Rattle.record_ledger.proofs.dealing.deal_piece.Given as goal
 
-abbrev pub invariant-loop-part : goal.invariant-loop-part
-invariant-loop-part l = record {
+abbrev pub invariant-loop-piece : goal.invariant-loop-piece
+invariant-loop-piece l = record {
   many : length l.buckets ≡ length l.fn.buckets;
   whole : IsPermutation (l.fn.piece.items ++ parts_of (records_of l.fn.buckets))
       (l.piece.items ++ parts_of (records_of l.buckets));
   by_key : AreByKey l.fn.buckets → AreByKey l.buckets;
 }
 
-abbrev pub decreases-loop-part : goal.decreases-loop-part
-decreases-loop-part l = vec_len l.piece
+abbrev pub decreases-loop-piece : goal.decreases-loop-piece
+decreases-loop-piece l = vec_len l.piece

@@ -3,8 +3,8 @@ use Rattle.std.proofs.Common.{◌≡◌, [], length}
 use Rattle.record_ledger.specs.Buckets.{records_of}
 use Rattle.record_ledger.proofs.dealing.empty_buckets.Given as goal
 
-abbrev pub invariant-loop-count : goal.invariant-loop-count
-invariant-loop-count l = record {
-  many : length l.buckets.items ≡ l.count-index;
+abbrev pub invariant-loop-made : goal.invariant-loop-made
+invariant-loop-made l = record {
+  many : length l.buckets.items ≡ l._made;
   none : records_of l.buckets.items ≡ [];
 }
