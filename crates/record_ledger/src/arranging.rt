@@ -12,7 +12,7 @@ use crate::record::FlowRecord;
 use std::cmp::Ordering;
 
 /// The most records that are arranged: half as many again as a bucket is made for.
-const MOST: usize = 6144;
+const MOST: usize = 3072;
 
 /// Where a record lies, and the leading number of its key.
 #[derive(Clone, Copy, Debug)]
@@ -21,7 +21,7 @@ struct Lead {
     at: usize,
 }
 
-/// Brings records near the order of their keys, where they are at most 1,536.
+/// Brings records near the order of their keys, where they are at most 3,072.
 pub fn arrange(records: &mut [FlowRecord])
     ensures permutation { IsPermutation records.old records.new }
     ensures many { length records.new ≡ length records.old }

@@ -12,22 +12,23 @@ use no_memory::NoMemory;
 use std::alloc::Global;
 
 /// About how many fragments a bucket is made for.
-const BUCKET: usize = 4096;
+const BUCKET: usize = 2048;
 
 /// The most buckets that are made.
-const MOST_BUCKETS: usize = 1024;
+const MOST_BUCKETS: usize = 2048;
 
 /// How many fragments of a piece are dealt before their room in it is let go.
 const LET_GO: usize = 4096;
 
-/// How many records a bucket has room for beside its share, and what part of its share besides: keys don't spread evenly.
+/// How many records a bucket has room for beside its share, and which part of its share besides that: keys don't spread
+/// evenly.
 const SPARE: usize = 64;
 const SPARE_PART: usize = 8;
 
 /// Fragments as records, with no reason yet, each in the bucket of its key.
 ///
-/// The buckets get their room first, and are filled while the room of the pieces is let go: so hardly more than the
-/// records is held at any time.
+/// The buckets get room for their shares first, of which only what is filled takes memory, and are filled while the room
+/// of the pieces is let go: so hardly more than the records is held at any time.
 pub fn deal(alloc: Global, parts: PartList) -> Result<Vec<Vec<FlowRecord>>, NoMemory>
     ensures { IfOk result (λ buckets. AreDealt parts buckets.items) }
 {
@@ -60,7 +61,7 @@ fn count_of(pieces: &[Vec<Fragment>]) -> usize {
     count
 }
 
-/// How many buckets are made for so many fragments: a power of two, about one for each 4,096 of them, at most 1,024.
+/// How many buckets are made for so many fragments: a power of two, about one for each 2,048 of them, at most 2,048.
 fn bucket_count(fragments: usize) -> usize
     ensures { 1 ≤ result }
 {
