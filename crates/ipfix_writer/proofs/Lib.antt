@@ -4,6 +4,7 @@ pub mod Lengths
 pub mod Filling
 pub mod Templates
 pub mod UnderWay
+pub mod Runs
 pub mod OneLayout
 pub mod Rests
 pub mod Through

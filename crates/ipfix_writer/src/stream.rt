@@ -1,9 +1,11 @@
 //! Whole streams.
 
-ghost use Rattle.std.specs.Prelude.{◌≡◌, ◌≤◌, ◌<◌, ◌^◌, List, ℕ, IfOk, OnErr};
+ghost use Rattle.std.specs.Prelude.{◌≡◌, ◌≤◌, ◌<◌, ◌^◌, ◌++◌, List, ℕ, IfOk, OnOk, OnErr};
 ghost use Rattle.std.specs.Io.KnownBytes.{Appends};
 ghost use Rattle.meter_io.specs.Causes.{HasCause};
+ghost use Rattle.record_ledger.specs.declared.record.FlowRecord.{FlowRecord};
 ghost use Rattle.ipfix_writer.specs.Layout.{IsLayout, IsLayoutOf, BeginsLayout};
+ghost use Rattle.ipfix_writer.specs.Emitting.{IsUnderWay};
 ghost use Rattle.ipfix_model.specs.Sizes.{template_message_length};
 
 use crate::emitter::{Emitter, Phase};
@@ -12,8 +14,70 @@ use crate::messages::{MessageForm, append_messages};
 use ipfix_model::TEMPLATE_MESSAGE_LENGTH;
 use meter_io::{Failed, Sink};
 use no_memory::NoMemory;
-use record_ledger::{FlowRecord, RecordList};
+use record_ledger::{FlowRecord, RUN, RecordList};
 use std::alloc::Global;
+
+/// Takes in these records, one after another.
+///
+/// `Failed` comes only where the sink's count of faults rose. The sink then took a beginning of the stream, and the
+/// emitter can only be dropped.
+fn emit_run<K: Sink>(emitter: &mut Emitter, run: &[FlowRecord], sink: &mut K) -> Result<(), Failed>
+    requires { emitter.old.phase ≡ Phase.Started }
+    ensures taken { OnOk result ((flows : List FlowRecord) (written : List ℕ) → IsUnderWay emitter.old flows written
+        → (bytes : List ℕ) × Appends (K.held sink.old) (K.held sink.new) bytes
+        × IsUnderWay emitter.new (flows ++ run.now) (written ++ bytes)) }
+    ensures broken { OnErr result ((flows : List FlowRecord) (written : List ℕ) → IsUnderWay emitter.old flows written
+        → (bytes : List ℕ) × Appends (K.held sink.old) (K.held sink.new) bytes
+        × ((rest : List FlowRecord) → BeginsLayout emitter.old.size emitter.old.export_time
+        (flows ++ (run.now ++ rest)) (written ++ bytes))) }
+    ensures settings { (emitter.new.size ≡ emitter.old.size) × (emitter.new.export_time ≡ emitter.old.export_time) }
+    ensures started { OnOk result (emitter.new.phase ≡ Phase.Started) }
+    ensures phase { OnErr result (emitter.new.phase ≡ Phase.Broken) }
+    ensures cause { HasCause (K.faults sink.old) (K.faults sink.new) result }
+{
+    for flow in run {
+        match emitter.record(flow, sink) {
+            Ok(()) => {}
+            Err(Failed) => return Err(Failed),
+        }
+    }
+    Ok(())
+}
+
+/// Takes in all records of a list, run by run: those of a run are copied together, since they lie far apart in memory.
+///
+/// `Failed` comes only where the sink's count of faults rose. The sink then took a beginning of the stream, and the
+/// emitter can only be dropped.
+fn emit_records<K: Sink>(
+    emitter: &mut Emitter,
+    records: &RecordList,
+    sink: &mut K,
+) -> Result<(), Failed>
+    requires { emitter.old.phase ≡ Phase.Started }
+    ensures taken { OnOk result ((flows : List FlowRecord) (written : List ℕ) → IsUnderWay emitter.old flows written
+        → (bytes : List ℕ) × Appends (K.held sink.old) (K.held sink.new) bytes
+        × IsUnderWay emitter.new (flows ++ records.now) (written ++ bytes)) }
+    ensures broken { OnErr result ((flows : List FlowRecord) (written : List ℕ) → IsUnderWay emitter.old flows written
+        → (bytes : List ℕ) × Appends (K.held sink.old) (K.held sink.new) bytes
+        × ((rest : List FlowRecord) → BeginsLayout emitter.old.size emitter.old.export_time
+        (flows ++ (records.now ++ rest)) (written ++ bytes))) }
+    ensures settings { (emitter.new.size ≡ emitter.old.size) × (emitter.new.export_time ≡ emitter.old.export_time) }
+    ensures started { OnOk result (emitter.new.phase ≡ Phase.Started) }
+    ensures phase { OnErr result (emitter.new.phase ≡ Phase.Broken) }
+    ensures cause { HasCause (K.faults sink.old) (K.faults sink.new) result }
+{
+    if records.len() == 0 {
+        return Ok(());
+    }
+    let mut run = [*records.get(0); RUN];
+    for number in 0..records.len().div_ceil(RUN) {
+        match emit_run(emitter, records.run_from(number * RUN, &mut run), sink) {
+            Ok(()) => {}
+            Err(Failed) => return Err(Failed),
+        }
+    }
+    Ok(())
+}
 
 /// Writes the whole stream of these records by a fresh emitter, and tells how many messages it has, the one with the
 /// templates among them.
@@ -36,11 +100,9 @@ pub fn emit_all<K: Sink>(
         Ok(()) => {}
         Err(Failed) => return Err(Failed),
     }
-    for place in 0..records.len() {
-        match emitter.record(records.get(place), sink) {
-            Ok(()) => {}
-            Err(Failed) => return Err(Failed),
-        }
+    match emit_records(&mut emitter, records, sink) {
+        Ok(()) => {}
+        Err(Failed) => return Err(Failed),
     }
     emitter.finish(sink)
 }

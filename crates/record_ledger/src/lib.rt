@@ -33,4 +33,4 @@ mod spreading;
 pub use gathering::gather;
 pub use no_memory::NoMemory;
 pub use record::{ACTIVE_TIMEOUT, END_OF_FLOW, FORCED_END, FlowRecord, IDLE_TIMEOUT};
-pub use record_list::RecordList;
+pub use record_list::{RUN, RecordList};

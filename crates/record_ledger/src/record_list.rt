@@ -1,6 +1,6 @@
 //! Records in the written order, held in buckets.
 
-ghost use Rattle.std.specs.Prelude.{◌≡◌, ◌<◌, length, slice_index_or, IsPermutation, IsSorted, IfOk};
+ghost use Rattle.std.specs.Prelude.{◌≡◌, ◌<◌, length, take, drop, slice_index_or, IsPermutation, IsSorted, IfOk};
 ghost use Rattle.flow_key.specs.declared.key.FlowKey.{FlowKey};
 ghost use Rattle.record_ledger.specs.Buckets.{records_of, EndInTurn};
 ghost use Rattle.record_ledger.specs.Lawful.{of_key};
@@ -14,6 +14,9 @@ use no_memory::NoMemory;
 use std::alloc::Global;
 use std::marker::Model;
 use std::thread::Threads;
+
+/// How many records are copied at once.
+pub const RUN: usize = 16;
 
 /// Records in the written order: by last time, then by key. Contracts see it as the list.
 ///
@@ -68,5 +71,17 @@ impl RecordList {
     {
         let place = self.order[place];
         &self.buckets[place.bucket][place.at]
+    }
+
+    /// Copies of the records from a place of the list on, at most 16 of them, in `run`. They lie far apart in memory,
+    /// and are fetched together.
+    pub fn run_from<'a>(&self, place: usize, run: &'a mut [FlowRecord; RUN]) -> &'a [FlowRecord]
+        ensures { result.now ≡ take 16 (drop place self.now) }
+    {
+        let count = self.len().saturating_sub(place).min(RUN);
+        for at in 0..count {
+            run[at] = *self.get(place + at);
+        }
+        &run[..count]
     }
 }
