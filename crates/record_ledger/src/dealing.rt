@@ -23,6 +23,7 @@ const LET_GO: usize = 4096;
 /// How many records a bucket has room for beside its share, and which part of its share besides that: keys don't spread
 /// evenly.
 const SPARE: usize = 64;
+
 const SPARE_PART: usize = 8;
 
 /// Fragments as records, with no reason yet, each in the bucket of its key.
@@ -48,7 +49,9 @@ fn buckets_for(alloc: Global, pieces: &[Vec<Fragment>]) -> Result<Vec<Vec<FlowRe
     let fragments = count_of(pieces);
     let count = bucket_count(fragments);
     let share = fragments / count;
-    let room = share.saturating_add(share / SPARE_PART).saturating_add(SPARE);
+    let room = share
+        .saturating_add(share / SPARE_PART)
+        .saturating_add(SPARE);
     empty_buckets(alloc, count, room)
 }
 
