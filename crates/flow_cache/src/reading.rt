@@ -1,6 +1,7 @@
 //! The entries of a set are read.
 
-ghost use Rattle.std.specs.Prelude.{◌≡◌, ℕ, ◌+◌, ◌-◌, ◌<◌, ◌∷◌, IsTrue, All, Some, true, false, length, map, slice_index};
+ghost use Rattle.std.specs.Prelude.{◌≡◌, ℕ, ◌+◌, ◌-◌, ◌<◌, ◌≤◌, ◌∷◌, IsTrue, All, Some, true, false, length, map};
+ghost use Rattle.std.specs.Prelude.{slice_index};
 ghost use Rattle.cache_face.specs.Choice.{IsSmallEntry};
 ghost use Rattle.cache_face.specs.Keeping.{entry_of, IsWhole};
 ghost use Rattle.cache_face.specs.Notes.{first_note};
@@ -114,30 +115,34 @@ impl PebrCache {
         ensures few { HasMade 10 (operations_by pass.old) (operations_by pass.new) }
     {
         let mut words = [0; 10];
-        self.read_words(pass, place, 0, &mut words);
+        self.read_words(pass, place, 0, 10, &mut words);
         entry(words)
     }
 
-    /// Reads the words of the slot under a shield from one of them on into `words`, where those before it were read.
+    /// Reads the words of the slot under a shield from `from` on and before `to` into `words`, where the others of its
+    /// ten were read.
     #[inline(always)]
     fn read_words(
         &self,
         pass: &mut RootPass<CacheRule>,
         place: usize,
         from: usize,
+        to: usize,
         words: &mut [u64; 10],
     )
         requires of { IsOf self.now.roots pass.old }
         requires place { place < 4 }
         requires valid { IsTrue (is_valid_at (known_by_pass pass.old) place) }
-        requires from { from < 10 }
+        requires range { (from < to) × (to ≤ 10) }
         requires before { (word : ℕ) → word < from → written_at (past_by pass.old).reads
+            (slot_at (known_by_pass pass.old) place) word ≡ Some (slice_index words.old word) }
+        requires behind { (word : ℕ) → to ≤ word → word < 10 → written_at (past_by pass.old).reads
             (slot_at (known_by_pass pass.old) place) word ≡ Some (slice_index words.old word) }
         ensures same { IsSame self.now.roots pass.old pass.new }
         ensures note { note_by first_note pass.new ≡ note_by first_note pass.old }
         ensures known { known_by_pass pass.new ≡ known_by_pass pass.old }
         ensures past { HasOnlyRead (past_by pass.old) (past_by pass.new) }
-        ensures grown { from ≡ 0 → HasReadTen (slot_at (known_by_pass pass.old) place) (entry_of words.new)
+        ensures grown { from ≡ 0 → to ≡ 10 → HasReadTen (slot_at (known_by_pass pass.old) place) (entry_of words.new)
             (past_by pass.old).reads
             (past_by pass.new).reads }
         ensures more { HasMore (past_by pass.old).reads (past_by pass.new).reads }
@@ -145,17 +150,17 @@ impl PebrCache {
             (slot_at (known_by_pass pass.old) place) word ≡ Some (slice_index words.new word) }
         ensures long { length words.new ≡ 10 }
         ensures whole { IsWhole words.new }
-        ensures few { HasSpared (shape_at self.now.roots) (number_by pass.old) (10 - from) (operations_by pass.old)
+        ensures few { HasSpared (shape_at self.now.roots) (number_by pass.old) (to - from) (operations_by pass.old)
             (operations_by pass.new) }
     {
-        for word in from..10 {
+        for word in from..to {
             words[word] = self.roots.read(pass, place, word);
         }
     }
 
-    /// Reads the first word of the slot under each of the four shields.
+    /// Reads the first and the last word of the slot under each of the four shields.
     #[inline(always)]
-    fn read_firsts(&self, pass: &mut RootPass<CacheRule>) -> [u64; 4]
+    fn read_ends(&self, pass: &mut RootPass<CacheRule>) -> ([u64; 4], [u64; 4])
         requires of { IsOf self.now.roots pass.old }
         requires valid { (place : ℕ) → place < 4 → IsTrue (is_valid_at (known_by_pass pass.old) place) }
         ensures same { IsSame self.now.roots pass.old pass.new }
@@ -163,31 +168,38 @@ impl PebrCache {
         ensures known { known_by_pass pass.new ≡ known_by_pass pass.old }
         ensures past { HasOnlyRead (past_by pass.old) (past_by pass.new) }
         ensures more { HasMore (past_by pass.old).reads (past_by pass.new).reads }
-        ensures read { (place : ℕ) → place < 4 → written_at (past_by pass.new).reads
-            (slot_at (known_by_pass pass.old) place) 0 ≡ Some (slice_index result place) }
-        ensures few { HasSpared (shape_at self.now.roots) (number_by pass.old) 4 (operations_by pass.old)
+        ensures firsts { (place : ℕ) → place < 4 → written_at (past_by pass.new).reads
+            (slot_at (known_by_pass pass.old) place) 0 ≡ Some (slice_index result.0 place) }
+        ensures lasts { (place : ℕ) → place < 4 → written_at (past_by pass.new).reads
+            (slot_at (known_by_pass pass.old) place) 9 ≡ Some (slice_index result.1 place) }
+        ensures few { HasSpared (shape_at self.now.roots) (number_by pass.old) 8 (operations_by pass.old)
             (operations_by pass.new) }
     {
         let mut firsts = [0; 4];
+        let mut lasts = [0; 4];
         for place in 0..4 {
             firsts[place] = self.roots.read(pass, place, 0);
+            lasts[place] = self.roots.read(pass, place, 9);
         }
-        firsts
+        (firsts, lasts)
     }
 
-    /// Reads the other nine words of the slot under a shield, of which the first was read, into `words` behind it.
+    /// Reads the other eight words of the slot under a shield, of which the first and the last were read, and puts all
+    /// ten into `words`.
     #[inline(always)]
     fn read_rest(
         &self,
         pass: &mut RootPass<CacheRule>,
         place: usize,
         first: u64,
+        last: u64,
         words: &mut [u64; 10],
     )
         requires of { IsOf self.now.roots pass.old }
         requires place { place < 4 }
         requires valid { IsTrue (is_valid_at (known_by_pass pass.old) place) }
-        requires before { written_at (past_by pass.old).reads (slot_at (known_by_pass pass.old) place) 0 ≡ Some first }
+        requires first { written_at (past_by pass.old).reads (slot_at (known_by_pass pass.old) place) 0 ≡ Some first }
+        requires last { written_at (past_by pass.old).reads (slot_at (known_by_pass pass.old) place) 9 ≡ Some last }
         ensures same { IsSame self.now.roots pass.old pass.new }
         ensures note { note_by first_note pass.new ≡ note_by first_note pass.old }
         ensures known { known_by_pass pass.new ≡ known_by_pass pass.old }
@@ -197,15 +209,17 @@ impl PebrCache {
             (slot_at (known_by_pass pass.old) place) word ≡ Some (slice_index words.new word) }
         ensures long { length words.new ≡ 10 }
         ensures whole { IsWhole words.new }
-        ensures few { HasSpared (shape_at self.now.roots) (number_by pass.old) 9 (operations_by pass.old)
+        ensures few { HasSpared (shape_at self.now.roots) (number_by pass.old) 8 (operations_by pass.old)
             (operations_by pass.new) }
     {
         words[0] = first;
-        self.read_words(pass, place, 1, words);
+        words[9] = last;
+        self.read_words(pass, place, 1, 9, words);
     }
 
-    /// Reads the ten words of each entry of the set whose roots are protected into `contents`. The first word of each is
-    /// read before the others, so that the memory of all four is fetched at once.
+    /// Reads the ten words of each entry of the set whose roots are protected into `contents`. The first and the last
+    /// word of each are read before the others, so that the memory of all four is fetched at once: a slot lies on two
+    /// lines.
     pub(crate) fn read_contents(
         &self,
         pass: &mut RootPass<CacheRule>,
@@ -225,11 +239,11 @@ impl PebrCache {
         ensures few { HasSpared (shape_at self.now.roots) (number_by pass.old) 40 (operations_by pass.old)
             (operations_by pass.new) }
     {
-        let firsts = self.read_firsts(pass);
-        self.read_rest(pass, 0, firsts[0], &mut contents[0]);
-        self.read_rest(pass, 1, firsts[1], &mut contents[1]);
-        self.read_rest(pass, 2, firsts[2], &mut contents[2]);
-        self.read_rest(pass, 3, firsts[3], &mut contents[3]);
+        let (firsts, lasts) = self.read_ends(pass);
+        self.read_rest(pass, 0, firsts[0], lasts[0], &mut contents[0]);
+        self.read_rest(pass, 1, firsts[1], lasts[1], &mut contents[1]);
+        self.read_rest(pass, 2, firsts[2], lasts[2], &mut contents[2]);
+        self.read_rest(pass, 3, firsts[3], lasts[3], &mut contents[3]);
     }
 
     /// Reads the four entries of the set whose roots are protected.

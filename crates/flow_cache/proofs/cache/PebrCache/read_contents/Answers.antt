@@ -48,7 +48,7 @@ four_set (x ∷ y ∷ z ∷ w ∷ v ∷ vs) a b c d long = absurd (omega (arith,
 
 pub returns-clause-ten : goal.returns-clause-ten
 returns-clause-ten c =
-    let f = c.read_firsts-firsts in
+    let f = c.read_ends in
     let a = c.read_rest in let b = c.read_rest-2 in let d = c.read_rest-3 in let e = c.read_rest-4 in
     let known = known_by_pass c.args.pass.now in
     let r : List Read = (past_by e.new.pass).reads in
@@ -77,7 +77,7 @@ returns-clause-ten c =
 
 pub returns-clause-entries : goal.returns-clause-entries
 returns-clause-entries c set protected =
-    let f = c.read_firsts-firsts in
+    let f = c.read_ends in
     let a = c.read_rest in let b = c.read_rest-2 in let d = c.read_rest-3 in let e = c.read_rest-4 in
     let known = known_by_pass c.args.pass.now in
     let past : History = past_by e.new.pass in
@@ -114,7 +114,7 @@ returns-clause-entries c set protected =
 
 pub returns-clause-whole : goal.returns-clause-whole
 returns-clause-whole c =
-    let f = c.read_firsts-firsts in
+    let f = c.read_ends in
     let a = c.read_rest in let b = c.read_rest-2 in let d = c.read_rest-3 in let e = c.read_rest-4 in
     subst (All IsWhole)
     (sym (four_set c.args.contents.now a.new.words b.new.words d.new.words e.new.words c.told-contents))
@@ -126,27 +126,63 @@ returns-clause-few c =
     let shape = shape_at c.args.self.now.roots in
     let me : ℕ = number_by c.args.pass.now in
     let x = operations_by c.args.pass.now in
-    let f = c.read_firsts-firsts in
+    let f = c.read_ends in
     let a = c.read_rest in let b = c.read_rest-2 in let d = c.read_rest-3 in let e = c.read_rest-4 in
     let at_f : number_by f.new.pass ≡ me = f.ensures.same.still.1 in
     let at_a : number_by a.new.pass ≡ me = a.ensures.same.still.1 ∙ at_f in
     let at_b : number_by b.new.pass ≡ me = b.ensures.same.still.1 ∙ at_a in
     let at_d : number_by d.new.pass ≡ me = d.ensures.same.still.1 ∙ at_b in
-    spared_on shape me 31 9 (number_by d.new.pass) x (operations_by d.new.pass) (operations_by e.new.pass) at_d
-    (spared_on shape me 22 9 (number_by b.new.pass) x (operations_by b.new.pass) (operations_by d.new.pass) at_b
-    (spared_on shape me 13 9 (number_by a.new.pass) x (operations_by a.new.pass) (operations_by b.new.pass) at_a
-    (spared_on shape me 4 9 (number_by f.new.pass) x (operations_by f.new.pass) (operations_by a.new.pass) at_f
+    spared_on shape me 32 8 (number_by d.new.pass) x (operations_by d.new.pass) (operations_by e.new.pass) at_d
+    (spared_on shape me 24 8 (number_by b.new.pass) x (operations_by b.new.pass) (operations_by d.new.pass) at_b
+    (spared_on shape me 16 8 (number_by a.new.pass) x (operations_by a.new.pass) (operations_by b.new.pass) at_a
+    (spared_on shape me 8 8 (number_by f.new.pass) x (operations_by f.new.pass) (operations_by a.new.pass) at_f
     f.ensures.few a.ensures.few) b.ensures.few) d.ensures.few)
     e.ensures.few
 
--- what was read first is read so still, when the fourth is read
-pub read_rest-requires-4-clause-before : goal.read_rest-requires-4-clause-before
-read_rest-requires-4-clause-before c =
-    let f = c.read_firsts-firsts in let a = c.read_rest in let b = c.read_rest-2 in let d = c.read_rest-3 in
-    let slot : ℕ = slot_at (known_by_pass c.args.pass.now) 3 in
-    let value : ℕ = slice_index f.result 3 in
-    let at_d : slot_at (known_by_pass d.new.pass) 3 ≡ slot = ap (λ (s : Seat). slot_at s 3)
-    (d.ensures.known ∙ b.ensures.known ∙ a.ensures.known ∙ f.ensures.known) in
-    subst (λ n. written_at (past_by d.new.pass).reads n 0 ≡ Some value) (sym at_d)
-    (d.ensures.more slot 0 value (b.ensures.more slot 0 value (a.ensures.more slot 0 value
-    (f.ensures.read 3 (omega arith)))))
+-- what was read at first of a word of a slot is read so still, when its other words are read
+read_still : (slot slot' word value : ℕ) (old new : List Read) → slot' ≡ slot → written_at old slot word ≡ Some value
+    → HasMore old new → written_at new slot' word ≡ Some value
+read_still slot slot' word value old new same is more =
+    subst (λ n. written_at new n word ≡ Some value) (sym same) (more slot word value is)
+
+pub read_rest-requires-3-clause-first : goal.read_rest-requires-3-clause-first
+read_rest-requires-3-clause-first c =
+    let f = c.read_ends in let a = c.read_rest in let b = c.read_rest-2 in
+    read_still (slot_at (known_by_pass c.args.pass.now) 2) (slot_at (known_by_pass b.new.pass) 2) 0
+    (slice_index f.result.0 2) (past_by f.new.pass).reads (past_by b.new.pass).reads
+    (ap (λ (s : Seat). slot_at s 2) (b.ensures.known ∙ a.ensures.known ∙ f.ensures.known))
+    (f.ensures.firsts 2 (omega arith))
+    (more_more (past_by f.new.pass).reads (past_by a.new.pass).reads (past_by b.new.pass).reads a.ensures.more
+    b.ensures.more)
+
+pub read_rest-requires-3-clause-last : goal.read_rest-requires-3-clause-last
+read_rest-requires-3-clause-last c =
+    let f = c.read_ends in let a = c.read_rest in let b = c.read_rest-2 in
+    read_still (slot_at (known_by_pass c.args.pass.now) 2) (slot_at (known_by_pass b.new.pass) 2) 9
+    (slice_index f.result.1 2) (past_by f.new.pass).reads (past_by b.new.pass).reads
+    (ap (λ (s : Seat). slot_at s 2) (b.ensures.known ∙ a.ensures.known ∙ f.ensures.known))
+    (f.ensures.lasts 2 (omega arith))
+    (more_more (past_by f.new.pass).reads (past_by a.new.pass).reads (past_by b.new.pass).reads a.ensures.more
+    b.ensures.more)
+
+pub read_rest-requires-4-clause-first : goal.read_rest-requires-4-clause-first
+read_rest-requires-4-clause-first c =
+    let f = c.read_ends in let a = c.read_rest in let b = c.read_rest-2 in let d = c.read_rest-3 in
+    read_still (slot_at (known_by_pass c.args.pass.now) 3) (slot_at (known_by_pass d.new.pass) 3) 0
+    (slice_index f.result.0 3) (past_by f.new.pass).reads (past_by d.new.pass).reads
+    (ap (λ (s : Seat). slot_at s 3) (d.ensures.known ∙ b.ensures.known ∙ a.ensures.known ∙ f.ensures.known))
+    (f.ensures.firsts 3 (omega arith))
+    (more_more (past_by f.new.pass).reads (past_by b.new.pass).reads (past_by d.new.pass).reads
+    (more_more (past_by f.new.pass).reads (past_by a.new.pass).reads (past_by b.new.pass).reads a.ensures.more
+    b.ensures.more) d.ensures.more)
+
+pub read_rest-requires-4-clause-last : goal.read_rest-requires-4-clause-last
+read_rest-requires-4-clause-last c =
+    let f = c.read_ends in let a = c.read_rest in let b = c.read_rest-2 in let d = c.read_rest-3 in
+    read_still (slot_at (known_by_pass c.args.pass.now) 3) (slot_at (known_by_pass d.new.pass) 3) 9
+    (slice_index f.result.1 3) (past_by f.new.pass).reads (past_by d.new.pass).reads
+    (ap (λ (s : Seat). slot_at s 3) (d.ensures.known ∙ b.ensures.known ∙ a.ensures.known ∙ f.ensures.known))
+    (f.ensures.lasts 3 (omega arith))
+    (more_more (past_by f.new.pass).reads (past_by b.new.pass).reads (past_by d.new.pass).reads
+    (more_more (past_by f.new.pass).reads (past_by a.new.pass).reads (past_by b.new.pass).reads a.ensures.more
+    b.ensures.more) d.ensures.more)

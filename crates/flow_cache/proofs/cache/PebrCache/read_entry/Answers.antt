@@ -30,7 +30,7 @@ returns-clause-entry c =
 
 pub returns-clause-grown : goal.returns-clause-grown
 returns-clause-grown c =
-    let g = (c.read_words.ensures.grown refl) in
+    let g = (c.read_words.ensures.grown refl refl) in
     record { reads = g.reads; grown = g.grown; many = g.many; ten = g.ten; shows = g.shows ∙ sym c.entry.ensures }
 
 pub returns-clause-small : goal.returns-clause-small

@@ -1,9 +1,9 @@
-use Rattle.std.proofs.Common.{rules, ◌≡◌, ◌≢◌, ◌+◌, ◌-◌, ◌<◌, ◌∙◌, [], ◌∷◌, ℕ, List, Some, length, set, refl, sym, ap, subst}
-use Rattle.std.proofs.Common.{arith}
+use Rattle.std.proofs.Common.{rules, ◌≡◌, ◌≢◌, ◌+◌, ◌-◌, ◌<◌, ◌≤◌, ◌∙◌, [], ◌∷◌, ℕ, suc, List, Some, length, set, refl}
+use Rattle.std.proofs.Common.{sym, ap, subst, arith}
 use Rattle.std.specs.Prelude.{slice_index}
 use Rattle.std.proofs.lemmas.List.{length-set, get_or-set_same, get_or-set_other}
 use mathlib.Core.Logic.{dite}
-use native.Mathlib.Decide.{ℕ_discrete}
+use native.Mathlib.Decide.{ℕ_discrete, dec_le}
 use Rattle.cache_face.specs.Keeping.{entry_of}
 use Rattle.pebr_core.specs.State.{Seat}
 use Rattle.pebr_core.specs.declared.kinds.Shape.{Shape}
@@ -42,15 +42,16 @@ self_less n = omega arith
 pub loop-word-init : goal.loop-word-init
 loop-word-init c = record {
   high = omega arith;
-  low = (let l = c.requires.from in omega (arith, l));
+  low = (let l = c.requires.range.0 in omega (arith, l));
   long = search rules;
   same = search rules;
   note = refl;
   known = refl;
   past = refl;
-  grown = λ none. ([], refl, none_before none, λ k lt. absurd (omega (arith, none, lt)));
+  grown = λ none all. ([], refl, none_before none, λ k lt. absurd (omega (arith, none, lt)));
   more = λ slot word value is. is;
   read = c.requires.before;
+  behind = c.requires.behind;
   whole = λ some. absurd (omega (arith, some));
   few = subst (λ n. HasSpared (shape_at c.args.self.now.roots) (number_by c.args.pass.now) n
       (operations_by c.args.pass.now) (operations_by c.args.pass.now)) (sym (self_less c.args.from))
@@ -75,7 +76,10 @@ loop-word-preserved c =
     λ read at s w. c.read.ensures.again read at (s ∙ sym slot_is) w in
     let rest : History → History =
     λ p. record p { last = (past_by new).last; steps = (past_by new).steps; reads = (past_by new).reads } in
-    let low : word < length c.loop-word.words = (let l = before.long in omega (arith, l, c.loop-word-test.true)) in
+    let low : word < length c.loop-word.words = (let l = before.long in let t = c.requires.range.1 in
+    omega (arith, l, t, c.loop-word-test.true)) in
+    let still : HasMore (past_by old).reads (past_by new).reads =
+    subst (HasMore (past_by old).reads) (sym reads) (read_more (past_by old).reads slot word value again) in
     let one : word + 1 - c.args.from ≡ (word - c.args.from) + 1 = (let h = before.high in omega (arith, h)) in
     record {
       high = (let h = before.high in omega (arith, h));
@@ -85,16 +89,18 @@ loop-word-preserved c =
       note = c.read.ensures.note ∙ before.note;
       known = c.read.ensures.known ∙ before.known;
       past = ap rest c.read.ensures.step.past ∙ ap rest before.past;
-      grown = λ none. (let g = before.grown none in (
+      grown = λ none all. (let g = before.grown none all in (
         record { slot = slot; word = word; value = value } ∷ g.0,
         reads ∙ ap (λ (rs : List Read). record { slot = slot; word = word; value = value } ∷ rs) g.1,
         (let many = g.2 in omega (arith, many)),
         next_word g.0 slot word value c.loop-word.words low g.3,
       ));
-      more = more_more (past_by c.args.pass.now).reads (past_by old).reads (past_by new).reads before.more
-          (subst (HasMore (past_by old).reads) (sym reads) (read_more (past_by old).reads slot word value again));
+      more = more_more (past_by c.args.pass.now).reads (past_by old).reads (past_by new).reads before.more still;
       read = λ k lt. subst (λ rs. written_at rs slot k ≡ Some (slice_index (set c.loop-word.words word value) k))
           (sym reads) (next_word (past_by old).reads slot word value c.loop-word.words low before.read k lt);
+      behind = λ k far lt. still slot k (slice_index c.loop-word.words k) (before.behind k far lt)
+          ∙ ap (λ n. Some n) (sym (get_or-set_other c.loop-word.words word k value 0
+          (λ e. omega (arith, e, far, c.loop-word-test.true))));
       whole = λ some content read. c.read.ensures.whole content
           (subst (λ n. HasReadWhole (shape_at roots) (past_by new) n content) (sym slot_is) read);
       few = subst (λ n. HasSpared (shape_at roots) (number_by c.args.pass.now) n (operations_by c.args.pass.now)
@@ -108,12 +114,12 @@ loop-word-preserved c =
     }
 
 pub returns-clause-grown : goal.returns-clause-grown
-returns-clause-grown c none =
-    let g = c.loop-word.invariant.grown none in
+returns-clause-grown c none all =
+    let g = c.loop-word.invariant.grown none all in
     let words : List ℕ = c.loop-word.words in
     let slot : ℕ = slot_at (known_by_pass c.args.pass.now) c.args.place in
     let whole : c.loop-word.word ≡ 10 = (let t = c.loop-word-test.false in let l = c.loop-word.invariant.low in
-    omega (arith, t, l)) in
+    omega (arith, t, l, all)) in
     let each : (k : ℕ) → k < 10 → written_at g.0 slot k ≡ Some (slice_index words k) =
     λ k lt. g.3 k (omega (arith, lt, whole)) in
     let is : words ≡ words_read g.0 slot = words_are g.0 slot words c.loop-word.invariant.long each in record {
@@ -124,19 +130,28 @@ returns-clause-grown c none =
       shows = ap entry_of (sym is);
     }
 
+pub returns-clause-read : goal.returns-clause-read
+returns-clause-read c k lt =
+    let before = c.loop-word.invariant in
+    dite (dec_le (suc k) c.loop-word.word) (λ (done : suc k ≤ c.loop-word.word). before.read k done)
+    (λ (later : ¬ (suc k ≤ c.loop-word.word)). before.behind k
+    (let t = c.loop-word-test.false in omega (arith, t, later)) lt)
+
 pub returns-clause-whole : goal.returns-clause-whole
 returns-clause-whole c =
     let before = c.loop-word.invariant in
     let end = c.loop-word.pass in
     let slot : ℕ = slot_at (known_by_pass c.args.pass.now) c.args.place in
     let wide : (shape_at c.args.self.now.roots).width ≡ 10 = ap (λ (s : Shape). s.width) c.args.self.now.shaped in
-    before.whole (let t = c.loop-word-test.false in let f = c.requires.from in omega (arith, t, f)) c.loop-word.words (
+    before.whole (let t = c.loop-word-test.false in let f = c.requires.range.0 in omega (arith, t, f))
+    c.loop-word.words (
       before.long ∙ sym wide,
       λ word lt. found_read (past_by end).reads slot word (slice_index c.loop-word.words word)
-          (before.read word (let t = c.loop-word-test.false in omega (arith, lt, wide, t))),
+          (returns-clause-read c word (omega (arith, lt, wide))),
     )
 
 pub returns-clause-few : goal.returns-clause-few
 returns-clause-few c = spared_in (shape_at c.args.self.now.roots) (number_by c.args.pass.now)
-    (c.loop-word.word - c.args.from) (10 - c.args.from) (operations_by c.args.pass.now) (operations_by c.loop-word.pass)
+    (c.loop-word.word - c.args.from) (c.args.to - c.args.from) (operations_by c.args.pass.now)
+    (operations_by c.loop-word.pass)
     (let l = c.loop-word.invariant.low in omega (arith, l)) c.loop-word.invariant.few
