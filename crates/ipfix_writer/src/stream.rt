@@ -69,7 +69,7 @@ fn emit_records<K: Sink>(
     if records.len() == 0 {
         return Ok(());
     }
-    let mut run = [*records.get(0); RUN];
+    let mut run = [records.get(0); RUN];
     for number in 0..records.len().div_ceil(RUN) {
         match emit_run(emitter, records.run_from(number * RUN, &mut run), sink) {
             Ok(()) => {}

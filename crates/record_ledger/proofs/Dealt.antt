@@ -85,14 +85,14 @@ pushed (c ∷ bs) (suc j) b r d l e =
     (IsPermutation-append_right c.items (r ∷ records_of bs) (records_of (set bs j b))
     (pushed bs j b r d (omega arith) e))
 
--- the last fragments of some are dealt
+-- the last fragments of some are moved
 pub last_dealt : (A F rest dealt X Y : List Fragment) → F ≡ rest ++ dealt → IsPermutation A (F ++ X)
     → IsPermutation (dealt ++ X) Y → IsPermutation A (rest ++ Y)
 last_dealt A F rest dealt X Y e h k = IsPermutation-trans A (rest ++ (dealt ++ X)) (rest ++ Y)
     (subst (IsPermutation A) (ap (λ l. l ++ X) e ∙ append_assoc rest dealt X) h)
     (IsPermutation-append_right rest (dealt ++ X) Y k)
 
--- the next fragment of some is dealt
+-- the next fragment of some is moved
 pub next_dealt : (A left rest : List Fragment) (part : Fragment) (X Y : List Fragment) → left ≡ part ∷ rest
     → IsPermutation A (left ++ X) → IsPermutation (part ∷ X) Y → IsPermutation A (rest ++ Y)
 next_dealt A left rest part X Y e h k = IsPermutation-trans A (rest ++ part ∷ X) (rest ++ Y)
@@ -100,7 +100,7 @@ next_dealt A left rest part X Y e h k = IsPermutation-trans A (rest ++ part ∷ 
     (subst (IsPermutation A) (ap (λ l. l ++ X) e) h) (behind part rest X))
     (IsPermutation-append_right rest (part ∷ X) Y k)
 
--- the last piece is dealt
+-- the last piece is moved
 pub piece_dealt : (A : List Fragment) (pieces rest : List (Vec Fragment Global)) (piece : Vec Fragment Global)
     (X Y : List Fragment) → pieces ≡ rest ++ piece ∷ [] → IsPermutation A (items_of pieces ++ X)
     → IsPermutation (piece.items ++ X) Y → IsPermutation A (items_of rest ++ Y)

@@ -1,12 +1,14 @@
 pub mod Alone
+pub mod Coming
+pub mod Copied
 pub mod Dealt
 pub mod Exact
-pub mod Coming
 pub mod Filtered
 pub mod Gathered
 pub mod InPlace
 pub mod Keyed
 pub mod Leads
+pub mod Leaving
 pub mod Lying
 pub mod Made
 pub mod Matched
@@ -15,5 +17,8 @@ pub mod Placed
 pub mod Reaching
 pub mod Rising
 pub mod Settled
+pub mod Slots
 pub mod Stacking
+pub mod Staying
+pub mod Stored
 pub mod Unique

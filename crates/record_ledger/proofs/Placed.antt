@@ -1,7 +1,7 @@
--- Places of records in buckets, and their order.
+-- Places of records in a store, and their order.
 use Rattle.std.proofs.Common.{◌≡◌, ℕ, zero, suc, ◌+◌, ◌<◌, Bool, false, Option, Some, None, List, [], ◌∷◌, ◌++◌, length}
 use Rattle.std.proofs.Common.{get_or}
-use Rattle.std.proofs.Common.{take, refl, sym, ap, ◌∙◌, subst, arith, add-one, append-nil, append_assoc, All}
+use Rattle.std.proofs.Common.{◌-◌, take, refl, sym, ap, ◌∙◌, subst, arith, add-one, append-nil, append_assoc, All}
 use Rattle.std.proofs.Common.{IsPermutation, ◌≤◌, true, cond, filter, ◌⊎◌, inl, inr}
 use Rattle.std.specs.Prelude.{slice_get, IsSorted}
 use Rattle.std.specs.Cmp.{IsTotalOrder, IsStrictWeakOrder}
@@ -14,7 +14,7 @@ use Rattle.std.specs.declared.cmp.Ordering.TheVariants.{Less, Equal, Greater}
 use Rattle.std.proofs.Math.Seq.{take-suc}
 use Rattle.std.proofs.lemmas.Cmp.{nat_cmp_total, on_total, then_total, ranked, tied_itself}
 use Rattle.std.proofs.lemmas.Grind.{flat_map-append}
-use Rattle.std.proofs.lemmas.Option.{slice_get_read, slice_get_within, get_or_from_slice_get}
+use Rattle.std.proofs.lemmas.Option.{slice_get_read}
 use Rattle.std.proofs.lemmas.List.Elements.{All-append, All-cons, All-nil, All-head, All-tail, All-weaker}
 use Rattle.std.proofs.lemmas.List.Sorted.{ranks_by}
 use Rattle.flow_key.specs.Key.{key_order}
@@ -33,6 +33,8 @@ use Rattle.record_ledger.proofs.Leads.{less_is, leading_first}
 use Rattle.record_ledger.proofs.Rising.{rises_from_sorted, not_less_shorter, keys_tie}
 use Rattle.record_ledger.specs.Lawful.{of_key}
 use Rattle.record_ledger.specs.Buckets.{seat_order, AreFirst, EndInTurn}
+use Rattle.record_ledger.specs.declared.store.Store.{Store}
+use Rattle.record_ledger.proofs.Stored.{of_bucket}
 use Rattle.record_ledger.specs.Buckets.{Bucket, item_at, record_at, IsPlaceOf, IsPlace, listed, records_at, place_order}
 use Rattle.record_ledger.specs.Buckets.{records_of, leading_number}
 
@@ -48,12 +50,6 @@ pub sorted_from_rises : {X : Type 0} (lt : X → X → Bool) (xs : List X) → R
     → IsSortedBy lt xs
 sorted_from_rises lt [] up = λ k d low l. absurd (omega arith)
 sorted_from_rises lt (x ∷ xs) up = λ k d low l. sorted_more lt x xs up.0 (sorted_from_rises lt xs up.1) k d l
-
--- a bucket and a place in it
-pub in_bucket : (o : Option Bucket) (at : ℕ) (r : FlowRecord) → item_at o at ≡ Some r
-    → (b : Bucket) × (o ≡ Some b) × (slice_get b.items at ≡ Some r)
-in_bucket None at r e = absurd (cc)
-in_bucket (Some b) at r e = (b, refl, e)
 
 pub some_at : {X : Type 0} (xs : List X) (i : ℕ) → i < length xs
     → (x : X) × (slice_get xs i ≡ Some x) × (x ≡ get_or xs i x)
@@ -173,81 +169,84 @@ abbrev has_at : FlowKey → Option FlowRecord → Bool
 has_at key None = false
 has_at key (Some r) = has_key key r
 
-module _ (bs : List Bucket) where
+-- the records of one more bucket
+pub bucket_taken : (bs : List Bucket) (i : ℕ) (b : Bucket) → i < length bs → b ≡ get_or bs i b
+    → records_of (take i bs) ++ b.items ≡ records_of (take (i + 1) bs)
+bucket_taken bs i b l is =
+    ap (λ z. records_of (take i bs) ++ z) (sym (append-nil b.items))
+    ∙ sym (flat_map-append (λ (v : Bucket). v.items) (take i bs) (b ∷ []))
+    ∙ ap records_of (ap (λ f. take i bs ++ f ∷ []) is ∙ sym (take-suc bs i b l)
+    ∙ ap (λ n. take n bs) (sym (add-one i)))
+
+module _ (store : Store) where
   -- one more record of a bucket has its place
   pub more_placed : (before : List FlowRecord) (n i : ℕ) (b : Bucket) (r : FlowRecord) (ps qs : List Place) (p : Place)
-      → slice_get bs n ≡ Some b → i < length b.items → r ≡ get_or b.items i r
-      → p.bucket ≡ n → p.at ≡ i → p.last ≡ r.part.last → p.leading ≡ leading_number r.part.key → qs ≡ ps ++ p ∷ []
-      → AllZip (IsPlaceOf bs) (before ++ take i b.items) ps → AllZip (IsPlaceOf bs) (before ++ take (i + 1) b.items) qs
+      → slice_get store.buckets.items n ≡ Some b → i < length b.items → r ≡ get_or b.items i r
+      → p.bucket ≡ length store.pieces.items + n → p.at ≡ i → p.last ≡ r.part.last → p.leading ≡ leading_number r.part.key → qs ≡ ps ++ p ∷ []
+      → AllZip (IsPlaceOf store) (before ++ take i b.items) ps → AllZip (IsPlaceOf store) (before ++ take (i + 1) b.items) qs
   more_placed before n i b r ps qs p e l is eb ea el ek eq h =
-      let here : record_at bs p ≡ Some r =
-      ap (λ m. item_at (slice_get bs m) p.at) eb ∙ ap (λ o. item_at o p.at) e ∙ ap (slice_get b.items) ea
+      let here : record_at store p ≡ Some r =
+      of_bucket store p (omega (arith, eb))
+      ∙ ap (λ m. item_at (slice_get store.buckets.items m) p.at)
+      (let e : p.bucket - length store.pieces.items ≡ n = omega (arith, eb) in e)
+      ∙ ap (λ o. item_at o p.at) e ∙ ap (slice_get b.items) ea
       ∙ slice_get_read b.items (length b.items) i r refl l is in
       let more : (before ++ take i b.items) ++ r ∷ [] ≡ before ++ take (i + 1) b.items =
       append_assoc before (take i b.items) (r ∷ [])
       ∙ ap (λ z. before ++ z) (ap (λ f. take i b.items ++ f ∷ []) is ∙ sym (take-suc b.items i r l)
       ∙ ap (λ n. take n b.items) (sym (add-one i))) in
-      subst (λ l. AllZip (IsPlaceOf bs) l qs) more
-      (subst (AllZip (IsPlaceOf bs) ((before ++ take i b.items) ++ r ∷ [])) (sym eq)
-      (AllZip-append (IsPlaceOf bs) (before ++ take i b.items) ps (r ∷ []) (p ∷ []) h
+      subst (λ l. AllZip (IsPlaceOf store) l qs) more
+      (subst (AllZip (IsPlaceOf store) ((before ++ take i b.items) ++ r ∷ [])) (sym eq)
+      (AllZip-append (IsPlaceOf store) (before ++ take i b.items) ps (r ∷ []) (p ∷ []) h
       (record { here = here; last = el; leading = ek }, tt)))
 
-  -- the records of one more bucket
-  pub bucket_taken : (i : ℕ) (b : Bucket) → i < length bs → b ≡ get_or bs i b
-      → records_of (take i bs) ++ b.items ≡ records_of (take (i + 1) bs)
-  bucket_taken i b l is =
-      ap (λ z. records_of (take i bs) ++ z) (sym (append-nil b.items))
-      ∙ sym (flat_map-append (λ (v : Bucket). v.items) (take i bs) (b ∷ []))
-      ∙ ap records_of (ap (λ f. take i bs ++ f ∷ []) is ∙ sym (take-suc bs i b l)
-      ∙ ap (λ n. take n bs) (sym (add-one i)))
-
-  places_total : IsTotalOrder (place_order bs)
+  places_total : IsTotalOrder (place_order store)
   places_total = then_total (on_total (λ (p : Place). p.last) nat_cmp_total)
       (then_total (on_total (λ (p : Place). p.leading) nat_cmp_total)
-      (then_total (on_total (record_at bs) options_total) seats_total))
+      (then_total (on_total (record_at store) options_total) seats_total))
 
   -- only a place itself ties with it
-  places_exact : (p q : Place) → place_order bs p q ≡ Equal → p ≡ q
+  places_exact : (p q : Place) → place_order store p q ≡ Equal → p ≡ q
   places_exact p q e =
       let ties = tied_second (nat_cmp p.last q.last) _ e in
       let one = tied_second (nat_cmp p.leading q.leading) _ ties in
-      let two = tied_second (option_cmp (λ (r s : FlowRecord). key_order r.part.key s.part.key) (record_at bs p)
-      (record_at bs q)) _ one in
+      let two = tied_second (option_cmp (λ (r s : FlowRecord). key_order r.part.key s.part.key) (record_at store p)
+      (record_at store q)) _ one in
       let last = tied_numbers p.last q.last (tied_first _ _ e) in
       let leading = tied_numbers p.leading q.leading (tied_first _ _ ties) in
       let bucket = tied_numbers p.bucket q.bucket (tied_first _ _ two) in
       let at = tied_numbers p.at q.at (tied_second (nat_cmp p.bucket q.bucket) _ two) in
       λ i. record { last = last i; leading = leading i; bucket = bucket i; at = at i }
 
-  pub places_weak : IsStrictWeakOrder (λ (p q : Place). is_lt (place_order bs p q))
+  pub places_weak : IsStrictWeakOrder (λ (p q : Place). is_lt (place_order store p q))
   places_weak = ranks_by places_total (λ (p : Place). p)
 
-  pub are_places : (rs : List FlowRecord) (ps : List Place) → AllZip (IsPlaceOf bs) rs ps → All (IsPlace bs) ps
-  are_places [] [] h = All-nil (IsPlace bs)
+  pub are_places : (rs : List FlowRecord) (ps : List Place) → AllZip (IsPlaceOf store) rs ps → All (IsPlace store) ps
+  are_places [] [] h = All-nil (IsPlace store)
   are_places [] (p ∷ ps) h = absurd h
   are_places (r ∷ rs) [] h = absurd h
-  are_places (r ∷ rs) (p ∷ ps) h = All-cons (IsPlace bs) p ps (r, h.0.here) (are_places rs ps h.1)
+  are_places (r ∷ rs) (p ∷ ps) h = All-cons (IsPlace store) p ps (r, h.0.here) (are_places rs ps h.1)
 
   -- the records at the places of records are these
-  pub read : (rs : List FlowRecord) (ps : List Place) → AllZip (IsPlaceOf bs) rs ps → records_at bs ps ≡ rs
+  pub read : (rs : List FlowRecord) (ps : List Place) → AllZip (IsPlaceOf store) rs ps → records_at store ps ≡ rs
   read [] [] h = refl
   read [] (p ∷ ps) h = absurd h
   read (r ∷ rs) [] h = absurd h
   read (r ∷ rs) (p ∷ ps) h =
-      ap (λ o. listed o ++ records_at bs ps) h.0.here ∙ ap (λ l. r ∷ l) (read rs ps h.1)
+      ap (λ o. listed o ++ records_at store ps) h.0.here ∙ ap (λ l. r ∷ l) (read rs ps h.1)
 
   -- places stand as their records do
-  same_order : (r s : FlowRecord) (p q : Place) → IsPlaceOf bs r p → IsPlaceOf bs s q
+  same_order : (r s : FlowRecord) (p q : Place) → IsPlaceOf store r p → IsPlaceOf store s q
       → ordering_then (nat_cmp p.last q.last) (ordering_then (nat_cmp p.leading q.leading)
-      (option_cmp (λ (r s : FlowRecord). key_order r.part.key s.part.key) (record_at bs p) (record_at bs q)))
+      (option_cmp (λ (r s : FlowRecord). key_order r.part.key s.part.key) (record_at store p) (record_at store q)))
       ≡ written_order r s
   same_order r s p q h k =
       (λ i. ordering_then (nat_cmp (h.last i) (k.last i)) (ordering_then (nat_cmp (h.leading i) (k.leading i))
       (option_cmp (λ (r s : FlowRecord). key_order r.part.key s.part.key) (h.here i) (k.here i))))
       ∙ ap (ordering_then (nat_cmp r.part.last s.part.last)) (leading_first r.part.key s.part.key)
 
-  after_all : (r : FlowRecord) (p : Place) → IsPlaceOf bs r p → (rs : List FlowRecord) (ps : List Place)
-      → AllZip (IsPlaceOf bs) rs ps → All (λ q. is_lt (place_order bs q p) ≡ false) ps
+  after_all : (r : FlowRecord) (p : Place) → IsPlaceOf store r p → (rs : List FlowRecord) (ps : List Place)
+      → AllZip (IsPlaceOf store) rs ps → All (λ q. is_lt (place_order store q p) ≡ false) ps
       → All (λ s. is_lt (written_order s r) ≡ false) rs
   after_all r p h [] [] z k = All-nil (λ s. is_lt (written_order s r) ≡ false)
   after_all r p h [] (q ∷ ps) z k = absurd z
@@ -256,96 +255,82 @@ module _ (bs : List Bucket) where
       All-cons (λ s. is_lt (written_order s r) ≡ false) s rs
       (sym (ap is_lt (same_order s r q p z.0 h)) ∙ not_less_nested (nat_cmp q.last p.last) (nat_cmp q.leading p.leading)
       _ (seat_order q p)
-      (All-head (λ q. is_lt (place_order bs q p) ≡ false) q ps k))
-      (after_all r p h rs ps z.1 (All-tail (λ q. is_lt (place_order bs q p) ≡ false) q ps k))
+      (All-head (λ q. is_lt (place_order store q p) ≡ false) q ps k))
+      (after_all r p h rs ps z.1 (All-tail (λ q. is_lt (place_order store q p) ≡ false) q ps k))
 
-  pub in_written_order : (rs : List FlowRecord) (ps : List Place) → AllZip (IsPlaceOf bs) rs ps
-      → Rises (λ p q. is_lt (place_order bs q p) ≡ false) ps → Rises (λ r s. is_lt (written_order s r) ≡ false) rs
+  pub in_written_order : (rs : List FlowRecord) (ps : List Place) → AllZip (IsPlaceOf store) rs ps
+      → Rises (λ p q. is_lt (place_order store q p) ≡ false) ps → Rises (λ r s. is_lt (written_order s r) ≡ false) rs
   in_written_order [] [] z up = tt
   in_written_order [] (p ∷ ps) z up = absurd z
   in_written_order (r ∷ rs) [] z up = absurd z
   in_written_order (r ∷ rs) (p ∷ ps) z up = (after_all r p z.0 rs ps z.1 up.0, in_written_order rs ps z.1 up.1)
 
   -- there are as many records as places
-  pub as_many : (ps : List Place) → All (IsPlace bs) ps → length (records_at bs ps) ≡ length ps
+  pub as_many : (ps : List Place) → All (IsPlace store) ps → length (records_at store ps) ≡ length ps
   as_many [] h = refl
   as_many (p ∷ ps) h =
-      ap (λ o. length (listed o ++ records_at bs ps)) (All-head (IsPlace bs) p ps h).1
-      ∙ ap suc (as_many ps (All-tail (IsPlace bs) p ps h))
+      ap (λ o. length (listed o ++ records_at store ps)) (All-head (IsPlace store) p ps h).1
+      ∙ ap suc (as_many ps (All-tail (IsPlace store) p ps h))
 
-  pub record_of : (ps : List Place) (k : ℕ) (p : Place) (r d : FlowRecord) → All (IsPlace bs) ps → k < length ps
-      → record_at bs (get_or ps k p) ≡ Some r → get_or (records_at bs ps) k d ≡ r
+  pub record_of : (ps : List Place) (k : ℕ) (p : Place) (r d : FlowRecord) → All (IsPlace store) ps → k < length ps
+      → record_at store (get_or ps k p) ≡ Some r → get_or (records_at store ps) k d ≡ r
   record_of [] k p r d h l e = absurd (omega arith)
-  record_of (q ∷ ps) zero p r d h l e = ap (λ o. get_or (listed o ++ records_at bs ps) 0 d) e
+  record_of (q ∷ ps) zero p r d h l e = ap (λ o. get_or (listed o ++ records_at store ps) 0 d) e
   record_of (q ∷ ps) (suc k) p r d h l e =
-      ap (λ o. get_or (listed o ++ records_at bs ps) (suc k) d) (All-head (IsPlace bs) q ps h).1
-      ∙ record_of ps k p r d (All-tail (IsPlace bs) q ps h) (omega arith) e
-
-  -- what is found in the buckets at a place of a record
-  pub found : (p : Place) (r : FlowRecord) → record_at bs p ≡ Some r
-      → (p.bucket < length bs) × ((b : Bucket) → b ≡ get_or bs p.bucket b
-      → (p.at < length b.items) × ((s : FlowRecord) → s ≡ get_or b.items p.at s → s ≡ r))
-  found p r e =
-      let v = in_bucket (slice_get bs p.bucket) p.at r e in (
-        slice_get_within bs p.bucket v.0 v.1,
-        λ b is.
-            let same : v.0 ≡ b = sym (is ∙ get_or_from_slice_get bs p.bucket v.0 b v.1) in
-            let at : slice_get b.items p.at ≡ Some r =
-            subst (λ (b : Bucket). slice_get b.items p.at ≡ Some r) same v.2 in
-            (slice_get_within b.items p.at r at, λ s here. here ∙ get_or_from_slice_get b.items p.at r s at),
-      )
+      ap (λ o. get_or (listed o ++ records_at store ps) (suc k) d) (All-head (IsPlace store) q ps h).1
+      ∙ record_of ps k p r d (All-tail (IsPlace store) q ps h) (omega arith) e
 
   -- the places of all records, sorted
-  pub all_sorted : (ps qs : List Place) → AllZip (IsPlaceOf bs) (records_of bs) ps → IsPermutation ps qs
-      → IsSorted (place_order bs) qs
-      → All (IsPlace bs) qs × IsPermutation (records_of bs) (records_at bs qs)
-      × IsSorted written_order (records_at bs qs)
-  all_sorted ps qs z perm sorted =
-      let y = AllZip-permutation (IsPlaceOf bs) (records_of bs) ps qs z perm in
-      let same : records_at bs qs ≡ y.0 = read y.0 qs y.2 in (
+  pub all_sorted : (rs : List FlowRecord) (ps qs : List Place) → AllZip (IsPlaceOf store) rs ps → IsPermutation ps qs
+      → IsSorted (place_order store) qs
+      → All (IsPlace store) qs × IsPermutation rs (records_at store qs)
+      × IsSorted written_order (records_at store qs)
+  all_sorted rs ps qs z perm sorted =
+      let y = AllZip-permutation (IsPlaceOf store) rs ps qs z perm in
+      let same : records_at store qs ≡ y.0 = read y.0 qs y.2 in (
         are_places y.0 qs y.2,
-        subst (IsPermutation (records_of bs)) (sym same) y.1,
+        subst (IsPermutation rs) (sym same) y.1,
         subst (IsSorted written_order) (sym same)
             (sorted_from_rises (λ r s. is_lt (written_order r s)) y.0
             (in_written_order y.0 qs y.2
-            (rises_from_sorted (λ p q. is_lt (place_order bs p q)) places_weak qs sorted))),
+            (rises_from_sorted (λ p q. is_lt (place_order store p q)) places_weak qs sorted))),
       )
 
   -- the records of a key at some places are those at its places
   module _ (key : FlowKey) where
     abbrev HasAt : Place → Bool
-    HasAt p = has_at key (record_at bs p)
+    HasAt p = has_at key (record_at store p)
 
-    of_places : (ps : List Place) → of_key key (records_at bs ps) ≡ records_at bs (filter HasAt ps)
+    of_places : (ps : List Place) → of_key key (records_at store ps) ≡ records_at store (filter HasAt ps)
     of_places [] = refl
-    of_places (p ∷ ps) = look (record_at bs p) refl (of_places ps)
+    of_places (p ∷ ps) = look (record_at store p) refl (of_places ps)
       where
-        put : (r : FlowRecord) (b : Bool) → record_at bs p ≡ Some r
-            → of_key key (records_at bs ps) ≡ records_at bs (filter HasAt ps)
-            → cond b (r ∷ of_key key (records_at bs ps)) (of_key key (records_at bs ps))
-            ≡ records_at bs (cond b (p ∷ filter HasAt ps) (filter HasAt ps))
-        put r true e rest = ap (λ l. r ∷ l) rest ∙ ap (λ o. listed o ++ records_at bs (filter HasAt ps)) (sym e)
+        put : (r : FlowRecord) (b : Bool) → record_at store p ≡ Some r
+            → of_key key (records_at store ps) ≡ records_at store (filter HasAt ps)
+            → cond b (r ∷ of_key key (records_at store ps)) (of_key key (records_at store ps))
+            ≡ records_at store (cond b (p ∷ filter HasAt ps) (filter HasAt ps))
+        put r true e rest = ap (λ l. r ∷ l) rest ∙ ap (λ o. listed o ++ records_at store (filter HasAt ps)) (sym e)
         put r false e rest = rest
 
-        look : (o : Option FlowRecord) → record_at bs p ≡ o
-            → of_key key (records_at bs ps) ≡ records_at bs (filter HasAt ps)
-            → of_key key (listed o ++ records_at bs ps) ≡ records_at bs (cond (has_at key o) (p ∷ filter HasAt ps)
+        look : (o : Option FlowRecord) → record_at store p ≡ o
+            → of_key key (records_at store ps) ≡ records_at store (filter HasAt ps)
+            → of_key key (listed o ++ records_at store ps) ≡ records_at store (cond (has_at key o) (p ∷ filter HasAt ps)
             (filter HasAt ps))
         look None e rest = rest
         look (Some r) e rest = put r (has_key key r) e rest
 
     -- two places of the key, in the order of the buckets
     abbrev InTurn : Place → Place → Type 0
-    InTurn p q = HasAt p ≡ true → HasAt q ≡ true → is_lt (place_order bs q p) ≡ false
+    InTurn p q = HasAt p ≡ true → HasAt q ≡ true → is_lt (place_order store q p) ≡ false
 
-    two_in_turn : (r s : FlowRecord) (p q : Place) → IsPlaceOf bs r p → IsPlaceOf bs s q
+    two_in_turn : (r s : FlowRecord) (p q : Place) → IsPlaceOf store r p → IsPlaceOf store s q
         → (r.part.key ≡ s.part.key → r.part.last ≤ s.part.last) → seat_order p q ≡ Less → InTurn p q
     two_in_turn r s p q h k up ahead a b =
         let one : r.part.key ≡ key = key_from_test key r (sym (ap (has_at key) h.here) ∙ a) in
         let two : s.part.key ≡ key = key_from_test key s (sym (ap (has_at key) k.here) ∙ b) in
         let last : p.last ≤ q.last = (let l = up (one ∙ sym two) in omega (arith, l, h.last, k.last)) in
         in_four (nat_cmp q.last p.last) (nat_cmp q.leading p.leading)
-        (option_cmp (λ (r s : FlowRecord). key_order r.part.key s.part.key) (record_at bs q) (record_at bs p))
+        (option_cmp (λ (r s : FlowRecord). key_order r.part.key s.part.key) (record_at store q) (record_at store p))
         (seat_order q p) (least_is q.last p.last last)
         ((λ i. nat_cmp (k.leading i) (h.leading i))
         ∙ (λ i. nat_cmp (leading_number s.part.key) (leading_number ((one ∙ sym two) i)))
@@ -354,8 +339,8 @@ module _ (bs : List Bucket) where
         ∙ keys_tie s.part.key r.part.key (two ∙ sym one))
         (ap is_lt (seats_total.antisymm q p ∙ ap ordering_reverse ahead))
 
-    one_in_turn : (r : FlowRecord) (p : Place) → IsPlaceOf bs r p → (rs : List FlowRecord) (ps : List Place)
-        → AllZip (IsPlaceOf bs) rs ps
+    one_in_turn : (r : FlowRecord) (p : Place) → IsPlaceOf store r p → (rs : List FlowRecord) (ps : List Place)
+        → AllZip (IsPlaceOf store) rs ps
         → All (λ (s : FlowRecord). r.part.key ≡ s.part.key → r.part.last ≤ s.part.last) rs
         → All (λ q. seat_order p q ≡ Less) ps → All (InTurn p) ps
     one_in_turn r p h [] [] z up ahead = All-nil (InTurn p)
@@ -369,7 +354,7 @@ module _ (bs : List Bucket) where
         (All-tail (λ (s : FlowRecord). r.part.key ≡ s.part.key → r.part.last ≤ s.part.last) s rs up)
         (All-tail (λ q. seat_order p q ≡ Less) q ps ahead))
 
-    all_in_turn : (rs : List FlowRecord) (ps : List Place) → AllZip (IsPlaceOf bs) rs ps → EndInTurn rs
+    all_in_turn : (rs : List FlowRecord) (ps : List Place) → AllZip (IsPlaceOf store) rs ps → EndInTurn rs
         → Rises (λ one other. seat_order one other ≡ Less) ps → Rises InTurn ps
     all_in_turn [] [] z up ahead = tt
     all_in_turn [] (p ∷ ps) z up ahead = absurd z
@@ -378,14 +363,14 @@ module _ (bs : List Bucket) where
         (one_in_turn r p z.0 rs ps z.1 up.0 ahead.0, all_in_turn rs ps z.1 up.1 ahead.1)
 
     -- sorting the places leaves the order of the records of a key
-    pub key_in_order : (ps qs : List Place) → AllZip (IsPlaceOf bs) (records_of bs) ps → EndInTurn (records_of bs)
-        → Rises (λ one other. seat_order one other ≡ Less) ps → IsPermutation ps qs → IsSorted (place_order bs) qs
-        → of_key key (records_of bs) ≡ of_key key (records_at bs qs)
-    key_in_order ps qs z up ahead perm sorted =
+    pub key_in_order : (rs : List FlowRecord) (ps qs : List Place) → AllZip (IsPlaceOf store) rs ps → EndInTurn rs
+        → Rises (λ one other. seat_order one other ≡ Less) ps → IsPermutation ps qs → IsSorted (place_order store) qs
+        → of_key key rs ≡ of_key key (records_at store qs)
+    key_in_order rs ps qs z up ahead perm sorted =
         let same : filter HasAt ps ≡ filter HasAt qs =
         one_sorted places_total places_exact (filter HasAt ps) (filter HasAt qs) (IsPermutation-filter HasAt ps qs perm)
         (rises_filter HasAt InTurn (NotLess places_total) (λ p q a b h. h a b) ps
-        (all_in_turn (records_of bs) ps z up ahead))
+        (all_in_turn rs ps z up ahead))
         (rises_filter HasAt (NotLess places_total) (NotLess places_total) (λ p q a b h. h) qs
-        (rises_from_sorted (λ p q. is_lt (place_order bs p q)) places_weak qs sorted)) in
-        ap (of_key key) (sym (read (records_of bs) ps z)) ∙ of_places ps ∙ ap (records_at bs) same ∙ sym (of_places qs)
+        (rises_from_sorted (λ p q. is_lt (place_order store p q)) places_weak qs sorted)) in
+        ap (of_key key) (sym (read rs ps z)) ∙ of_places ps ∙ ap (records_at store) same ∙ sym (of_places qs)

@@ -1,10 +1,7 @@
 -- Buckets that were settled: what holds of the records of each key holds of them in all buckets together.
-use Rattle.std.proofs.Common.{◌≡◌, ◌≢◌, ℕ, suc, ◌-◌, ◌<◌, ◌≤◌, ◌⊎◌, inl, inr, false, Option, List, [], ◌∷◌, ◌++◌}
-use Rattle.std.specs.Ordering.{is_eq}
-use Rattle.std.proofs.Common.{length, get_or, refl, sym, ap, ◌∙◌, subst, arith, append-nil, unwrap_or, All}
-use Rattle.std.proofs.Common.{IsPermutation}
+use Rattle.std.proofs.Common.{◌≡◌, ◌≢◌, ℕ, suc, ◌-◌, ◌<◌, ◌≤◌, ◌⊎◌, inl, inr, false, List, [], ◌∷◌, ◌++◌}
+use Rattle.std.proofs.Common.{length, get_or, refl, sym, ap, ◌∙◌, subst, arith, append-nil, All}
 use Rattle.std.proofs.Common.{Result, Ok, Err, IfOk, take, drop}
-use Rattle.std.specs.Prelude.{IsSorted}
 use Rattle.std.specs.List.{AllZip}
 use Rattle.std.specs.declared.cmp.Ordering.TheVariants.{Less}
 use Rattle.std.proofs.lemmas.Bool.{cases_lt}
@@ -13,27 +10,22 @@ use Rattle.std.proofs.lemmas.List.Elements.{All-append, All-cons, All-nil, All-h
 use Rattle.std.proofs.lemmas.List.Elements.{All-contains_itself, filter-append}
 use Rattle.std.proofs.lemmas.List.Sorted.{Contains-permutation, IsPermutation-sym}
 use Rattle.flow_key.specs.declared.key.FlowKey.{FlowKey}
-use Rattle.flow_key.specs.Key.{set_number, key_order}
-use Rattle.packet_accept.specs.declared.packet.Packet.{Packet}
+use Rattle.flow_key.specs.Key.{set_number}
 use Rattle.flow_parts.specs.declared.fragment.Fragment.{Fragment}
 use Rattle.flow_parts.specs.declared.timeouts.Timeouts.{Timeouts}
 use Rattle.flow_parts.specs.Reaching.{Reaches}
 use Rattle.flow_parts.specs.Reaching.Reaches.{moved, joined, onward}
-use Rattle.flow_parts.specs.Sharing.{SharesOut}
 use Rattle.flow_parts.proofs.Reaching.{itself, both}
 use Rattle.record_ledger.specs.declared.record.FlowRecord.{FlowRecord}
-use Rattle.record_ledger.specs.Buckets.{Bucket, records_of, LieFrom, AreDealt, AreSettled, EndInTurn}
-use Rattle.record_ledger.specs.Gathered.{AreJoined, IsGathered, parts_with}
-use Rattle.record_ledger.specs.Lawful.{parts_of, of_key, EachWithNext, StandsApart, HasReason, IsLawfulBy}
+use Rattle.record_ledger.specs.Buckets.{Bucket, records_of, LieFrom, AreSettled, EndInTurn}
+use Rattle.record_ledger.specs.Gathered.{AreJoined, parts_with}
+use Rattle.record_ledger.specs.Lawful.{parts_of, of_key, EachWithNext, StandsApart, HasReason}
 use Rattle.record_ledger.specs.Order.{key_then_last, written_order}
-use Rattle.record_ledger.specs.Regrouping.{Regroups}
 use Rattle.record_ledger.specs.Steps.{Rises, NotAfter}
 use Rattle.record_ledger.proofs.Coming.{joined_of_key}
-use Rattle.record_ledger.proofs.Exact.{parts_of_key, nothing_joined, joined_of}
-use Rattle.record_ledger.proofs.Filtered.{IsPermutation-filter}
-use Rattle.record_ledger.proofs.Gathered.{has_key, key_from_test, none_left, not_true, untied, Untied, Before, keyed}
-use Rattle.record_ledger.proofs.Gathered.{beside_reasons, beside_apart, strictly, up_gathered, no_tie, regrouped}
-use Rattle.record_ledger.proofs.Gathered.{lawful_by}
+use Rattle.record_ledger.proofs.Exact.{parts_of_key, nothing_joined}
+use Rattle.record_ledger.proofs.Gathered.{has_key, key_from_test, none_left, not_true, untied, Untied, keyed}
+use Rattle.record_ledger.proofs.Gathered.{beside_reasons, beside_apart, strictly}
 use Rattle.record_ledger.proofs.Keyed.{part_of, All-unmap, All-of_map, rises_unmap, rises_weaker}
 use Rattle.record_ledger.proofs.Rising.{All-front, All-back, not_after_last}
 
@@ -119,7 +111,7 @@ module _ (key : FlowKey) (P : List FlowRecord → Type 0) (none : P []) where
       (All-head (λ (b : Bucket). P (of_key key b.items)) b bs p)
       (lifted n (suc i) bs h.1 (All-tail (λ (b : Bucket). P (of_key key b.items)) b bs p))
 
-rises_append : {X : Type 0} (R : X → X → Type 0) (xs ys : List X) → Rises R xs → Rises R ys
+pub rises_append : {X : Type 0} (R : X → X → Type 0) (xs ys : List X) → Rises R xs → Rises R ys
     → All (λ x. All (R x) ys) xs → Rises R (xs ++ ys)
 rises_append R [] ys h k a = k
 rises_append R (x ∷ xs) ys h k a = (
@@ -160,7 +152,7 @@ all_in_turn limits clock n i (o ∷ os) (b ∷ bs) z h =
     (records_of bs) (later n (suc i) bs h.1)) b.items h.0)
 
 -- joining leaves the keys
-keys_kept : (limits : Timeouts) (P : FlowKey → Type 0) (F G : List Fragment) → Reaches limits F G
+pub keys_kept : (limits : Timeouts) (P : FlowKey → Type 0) (F G : List Fragment) → Reaches limits F G
     → All (λ (f : Fragment). P f.key) F → All (λ (f : Fragment). P f.key) G
 keys_kept limits P F G (moved _ _ s) h = All-weaker (λ x. _) (λ (f : Fragment). P f.key)
     (λ x c. All-contains (λ (f : Fragment). P f.key) F x h (Contains-permutation G F x (IsPermutation-sym F G s) c)) G
@@ -174,7 +166,7 @@ module _ (limits : Timeouts) (clock : ℕ) where
   abbrev pub Settled : Bucket → Bucket → Type 0
   Settled o b = AreSettled limits clock o.items b.items
 
-  all_reached : (os bs : List Bucket) → AllZip Settled os bs
+  pub all_reached : (os bs : List Bucket) → AllZip Settled os bs
       → Reaches limits (parts_of (records_of os)) (parts_of (records_of bs))
   all_reached [] [] z = itself limits []
   all_reached [] (b ∷ bs) z = absurd z
@@ -187,7 +179,7 @@ module _ (limits : Timeouts) (clock : ℕ) where
       (both limits (parts_of o.items) (parts_of b.items) (parts_of (records_of os)) (parts_of (records_of bs))
       z.0.reached (all_reached os bs z.1)))
 
-  still_lie : (n i : ℕ) (os bs : List Bucket) → AllZip Settled os bs → LieFrom n i os → LieFrom n i bs
+  pub still_lie : (n i : ℕ) (os bs : List Bucket) → AllZip Settled os bs → LieFrom n i os → LieFrom n i bs
   still_lie n i [] [] z h = tt
   still_lie n i [] (b ∷ bs) z h = absurd z
   still_lie n i (o ∷ os) [] z h = absurd z
@@ -198,7 +190,7 @@ module _ (limits : Timeouts) (clock : ℕ) where
     still_lie n (suc i) os bs z.1 h.1,
   )
 
-  each_apart : (key : FlowKey) (os bs : List Bucket) → AllZip Settled os bs
+  pub each_apart : (key : FlowKey) (os bs : List Bucket) → AllZip Settled os bs
       → All (λ (b : Bucket). EachWithNext (StandsApart limits) (of_key key b.items)) bs
   each_apart key [] [] z = All-nil (λ (b : Bucket). EachWithNext (StandsApart limits) (of_key key b.items))
   each_apart key [] (b ∷ bs) z = absurd z
@@ -208,7 +200,7 @@ module _ (limits : Timeouts) (clock : ℕ) where
       (keyed (StandsApart limits) b.items z.0.sorted (beside_apart limits b.items z.0.apart) key)
       (each_apart key os bs z.1)
 
-  each_reason : (key : FlowKey) (os bs : List Bucket) → AllZip Settled os bs
+  pub each_reason : (key : FlowKey) (os bs : List Bucket) → AllZip Settled os bs
       → All (λ (b : Bucket). EachWithNext (HasReason limits clock) (of_key key b.items)) bs
   each_reason key [] [] z = All-nil (λ (b : Bucket). EachWithNext (HasReason limits clock) (of_key key b.items))
   each_reason key [] (b ∷ bs) z = absurd z
@@ -220,7 +212,7 @@ module _ (limits : Timeouts) (clock : ℕ) where
       (each_reason key os bs z.1)
 
   -- the records of a key are what becomes of its fragments
-  each_joined : (key : FlowKey) (n i : ℕ) (os bs : List Bucket) → AllZip Settled os bs → LieFrom n i os → LieFrom n i bs
+  pub each_joined : (key : FlowKey) (n i : ℕ) (os bs : List Bucket) → AllZip Settled os bs → LieFrom n i os → LieFrom n i bs
       → AreJoined limits (parts_of (of_key key (records_of os))) (parts_of (of_key key (records_of bs)))
   each_joined key n i [] [] z h k = nothing_joined limits
   each_joined key n i [] (b ∷ bs) z h k = absurd z
@@ -240,13 +232,13 @@ module _ (limits : Timeouts) (clock : ℕ) where
         (each_joined key n (suc i) os bs z.1 h.1 k.1))
   ]
 
-  abbrev Short : Fragment → Type 0
+  abbrev pub Short : Fragment → Type 0
   Short f = f.last - f.first ≤ limits.active
 
-  abbrev Strict : Bucket → Type 0
+  abbrev pub Strict : Bucket → Type 0
   Strict b = Rises (λ (r s : FlowRecord). key_then_last r.part s.part ≡ Less) b.items
 
-  each_strict : (os bs : List Bucket) → AllZip Settled os bs → All Short (parts_of (records_of bs)) → All Strict bs
+  pub each_strict : (os bs : List Bucket) → AllZip Settled os bs → All Short (parts_of (records_of bs)) → All Strict bs
   each_strict [] [] z s = All-nil Strict
   each_strict [] (b ∷ bs) z s = absurd z
   each_strict (o ∷ os) [] z s = absurd z
@@ -257,50 +249,3 @@ module _ (limits : Timeouts) (clock : ℕ) where
       (strictly limits (parts_of b.items) z.0.sorted z.0.apart
       (All-front Short (parts_of b.items) (parts_of (records_of bs)) s')))
       (each_strict os bs z.1 (All-back Short (parts_of b.items) (parts_of (records_of bs)) s'))
-
-  module _ (parts : List Fragment) (os bs : List Bucket) (dealt : AreDealt parts os) (z : AllZip Settled os bs) where
-    lie : LieFrom (length os) 0 bs
-    lie = still_lie (length os) 0 os bs z dealt.by_key
-
-    reached : Reaches limits parts (parts_of (records_of bs))
-    reached = onward parts (parts_of (records_of os)) (parts_of (records_of bs))
-        (moved parts (parts_of (records_of os)) dealt.whole) (all_reached os bs z)
-
-    pub all_regroup : (L : List FlowRecord) → IsPermutation (records_of bs) L → Regroups parts L
-    all_regroup L perm = regrouped limits parts (parts_of (records_of bs)) (records_of bs) L refl reached perm
-
-    pub all_lawful : (now : Option ℕ) (L : List FlowRecord) → clock ≡ unwrap_or now 0
-        → IsPermutation (records_of bs) L → IsSorted written_order L
-        → (packets : List Packet) → SharesOut limits packets parts → IsLawfulBy limits now packets L
-    all_lawful now L is perm sorted = lawful_by limits now parts (records_of bs) L reached
-        (λ short. let strict = each_strict os bs z short in (
-          none_tie (length os) 0 bs lie
-              (All-weaker Strict (λ (b : Bucket). Rises Untied b.items)
-              (λ b up. rises_weaker (λ (r s : FlowRecord). key_then_last r.part s.part ≡ Less) Untied
-              (λ r s l. no_tie r s l (written_order r s) refl) b.items up) bs strict),
-          λ key. lifted key (Rises Before) tt (length os) 0 bs lie
-              (All-weaker Strict (λ (b : Bucket). Rises Before (of_key key b.items))
-              (λ b up. up_gathered key b.items up) bs strict),
-        ))
-        (λ key. lifted key (EachWithNext (StandsApart limits)) tt (length os) 0 bs lie (each_apart key os bs z))
-        (λ key. subst (λ n. EachWithNext (HasReason limits n) (of_key key (records_of bs))) is
-        (lifted key (EachWithNext (HasReason limits clock)) tt (length os) 0 bs lie (each_reason key os bs z)))
-        perm sorted
-
-    pub in_turn : EndInTurn (records_of bs)
-    in_turn = all_in_turn limits clock (length os) 0 os bs z lie
-
-    -- where the records of each key stay in their order
-    pub all_gathered : (L : List FlowRecord) → IsSorted written_order L
-        → ((key : FlowKey) → of_key key (records_of bs) ≡ of_key key L) → IsGathered limits clock parts L
-    all_gathered L sorted same = record {
-      ordered = sorted;
-      joined = λ key. joined_of limits (parts_with key (parts_of (records_of os))) (parts_with key parts)
-          (parts_of (of_key key L))
-          (IsPermutation-filter (λ f. is_eq (key_order f.key key)) parts (parts_of (records_of os)) dealt.whole)
-          (subst (λ fs. AreJoined limits fs (parts_of (of_key key L))) (sym (parts_of_key key (records_of os)))
-          (subst (λ rs. AreJoined limits (parts_of (of_key key (records_of os))) (parts_of rs)) (same key)
-          (each_joined key (length os) 0 os bs z dealt.by_key lie)));
-      reasons = λ key. subst (EachWithNext (HasReason limits clock)) (same key)
-          (lifted key (EachWithNext (HasReason limits clock)) tt (length os) 0 bs lie (each_reason key os bs z));
-    }

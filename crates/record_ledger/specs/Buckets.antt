@@ -1,6 +1,9 @@
 -- The code's own: records in buckets, and places in them. No law speaks of these.
-use Rattle.std.specs.Prelude.{◌≡◌, ℕ, suc, ◌<◌, ◌≤◌, List, [], ◌∷◌, Option, Some, None, slice_get, length, flat_map}
-use Rattle.std.specs.Prelude.{All, IsPermutation, ⊤, ◌==◌, ◌+◌, ◌-◌, ◌*◌, ◌^◌, if◌then◌else◌}
+use Rattle.std.specs.Prelude.{◌≡◌, ◌≢◌, ℕ, suc, ◌<◌, ◌≤◌, List, [], ◌∷◌, ◌++◌, Option, Some, None, slice_get, length, flat_map}
+use Rattle.std.specs.Prelude.{option_and_then, nat_lt, slice_index, count_by, ◌⊎◌}
+use Rattle.std.specs.List.{AllZip}
+use native.Mathlib.Decide.{dec_lt}
+use Rattle.std.specs.Prelude.{All, IsPermutation, ⊤, ◌==◌, ◌+◌, ◌-◌, ◌*◌, ◌/◌, ◌^◌, if◌then◌else◌}
 use Rattle.std.specs.Option.{option_cmp}
 use Rattle.std.specs.Ordering.{nat_cmp, ordering_then}
 use Rattle.std.specs.declared.cmp.Ordering.{Ordering}
@@ -14,8 +17,9 @@ use Rattle.flow_parts.specs.declared.timeouts.Timeouts.{Timeouts}
 use Rattle.flow_parts.specs.Reaching.{Reaches}
 use Rattle.record_ledger.specs.declared.record.FlowRecord.{FlowRecord}
 use Rattle.record_ledger.specs.declared.place.Place.{Place}
+use Rattle.record_ledger.specs.declared.store.Store.{Store}
 use Rattle.record_ledger.specs.Gathered.{AreJoined}
-use Rattle.record_ledger.specs.Lawful.{parts_of}
+use Rattle.record_ledger.specs.Lawful.{parts_of, reason_of}
 use Rattle.record_ledger.specs.Steps.{Rises, NotAfter, NoneJoinable, HasReasons}
 
 abbrev pub Bucket : Type 0
@@ -34,11 +38,6 @@ LieFrom n i (b ∷ buckets) = All (λ (r : FlowRecord). set_number r.part.key n 
 abbrev pub AreByKey : List Bucket → Type 0
 AreByKey buckets = LieFrom (length buckets) 0 buckets
 
--- The fragments lie in the buckets of their keys.
-pub record AreDealt (parts : List Fragment) (buckets : List Bucket) : Type 0 where
-  pub whole : IsPermutation parts (parts_of (records_of buckets))
-  pub by_key : AreByKey buckets
-
 -- The records of a bucket, sorted, joined and given their reasons.
 pub record AreSettled (limits : Timeouts) (clock : ℕ) (before after : List FlowRecord) : Type 0 where
   pub reached : Reaches limits (parts_of before) (parts_of after)
@@ -52,9 +51,34 @@ abbrev pub item_at : Option Bucket → ℕ → Option FlowRecord
 item_at None at = None
 item_at (Some b) at = slice_get b.items at
 
--- The record at a place of some buckets, if there is one.
-abbrev pub record_at : List Bucket → Place → Option FlowRecord
-record_at buckets place = item_at (slice_get buckets place.bucket) place.at
+abbrev pub Piece : Type 0
+Piece = Vec Fragment Global
+
+-- The fragment at a place of a piece, if there are both.
+abbrev pub part_of_piece : Option Piece → ℕ → Option Fragment
+part_of_piece None at = None
+part_of_piece (Some p) at = slice_get p.items at
+
+-- The fragment at a place of some pieces, if there is one.
+abbrev pub part_in : List Piece → Place → Option Fragment
+part_in pieces place = part_of_piece (slice_get pieces place.bucket) place.at
+
+-- The record of this fragment with this reason, where the reason fits or doesn't.
+unfoldable pub record_where : (reason : ℕ) → Dec (reason < 2 ^ 8) → Fragment → Option FlowRecord
+record_where reason (yes fits) part = Some (record { part = part; reason = reason; sized = fits })
+record_where reason (no wide) part = None
+
+-- The record of a fragment whose key no other has: its reason is that of a flow of which nothing follows.
+abbrev pub alone_record : Timeouts → ℕ → Fragment → Option FlowRecord
+alone_record limits clock part = record_where (reason_of limits clock part None)
+    (dec_lt (reason_of limits clock part None) (2 ^ 8)) part
+
+-- The record at a place of a store, if there is one: in a piece, or in a bucket, whose numbers are behind those of the
+-- pieces.
+abbrev pub record_at : Store → Place → Option FlowRecord
+record_at store place = if nat_lt place.bucket (length store.pieces.items)
+    then option_and_then (alone_record store.timeouts store.clock) (part_in store.pieces.items place)
+    else item_at (slice_get store.buckets.items (place.bucket - length store.pieces.items)) place.at
 
 -- The addresses of a key of version 4 as one number, and the greatest number of 64 bits for a key of version 6. No key
 -- comes before one whose number is less.
@@ -62,41 +86,41 @@ abbrev pub leading_number : FlowKey → ℕ
 leading_number k = if k.version == 4 then k.source * 2 ^ 32 + k.destination else 2 ^ 64 - 1
 
 -- The place is that of the record, with its last time and the leading number of its key.
-pub record IsPlaceOf (buckets : List Bucket) (r : FlowRecord) (place : Place) : Type 0 where
-  pub here : record_at buckets place ≡ Some r
+pub record IsPlaceOf (store : Store) (r : FlowRecord) (place : Place) : Type 0 where
+  pub here : record_at store place ≡ Some r
   pub last : place.last ≡ r.part.last
   pub leading : place.leading ≡ leading_number r.part.key
 
 -- There is a record at the place.
-abbrev pub IsPlace : List Bucket → Place → Type 0
-IsPlace buckets place = (r : FlowRecord) × (record_at buckets place ≡ Some r)
+abbrev pub IsPlace : Store → Place → Type 0
+IsPlace store place = (r : FlowRecord) × (record_at store place ≡ Some r)
 
 abbrev pub listed : Option FlowRecord → List FlowRecord
 listed None = []
 listed (Some r) = r ∷ []
 
 -- The records at some places, in the order of these.
-abbrev pub records_at : List Bucket → List Place → List FlowRecord
-records_at buckets order = flat_map (λ (place : Place). listed (record_at buckets place)) order
+abbrev pub records_at : Store → List Place → List FlowRecord
+records_at store order = flat_map (λ (place : Place). listed (record_at store place)) order
 
--- How two places stand by bucket, then by place in it.
+-- How two places stand by piece or bucket, then by place in it.
 abbrev pub seat_order : Place → Place → Ordering
 seat_order one other = ordering_then (nat_cmp one.bucket other.bucket) (nat_cmp one.at other.at)
 
 -- How two places stand by the keys of their records, then by where they are.
-abbrev pub record_order : List Bucket → Place → Place → Ordering
-record_order buckets one other = ordering_then
-    (option_cmp (λ (r s : FlowRecord). key_order r.part.key s.part.key) (record_at buckets one)
-    (record_at buckets other))
+abbrev pub record_order : Store → Place → Place → Ordering
+record_order store one other = ordering_then
+    (option_cmp (λ (r s : FlowRecord). key_order r.part.key s.part.key) (record_at store one)
+    (record_at store other))
     (seat_order one other)
 
 -- How two places stand: by their last times, then by the leading numbers of their records' keys, then by these keys,
 -- then by where they are.
-abbrev pub place_order : List Bucket → Place → Place → Ordering
-place_order buckets one other = ordering_then (nat_cmp one.last other.last) (ordering_then
-    (nat_cmp one.leading other.leading) (record_order buckets one other))
+abbrev pub place_order : Store → Place → Place → Ordering
+place_order store one other = ordering_then (nat_cmp one.last other.last) (ordering_then
+    (nat_cmp one.leading other.leading) (record_order store one other))
 
--- The places are of buckets below the number, and rise by bucket, then by place in it.
+-- The places are of pieces and buckets below the number, and rise by these, then by place in them.
 pub record AreFirst (buckets : ℕ) (order : List Place) : Type 0 where
   pub below : All (λ place. place.bucket < buckets) order
   pub rising : Rises (λ one other. seat_order one other ≡ Less) order
@@ -104,3 +128,55 @@ pub record AreFirst (buckets : ℕ) (order : List Place) : Type 0 where
 -- Of the records of one key, none ends after a later one.
 abbrev pub EndInTurn : List FlowRecord → Type 0
 EndInTurn records = Rises (λ (r s : FlowRecord). r.part.key ≡ s.part.key → r.part.last ≤ s.part.last) records
+
+-- The place is that of a fragment in pieces, with its last time and the leading number of its key.
+pub record IsPartPlaceOf (pieces : List Piece) (f : Fragment) (place : Place) : Type 0 where
+  pub here : part_in pieces place ≡ Some f
+  pub last : place.last ≡ f.last
+  pub leading : place.leading ≡ leading_number f.key
+
+-- Fragments that are dealt: those at the places, none of which has the key of another fragment, stay in the pieces, and
+-- the others lie in the buckets of their keys.
+pub record AreDealt (parts : List Fragment) (pieces : List Piece) (order : List Place) (buckets : List Bucket)
+    : Type 0 where
+  pub alone : List Fragment
+  pub whole : IsPermutation parts (alone ++ parts_of (records_of buckets))
+  pub places : AllZip (IsPartPlaceOf pieces) alone order
+  pub first : AreFirst (length pieces) order
+  pub unlike : Rises (λ (f g : Fragment). f.key ≢ g.key) alone
+  pub unlike_others : All (λ (f : Fragment). All (λ (r : FlowRecord). f.key ≢ r.part.key) (records_of buckets)) alone
+  pub by_key : AreByKey buckets
+
+-- Places that rise by piece or bucket, then by place in it, and are all before the one with these numbers.
+pub record AreBefore (bucket at : ℕ) (order : List Place) : Type 0 where
+  pub below : All (λ place. (place.bucket < bucket) ⊎ ((place.bucket ≡ bucket) × (place.at < at))) order
+  pub rising : Rises (λ one other. seat_order one other ≡ Less) order
+
+-- The slot of a key, among so many: these share out the 32 bits of the hash behind `set_number`.
+abbrev pub slot_number : FlowKey → ℕ → ℕ
+slot_number key slots = set_number key (2 ^ 32) * slots / 2 ^ 32
+
+-- How many of some fragments have this slot of so many.
+abbrev pub count_in : ℕ → ℕ → List Fragment → ℕ
+count_in slots slot parts = count_by (λ (f : Fragment). slot_number f.key slots == slot) parts
+
+-- Each slot's count tells whether it has none of the fragments, and whether it has just one.
+abbrev pub CountsSlots : List Fragment → List ℕ → Type 0
+CountsSlots parts counts = (1 ≤ length counts) × ((slot : ℕ) → slot < length counts
+    → (slice_index counts slot ≡ 0 → count_in (length counts) slot parts ≡ 0)
+    × (slice_index counts slot ≡ 1 → count_in (length counts) slot parts ≡ 1))
+
+-- The slot of a fragment has just one fragment, by these counts.
+abbrev pub IsCountedAlone : List ℕ → Fragment → Type 0
+IsCountedAlone counts f = (slot_number f.key (length counts) < length counts)
+    × (slice_index counts (slot_number f.key (length counts)) ≡ 1)
+
+-- Fragments that are dealt by counts of slots, so far: those at the places stay in the pieces, where each is alone in its
+-- slot, and the others lie in the buckets of their keys.
+pub record AreDealtBy (counts : List ℕ) (parts : List Fragment) (pieces : List Piece) (order : List Place)
+    (buckets : List Bucket) : Type 0 where
+  pub alone : List Fragment
+  pub whole : IsPermutation parts (alone ++ parts_of (records_of buckets))
+  pub places : AllZip (IsPartPlaceOf pieces) alone order
+  pub counted : All (IsCountedAlone counts) alone
+  pub by_key : AreByKey buckets

@@ -9,6 +9,7 @@ ghost use Rattle.std.specs.Prelude.{◌≡◌, length, IsPermutation};
 use crate::leading::leading_number;
 use crate::orders::by_found;
 use crate::record::FlowRecord;
+use flow_key::FlowKey;
 use std::cmp::Ordering;
 
 /// The most records that are arranged: half as many again as a bucket is made for.
@@ -61,9 +62,14 @@ fn take_leads<'a>(records: &[FlowRecord], leads: &'a mut [Lead; MOST]) -> &'a mu
 #[inline]
 fn by_lead(records: &[FlowRecord], one: &Lead, other: &Lead) -> Ordering {
     match one.leading.cmp(&other.leading) {
-        Ordering::Equal => by_found(records.get(one.at), records.get(other.at)),
+        Ordering::Equal => by_found(key_at(records, one.at), key_at(records, other.at)),
         apart => apart,
     }
+}
+
+/// The key of the record at a place, where there is one.
+fn key_at(records: &[FlowRecord], at: usize) -> Option<&FlowKey> {
+    Some(&records.get(at)?.part.key)
 }
 
 /// Brings each record to its target, by swaps: where the record at a place belongs elsewhere, it goes there.

@@ -1,58 +1,133 @@
-//! Dealing: fragments as records into buckets, by their keys.
+//! Dealing: fragments whose keys no other fragment has stay where they lie; the others go as records into buckets, by
+//! their keys.
 
-ghost use Rattle.std.specs.Prelude.{◌≡◌, [], ◌≤◌, ◌<◌, ◌∷◌, ◌++◌, IfOk, OnOk, length, IsPermutation};
+ghost use Rattle.std.specs.Prelude.{◌≡◌, List, [], ◌≤◌, ◌<◌, ◌+◌, ◌^◌, ◌∷◌, ◌++◌, Some, IfOk, OnOk, length, slice_get};
+ghost use Rattle.std.specs.Prelude.{IsPermutation};
+ghost use Rattle.std.specs.List.{AllZip};
 ghost use Rattle.flow_parts.specs.declared.fragment.Fragment.{Fragment};
 ghost use Rattle.flow_parts.specs.Pieces.{items_of};
 ghost use Rattle.record_ledger.specs.Lawful.{parts_of};
-ghost use Rattle.record_ledger.specs.Buckets.{records_of, AreByKey, AreDealt};
+ghost use Rattle.record_ledger.specs.Buckets.{records_of, AreByKey, AreDealt, AreDealtBy, AreFirst, AreBefore};
+ghost use Rattle.record_ledger.specs.Buckets.{CountsSlots, IsPartPlaceOf, Piece, part_of_piece, slot_number};
 
+use crate::leading::leading_number;
+use crate::moving::{buckets_for, move_all, move_part};
+use crate::place::Place;
 use crate::record::FlowRecord;
+use flow_key::FlowKey;
 use flow_parts::{Fragment, PartList};
 use no_memory::NoMemory;
 use std::alloc::Global;
 
-/// About how many fragments a bucket is made for.
-const BUCKET: usize = 2048;
+/// Which part of all fragments is thought to be moved to buckets, where most stay.
+const MOVED_PART: usize = 8;
 
-/// The most buckets that are made.
-const MOST_BUCKETS: usize = 2048;
+/// How many slots there are for each fragment.
+const SLOTS: usize = 8;
 
-/// How many fragments of a piece are dealt before their room in it is let go.
-const LET_GO: usize = 4096;
+/// The most slots that there are.
+const MOST_SLOTS: usize = 1 << 31;
 
-/// How many records a bucket has room for beside its share, and which part of its share besides that: keys don't spread
-/// evenly.
-const SPARE: usize = 64;
-
-const SPARE_PART: usize = 8;
-
-/// Fragments as records, with no reason yet, each in the bucket of its key.
-///
-/// The buckets get room for their shares first, of which only what is filled takes memory, and are filled while the room
-/// of the pieces is let go: so hardly more than the records is held at any time.
-pub fn deal(alloc: Global, parts: PartList) -> Result<Vec<Vec<FlowRecord>>, NoMemory>
-    ensures { IfOk result (λ buckets. AreDealt parts buckets.items) }
-{
-    let mut pieces = parts.into_pieces()?;
-    let mut buckets = buckets_for(alloc, &pieces)?;
-    while let Some(piece) = pieces.pop() {
-        deal_piece(piece, &mut buckets)?;
-    }
-    Ok(buckets)
+/// Fragments that were dealt.
+#[derive(Drop)]
+pub struct Dealt {
+    /// All fragments, in their pieces.
+    pub pieces: Vec<Vec<Fragment>>,
+    /// The places of those that stay there.
+    pub alone: Vec<Place>,
+    /// The others, as records with no reason yet.
+    pub buckets: Vec<Vec<FlowRecord>>,
 }
 
-/// Empty buckets, each with room for its share of the fragments of these pieces, and somewhat more.
-fn buckets_for(alloc: Global, pieces: &[Vec<Fragment>]) -> Result<Vec<Vec<FlowRecord>>, NoMemory>
-    ensures some { IfOk result (λ buckets. 1 ≤ length buckets.items) }
-    ensures none { IfOk result (λ buckets. records_of buckets.items ≡ []) }
+/// Deals fragments: those of which no other has the key stay where they lie, and the others become records with no
+/// reason yet, each in the bucket of its key.
+///
+/// Fragments are told apart by slots, to which their keys are spread: where a slot has one fragment alone, no other has
+/// its key. Of fragments with keys of their own about one in eight shares a slot, and is dealt to a bucket all the same.
+/// Where less than half would stay, all are moved to buckets, and the room of the pieces is let go meanwhile.
+pub fn deal(alloc: Global, parts: PartList) -> Result<Dealt, NoMemory>
+    ensures { IfOk result (λ dealt. AreDealt parts dealt.pieces.items dealt.alone.items dealt.buckets.items) }
 {
-    let fragments = count_of(pieces);
-    let count = bucket_count(fragments);
-    let share = fragments / count;
-    let room = share
-        .saturating_add(share / SPARE_PART)
-        .saturating_add(SPARE);
-    empty_buckets(alloc, count, room)
+    let pieces = parts.into_pieces()?;
+    let fragments = count_of(&pieces);
+    let counts = count_slots(alloc, &pieces, fragments)?;
+    if most_stay(&counts, fragments) {
+        return deal_pieces(alloc, pieces, &counts, fragments);
+    }
+    Ok(Dealt {
+        pieces: Vec::new(alloc),
+        alone: Vec::new(alloc),
+        buckets: move_all(alloc, pieces, fragments)?,
+    })
+}
+
+/// Whether at least half of so many fragments stay where they lie: as many slots have one fragment alone.
+fn most_stay(counts: &[u8], fragments: usize) -> bool {
+    counts.iter().filter(|count| **count == 1).count() >= fragments / 2
+}
+
+/// Deals the fragments of all pieces, where most stay.
+fn deal_pieces(
+    alloc: Global,
+    pieces: Vec<Vec<Fragment>>,
+    counts: &[u8],
+    fragments: usize,
+) -> Result<Dealt, NoMemory>
+    requires counts { CountsSlots (items_of pieces.items) counts.now }
+    requires some { (1 ≤ length counts.now) × (length counts.now ≤ 2 ^ 31) }
+    ensures { IfOk result (λ dealt. AreDealt (items_of pieces.items) dealt.pieces.items dealt.alone.items
+        dealt.buckets.items) }
+{
+    let mut buckets = buckets_for(alloc, fragments / MOVED_PART)?;
+    let mut alone = Vec::with_capacity(alloc, fragments)?;
+    for number in 0..pieces.len() {
+        deal_piece(&pieces, number, counts, &mut alone, &mut buckets)?;
+    }
+    Ok(Dealt {
+        pieces,
+        alone,
+        buckets,
+    })
+}
+
+/// The slot of a key, among so many: the slots share out the 32 bits of a hash of the key evenly, without a division.
+#[inline]
+fn slot_of(key: &FlowKey, slots: usize) -> usize
+    requires { (1 ≤ slots) × (slots ≤ 2 ^ 31) }
+    ensures below { result < slots }
+    ensures number { result ≡ slot_number key.now slots }
+{
+    (key.set_of(1 << 32) * slots as u64 >> 32) as usize
+}
+
+/// How many fragments each slot has, as far as 8 bits count.
+fn count_slots(
+    alloc: Global,
+    pieces: &[Vec<Fragment>],
+    fragments: usize,
+) -> Result<Vec<u8>, NoMemory>
+    ensures counts { IfOk result (λ counts. CountsSlots (items_of pieces.now) counts.items) }
+    ensures some { IfOk result (λ counts. (1 ≤ length counts.items) × (length counts.items ≤ 2 ^ 31)) }
+{
+    let slots = fragments.saturating_mul(SLOTS).clamp(1, MOST_SLOTS);
+    let mut counts = vec![in alloc; 0u8; slots]?;
+    for piece in pieces {
+        count_piece(piece, &mut counts);
+    }
+    Ok(counts)
+}
+
+/// Counts the fragments of a piece in their slots.
+fn count_piece(piece: &[Fragment], counts: &mut [u8])
+    requires { (1 ≤ length counts.old) × (length counts.old ≤ 2 ^ 31) }
+    ensures many { length counts.new ≡ length counts.old }
+    ensures counted { (before : List Fragment) → CountsSlots before counts.old
+        → CountsSlots (before ++ piece.now) counts.new }
+{
+    for part in piece {
+        let slot = slot_of(&part.key, counts.len());
+        counts[slot] = counts[slot].saturating_add(1);
+    }
 }
 
 /// How many fragments the pieces have.
@@ -64,71 +139,76 @@ fn count_of(pieces: &[Vec<Fragment>]) -> usize {
     count
 }
 
-/// How many buckets are made for so many fragments: a power of two, about one for each 2,048 of them, at most 2,048.
-fn bucket_count(fragments: usize) -> usize
-    ensures { 1 ≤ result }
-{
-    (fragments / BUCKET)
-        .clamp(1, MOST_BUCKETS)
-        .next_power_of_two()
-}
-
-/// So many empty buckets, each with room for so many records.
-fn empty_buckets(alloc: Global, count: usize, room: usize) -> Result<Vec<Vec<FlowRecord>>, NoMemory>
-    ensures many { IfOk result (λ buckets. length buckets.items ≡ count) }
-    ensures none { IfOk result (λ buckets. records_of buckets.items ≡ []) }
-{
-    let mut buckets = Vec::with_capacity(alloc, count)?;
-    for _made in 0..count {
-        buckets.push(Vec::with_capacity(alloc, room)?)?;
-    }
-    Ok(buckets)
-}
-
-/// Deals the fragments of a piece, the last ones first, 4,096 at a time, whose room is then let go.
-fn deal_piece(piece: Vec<Fragment>, buckets: &mut [Vec<FlowRecord>]) -> Result<(), NoMemory>
-    requires { 1 ≤ length buckets.old }
+/// Deals the fragments of the piece with this number.
+fn deal_piece(
+    pieces: &[Vec<Fragment>],
+    number: usize,
+    counts: &[u8],
+    alone: &mut Vec<Place>,
+    buckets: &mut [Vec<FlowRecord>],
+) -> Result<(), NoMemory>
+    requires number { number < length pieces.now }
+    requires counts { (1 ≤ length counts.now) × (length counts.now ≤ 2 ^ 31) }
+    requires buckets { 1 ≤ length buckets.old }
     ensures many { length buckets.new ≡ length buckets.old }
-    ensures whole { OnOk result (IsPermutation (piece.items ++ parts_of (records_of buckets.old))
-        (parts_of (records_of buckets.new))) }
-    ensures by_key { OnOk result (AreByKey buckets.old → AreByKey buckets.new) }
+    ensures dealt { OnOk result ((before : List Fragment) (p : Piece) → slice_get pieces.now number ≡ Some p
+        → AreDealtBy counts.now before pieces.now alone.old.items buckets.old
+        → AreDealtBy counts.now (before ++ p.items) pieces.now alone.new.items buckets.new) }
+    ensures first { OnOk result (AreFirst number alone.old.items → AreFirst (number + 1) alone.new.items) }
 {
-    let mut piece = piece;
-    while !piece.is_empty() {
-        let left = (piece.len() - 1) / LET_GO * LET_GO;
-        deal_parts(&piece[left..], buckets)?;
-        piece.truncate(left);
-        piece.shrink_to_fit();
+    let piece = &pieces[number];
+    for at in 0..piece.len() {
+        deal_part(&piece[at], number, at, counts, alone, buckets)?;
     }
     Ok(())
 }
 
-/// Deals fragments.
-fn deal_parts(parts: &[Fragment], buckets: &mut [Vec<FlowRecord>]) -> Result<(), NoMemory>
-    requires { 1 ≤ length buckets.old }
+/// Deals the fragment at a place of the piece with this number: it stays there where its slot has no other, and else
+/// goes to the bucket of its key.
+#[inline]
+fn deal_part(
+    part: &Fragment,
+    number: usize,
+    at: usize,
+    counts: &[u8],
+    alone: &mut Vec<Place>,
+    buckets: &mut [Vec<FlowRecord>],
+) -> Result<(), NoMemory>
+    requires counts { (1 ≤ length counts.now) × (length counts.now ≤ 2 ^ 31) }
+    requires buckets { 1 ≤ length buckets.old }
     ensures many { length buckets.new ≡ length buckets.old }
-    ensures whole { OnOk result (IsPermutation (parts.now ++ parts_of (records_of buckets.old))
-        (parts_of (records_of buckets.new))) }
-    ensures by_key { OnOk result (AreByKey buckets.old → AreByKey buckets.new) }
+    ensures dealt { OnOk result ((before : List Fragment) (pieces : List Piece)
+        → part_of_piece (slice_get pieces number) at ≡ Some part.now
+        → AreDealtBy counts.now before pieces alone.old.items buckets.old
+        → AreDealtBy counts.now (before ++ part.now ∷ []) pieces alone.new.items buckets.new) }
+    ensures first { OnOk result (AreBefore number at alone.old.items → AreBefore number (at + 1) alone.new.items) }
 {
-    for part in parts {
-        deal_part(part, buckets)?;
+    if counts[slot_of(&part.key, counts.len())] == 1 {
+        leave_part(part, number, at, alone)
+    } else {
+        move_part(part, buckets)
     }
-    Ok(())
 }
 
-/// Deals a fragment.
-fn deal_part(part: &Fragment, buckets: &mut [Vec<FlowRecord>]) -> Result<(), NoMemory>
-    requires { 1 ≤ length buckets.old }
-    ensures many { length buckets.new ≡ length buckets.old }
-    ensures whole { OnOk result (IsPermutation (part.now ∷ parts_of (records_of buckets.old))
-        (parts_of (records_of buckets.new))) }
-    ensures by_key { OnOk result (AreByKey buckets.old → AreByKey buckets.new) }
+/// Leaves a fragment where it lies, and adds this place.
+#[inline]
+fn leave_part(
+    part: &Fragment,
+    number: usize,
+    at: usize,
+    alone: &mut Vec<Place>,
+) -> Result<(), NoMemory>
+    ensures places { OnOk result ((before : List Fragment) (pieces : List Piece)
+        → part_of_piece (slice_get pieces number) at ≡ Some part.now
+        → AllZip (IsPartPlaceOf pieces) before alone.old.items
+        → AllZip (IsPartPlaceOf pieces) (before ++ part.now ∷ []) alone.new.items) }
+    ensures first { OnOk result (AreBefore number at alone.old.items → AreBefore number (at + 1) alone.new.items) }
 {
-    let bucket = part.key.set_of(buckets.len() as u64) as usize;
-    buckets[bucket].push(FlowRecord {
-        part: *part,
-        reason: 0,
+    alone.push(Place {
+        last: part.last,
+        leading: leading_number(&part.key),
+        bucket: number,
+        at,
     })?;
     Ok(())
 }

@@ -11,9 +11,10 @@ ghost use Rattle.packet_accept.specs.Clock.{IsClock};
 ghost use Rattle.record_ledger.specs.Lawful.{IsLawful, IsLawfulBy};
 ghost use Rattle.record_ledger.specs.Sessions.{IsSessions, IsUncut, AreRecordsOf};
 
-use crate::dealing::deal;
+use crate::dealing::{Dealt, deal};
 use crate::record_list::RecordList;
 use crate::settling::settle_all;
+use crate::store::Store;
 use flow_parts::{PartList, Timeouts};
 use no_memory::NoMemory;
 use std::alloc::Global;
@@ -31,9 +32,9 @@ use std::thread::Threads;
 /// time of the latest packet of all, in milliseconds since 1970-01-01T00:00:00Z; `None` without a packet. It is taken
 /// as given, even where `parts` holds the fragments of some keys alone, as long as it holds all of these.
 ///
-/// The fragments are dealt to buckets by their keys; at most `threads` threads sort, join and give reasons there, and
-/// then sort the places of all records. It takes the time of sorting. The fragments of `parts` are let go as soon as
-/// they are dealt; what is held is a record for each part, and 32 bytes for its place in the order.
+/// Fragments whose keys no other has are records as they lie. The others are dealt to buckets by their keys; at most
+/// `threads` threads sort, join and give reasons there, and then sort the places of all records. It takes the time of
+/// sorting. What is held is `parts`, a record for each fragment that was dealt to a bucket, and 32 bytes for each place.
 ///
 /// # Errors
 ///
@@ -59,7 +60,18 @@ pub fn gather<R: Threads + Sync>(
         → All (IsUncut timeouts) sessions → AreRecordsOf timeouts packets sessions records) }
     ensures gathered { IfOk result (λ records. IsGathered timeouts (unwrap_or clock 0) parts records) }
 {
-    let mut buckets = deal(alloc, parts)?;
-    settle_all(rt, &mut buckets, &timeouts, clock.unwrap_or(0), threads);
-    RecordList::in_order(rt, alloc, buckets, threads)
+    let clock = clock.unwrap_or(0);
+    let Dealt {
+        pieces,
+        alone,
+        mut buckets,
+    } = deal(alloc, parts)?;
+    settle_all(rt, &mut buckets, &timeouts, clock, threads);
+    let store = Store {
+        pieces,
+        buckets,
+        timeouts,
+        clock,
+    };
+    RecordList::in_order(rt, store, alone, threads)
 }

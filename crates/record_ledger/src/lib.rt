@@ -7,9 +7,10 @@
 //! a session, there is one lawful list: that of the sessions' records (`specs/Sessions.antt`). Where one of these cuts,
 //! which list is gathered depends on the fragments and the clock alone, key by key (`specs/Gathered.antt`).
 //!
-//! The fragments are dealt to buckets by their keys, so that all fragments of one key lie in one bucket. Threads settle
-//! the buckets: each is sorted by key, its front is the stack of what is joined, and its records get their reasons. A
-//! [`RecordList`] leaves the records there and holds their order beside them, as small places, which threads sort.
+//! Fragments whose keys no other fragment has are records as they lie, but for the reason. The others are dealt to buckets
+//! by their keys, so that all fragments of one key lie in one bucket. Threads settle the buckets: each is sorted by key,
+//! its front is the stack of what is joined, and its records get their reasons. A [`RecordList`] leaves all where it lies
+//! and holds the order of the records beside it, as small places, which threads sort.
 //!
 //! [`laws`] holds laws about lawful lists, as contracts.
 #![tactic(auto)]
@@ -20,6 +21,7 @@ mod gathering;
 mod joining;
 pub mod laws;
 mod leading;
+mod moving;
 mod orders;
 mod place;
 mod placing;
@@ -29,6 +31,7 @@ mod record_list;
 mod settling;
 mod sorting;
 mod spreading;
+mod store;
 
 pub use gathering::gather;
 pub use no_memory::NoMemory;

@@ -5,12 +5,14 @@ ghost use Rattle.std.specs.Option.{option_cmp};
 ghost use Rattle.std.specs.Ordering.{nat_cmp, ordering_then};
 ghost use Rattle.flow_key.specs.Key.{key_order};
 ghost use Rattle.record_ledger.specs.Order.{joining_order, number_order};
-ghost use Rattle.record_ledger.specs.Buckets.{place_order, record_at, record_order, seat_order};
+ghost use Rattle.record_ledger.specs.Buckets.{place_order, record_order, seat_order};
 ghost use Rattle.record_ledger.specs.declared.record.FlowRecord.{FlowRecord};
 
 use crate::arranging::arrange;
 use crate::place::Place;
 use crate::record::FlowRecord;
+use crate::store::Store;
+use flow_key::FlowKey;
 use flow_parts::Fragment;
 use std::cmp::Ordering;
 
@@ -49,62 +51,53 @@ fn by_numbers(one: &Fragment, other: &Fragment) -> Ordering
 }
 
 /// How two places stand in the written order of their records: by last time and by the leading number of the key, which
-/// are in the place, and only where two tie by the keys, which are looked up in the buckets. Places whose records tie
-/// by all of these stand as the records lie in the buckets.
+/// are in the place, and only where two tie by the keys, which are looked up in the store. Places whose records tie by
+/// all of these stand as the records lie there.
 #[inline]
-pub fn by_place(buckets: &[Vec<FlowRecord>], one: &Place, other: &Place) -> Ordering
-    ensures { result ≡ place_order buckets.now one.now other.now }
+pub fn by_place(store: &Store, one: &Place, other: &Place) -> Ordering
+    ensures { result ≡ place_order store.now one.now other.now }
 {
     match one.last.cmp(&other.last) {
-        Ordering::Equal => by_leading(buckets, one, other),
+        Ordering::Equal => by_leading(store, one, other),
         apart => apart,
     }
 }
 
 /// How two places stand by the leading numbers of their records' keys, and where these tie by the records.
 #[inline]
-fn by_leading(buckets: &[Vec<FlowRecord>], one: &Place, other: &Place) -> Ordering
+fn by_leading(store: &Store, one: &Place, other: &Place) -> Ordering
     ensures { result ≡ ordering_then (nat_cmp one.now.leading other.now.leading)
-        (record_order buckets.now one.now other.now) }
+        (record_order store.now one.now other.now) }
 {
     match one.leading.cmp(&other.leading) {
-        Ordering::Equal => by_record(buckets, one, other),
+        Ordering::Equal => by_record(store, one, other),
         apart => apart,
     }
 }
 
-/// How two places stand by the keys of their records, and then as these lie in the buckets.
-fn by_record(buckets: &[Vec<FlowRecord>], one: &Place, other: &Place) -> Ordering
-    ensures { result ≡ record_order buckets.now one.now other.now }
+/// How two places stand by the keys of their records, and then as these lie in the store.
+fn by_record(store: &Store, one: &Place, other: &Place) -> Ordering
+    ensures { result ≡ record_order store.now one.now other.now }
 {
-    let keys = by_found(record_at(buckets, one), record_at(buckets, other));
+    let keys = by_found(store.key_at(one), store.key_at(other));
     keys.then(by_seat(one, other))
 }
 
-/// How two places stand by bucket, then by place in it.
+/// How two places stand by piece or bucket, then by place in it.
 fn by_seat(one: &Place, other: &Place) -> Ordering
     ensures { result ≡ seat_order one.now other.now }
 {
     one.bucket.cmp(&other.bucket).then(one.at.cmp(&other.at))
 }
 
-/// How two records stand by key, where there are both.
-pub fn by_found(one: Option<&FlowRecord>, other: Option<&FlowRecord>) -> Ordering
-    ensures { result ≡ option_cmp (λ (r s : FlowRecord). key_order r.part.key s.part.key) (option_copied one.entry)
-        (option_copied other.entry) }
+/// How two keys stand, where there are both.
+pub fn by_found(one: Option<&FlowKey>, other: Option<&FlowKey>) -> Ordering
+    ensures { result ≡ option_cmp key_order (option_copied one.entry) (option_copied other.entry) }
 {
     match (one, other) {
-        (Some(one), Some(other)) => one.part.key.order(&other.part.key),
+        (Some(one), Some(other)) => one.order(other),
         (Some(_), None) => Ordering::Greater,
         (None, Some(_)) => Ordering::Less,
         (None, None) => Ordering::Equal,
     }
-}
-
-/// The record at a place, where there is one.
-fn record_at<'a>(buckets: &'a [Vec<FlowRecord>], place: &Place) -> Option<&'a FlowRecord>
-    ensures { option_copied result ≡ record_at buckets.now place.now }
-{
-    let bucket = buckets.get(place.bucket)?;
-    bucket.get(place.at)
 }

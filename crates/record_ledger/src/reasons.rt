@@ -19,7 +19,7 @@ pub fn give_reasons(records: &mut [FlowRecord], timeouts: &Timeouts, clock: u64)
 }
 
 /// The reason of a fragment that these records follow, sorted by key.
-fn reason(part: &Fragment, rest: &[FlowRecord], timeouts: &Timeouts, clock: u64) -> u8
+pub fn reason(part: &Fragment, rest: &[FlowRecord], timeouts: &Timeouts, clock: u64) -> u8
     ensures { result ≡ reason_of timeouts.now clock part.now (next_of_key part.now (parts_of rest.now)) }
 {
     if part.closed() {

@@ -6,8 +6,8 @@ ghost use Rattle.record_ledger.specs.Buckets.{place_order};
 
 use crate::orders::by_place;
 use crate::place::Place;
-use crate::record::FlowRecord;
 use crate::spreading::{RANGES, spread};
+use crate::store::Store;
 use std::thread::{Threads, join_mut};
 
 /// Fewer places than these are sorted as they lie, by one thread.
@@ -17,33 +17,23 @@ const FEW: usize = 8192;
 ///
 /// Many are first brought into ranges of time, which threads sort, each by itself; a last sort of all then finds them
 /// in order.
-pub fn sort_places<R: Threads + Sync>(
-    rt: &R,
-    buckets: &[Vec<FlowRecord>],
-    order: &mut Vec<Place>,
-    threads: usize,
-)
+pub fn sort_places<R: Threads + Sync>(rt: &R, store: &Store, order: &mut Vec<Place>, threads: usize)
     ensures permutation { IsPermutation order.old.items order.new.items }
-    ensures order { IsSorted (place_order buckets.now) order.new.items }
+    ensures order { IsSorted (place_order store.now) order.new.items }
 {
-    sort_ranges(rt, buckets, order.as_mut_slice(), threads);
-    order.sort_unstable_by(|one, other| by_place(buckets, one, other));
+    sort_ranges(rt, store, order.as_mut_slice(), threads);
+    order.sort_unstable_by(|one, other| by_place(store, one, other));
 }
 
 /// Brings places into ranges of time, where they are many, and sorts these by at most `threads` threads.
-fn sort_ranges<R: Threads + Sync>(
-    rt: &R,
-    buckets: &[Vec<FlowRecord>],
-    order: &mut [Place],
-    threads: usize,
-)
+fn sort_ranges<R: Threads + Sync>(rt: &R, store: &Store, order: &mut [Place], threads: usize)
     ensures permutation { IsPermutation order.old order.new }
     ensures many { length order.new ≡ length order.old }
 {
     if order.len() >= FEW {
         let mut starts = [0; RANGES];
         spread(order, &mut starts);
-        sort_parts(rt, buckets, order, &starts, threads);
+        sort_parts(rt, store, order, &starts, threads);
     }
 }
 
@@ -52,7 +42,7 @@ fn sort_ranges<R: Threads + Sync>(
 #[cycle(parts)]
 fn sort_parts<R: Threads + Sync>(
     rt: &R,
-    buckets: &[Vec<FlowRecord>],
+    store: &Store,
     order: &mut [Place],
     starts: &[usize],
     threads: usize,
@@ -61,10 +51,10 @@ fn sort_parts<R: Threads + Sync>(
     ensures many { length order.new ≡ length order.old }
 {
     if threads < 2 || starts.len() < 2 {
-        sort_in_turn(buckets, order, starts);
+        sort_in_turn(store, order, starts);
     } else {
         let (low, high) = order.split_at_mut(before_middle(starts, order.len()));
-        sort_both(rt, buckets, low, high, starts, threads);
+        sort_both(rt, store, low, high, starts, threads);
     }
 }
 
@@ -72,7 +62,7 @@ fn sort_parts<R: Threads + Sync>(
 #[cycle(parts)]
 fn sort_both<R: Threads + Sync>(
     rt: &R,
-    buckets: &[Vec<FlowRecord>],
+    store: &Store,
     low: &mut [Place],
     high: &mut [Place],
     starts: &[usize],
@@ -90,11 +80,11 @@ fn sort_both<R: Threads + Sync>(
     let mut left = ||
         requires { IsSync R.row }
         ensures { IsPermutation low.entry.now low.exit.now }
-    { sort_parts(rt, buckets, low, first, some) };
+    { sort_parts(rt, store, low, first, some) };
     let mut right = ||
         requires { IsSync R.row }
         ensures { IsPermutation high.entry.now high.exit.now }
-    { sort_parts(rt, buckets, high, second, rest) };
+    { sort_parts(rt, store, high, second, rest) };
     join_mut(rt, &mut left, &mut right);
 }
 
@@ -119,17 +109,17 @@ fn middle_of(starts: &[usize], count: usize) -> usize
 }
 
 /// Sorts places range by range.
-fn sort_in_turn(buckets: &[Vec<FlowRecord>], order: &mut [Place], starts: &[usize])
+fn sort_in_turn(store: &Store, order: &mut [Place], starts: &[usize])
     ensures permutation { IsPermutation order.old order.new }
     ensures many { length order.new ≡ length order.old }
 {
     if starts.len() < 2 {
-        order.sort_unstable_by(|one, other| by_place(buckets, one, other));
+        order.sort_unstable_by(|one, other| by_place(store, one, other));
     } else {
         let (first, second) = starts.split_at(starts.len() / 2);
         let before = second[0].saturating_sub(first[0]).min(order.len());
         let (low, high) = order.split_at_mut(before);
-        sort_in_turn(buckets, low, first);
-        sort_in_turn(buckets, high, second);
+        sort_in_turn(store, low, first);
+        sort_in_turn(store, high, second);
     }
 }

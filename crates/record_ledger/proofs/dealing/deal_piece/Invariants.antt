@@ -1,16 +1,16 @@
--- The fragments that are left in the piece, and those that are dealt, are all of them.
-use Rattle.std.proofs.Common.{◌≡◌, ◌++◌, length, vec_len, IsPermutation}
-use Rattle.record_ledger.specs.Lawful.{parts_of}
-use Rattle.record_ledger.specs.Buckets.{records_of, AreByKey}
+-- The fragments of the piece so far are dealt.
+use Rattle.std.proofs.Common.{◌≡◌, ◌++◌, List, Some, length, take}
+use Rattle.std.specs.Prelude.{slice_get}
+use Rattle.flow_parts.specs.declared.fragment.Fragment.{Fragment}
+use Rattle.record_ledger.specs.Buckets.{Piece, AreDealtBy, AreFirst, AreBefore}
 use Rattle.record_ledger.proofs.dealing.deal_piece.Given as goal
 
-abbrev pub invariant-loop-piece : goal.invariant-loop-piece
-invariant-loop-piece l = record {
+abbrev pub invariant-loop-at : goal.invariant-loop-at
+invariant-loop-at l = record {
+  end : (p : Piece) → slice_get l.pieces l.number ≡ Some p → l.at-end ≡ length p.items;
   many : length l.buckets ≡ length l.fn.buckets;
-  whole : IsPermutation (l.fn.piece.items ++ parts_of (records_of l.fn.buckets))
-      (l.piece.items ++ parts_of (records_of l.buckets));
-  by_key : AreByKey l.fn.buckets → AreByKey l.buckets;
+  dealt : (before : List Fragment) (p : Piece) → slice_get l.pieces l.number ≡ Some p
+      → AreDealtBy l.counts before l.pieces l.fn.alone.items l.fn.buckets
+      → AreDealtBy l.counts (before ++ take l.at p.items) l.pieces l.alone.items l.buckets;
+  first : AreFirst l.number l.fn.alone.items → AreBefore l.number l.at l.alone.items;
 }
-
-abbrev pub decreases-loop-piece : goal.decreases-loop-piece
-decreases-loop-piece l = vec_len l.piece

@@ -1,43 +1,53 @@
--- The fragments are dealt, the buckets are settled, and their records are put into the written order.
-use Rattle.std.proofs.Common.{◌≡◌, List, subst, IsPermutation}
-use Rattle.std.specs.List.{AllZip}
+-- The fragments are dealt, the buckets are settled, and all records are put into the written order.
+use Rattle.std.proofs.Common.{◌<◌, ◌^◌, sum_by, sym, subst, arith}
 use Rattle.std.proofs.lemmas.Result.{IfOk-weaker}
-use Rattle.flow_parts.proofs.Permuted.{AllZip-length}
-use Rattle.record_ledger.specs.Buckets.{Bucket, records_of, EndInTurn}
+use Rattle.flow_parts.specs.declared.fragment.Fragment.{Fragment}
+use Rattle.record_ledger.specs.Buckets.{records_of}
 use Rattle.record_ledger.specs.Gathered.{IsGathered}
-use Rattle.record_ledger.specs.Lawful.{of_key}
+use Rattle.record_ledger.specs.Lawful.{parts_of}
 use Rattle.record_ledger.proofs.Gathered.{by_own_clock}
 use Rattle.record_ledger.proofs.Matched.{lawful_are_sessions}
-use Rattle.record_ledger.proofs.Settled.{both_ok, given_back, Settled, all_gathered, all_regroup, all_lawful, in_turn}
+use Rattle.record_ledger.proofs.Settled.{both_ok}
+use Rattle.record_ledger.proofs.Staying.{first, no_more, regrouped_all, lawful_all, gathered_all}
 use Rattle.record_ledger.proofs.gathering.gather.Goals as goal
 
+pub settle_all-requires-clause-packets : goal.settle_all-requires-clause-packets
+settle_all-requires-clause-packets g c = λ κs within.
+    let dealt = c.in_ok-pieces.ensures in
+    subst (λ l. sum_by (λ (f : Fragment). f.packets) (parts_of (records_of l)) < 2 ^ 64) (sym c.deref_mut.ensures.value)
+    (let less = no_more (λ (f : Fragment). f.packets) c.args.parts dealt.alone
+    (parts_of (records_of c.in_ok-pieces.field-0.buckets.items)) dealt.whole in
+    omega (arith, less, c.requires.packets))
+
+pub settle_all-requires-clause-octets : goal.settle_all-requires-clause-octets
+settle_all-requires-clause-octets g c = λ κs within.
+    let dealt = c.in_ok-pieces.ensures in
+    subst (λ l. sum_by (λ (f : Fragment). f.octets) (parts_of (records_of l)) < 2 ^ 64) (sym c.deref_mut.ensures.value)
+    (let less = no_more (λ (f : Fragment). f.octets) c.args.parts dealt.alone
+    (parts_of (records_of c.in_ok-pieces.field-0.buckets.items)) dealt.whole in
+    omega (arith, less, c.requires.octets))
+
+pub in_order-requires-clause-places : goal.in_order-requires-clause-places
+in_order-requires-clause-places g c = λ κs within.
+    let F = first c.args.timeouts c.unwrap_or-clock.result c.args.parts c.in_ok-pieces.field-0.pieces
+    c.in_ok-pieces.field-0.alone.items c.in_ok-pieces.field-0.buckets c.deref_mut.result.now c.settle_all.new.buckets
+    c.in_ok-pieces.ensures c.deref_mut.ensures.value c.settle_all.ensures in
+    (F.0, F.1)
+
 pub returns-clause-regroups : goal.returns-clause-regroups
-returns-clause-regroups g c =
-    let old = c.in_ok-buckets.buckets in
-    let new : List Bucket = c.settle_all.new.buckets in
-    let R : Bucket → Bucket → Type 0 = Settled c.args.timeouts c.unwrap_or.result in
-    let lent : c.deref_mut.result.now ≡ old.items = c.deref_mut.ensures.value in
-    let same = given_back old.len old.items c.deref_mut.result.now new old.ok.0 lent
-    (AllZip-length R c.deref_mut.result.now new c.settle_all.ensures) in
-    let settled : AllZip R old.items new = subst (λ l. AllZip R l new) lent c.settle_all.ensures in
-    IfOk-weaker c.in_order.result _ _ (λ L perm.
-    all_regroup c.args.timeouts c.unwrap_or.result c.args.parts old.items new c.in_ok-buckets.ensures settled L
-    (subst (λ l. IsPermutation (records_of l) L) same perm))
+returns-clause-regroups g c = IfOk-weaker c.in_order.result _ _ (λ L perm.
+    regrouped_all c.args.timeouts c.unwrap_or-clock.result c.args.parts c.in_ok-pieces.field-0.pieces
+    c.in_ok-pieces.field-0.alone.items c.in_ok-pieces.field-0.buckets c.deref_mut.result.now c.settle_all.new.buckets
+    c.in_ok-pieces.ensures c.deref_mut.ensures.value c.settle_all.ensures L perm)
     c.in_order.ensures.permutation
 
 pub returns-clause-lawful_by : goal.returns-clause-lawful_by
 returns-clause-lawful_by g c =
-    let old = c.in_ok-buckets.buckets in
-    let new : List Bucket = c.settle_all.new.buckets in
-    let R : Bucket → Bucket → Type 0 = Settled c.args.timeouts c.unwrap_or.result in
-    let lent : c.deref_mut.result.now ≡ old.items = c.deref_mut.ensures.value in
-    let same = given_back old.len old.items c.deref_mut.result.now new old.ok.0 lent
-    (AllZip-length R c.deref_mut.result.now new c.settle_all.ensures) in
-    let settled : AllZip R old.items new = subst (λ l. AllZip R l new) lent c.settle_all.ensures in
     both_ok c.in_order.result c.in_order.ensures.permutation c.in_order.ensures.order (λ L perm sorted packets shares.
-    all_lawful c.args.timeouts c.unwrap_or.result c.args.parts old.items new c.in_ok-buckets.ensures settled
-    c.args.clock L c.unwrap_or.ensures
-    (subst (λ l. IsPermutation (records_of l) L) same perm) sorted packets shares)
+    lawful_all c.args.timeouts c.unwrap_or-clock.result c.args.parts c.in_ok-pieces.field-0.pieces
+    c.in_ok-pieces.field-0.alone.items c.in_ok-pieces.field-0.buckets c.deref_mut.result.now c.settle_all.new.buckets
+    c.in_ok-pieces.ensures c.deref_mut.ensures.value c.settle_all.ensures L c.args.clock c.unwrap_or-clock.ensures
+    perm sorted packets shares)
 
 pub returns-clause-lawful : goal.returns-clause-lawful
 returns-clause-lawful g c = IfOk-weaker c.in_order.result _ _ (λ L lawful packets shares at.
@@ -50,15 +60,8 @@ returns-clause-sessions g c = IfOk-weaker c.in_order.result _ _ (λ L lawful pac
 
 pub returns-clause-gathered : goal.returns-clause-gathered
 returns-clause-gathered g c =
-    let old = c.in_ok-buckets.buckets in
-    let new : List Bucket = c.settle_all.new.buckets in
-    let R : Bucket → Bucket → Type 0 = Settled c.args.timeouts c.unwrap_or.result in
-    let lent : c.deref_mut.result.now ≡ old.items = c.deref_mut.ensures.value in
-    let same = given_back old.len old.items c.deref_mut.result.now new old.ok.0 lent
-    (AllZip-length R c.deref_mut.result.now new c.settle_all.ensures) in
-    let settled : AllZip R old.items new = subst (λ l. AllZip R l new) lent c.settle_all.ensures in
     both_ok c.in_order.result c.in_order.ensures.order c.in_order.ensures.by_key (λ L sorted by_key.
-    subst (λ n. IsGathered c.args.timeouts n c.args.parts L) c.unwrap_or.ensures
-    (all_gathered c.args.timeouts c.unwrap_or.result c.args.parts old.items new c.in_ok-buckets.ensures settled L sorted
-    (λ key. subst (λ l. EndInTurn (records_of l) → of_key key (records_of l) ≡ of_key key L) same (λ up. by_key up key)
-    (in_turn c.args.timeouts c.unwrap_or.result c.args.parts old.items new c.in_ok-buckets.ensures settled))))
+    subst (λ n. IsGathered c.args.timeouts n c.args.parts L) c.unwrap_or-clock.ensures
+    (gathered_all c.args.timeouts c.unwrap_or-clock.result c.args.parts c.in_ok-pieces.field-0.pieces
+    c.in_ok-pieces.field-0.alone.items c.in_ok-pieces.field-0.buckets c.deref_mut.result.now c.settle_all.new.buckets
+    c.in_ok-pieces.ensures c.deref_mut.ensures.value c.settle_all.ensures L sorted by_key))

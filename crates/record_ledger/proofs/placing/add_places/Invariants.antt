@@ -1,5 +1,5 @@
 -- The places of the records so far.
-use Rattle.std.proofs.Common.{◌≡◌, ◌++◌, List, Some, All, take, length}
+use Rattle.std.proofs.Common.{◌≡◌, ◌+◌, ◌++◌, List, Some, All, take, length}
 use Rattle.std.specs.declared.cmp.Ordering.TheVariants.{Less}
 use Rattle.std.specs.Prelude.{slice_get}
 use Rattle.std.specs.List.{AllZip}
@@ -11,10 +11,11 @@ use Rattle.record_ledger.proofs.placing.add_places.Given as goal
 
 abbrev pub invariant-loop-at : goal.invariant-loop-at
 invariant-loop-at l = record {
-  end : (b : Bucket) → slice_get l.buckets l.bucket ≡ Some b → l.at-end ≡ length b.items;
-  placed : (before : List FlowRecord) (b : Bucket) → slice_get l.buckets l.bucket ≡ Some b
-      → AllZip (IsPlaceOf l.buckets) before l.fn.order.items
-      → AllZip (IsPlaceOf l.buckets) (before ++ take l.at b.items) l.order.items;
-  first : AreFirst l.bucket l.fn.order.items
-      → All (IsBelow l.bucket l.at) l.order.items × Rises (λ one other. seat_order one other ≡ Less) l.order.items;
+  end : (b : Bucket) → slice_get l.store.buckets.items l.bucket ≡ Some b → l.at-end ≡ length b.items;
+  number : l.number ≡ length l.store.pieces.items + l.bucket;
+  placed : (before : List FlowRecord) (b : Bucket) → slice_get l.store.buckets.items l.bucket ≡ Some b
+      → AllZip (IsPlaceOf l.store) before l.fn.order.items
+      → AllZip (IsPlaceOf l.store) (before ++ take l.at b.items) l.order.items;
+  first : AreFirst l.number l.fn.order.items
+      → All (IsBelow l.number l.at) l.order.items × Rises (λ one other. seat_order one other ≡ Less) l.order.items;
 }

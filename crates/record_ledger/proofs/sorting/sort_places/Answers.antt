@@ -11,7 +11,7 @@ use Rattle.record_ledger.proofs.sorting.sort_places.Goals as goal
 
 pub returns-clause-order : goal.returns-clause-order
 returns-clause-order g c = c.sort_unstable_by.ensures.sorted
-    (λ (x y : Place). is_lt (place_order c.args.buckets.now x y)) (places_weak c.args.buckets.now)
+    (λ (x y : Place). is_lt (place_order c.args.store.now x y)) (places_weak c.args.store.now)
     (always_returns_same _ _ _ (λ a r f k. search (rules, of_calls)))
 
 pub returns-clause-permutation : goal.returns-clause-permutation

@@ -1,49 +1,30 @@
 -- The record lies where its place says.
-use Rattle.std.proofs.Common.{◌≡◌, ◌<◌, Some, List, length, get_or, sym, ap, ◌∙◌, subst, arith}
-use Rattle.record_ledger.specs.Buckets.{Bucket, record_at}
-use Rattle.record_ledger.specs.declared.record.FlowRecord.{FlowRecord}
-use Rattle.record_ledger.specs.declared.place.Place.{Place}
-use Rattle.record_ledger.proofs.Placed.{as_many, found, record_of}
+use Rattle.std.proofs.Common.{arith}
+use Rattle.record_ledger.specs.Buckets.{record_at}
+use Rattle.record_ledger.proofs.Copied.{as_long, placed_at, part_known, reason_known, known}
 use Rattle.record_ledger.proofs.record_list.RecordList.get.Goals as goal
 
 pub index-place-requires : goal.index-place-requires
 index-place-requires c =
-    let many = as_many c.self.inside.buckets.items c.self.inside.order.items c.self.invariant in
-    omega (arith, many, ap length c.self.view_is, c.requires, c.self.inside.order.ok.0)
+    let many = as_long c.self.inside.store c.self.inside.order.items c.args.self.now c.self.invariant c.self.view_is in
+    omega (arith, many, c.requires, c.self.inside.order.ok.0)
 
-pub index-requires : goal.index-requires
-index-requires c =
-    let bs : List Bucket = c.self.inside.buckets.items in
-    let p : Place = c.index-place.result.now in
-    let many = as_many bs c.self.inside.order.items c.self.invariant in
-    let low : c.args.place < length c.self.inside.order.items =
-    omega (arith, many, ap length c.self.view_is, c.requires) in
-    let r = c.self.invariant c.args.place p low in
-    let at : record_at bs p ≡ Some r.0 = subst (λ q. record_at bs q ≡ Some r.0) (sym c.index-place.ensures) r.1 in
-    omega (arith, (found bs p r.0 at).0, c.self.inside.buckets.ok.0)
+pub part_at-requires : goal.part_at-requires
+part_at-requires c =
+    let v = placed_at c.self.inside.store c.self.inside.order.items c.args.self.now c.args.place
+    c.index-place.result.now c.self.invariant c.self.view_is c.requires c.index-place.ensures in
+    record { place = (v.0, v.1) }
 
-pub index-requires-2 : goal.index-requires-2
-index-requires-2 c =
-    let bs : List Bucket = c.self.inside.buckets.items in
-    let p : Place = c.index-place.result.now in
-    let b : Bucket = c.index.result.now in
-    let many = as_many bs c.self.inside.order.items c.self.invariant in
-    let low : c.args.place < length c.self.inside.order.items =
-    omega (arith, many, ap length c.self.view_is, c.requires) in
-    let r = c.self.invariant c.args.place p low in
-    let at : record_at bs p ≡ Some r.0 = subst (λ q. record_at bs q ≡ Some r.0) (sym c.index-place.ensures) r.1 in
-    omega (arith, ((found bs p r.0 at).1 b c.index.ensures).0, b.ok.0)
+pub reason_at-requires-clause-place : goal.reason_at-requires-clause-place
+reason_at-requires-clause-place c =
+    let v = placed_at c.self.inside.store c.self.inside.order.items c.args.self.now c.args.place
+    c.index-place.result.now c.self.invariant c.self.view_is c.requires c.index-place.ensures in
+    (v.0, v.1)
 
 pub returns : goal.returns
 returns c =
-    let bs : List Bucket = c.self.inside.buckets.items in
-    let p : Place = c.index-place.result.now in
-    let s : FlowRecord = c.index-2.result.now in
-    let many = as_many bs c.self.inside.order.items c.self.invariant in
-    let low : c.args.place < length c.self.inside.order.items =
-    omega (arith, many, ap length c.self.view_is, c.requires) in
-    let r = c.self.invariant c.args.place p low in
-    let at : record_at bs p ≡ Some r.0 = subst (λ q. record_at bs q ≡ Some r.0) (sym c.index-place.ensures) r.1 in
-    ((found bs p r.0 at).1 c.index.result.now c.index.ensures).1 s c.index-2.ensures
-    ∙ sym (record_of bs c.self.inside.order.items c.args.place p r.0 s c.self.invariant low r.1)
-    ∙ ap (λ l. get_or l c.args.place s) c.self.view_is
+    let v = placed_at c.self.inside.store c.self.inside.order.items c.args.self.now c.args.place
+    c.index-place.result.now c.self.invariant c.self.view_is c.requires c.index-place.ensures in
+    let o = record_at c.self.inside.store c.index-place.result.now in
+    known c.args.self.now c.args.place v.0 v.2 _ _ (part_known o v.0 c.part_at.result.now v.1 c.part_at.ensures)
+    (reason_known o v.0 c.reason_at.result v.1 c.reason_at.ensures)

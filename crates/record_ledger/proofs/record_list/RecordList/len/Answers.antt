@@ -5,5 +5,5 @@ use Rattle.record_ledger.proofs.record_list.RecordList.len.Goals as goal
 
 pub returns : goal.returns
 returns c = c.len.ensures ∙ c.self.inside.order.ok.0
-    ∙ sym (as_many c.self.inside.buckets.items c.self.inside.order.items c.self.invariant)
+    ∙ sym (as_many c.self.inside.store c.self.inside.order.items c.self.invariant)
     ∙ ap length c.self.view_is
