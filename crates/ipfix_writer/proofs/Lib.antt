@@ -1,6 +1,7 @@
 pub mod Sizes
 pub mod Sets
 pub mod Lengths
+pub mod Puts
 pub mod Filling
 pub mod Templates
 pub mod UnderWay

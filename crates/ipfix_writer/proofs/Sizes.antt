@@ -1,13 +1,15 @@
 -- The lengths of records, sets and messages.
-use Rattle.std.proofs.Common.{◌≡◌, ◌≤◌, ◌+◌, ◌*◌, ◌==◌, ℕ, Bool, true, false, List, ◌++◌, length, if◌then◌else◌, refl}
-use Rattle.std.proofs.Common.{ap, ◌∙◌, arith, length-append, append_assoc, append-nil}
+use Rattle.std.proofs.Common.{◌≡◌, ◌≤◌, ◌+◌, ◌==◌, ℕ, Bool, true, false, List, ◌++◌, length, if◌then◌else◌, refl}
+use Rattle.std.proofs.Common.{◌≢◌, ap, ◌∙◌, arith, length-append, append-nil, eq-eqb}
+use Rattle.std.proofs.lemmas.Bool.{ne_eqb}
+use Rattle.octets.specs.Numbers.{octets_of}
 use Rattle.byteorder.specs.Numbers.{length-bytes_high_first}
 use Rattle.record_ledger.specs.declared.record.FlowRecord.{FlowRecord}
 use Rattle.ipfix_model.specs.Fields.{record_length}
 use Rattle.ipfix_model.specs.Templates.{v4_fields, v6_fields}
 use Rattle.ipfix_model.specs.Sizes.{v4_record_length, v6_record_length, counts_length}
 use Rattle.ipfix_writer.specs.Encoding.{message_header, message, set, data_record, record_size}
-use Rattle.ipfix_writer.specs.DataParts.{address_size, key_part, counts_part}
+use Rattle.ipfix_writer.specs.DataParts.{counts_part}
 use Rattle.ipfix_writer.specs.DataSizes.{length-data_record}
 
 -- the length of the records of each template
@@ -32,43 +34,24 @@ record_size-bounds flow =
     let long = length-data_record flow ∙ record_size-is flow in
     (omega (arith, long, range), omega (arith, long, range))
 
--- a data record is the values of its key and then those behind it
-parts-v4 : (flow : FlowRecord) → (flow.part.key.version == 4) ≡ true
-    → data_record flow ≡ key_part flow ++ counts_part flow
-unfolding data_record key_part counts_part
-parts-v4 flow v4 = rw v4 (simp (append_assoc, append-nil))
+-- a data record as its values, over IPv4 and over IPv6: addresses of this size, ports and protocol, then the counts
+abbrev pub values_in : ℕ → FlowRecord → List ℕ
+values_in size flow = let key = flow.part.key in
+    octets_of size key.source ++ (octets_of size key.destination ++ (octets_of 2 key.source_port
+    ++ (octets_of 2 key.destination_port ++ (octets_of 1 key.protocol ++ counts_part flow))))
 
-parts-v6 : (flow : FlowRecord) → (flow.part.key.version == 4) ≡ false
-    → data_record flow ≡ key_part flow ++ counts_part flow
-unfolding data_record key_part counts_part
-parts-v6 flow v6 = rw v6 (simp (append_assoc, append-nil))
+pub data_record-v4 : (flow : FlowRecord) → flow.part.key.version ≡ 4 → data_record flow ≡ values_in 4 flow
+unfolding data_record counts_part
+data_record-v4 flow v4 = rw (eq-eqb flow.part.key.version 4 v4) (simp append-nil)
 
-parts-if : (flow : FlowRecord) (b : Bool) → (flow.part.key.version == 4) ≡ b
-    → data_record flow ≡ key_part flow ++ counts_part flow
-parts-if flow true is = parts-v4 flow is
-parts-if flow false is = parts-v6 flow is
+pub data_record-v6 : (flow : FlowRecord) → flow.part.key.version ≢ 4 → data_record flow ≡ values_in 16 flow
+unfolding data_record counts_part
+data_record-v6 flow v6 = rw (ne_eqb flow.part.key.version 4 v6) (simp append-nil)
 
-pub data_record-parts : (flow : FlowRecord) → data_record flow ≡ key_part flow ++ counts_part flow
-data_record-parts flow = parts-if flow (flow.part.key.version == 4) refl
-
--- the lengths of both parts
+-- the length of the counts
 pub length-counts_part : (flow : FlowRecord) → length (counts_part flow) ≡ counts_length
 unfolding counts_part
 length-counts_part flow = simp (length-append, length-bytes_high_first)
-
-pub length-key_part : (flow : FlowRecord) → length (key_part flow) ≡ 2 * address_size flow + 5
-unfolding key_part
-length-key_part flow = simp (length-append, length-bytes_high_first) (omega arith)
-
-sizes_add : (v4 : Bool) → 2 * (if v4 then 4 else 16) + 5 + counts_length
-    ≡ (if v4 then v4_record_length else v6_record_length)
-sizes_add true = refl
-sizes_add false = refl
-
-pub key_leaves_counts : (flow : FlowRecord) → length (key_part flow) + counts_length ≡ length (data_record flow)
-key_leaves_counts flow =
-    let sum = sizes_add (flow.part.key.version == 4) in
-    omega (arith, sum, length-key_part flow, length-data_record flow, record_size-is flow)
 
 pub length-set : (number : ℕ) (records : List ℕ) → length (set number records) ≡ 4 + length records
 unfolding set

@@ -1,13 +1,61 @@
 //! The bytes of records.
 
-ghost use Rattle.std.specs.Prelude.{◌≡◌, ◌+◌, ◌*◌, ◌≤◌, ◌++◌, length};
+ghost use Rattle.std.specs.Prelude.{◌≡◌, ◌≢◌, ◌+◌, ◌*◌, ◌≤◌, ◌++◌, length};
 ghost use Rattle.std.specs.Vec.{vec_capacity};
-ghost use Rattle.ipfix_writer.specs.DataParts.{address_size, key_part, counts_part};
+ghost use Rattle.ipfix_writer.specs.DataParts.{counts_part, IsPut};
+ghost use Rattle.ipfix_writer.specs.Encoding.{data_record};
 ghost use Rattle.ipfix_model.specs.Sizes.{counts_length};
+ghost use Rattle.octets.specs.Numbers.{octets_of};
 
-use ipfix_model::{V4_RECORD_LENGTH, V4_TEMPLATE, V6_RECORD_LENGTH, V6_TEMPLATE};
-use octets::{append_u8, append_u16, append_u32, append_u64, append_u128};
+use byteorder::{ByteOrder, NetworkEndian};
+use ipfix_model::{COUNTS_LENGTH, V4_RECORD_LENGTH, V4_TEMPLATE, V6_RECORD_LENGTH, V6_TEMPLATE};
+use octets::append;
 use record_ledger::FlowRecord;
+
+/// Where the destination address stands in a data record over IPv4.
+const V4_DESTINATION: usize = 4;
+
+/// Where the source port stands in a data record over IPv4.
+const V4_SOURCE_PORT: usize = 8;
+
+/// Where the destination port stands in a data record over IPv4.
+const V4_DESTINATION_PORT: usize = 10;
+
+/// Where the protocol stands in a data record over IPv4.
+const V4_PROTOCOL: usize = 12;
+
+/// Where the values behind the key begin in a data record over IPv4.
+const V4_COUNTS: usize = 13;
+
+/// Where the destination address stands in a data record over IPv6.
+const V6_DESTINATION: usize = 16;
+
+/// Where the source port stands in a data record over IPv6.
+const V6_SOURCE_PORT: usize = 32;
+
+/// Where the destination port stands in a data record over IPv6.
+const V6_DESTINATION_PORT: usize = 34;
+
+/// Where the protocol stands in a data record over IPv6.
+const V6_PROTOCOL: usize = 36;
+
+/// Where the values behind the key begin in a data record over IPv6.
+const V6_COUNTS: usize = 37;
+
+/// Where the packets stand in the values behind the key, which begin with the flags.
+const PACKETS: usize = 2;
+
+/// Where the octets stand in the values behind the key.
+const OCTETS: usize = 10;
+
+/// Where the first time stands in the values behind the key.
+const FIRST: usize = 18;
+
+/// Where the last time stands in the values behind the key.
+const LAST: usize = 26;
+
+/// Where the end reason stands in the values behind the key.
+const REASON: usize = 34;
 
 /// Something that is written as a data record: it has the number of its template, and the bytes of its record (RFC
 /// 7011, section 3.4.3). Records of one template are of one length.
@@ -65,43 +113,122 @@ impl Encode for FlowRecord {
 
     /// Appends the data record of a flow.
     fn append(&self, buffer: &mut Vec<u8>) {
-        append_key(buffer, self);
-        append_counts(buffer, self);
+        if self.part.key.version == 4 {
+            append(buffer, &v4_record(self));
+        } else {
+            append(buffer, &v6_record(self));
+        }
     }
 }
 
-/// Appends the values of the key.
-#[tactic(auto, unfolding(crate::specs::DataParts::key_part))]
-pub fn append_key(buffer: &mut Vec<u8>, flow: &FlowRecord)
-    requires { length buffer.old.items + 2 * address_size flow.now + 5 ≤ vec_capacity buffer.old }
-    ensures items { buffer.new.items ≡ buffer.old.items ++ key_part flow.now }
-    ensures room { vec_capacity buffer.old ≤ vec_capacity buffer.new }
+/// The data record of a flow over IPv4: the values of its key at their places, then those behind it.
+#[inline]
+fn v4_record(flow: &FlowRecord) -> [u8; V4_RECORD_LENGTH]
+    requires { flow.now.part.key.version ≡ 4 }
+    ensures { result ≡ data_record flow.now }
 {
     let key = flow.part.key;
-    if key.version == 4 {
-        append_u32(buffer, key.source as u32);
-        append_u32(buffer, key.destination as u32);
-    } else {
-        append_u128(buffer, key.source);
-        append_u128(buffer, key.destination);
-    }
-    append_u16(buffer, key.source_port);
-    append_u16(buffer, key.destination_port);
-    append_u8(buffer, key.protocol);
+    let mut octets = [0u8; V4_RECORD_LENGTH];
+    put_u32(&mut octets, 0, key.source as u32);
+    put_u32(&mut octets, V4_DESTINATION, key.destination as u32);
+    put_u16(&mut octets, V4_SOURCE_PORT, key.source_port);
+    put_u16(&mut octets, V4_DESTINATION_PORT, key.destination_port);
+    put_u8(&mut octets, V4_PROTOCOL, key.protocol);
+    put_counts(&mut octets, V4_COUNTS, flow);
+    octets
+}
+
+/// The data record of a flow over IPv6: the same values, with longer addresses.
+#[inline]
+fn v6_record(flow: &FlowRecord) -> [u8; V6_RECORD_LENGTH]
+    requires { flow.now.part.key.version ≢ 4 }
+    ensures { result ≡ data_record flow.now }
+{
+    let key = flow.part.key;
+    let mut octets = [0u8; V6_RECORD_LENGTH];
+    put_u128(&mut octets, 0, key.source);
+    put_u128(&mut octets, V6_DESTINATION, key.destination);
+    put_u16(&mut octets, V6_SOURCE_PORT, key.source_port);
+    put_u16(&mut octets, V6_DESTINATION_PORT, key.destination_port);
+    put_u8(&mut octets, V6_PROTOCOL, key.protocol);
+    put_counts(&mut octets, V6_COUNTS, flow);
+    octets
 }
 
 /// Appends the values behind the key, `counts_length` octets in network order: flags, packets, octets, first and last
 /// time, and end reason.
-#[tactic(auto, unfolding(crate::specs::DataParts::counts_part))]
 pub fn append_counts(buffer: &mut Vec<u8>, flow: &FlowRecord)
     requires { length buffer.old.items + counts_length ≤ vec_capacity buffer.old }
     ensures items { buffer.new.items ≡ buffer.old.items ++ counts_part flow.now }
     ensures room { vec_capacity buffer.old ≤ vec_capacity buffer.new }
 {
-    append_u16(buffer, flow.part.flags);
-    append_u64(buffer, flow.part.packets);
-    append_u64(buffer, flow.part.octets);
-    append_u64(buffer, flow.part.first);
-    append_u64(buffer, flow.part.last);
-    append_u8(buffer, flow.reason);
+    let mut octets = [0u8; COUNTS_LENGTH];
+    put_counts(&mut octets, 0, flow);
+    append(buffer, &octets);
+}
+
+/// Puts the values behind the key at this place.
+#[inline]
+#[tactic(auto, unfolding(crate::specs::DataParts::counts_part))]
+fn put_counts(octets: &mut [u8], place: usize, flow: &FlowRecord)
+    requires { place + counts_length ≤ length octets.old }
+    ensures many { length octets.new ≡ length octets.old }
+    ensures put { IsPut place (counts_part flow.now) octets.old octets.new }
+{
+    put_u16(octets, place, flow.part.flags);
+    put_u64(octets, place + PACKETS, flow.part.packets);
+    put_u64(octets, place + OCTETS, flow.part.octets);
+    put_u64(octets, place + FIRST, flow.part.first);
+    put_u64(octets, place + LAST, flow.part.last);
+    put_u8(octets, place + REASON, flow.reason);
+}
+
+/// Puts a number of one octet at this place: what stands in front of it stays.
+#[inline]
+fn put_u8(octets: &mut [u8], place: usize, value: u8)
+    requires { place + 1 ≤ length octets.old }
+    ensures many { length octets.new ≡ length octets.old }
+    ensures put { IsPut place (octets_of 1 value) octets.old octets.new }
+{
+    octets[place] = value;
+}
+
+/// Puts a number of two octets at this place, in network order: what stands in front of it stays.
+#[inline]
+fn put_u16(octets: &mut [u8], place: usize, value: u16)
+    requires { place + 2 ≤ length octets.old }
+    ensures many { length octets.new ≡ length octets.old }
+    ensures put { IsPut place (octets_of 2 value) octets.old octets.new }
+{
+    NetworkEndian::write_u16(&mut octets[place..], value);
+}
+
+/// Puts a number of four octets at this place, in network order: what stands in front of it stays.
+#[inline]
+fn put_u32(octets: &mut [u8], place: usize, value: u32)
+    requires { place + 4 ≤ length octets.old }
+    ensures many { length octets.new ≡ length octets.old }
+    ensures put { IsPut place (octets_of 4 value) octets.old octets.new }
+{
+    NetworkEndian::write_u32(&mut octets[place..], value);
+}
+
+/// Puts a number of eight octets at this place, in network order: what stands in front of it stays.
+#[inline]
+fn put_u64(octets: &mut [u8], place: usize, value: u64)
+    requires { place + 8 ≤ length octets.old }
+    ensures many { length octets.new ≡ length octets.old }
+    ensures put { IsPut place (octets_of 8 value) octets.old octets.new }
+{
+    NetworkEndian::write_u64(&mut octets[place..], value);
+}
+
+/// Puts a number of sixteen octets at this place, in network order: what stands in front of it stays.
+#[inline]
+fn put_u128(octets: &mut [u8], place: usize, value: u128)
+    requires { place + 16 ≤ length octets.old }
+    ensures many { length octets.new ≡ length octets.old }
+    ensures put { IsPut place (octets_of 16 value) octets.old octets.new }
+{
+    NetworkEndian::write_u128(&mut octets[place..], value);
 }

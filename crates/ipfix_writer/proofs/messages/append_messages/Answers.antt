@@ -3,7 +3,7 @@ use Rattle.std.proofs.Common.{◌∙◌, ◌++◌, ◌%◌, ◌^◌, sym, ap, su
 use Rattle.std.proofs.Common.{length, length-drop}
 use Rattle.ipfix_writer.specs.Encoding.{message}
 use Rattle.ipfix_writer.specs.Layout.{body_in, IsStream}
-use Rattle.ipfix_writer.proofs.Rests.{rest-more, rest-end, rest-all}
+use Rattle.ipfix_writer.proofs.Rests.{rest-more, rest-end}
 use Rattle.ipfix_writer.proofs.messages.append_messages.Goals as goal
 
 pub loop-done-preserved : goal.loop-done-preserved

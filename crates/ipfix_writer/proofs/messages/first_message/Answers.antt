@@ -1,5 +1,5 @@
 -- One more record, or none that fits.
-use Rattle.std.proofs.Common.{◌∙◌, ◌≡◌, ◌≤◌, ◌<◌, ◌+◌, sym, ap, subst, arith, take, length, Some, refl}
+use Rattle.std.proofs.Common.{◌∙◌, ◌≡◌, ◌<◌, ◌+◌, sym, ap, arith, take, Some, refl}
 use Rattle.ipfix_writer.specs.Layout.{length_in}
 use Rattle.ipfix_writer.specs.Emitting.{last_template, header_before}
 use Rattle.ipfix_writer.proofs.Lengths.{length_in-nil, header_before-bound}

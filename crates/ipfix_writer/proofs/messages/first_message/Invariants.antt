@@ -1,5 +1,5 @@
 -- The message of the first records, and how long it is.
-use Rattle.std.proofs.Common.{◌≡◌, ◌≤◌, ◌-◌, ◌<◌, length, take}
+use Rattle.std.proofs.Common.{◌≡◌, ◌≤◌, ◌-◌, length, take}
 use Rattle.ipfix_writer.specs.Layout.{length_in}
 use Rattle.ipfix_writer.specs.Emitting.{last_template}
 use Rattle.ipfix_writer.proofs.messages.first_message.Given as goal
