@@ -1,6 +1,6 @@
 //! Metering a capture through one cache, and gathering what the cache gave.
 
-ghost use Rattle.std.specs.Prelude.{◌≡◌, ◌<◌, ◌*◌, List, ℕ, IfOk, IfErr};
+ghost use Rattle.std.specs.Prelude.{◌≡◌, ◌<◌, ◌≤◌, ◌^◌, ◌*◌, List, ℕ, IfOk, IfErr};
 ghost use Rattle.flow_parts.specs.declared.timeouts.Timeouts.{Timeouts};
 ghost use Rattle.meter_io.specs.Sides.{Side, side};
 ghost use Rattle.meter_program.specs.Metering.{IsKept, IsReadAndKept, IsGathered, IsReadAndGathered};
@@ -20,8 +20,12 @@ use record_ledger::{RecordList, gather};
 use std::alloc::Global;
 use std::thread::Threads;
 
-/// The bytes of a capture that are held at a time.
-const WINDOW: usize = 1 << 20;
+/// The bytes of a capture that are held at a time for a single worker: the fewest that a window may have, since a
+/// longer one takes the room of open flows in the near cache of the processor.
+const WINDOW_OF_ONE: usize = 262_184;
+
+/// The bytes of a capture that are held at a time for several workers: more, since threads are started for each window.
+const WINDOW_OF_SEVERAL: usize = 1 << 20;
 
 /// What is known of a capture whose packets a cache has metered: its tally, and how many bytes are left behind its last
 /// record.
@@ -37,6 +41,17 @@ pub struct Gathered {
     pub records: RecordList,
     pub tally: Tally,
     pub tail: u64,
+}
+
+/// The bytes of a capture that are held at a time for so many workers.
+fn window_size(workers: usize) -> usize
+    ensures { (262184 ≤ result) × (result ≤ 2 ^ 27) }
+{
+    if workers == 1 {
+        WINDOW_OF_ONE
+    } else {
+        WINDOW_OF_SEVERAL
+    }
 }
 
 /// Meters the capture that the input gives through a cache, by all workers at once, and closes the cache. Gives the
@@ -61,7 +76,7 @@ fn meter_input<R: Threads + Sync, S: Source, M: Caches, G: Gate>(
         &cache,
         passes,
         Windows {
-            size: WINDOW,
+            size: window_size(settings.workers),
             limit: CAPTURE_LIMIT,
             piece: settings.piece,
             front: Some(limits),
