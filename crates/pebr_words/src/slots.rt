@@ -13,6 +13,15 @@ use crate::words::{Seat, Words};
 use pebr_core::Step;
 
 impl<P: RootProtocol> Words<P> {
+    /// The place of the first word of a slot.
+    #[inline]
+    pub fn slot_start(&self, slot: usize) -> usize
+        requires { slot < slot_count (shape_of self.now) }
+        ensures { result ≡ index (shape_of self.now) (slot_word slot 0) }
+    {
+        self.contents + slot * self.shape.width
+    }
+
     /// The place of a word of a slot.
     fn slot_place(&self, slot: usize, word: usize) -> usize
         requires { (slot < slot_count self.now.shape) × (word < self.now.shape.width) }
@@ -21,10 +30,12 @@ impl<P: RootProtocol> Words<P> {
         self.contents + (slot * self.shape.width + word)
     }
 
-    /// Reads a word of a slot that a shield of the seat is valid on.
-    pub fn read_word(&self, seat: &mut Seat<P>, slot: usize, word: usize) -> u64
+    /// Reads a word of a slot that a shield of the seat is valid on. The start is the place of the slot's first word.
+    #[inline(always)]
+    pub fn read_word(&self, seat: &mut Seat<P>, slot: usize, start: usize, word: usize) -> u64
         requires at { IsAt self.now seat.old }
         requires range { (slot < slot_count (shape_of self.now)) × (word < (shape_of self.now).width) }
+        requires start { start ≡ index (shape_of self.now) (slot_word slot 0) }
         requires shielded { IsTrue (is_shielded (known_of seat.old) slot) }
         ensures still { IsStill self.now seat.old seat.new }
         ensures note { note_of P.first seat.new ≡ note_of P.first seat.old }
@@ -32,7 +43,7 @@ impl<P: RootProtocol> Words<P> {
         ensures step { IsStep P.whole self.now seat.old seat.new (step.Read (number_of seat.old) slot word)
             (answer.Word result) }
     {
-        let place = self.slot_place(slot, word);
+        let place = start + word;
         let step = Step::Read(seat.number, slot, word);
         self.load(&mut seat.inner, place, step, None)
     }

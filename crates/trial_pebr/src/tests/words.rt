@@ -284,7 +284,10 @@ fn look_under(words: &Words<Free>, seat: &mut Seat<Free>, slot: Option<usize>) -
 {
     valid_shields_protect();
     match slot {
-        Some(slot) => words.read_word(seat, slot, 0),
+        Some(slot) => {
+            let start = words.slot_start(slot);
+            words.read_word(seat, slot, start, 0)
+        }
         None => 0,
     }
 }

@@ -1,11 +1,29 @@
-use Rattle.std.proofs.Common.{refl, sym, ◌∙◌, subst}
+use Rattle.std.proofs.Common.{◌≡◌, ◌+◌, arith, refl, sym, ◌∙◌, subst}
 use Rattle.pebr_table.specs.Tables.{key_of, me_of}
 use Rattle.pebr_words.specs.Making.{known_in_view}
 use Rattle.pebr_words.specs.Mirrors.{Mirrors}
 use Rattle.pebr_words.proofs.ReadStep.{read_by, read_kept, read_recalled}
 use Rattle.pebr_words.proofs.Mirroring.{same_mirrors}
 use Rattle.pebr_words.specs.Ruled.{BackedWhole}
+use Rattle.pebr_words.specs.Places.{slot_word, index}
+use Rattle.pebr_words.proofs.Closing.{few_at}
 use Rattle.pebr_words.proofs.words.Words.read_word.Goals as goal
+
+pub overflow_add-place : goal.overflow_add-place
+overflow_add-place g c =
+    let words = c.args.self.now in
+    let few = few_at words.shape words.limits c.args.slot c.requires.range.0 in
+    let low = c.requires.range.1 in
+    let start = c.requires.start in
+    let limits = words.limits in
+    omega (arith, few, low, start, limits.width, limits.roots, limits.seats)
+
+pub load-requires-clause-place : goal.load-requires-clause-place
+load-requires-clause-place g c =
+    let start = c.requires.start in
+    let is : index c.args.self.now.shape (slot_word c.args.slot c.args.word) ≡ c.args.start + c.args.word =
+    omega (arith, start) in
+    (c.requires.range, is)
 
 pub load-requires-clause-made : goal.load-requires-clause-made
 load-requires-clause-made g c = read_by c.args.self.now.shape c.args.seat.now.number c.args.slot c.args.word _
