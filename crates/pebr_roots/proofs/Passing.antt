@@ -4,7 +4,7 @@ use Rattle.std.proofs.Common.{replicate, Some, unwrap_or, cond, refl, sym, ap, �
 use Rattle.std.specs.Prelude.{IsTrue, slice_index}
 use Rattle.std.specs.List.{list_all}
 use Rattle.std.proofs.lemmas.Bool.{false≢true}
-use Rattle.std.proofs.lemmas.List.{get_or-set_other, get_or-set_same}
+use Rattle.std.proofs.lemmas.List.{get_or-map, get_or-set_other, get_or-set_same, map-set}
 use Rattle.std.proofs.lemmas.List.Sums.{sum_by-cons}
 use mathlib.Core.Logic.{dite}
 use native.Mathlib.Decide.{ℕ_discrete}
@@ -21,6 +21,7 @@ use Rattle.pebr_core.specs.Kept.{IsSound, held_count}
 use Rattle.pebr_core.specs.Frames.{seat_of, LeavesTheRest}
 use Rattle.pebr_core.specs.declared.kinds.Step.TheVariants as step
 use Rattle.pebr_core.specs.declared.kinds.Answer.TheVariants as answer
+use Rattle.pebr_words.specs.Places.{slot_word, index}
 use Rattle.pebr_words.specs.Making.{IsStepOf, IsAsKnown}
 use Rattle.pebr_words.specs.Pasts.{Read, History, past_after}
 use Rattle.pebr_words.specs.Ruled.{IsIn, IsSure}
@@ -28,7 +29,7 @@ use Rattle.pebr_slots.specs.Sets.{least_in}
 use Rattle.pebr_shields.specs.declared.checked.Checked.{Checked}
 use Rattle.pebr_shields.specs.declared.checked.Checked.TheVariants as found
 use Rattle.pebr_shields.specs.Found.{checked_seat}
-use Rattle.pebr_roots.specs.Under.{slot_at, is_valid, is_valid_at, AreUnder}
+use Rattle.pebr_roots.specs.Under.{slot_at, is_valid, is_valid_at, AreUnder, starts_of}
 
 valid_as : (s : ShieldAt) → is_valid s ≡ true → s ≡ shield.Valid (unwrap_or (slot_under s) 0)
 valid_as shield.Down h = absurd (false≢true h)
@@ -43,6 +44,19 @@ valid_at known place h = valid_as (shield_at known place) h
 pub under_valid : (under : List ℕ) (known : Seat) (place : ℕ) → AreUnder under known → IsTrue (is_valid_at known place)
     → slice_index under place ≡ slot_at known place
 under_valid under known place h valid = h place (slot_at known place) (ap slot_under (valid_at known place valid))
+
+-- the places where the slots under the shields begin
+
+pub start_at : (shape : Shape) (under starts : List ℕ) (place : ℕ) → place < length under
+    → starts ≡ starts_of shape under → slice_index starts place ≡ index shape (slot_word (slice_index under place) 0)
+start_at shape under starts place inside h = ap (λ l. get_or l place 0) h
+    ∙ get_or-map (λ slot. index shape (slot_word slot 0)) under place 0 0 inside
+
+pub starts_set : (shape : Shape) (under starts : List ℕ) (place slot start : ℕ) → starts ≡ starts_of shape under
+    → start ≡ index shape (slot_word slot 0) → set starts place start ≡ starts_of shape (set under place slot)
+starts_set shape under starts place slot start h is = ap (λ l. set l place start) h
+    ∙ (ap (set (starts_of shape under) place) is
+    ∙ sym (map-set (λ n. index shape (slot_word n 0)) under place slot))
 
 -- the least slot of a set that has one
 pub least_has : (marks : List Bool) → 0 < count_by (λ mark. mark) marks → has marks (least_in marks) ≡ true

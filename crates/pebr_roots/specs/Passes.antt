@@ -10,6 +10,7 @@ use Rattle.pebr_table.specs.Operations.{Op}
 use Rattle.pebr_words.specs.Pasts.{History, Lost, Ejection, no_history}
 use Rattle.pebr_words.specs.Seats.{shape_of, fixed_of, known_of, number_of, numbers_of, note_of, past_of, lost_of}
 use Rattle.pebr_words.specs.Seats.{ejections_of, operations_of, count_of, IsUnited, IsAt, IsStill, IsStep}
+use Rattle.pebr_roots.specs.Under.{starts_of}
 use Rattle.pebr_roots.specs.declared.pass.RootPass.{RootPass}
 use Rattle.pebr_roots.specs.declared.pass.Roots.{Roots}
 
@@ -57,10 +58,12 @@ module _ {P N A F : Type 0} where
   abbrev pub IsUnitedPass : {g : _} → N → RootPass P N A F g → Type 0
   IsUnitedPass empty pass = IsUnited empty pass.seat
 
-  -- A pass of these roots. It has its number of slots, fresh and retired together.
+  -- A pass of these roots. It has its number of slots, fresh and retired together, and where the words of each slot
+  -- under its shields begin.
   pub record IsOf {g : _} (roots : Roots P N A F) (pass : RootPass P N A F g) : Type 0 where
     pub at : IsAt roots.words pass.seat
     pub held : held_count (known_of pass.seat) ≡ slots_per_seat (shape_of roots.words)
+    pub starts : pass.starts ≡ starts_of (shape_of roots.words) pass.under
 
   -- Steps were made: it is a pass of these roots with the same numbers as before.
   pub record IsSame {g h : _} (roots : Roots P N A F) (old : RootPass P N A F g)

@@ -29,13 +29,22 @@ impl<P: RootProtocol> Roots<P> {
         ensures ejections { ejections_by result ≡ ejections_by first ++ ejections_by second }
         ensures united { IsUnitedPass P.empty first → IsUnitedPass P.empty second → IsUnitedPass P.empty result }
     {
-        let RootPass { seat, under } = first;
+        let RootPass {
+            seat,
+            under,
+            starts,
+        } = first;
         let RootPass {
             seat: other,
             under: _,
+            starts: _,
         } = second;
         let seat = self.words.unite(seat, other);
-        RootPass { seat, under }
+        RootPass {
+            seat,
+            under,
+            starts,
+        }
     }
 
     /// Ends the roots, and gives their contents, one after another. The protocol keeps with these contents, with the
@@ -55,7 +64,11 @@ impl<P: RootProtocol> Roots<P> {
             (slice_set (replicate (shape_at self).seats P.empty) (number_by pass) (note_by P.first pass))) }
     {
         let Roots { words } = self;
-        let RootPass { seat, under: _ } = pass;
+        let RootPass {
+            seat,
+            under: _,
+            starts: _,
+        } = pass;
         words.close(alloc, seat)
     }
 }

@@ -28,9 +28,11 @@ impl<P: RootProtocol> Roots<P> {
         ensures { IsOpenedPass self.now P.first number result }
     {
         start_is_sound();
+        let start = self.words.slot_start(0);
         RootPass {
             seat,
             under: [0; 8],
+            starts: [start; 8],
         }
     }
 

@@ -17,5 +17,7 @@ pub struct RootPass<P: RootProtocol> {
     pub(crate) seat: Seat<P>,
     /// The slot under each shield that is up. No shape has more than 8 shields.
     pub(crate) under: [usize; 8],
+    /// Where the words of each of these slots begin.
+    pub(crate) starts: [usize; 8],
     ghost slots: { AreUnder under (known_of seat) },
 }

@@ -43,6 +43,7 @@ impl<P: RootProtocol> Roots<P> {
         let slot = self.words.load_root(&mut pass.seat, root);
         shield(&self.words, &mut pass.seat, place, slot);
         pass.under[place] = slot;
+        pass.starts[place] = self.words.slot_start(slot);
         slot
     }
 
@@ -82,7 +83,8 @@ impl<P: RootProtocol> Roots<P> {
     {
         valid_shields_protect();
         let slot = pass.under[place];
-        self.words.read_word(&mut pass.seat, slot, word)
+        let start = pass.starts[place];
+        self.words.read_word(&mut pass.seat, slot, start, word)
     }
 
     /// Takes each shield down.

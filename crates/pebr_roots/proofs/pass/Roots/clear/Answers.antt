@@ -45,7 +45,11 @@ loop-place-preserved g c =
       all = before.all;
       low = omega (arith, c.loop-place-test.true);
       same = record {
-        of = record { at = still.0; held = ap held_count told.known ∙ before.same.of.held };
+        of = record {
+          at = still.0;
+          held = ap held_count told.known ∙ before.same.of.held;
+          starts = before.same.of.starts;
+        };
         still = (
           still.0,
           still.1 ∙ before.same.still.1,

@@ -27,6 +27,7 @@ returns-then-not-pass_all-clause-same g c =
         at = b.0;
         held = opened_held shape opened.noted old opened
             (known_of c.pass_all.new.seat) c.open_scan.ensures.known c.pass_all.ensures.known.scan ∙ c.requires.of.held;
+        starts = c.requires.of.starts;
       };
       still = (b.0, b.1 ∙ a.1, b.2 ∙ a.2, b.3 ∙ a.3, b.4 ∙ a.4);
     }
@@ -62,6 +63,7 @@ returns-clause-same g c =
         held = held_after shape _ _ (known_of c.scan_all.new.seat)
             (known_of c.give-given.new.seat) c.steps_are_safe.ensures.sound c.steps_leave_the_rest.ensures d.0.3
             c.give-given.ensures.step.core;
+        starts = c.requires.of.starts;
       };
       still = (
         e.0,

@@ -1,8 +1,11 @@
-use Rattle.std.proofs.Common.{sym, ap, ◌∙◌, arith}
+use Rattle.std.proofs.Common.{replicate, sym, ap, ◌∙◌, arith}
 use Rattle.std.proofs.lemmas.List.FromFn.{get_or-map-range_with_len}
 use Rattle.pebr_core.specs.State.{first_seat, nobody}
 use Rattle.pebr_core.specs.Kept.{held_count}
 use Rattle.pebr_roots.proofs.pass.Roots.pass.Goals as goal
+
+pub slot_start-start-requires : goal.slot_start-start-requires
+slot_start-start-requires g c = let some = c.args.self.now.words.limits.some_roots in omega (arith, some)
 
 pub returns : goal.returns
 returns g c =
@@ -14,6 +17,7 @@ returns g c =
       of = record {
         at = opened.0;
         held = ap held_count (opened.2 ∙ sym at) ∙ (c.start_is_sound.ensures shape).holding i c.requires.inside;
+        starts = ap (replicate 8) c.slot_start-start.ensures;
       };
       number = opened.1;
       known = opened.2;

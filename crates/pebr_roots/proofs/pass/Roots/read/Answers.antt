@@ -1,4 +1,4 @@
-use Rattle.std.proofs.Common.{◌<◌, ◌≡◌, true, sym, ap, ◌∙◌, subst}
+use Rattle.std.proofs.Common.{◌<◌, ◌≡◌, true, length, sym, ap, ◌∙◌, subst, arith, rules}
 use Rattle.std.specs.Prelude.{slice_index}
 use Rattle.pebr_core.specs.State.{slot_count}
 use Rattle.pebr_core.specs.Steps.{is_shielded}
@@ -7,7 +7,7 @@ use Rattle.pebr_core.specs.declared.kinds.Answer.TheVariants as answer
 use Rattle.pebr_words.specs.Seats.{IsStep}
 use Rattle.pebr_roots.specs.Under.{slot_at}
 use Rattle.pebr_roots.specs.Passes.{known_by_pass, past_by, number_by, shape_at}
-use Rattle.pebr_roots.proofs.Passing.{valid_at, under_valid, read_again}
+use Rattle.pebr_roots.proofs.Passing.{valid_at, under_valid, start_at, read_again}
 use Rattle.pebr_roots.proofs.pass.Roots.read.Goals as goal
 
 pub read_word-requires-clause-range : goal.read_word-requires-clause-range
@@ -28,6 +28,15 @@ read_word-requires-clause-shielded g c =
     let is = under_valid pass.under known c.args.place pass.slots c.requires.valid in
     ap (is_shielded known) is ∙ c.valid_shields_protect.ensures known c.args.place (slot_at known c.args.place)
     (valid_at known c.args.place c.requires.valid)
+
+pub read_word-requires-clause-start : goal.read_word-requires-clause-start
+read_word-requires-clause-start g c =
+    let pass = c.args.pass.now in
+    let wide : length pass.under ≡ 8 = search rules in
+    let few = c.args.self.now.words.limits.shields in
+    let low = c.requires.range.0 in
+    start_at (shape_at c.args.self.now) pass.under pass.starts c.args.place (omega (arith, wide, few, low))
+    c.requires.of.starts
 
 pub returns-clause-step : goal.returns-clause-step
 returns-clause-step g c =

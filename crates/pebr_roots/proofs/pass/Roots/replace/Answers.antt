@@ -60,6 +60,7 @@ returns-then-replace_root-clause-same g c =
         held = held_after (shape_at c.args.self.now) _ _
             (known_by_pass pass) _ c.steps_are_safe.ensures.sound c.steps_leave_the_rest.ensures c.requires.of.at.3
             c.replace_root.ensures.step.core;
+        starts = c.requires.of.starts;
       };
       still = c.replace_root.ensures.still;
     }
