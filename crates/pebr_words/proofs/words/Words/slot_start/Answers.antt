@@ -1,4 +1,4 @@
-use Rattle.std.proofs.Common.{◌+◌, ◌*◌, arith}
+use Rattle.std.proofs.Common.{arith}
 use Rattle.pebr_words.proofs.Closing.{few_at}
 use Rattle.pebr_words.proofs.words.Words.slot_start.Goals as goal
 
