@@ -1,12 +1,12 @@
 //! The entry of a key is found by its words.
 
-ghost use Rattle.std.specs.Prelude.{◌≡◌, ◌<◌, ◌↔◌, ℕ, [], map, take, All, IsTrue, IsNone, IfSome, Some, MatchOption};
+ghost use Rattle.std.specs.Prelude.{◌≡◌, ◌+◌, ◌*◌, ◌^◌, ◌<◌, ◌↔◌, ℕ, [], map, take, All, IsTrue, IsNone, IfSome, Some, MatchOption};
 ghost use Rattle.std.specs.Prelude.{slice_index_or};
 ghost use Rattle.flow_key.specs.Key.{words_of};
 ghost use Rattle.cache_face.specs.Choice.{CanJoin, HasKey, HasNone, IsLowest, IsOldest, entry_at};
 ghost use Rattle.flow_parts.specs.Parts.{IsJoined};
 ghost use Rattle.flow_parts.specs.declared.timeouts.Timeouts.{Timeouts};
-ghost use Rattle.cache_face.specs.Keeping.{entry_of, IsSmall, IsWhole};
+ghost use Rattle.cache_face.specs.Keeping.{entry_of, IsEmptyContent, IsSmall, IsWhole};
 ghost use Rattle.cache_face.specs.Choice as choice;
 ghost use Rattle.cache_choice.specs.Chosen.{IsChosen, out_of};
 
@@ -59,6 +59,7 @@ fn lowest_with_words(contents: &[[u64; 10]; 4], _key: &FlowKey, words: &[u64; 5]
 }
 
 /// The fragment that a content shows, which has the words of this key.
+#[inline(always)]
 fn entry_of_key(content: &[u64; 10], key: FlowKey) -> Option<Fragment>
     requires whole { IsWhole content.now }
     requires words { take 5 content.now ≡ words_of key }
@@ -225,18 +226,48 @@ pub fn choose_by_words(timeouts: Timeouts, contents: &[[u64; 10]; 4], own: &Frag
     }
 }
 
-/// The fragment that ten words show, whatever they are. Few packets come here.
-#[inline(never)]
-fn fragment_shown(content: &[u64; 10]) -> Option<Fragment>
-    ensures { result ≡ entry_of content.now }
+/// The address with these two halves.
+#[inline(always)]
+fn address_of(high: u64, low: u64) -> u128
+    ensures { result ≡ high * 2 ^ 64 + low }
 {
-    fragments_have_fields();
-    Fragment::of_words(content)
+    (high as u128) << 64 | low as u128
 }
 
-/// What is put out of the entry that ten words show.
+/// The key that a content which is not empty shows. Nothing is checked, since its words are those of a fragment.
+#[inline(always)]
+fn key_shown(content: &[u64; 10]) -> FlowKey
+    requires whole { IsWhole content.now }
+    requires open { ¬ IsEmptyContent content.now }
+    ensures { take 5 content.now ≡ words_of result }
+{
+    let first = content[0];
+    FlowKey {
+        version: (first >> 40) as u8,
+        source: address_of(content[1], content[2]),
+        destination: address_of(content[3], content[4]),
+        protocol: (first >> 32 & 0xFF) as u8,
+        source_port: (first >> 16 & 0xFFFF) as u16,
+        destination_port: (first & 0xFFFF) as u16,
+    }
+}
+
+/// The fragment that a whole content shows, if it shows one.
+#[inline(always)]
+fn fragment_shown(content: &[u64; 10]) -> Option<Fragment>
+    requires whole { IsWhole content.now }
+    ensures { result ≡ entry_of content.now }
+{
+    if content[5] == 0 {
+        return None;
+    }
+    entry_of_key(content, key_shown(content))
+}
+
+/// What is put out of the entry that a whole content shows.
 #[inline(always)]
 pub fn put_out(how: How, content: &[u64; 10]) -> Option<Fragment>
+    requires whole { IsWhole content.now }
     ensures { result ≡ out_of how (entry_of content.now) }
 {
     match how {
