@@ -76,7 +76,8 @@ fn next_open(contents: &[[u64; 10]], next: usize) -> usize
 
 /// What a content shows, which is empty afterwards.
 fn take_content(contents: &mut [[u64; 10]], place: usize) -> Option<Fragment>
-    requires { place < length contents.old }
+    requires place { place < length contents.old }
+    requires whole { All IsWhole contents.old }
     ensures shown { result ≡ entry_of (slice_index_or contents.old place []) }
     ensures emptied { (content : List ℕ) × IsEmptyContent content
         × (contents.new ≡ slice_set contents.old place content) }
