@@ -27,6 +27,7 @@ use flow_parts::Fragment;
 /// one.
 #[inline]
 fn answer(how: How, old: &[u64; 10], metered: &mut Metered)
+    requires whole { IsWhole old.now }
     requires none_out { metered.old.out ≡ None }
     ensures how { metered.new.how ≡ how }
     ensures out { metered.new.out ≡ out_of how (entry_of old.now) }

@@ -1,6 +1,7 @@
 use Rattle.std.proofs.Common.{◌≡◌, ◌<◌, ◌∙◌, ◌++◌, [], ◌∷◌, List, ℕ, Option, None, length, map, get_or, sym, ap, subst}
 use Rattle.std.proofs.Common.{arith}
 use Rattle.std.specs.Prelude.{All}
+use Rattle.std.proofs.lemmas.List.Elements.{All-get_or}
 use Rattle.flow_parts.specs.declared.fragment.Fragment.{Fragment}
 use Rattle.flow_parts.specs.declared.timeouts.Timeouts.{Timeouts}
 use Rattle.cache_face.specs.declared.metered.How.{How}
@@ -29,6 +30,13 @@ there : (contents : List (List ℕ)) (a b c d : List ℕ) (place : ℕ) → cont
     → get_or (map entry_of contents) place None ≡ entry_of (get_or contents place [])
 there contents a b c d place four low = entry_there contents place
     (let l : length contents ≡ 4 = ap length four in omega (arith, l, low))
+
+-- the content at the place is whole, where the four are
+whole_there : (contents : List (List ℕ)) (a b c d : List ℕ) (place : ℕ) → contents ≡ a ∷ b ∷ c ∷ d ∷ [] → place < 4
+    → IsWhole a → IsWhole b → IsWhole c → IsWhole d → IsWhole (get_or contents place [])
+whole_there contents a b c d place four low p q r s =
+    subst (λ (cs : List (List ℕ)). IsWhole (get_or cs place [])) (sym four)
+    (All-get_or IsWhole (a ∷ b ∷ c ∷ d ∷ []) place [] low (all_four IsWhole a b c d p q r s))
 
 -- what the choice does to that entry
 taken_there : (limits : Timeouts) (contents : List (List ℕ)) (a b c d : List ℕ) (own kept : Fragment) (how : How)
@@ -89,6 +97,13 @@ write-requires-clause-kept c =
       taken_there c.args.self.now.timeouts _ a b e d c.args.own.now chosen.0 choice.result.how
           choice.result.place (four_set c.args.contents.now a b e d c.told-contents) choice.ensures.place chosen.2,
     )
+
+pub answer-requires-clause-whole : goal.answer-requires-clause-whole
+answer-requires-clause-whole c =
+    let a = c.read_entry in let b = c.read_entry-2 in let e = c.read_entry-3 in let d = c.read_entry-4 in
+    whole_there _ a.new.words b.new.words e.new.words d.new.words c.choose_by_words-choice.result.place
+    (four_set c.args.contents.now a.new.words b.new.words e.new.words d.new.words c.told-contents)
+    c.choose_by_words-choice.ensures.place a.ensures.whole b.ensures.whole e.ensures.whole d.ensures.whole
 
 pub returns-clause-filled : goal.returns-clause-filled
 returns-clause-filled c =
