@@ -20,7 +20,7 @@ use Rattle.record_ledger.specs.Buckets.{Bucket, Piece, records_of, part_in, lead
 use Rattle.record_ledger.specs.Buckets.{CountsSlots, IsCountedAlone, AreDealt, AreDealtBy, AreFirst}
 use Rattle.record_ledger.proofs.Dealt.{behind, none_lie}
 use Rattle.record_ledger.proofs.Keyed.{part_of, All-unmap}
-use Rattle.record_ledger.proofs.Slots.{counted_unlike}
+use Rattle.record_ledger.proofs.Counted.{counted_unlike}
 
 -- one more fragment, behind those of one list and before those of another
 between : (F A B : List Fragment) (f : Fragment) → IsPermutation F (A ++ B)

@@ -1,6 +1,7 @@
 pub mod Alone
 pub mod Coming
 pub mod Copied
+pub mod Counted
 pub mod Dealt
 pub mod Exact
 pub mod Filtered
@@ -13,11 +14,11 @@ pub mod Lying
 pub mod Made
 pub mod Matched
 pub mod Meeting
+pub mod Packed
 pub mod Placed
 pub mod Reaching
 pub mod Rising
 pub mod Settled
-pub mod Slots
 pub mod Stacking
 pub mod Staying
 pub mod Stored

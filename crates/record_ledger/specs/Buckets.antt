@@ -1,9 +1,9 @@
 -- The code's own: records in buckets, and places in them. No law speaks of these.
 use Rattle.std.specs.Prelude.{◌≡◌, ◌≢◌, ℕ, suc, ◌<◌, ◌≤◌, List, [], ◌∷◌, ◌++◌, Option, Some, None, slice_get, length, flat_map}
-use Rattle.std.specs.Prelude.{option_and_then, nat_lt, slice_index, count_by, ◌⊎◌}
-use Rattle.std.specs.List.{AllZip}
+use Rattle.std.specs.Prelude.{option_and_then, nat_lt, slice_index, count_by, map, ◌⊎◌}
+use Rattle.std.specs.List.{AllZip, range_with_len}
 use native.Mathlib.Decide.{dec_lt}
-use Rattle.std.specs.Prelude.{All, IsPermutation, ⊤, ◌==◌, ◌+◌, ◌-◌, ◌*◌, ◌/◌, ◌^◌, if◌then◌else◌}
+use Rattle.std.specs.Prelude.{All, IsPermutation, ⊤, ◌==◌, ◌+◌, ◌-◌, ◌*◌, ◌/◌, ◌%◌, ◌^◌, if◌then◌else◌}
 use Rattle.std.specs.Option.{option_cmp}
 use Rattle.std.specs.Ordering.{nat_cmp, ordering_then}
 use Rattle.std.specs.declared.cmp.Ordering.{Ordering}
@@ -165,6 +165,14 @@ abbrev pub CountsSlots : List Fragment → List ℕ → Type 0
 CountsSlots parts counts = (1 ≤ length counts) × ((slot : ℕ) → slot < length counts
     → (slice_index counts slot ≡ 0 → count_in (length counts) slot parts ≡ 0)
     × (slice_index counts slot ≡ 1 → count_in (length counts) slot parts ≡ 1))
+
+-- The two bits at this place of an octet, as a number.
+abbrev pub two_bits : ℕ → ℕ → ℕ
+two_bits octet place = octet / 4 ^ place % 4
+
+-- The counts of slots that lie in octets, four of them in each.
+abbrev pub counts_of : List ℕ → List ℕ
+counts_of packed = map (λ slot. two_bits (slice_index packed (slot / 4)) (slot % 4)) (range_with_len 0 (4 * length packed))
 
 -- The slot of a fragment has just one fragment, by these counts.
 abbrev pub IsCountedAlone : List ℕ → Fragment → Type 0

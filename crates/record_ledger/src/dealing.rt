@@ -1,20 +1,20 @@
 //! Dealing: fragments whose keys no other fragment has stay where they lie; the others go as records into buckets, by
 //! their keys.
 
-ghost use Rattle.std.specs.Prelude.{◌≡◌, List, [], ◌≤◌, ◌<◌, ◌+◌, ◌^◌, ◌∷◌, ◌++◌, Some, IfOk, OnOk, length, slice_get};
+ghost use Rattle.std.specs.Prelude.{◌≡◌, List, [], ◌≤◌, ◌<◌, ◌+◌, ◌∷◌, ◌++◌, Some, IfOk, OnOk, length, slice_get};
 ghost use Rattle.std.specs.Prelude.{IsPermutation};
 ghost use Rattle.std.specs.List.{AllZip};
 ghost use Rattle.flow_parts.specs.declared.fragment.Fragment.{Fragment};
 ghost use Rattle.flow_parts.specs.Pieces.{items_of};
 ghost use Rattle.record_ledger.specs.Lawful.{parts_of};
 ghost use Rattle.record_ledger.specs.Buckets.{records_of, AreByKey, AreDealt, AreDealtBy, AreFirst, AreBefore};
-ghost use Rattle.record_ledger.specs.Buckets.{CountsSlots, IsPartPlaceOf, Piece, part_of_piece, slot_number};
+ghost use Rattle.record_ledger.specs.Buckets.{CountsSlots, IsPartPlaceOf, Piece, part_of_piece};
 
 use crate::leading::leading_number;
 use crate::moving::{buckets_for, move_all, move_part};
 use crate::place::Place;
 use crate::record::FlowRecord;
-use flow_key::FlowKey;
+use crate::slots::Slots;
 use flow_parts::{Fragment, PartList};
 use no_memory::NoMemory;
 use std::alloc::Global;
@@ -22,16 +22,10 @@ use std::alloc::Global;
 /// Which part of all fragments is thought to be moved to buckets, where most stay.
 const MOVED_PART: usize = 8;
 
-/// How many slots there are for each fragment.
-const SLOTS: usize = 8;
-
-/// The most slots that there are.
-const MOST_SLOTS: usize = 1 << 31;
-
 /// Fragments that were dealt.
 #[derive(Drop)]
 pub struct Dealt {
-    /// All fragments, in their pieces.
+    /// All fragments, in their pieces; none where all were moved to buckets.
     pub pieces: Vec<Vec<Fragment>>,
     /// The places of those that stay there.
     pub alone: Vec<Place>,
@@ -62,19 +56,18 @@ pub fn deal(alloc: Global, parts: PartList) -> Result<Dealt, NoMemory>
 }
 
 /// Whether at least half of so many fragments stay where they lie: as many slots have one fragment alone.
-fn most_stay(counts: &[u8], fragments: usize) -> bool {
-    counts.iter().filter(|count| **count == 1).count() >= fragments / 2
+fn most_stay(counts: &Slots, fragments: usize) -> bool {
+    counts.with_one() >= fragments / 2
 }
 
 /// Deals the fragments of all pieces, where most stay.
 fn deal_pieces(
     alloc: Global,
     pieces: Vec<Vec<Fragment>>,
-    counts: &[u8],
+    counts: &Slots,
     fragments: usize,
 ) -> Result<Dealt, NoMemory>
     requires counts { CountsSlots (items_of pieces.items) counts.now }
-    requires some { (1 ≤ length counts.now) × (length counts.now ≤ 2 ^ 31) }
     ensures { IfOk result (λ dealt. AreDealt (items_of pieces.items) dealt.pieces.items dealt.alone.items
         dealt.buckets.items) }
 {
@@ -90,27 +83,11 @@ fn deal_pieces(
     })
 }
 
-/// The slot of a key, among so many: the slots share out the 32 bits of a hash of the key evenly, without a division.
-#[inline]
-fn slot_of(key: &FlowKey, slots: usize) -> usize
-    requires { (1 ≤ slots) × (slots ≤ 2 ^ 31) }
-    ensures below { result < slots }
-    ensures number { result ≡ slot_number key.now slots }
+/// How many fragments each slot has.
+fn count_slots(alloc: Global, pieces: &[Vec<Fragment>], fragments: usize) -> Result<Slots, NoMemory>
+    ensures { IfOk result (λ counts. CountsSlots (items_of pieces.now) counts) }
 {
-    (key.set_of(1 << 32) * slots as u64 >> 32) as usize
-}
-
-/// How many fragments each slot has, as far as 8 bits count.
-fn count_slots(
-    alloc: Global,
-    pieces: &[Vec<Fragment>],
-    fragments: usize,
-) -> Result<Vec<u8>, NoMemory>
-    ensures counts { IfOk result (λ counts. CountsSlots (items_of pieces.now) counts.items) }
-    ensures some { IfOk result (λ counts. (1 ≤ length counts.items) × (length counts.items ≤ 2 ^ 31)) }
-{
-    let slots = fragments.saturating_mul(SLOTS).clamp(1, MOST_SLOTS);
-    let mut counts = vec![in alloc; 0u8; slots]?;
+    let mut counts = Slots::open(alloc, fragments)?;
     for piece in pieces {
         count_piece(piece, &mut counts);
     }
@@ -118,15 +95,12 @@ fn count_slots(
 }
 
 /// Counts the fragments of a piece in their slots.
-fn count_piece(piece: &[Fragment], counts: &mut [u8])
-    requires { (1 ≤ length counts.old) × (length counts.old ≤ 2 ^ 31) }
-    ensures many { length counts.new ≡ length counts.old }
-    ensures counted { (before : List Fragment) → CountsSlots before counts.old
+fn count_piece(piece: &[Fragment], counts: &mut Slots)
+    ensures { (before : List Fragment) → CountsSlots before counts.old
         → CountsSlots (before ++ piece.now) counts.new }
 {
     for part in piece {
-        let slot = slot_of(&part.key, counts.len());
-        counts[slot] = counts[slot].saturating_add(1);
+        counts.count(part);
     }
 }
 
@@ -143,12 +117,11 @@ fn count_of(pieces: &[Vec<Fragment>]) -> usize {
 fn deal_piece(
     pieces: &[Vec<Fragment>],
     number: usize,
-    counts: &[u8],
+    counts: &Slots,
     alone: &mut Vec<Place>,
     buckets: &mut [Vec<FlowRecord>],
 ) -> Result<(), NoMemory>
     requires number { number < length pieces.now }
-    requires counts { (1 ≤ length counts.now) × (length counts.now ≤ 2 ^ 31) }
     requires buckets { 1 ≤ length buckets.old }
     ensures many { length buckets.new ≡ length buckets.old }
     ensures dealt { OnOk result ((before : List Fragment) (p : Piece) → slice_get pieces.now number ≡ Some p
@@ -170,11 +143,10 @@ fn deal_part(
     part: &Fragment,
     number: usize,
     at: usize,
-    counts: &[u8],
+    counts: &Slots,
     alone: &mut Vec<Place>,
     buckets: &mut [Vec<FlowRecord>],
 ) -> Result<(), NoMemory>
-    requires counts { (1 ≤ length counts.now) × (length counts.now ≤ 2 ^ 31) }
     requires buckets { 1 ≤ length buckets.old }
     ensures many { length buckets.new ≡ length buckets.old }
     ensures dealt { OnOk result ((before : List Fragment) (pieces : List Piece)
@@ -183,7 +155,7 @@ fn deal_part(
         → AreDealtBy counts.now (before ++ part.now ∷ []) pieces alone.new.items buckets.new) }
     ensures first { OnOk result (AreBefore number at alone.old.items → AreBefore number (at + 1) alone.new.items) }
 {
-    if counts[slot_of(&part.key, counts.len())] == 1 {
+    if counts.has_one(part) {
         leave_part(part, number, at, alone)
     } else {
         move_part(part, buckets)

@@ -34,7 +34,8 @@ use std::thread::Threads;
 ///
 /// Fragments whose keys no other has are records as they lie. The others are dealt to buckets by their keys; at most
 /// `threads` threads sort, join and give reasons there, and then sort the places of all records. It takes the time of
-/// sorting. What is held is `parts`, a record for each fragment that was dealt to a bucket, and 32 bytes for each place.
+/// sorting. What is held is `parts`, a record for each fragment that was dealt to a bucket, and 32 bytes for each place;
+/// where all are dealt to buckets, `parts` is let go.
 ///
 /// # Errors
 ///

@@ -1,11 +1,10 @@
 -- The fragments of the pieces so far are counted.
-use Rattle.std.proofs.Common.{◌≤◌, ◌^◌, length, take}
+use Rattle.std.proofs.Common.{take}
 use Rattle.flow_parts.specs.Pieces.{items_of}
 use Rattle.record_ledger.specs.Buckets.{CountsSlots}
 use Rattle.record_ledger.proofs.dealing.count_slots.Given as goal
 
 abbrev pub invariant-loop-piece : goal.invariant-loop-piece
 invariant-loop-piece l = record {
-  some : (1 ≤ length l.counts.items) × (length l.counts.items ≤ 2 ^ 31);
-  counted : CountsSlots (items_of (take l.piece-index l.pieces)) l.counts.items;
+  counted : CountsSlots (items_of (take l.piece-index l.pieces)) l.counts;
 }

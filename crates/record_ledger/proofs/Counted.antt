@@ -1,11 +1,9 @@
 -- Slots of keys, and how many fragments each has.
-use Rattle.std.proofs.Common.{◌≡◌, ◌≢◌, ℕ, suc, ◌+◌, min, ◌<◌, ◌≤◌, Bool, true, false, cond, inl, inr, List, [], ◌∷◌, ◌++◌}
-use Rattle.std.proofs.Common.{length, get_or, set, refl, sym, ap, ◌∙◌, subst, arith, All, IsPermutation}
+use Rattle.std.proofs.Common.{◌≡◌, ◌≢◌, ℕ, suc, ◌+◌, ◌<◌, ◌≤◌, Bool, true, false, cond, inl, inr, List, [], ◌∷◌, ◌++◌}
+use Rattle.std.proofs.Common.{length, get_or, refl, sym, ap, ◌∙◌, subst, arith, All, IsPermutation}
 use Rattle.std.specs.Prelude.{count_by, ◌==◌}
-use Rattle.std.proofs.Math.ListN.{length-set}
 use Rattle.std.proofs.lemmas.Bool.Decides.{eqb_tells}
 use Rattle.std.proofs.lemmas.Bool.{eq-eqb}
-use Rattle.std.proofs.lemmas.List.{get_or-set_same, get_or-set_other}
 use Rattle.std.proofs.lemmas.List.Sums.{sum_by-append, sum_by-cons}
 use Rattle.std.proofs.lemmas.List.Elements.{All-cons, All-nil, All-head, All-tail, All-weaker}
 use Rattle.std.proofs.lemmas.List.Sorted.{sum_by-IsPermutation}
@@ -39,37 +37,35 @@ module _ {X : Type 0} (p : X → Bool) where
   count_last : (xs : List X) (x : X) → count_by p (xs ++ x ∷ []) ≡ count_by p xs + one_by (p x)
   count_last xs x = (let e = sum_by-append one_if xs (x ∷ []) in omega (arith, e, sum_by-cons one_if x []))
 
--- one more fragment is counted
-pub counted_more : (before : List Fragment) (counts : List ℕ) (part : Fragment) (slot more : ℕ) → slot < length counts
-    → slot ≡ slot_number part.key (length counts)
-    → more ≡ min (get_or counts slot 0 + 1) 255
-    → CountsSlots before counts → CountsSlots (before ++ part ∷ []) (set counts slot more)
-counted_more before counts part slot more low is up h =
-    let same : length (set counts slot more) ≡ length counts = length-set counts slot more in (
-      omega (arith, same, h.0),
-      subst (λ n. (s : ℕ) → s < n → (get_or (set counts slot more) s 0 ≡ 0 → count_in n s (before ++ part ∷ []) ≡ 0)
-          × (get_or (set counts slot more) s 0 ≡ 1 → count_in n s (before ++ part ∷ []) ≡ 1)) (sym same) each,
-    )
+-- one more fragment is counted, where its slot's count comes to more than none, and to one from none alone
+pub counted_more : (before : List Fragment) (old new : List ℕ) (part : Fragment) (slot : ℕ) → length new ≡ length old
+    → slot ≡ slot_number part.key (length old) → 1 ≤ get_or new slot 0
+    → (get_or new slot 0 ≡ 1 → get_or old slot 0 ≡ 0)
+    → ((s : ℕ) → s < length old → s ≢ slot → get_or new s 0 ≡ get_or old s 0)
+    → CountsSlots before old → CountsSlots (before ++ part ∷ []) new
+counted_more before old new part slot same is some first others h = (
+  omega (arith, same, h.0),
+  subst (λ n. (s : ℕ) → s < n → (get_or new s 0 ≡ 0 → count_in n s (before ++ part ∷ []) ≡ 0)
+      × (get_or new s 0 ≡ 1 → count_in n s (before ++ part ∷ []) ≡ 1)) (sym same) each,
+)
   where
-    each : (s : ℕ) → s < length counts → (get_or (set counts slot more) s 0 ≡ 0
-        → count_in (length counts) s (before ++ part ∷ []) ≡ 0)
-        × (get_or (set counts slot more) s 0 ≡ 1 → count_in (length counts) s (before ++ part ∷ []) ≡ 1)
+    each : (s : ℕ) → s < length old → (get_or new s 0 ≡ 0 → count_in (length old) s (before ++ part ∷ []) ≡ 0)
+        × (get_or new s 0 ≡ 1 → count_in (length old) s (before ++ part ∷ []) ≡ 1)
     each s l =
-        let sum = count_last (λ (f : Fragment). slot_number f.key (length counts) == s) before part in
+        let sum = count_last (λ (f : Fragment). slot_number f.key (length old) == s) before part in
         let was = h.1 s l in
-        elim (eqb_tells (slot_number part.key (length counts)) s) [
+        elim (eqb_tells (slot_number part.key (length old)) s) [
           | inl on ↦
               let one = ap (λ (b : Bool). cond {A = ℕ} b 1 0) on.0 in
-              let here : get_or (set counts slot more) s 0 ≡ more =
-              ap (λ i. get_or (set counts slot more) i 0) (sym on.1 ∙ sym is) ∙ get_or-set_same counts slot more 0 low in
-              let old : get_or counts slot 0 ≡ get_or counts s 0 = ap (λ i. get_or counts i 0) (is ∙ on.1) in (
-                λ e. absurd (omega (arith, e, here, up)),
-                λ e. (let none = was.0 (omega (arith, e, here, up, old)) in omega (arith, sum, one, none)),
+              let here : slot ≡ s = is ∙ on.1 in
+              let now : get_or new slot 0 ≡ get_or new s 0 = ap (λ i. get_or new i 0) here in
+              let then : get_or old slot 0 ≡ get_or old s 0 = ap (λ i. get_or old i 0) here in (
+                λ e. absurd (omega (arith, e, now, some)),
+                λ e. (let none = was.0 (sym then ∙ first (now ∙ e)) in omega (arith, sum, one, none)),
               )
           | inr off ↦
               let zero' = ap (λ (b : Bool). cond {A = ℕ} b 1 0) off.0 in
-              let here : get_or (set counts slot more) s 0 ≡ get_or counts s 0 =
-              get_or-set_other counts slot s more 0 (λ same. off.1 (sym is ∙ sym same)) in (
+              let here : get_or new s 0 ≡ get_or old s 0 = others s l (λ e. off.1 (sym is ∙ sym e)) in (
                 λ e. (let none = was.0 (sym here ∙ e) in omega (arith, sum, zero', none)),
                 λ e. (let one = was.1 (sym here ∙ e) in omega (arith, sum, zero', one)),
               )
