@@ -15,7 +15,8 @@ use Rattle.ipfix_model.specs.Templates.{v4_fields, v6_fields}
 use Rattle.ipfix_model.specs.Values.{are_values_of}
 use Rattle.record_ledger.proofs.Unique.{record_same}
 use Rattle.ipfix_reader.specs.FlowFields.{FlowFields, flow_fields, AreOfFlow, IsFlowWith, fields_in}
-use Rattle.ipfix_reader.specs.FlowWith.{record_where, flow_with}
+use Rattle.record_ledger.specs.RecordWith.{record_where}
+use Rattle.ipfix_reader.specs.FlowWith.{flow_with}
 use Rattle.ipfix_reader.specs.Flows.{flow}
 
 pub same_flow_fields : (one other : FlowRecord) → flow_fields one ≡ flow_fields other → one ≡ other

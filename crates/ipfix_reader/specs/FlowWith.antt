@@ -5,12 +5,8 @@ use native.Mathlib.Decide.{dec_lt}
 use Rattle.flow_parts.specs.declared.fragment.Fragment.{Fragment}
 use Rattle.flow_parts.specs.PartWith.{part_with}
 use Rattle.record_ledger.specs.declared.record.FlowRecord.{FlowRecord}
+use Rattle.record_ledger.specs.RecordWith.{record_where}
 use Rattle.ipfix_reader.specs.FlowFields.{FlowFields}
-
--- The record of this fragment with this end reason, where the reason fits or doesn't.
-unfoldable pub record_where : (reason : ℕ) → Dec (reason < 2 ^ 8) → Fragment → Option FlowRecord
-record_where reason (yes fits) part = Some (record { part = part; reason = reason; sized = fits })
-record_where reason (no wide) part = None
 
 -- The flow record with these fields, and none where they don't fit.
 unfoldable pub flow_with : FlowFields → Option FlowRecord

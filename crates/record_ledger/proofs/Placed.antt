@@ -104,7 +104,7 @@ seats_total = then_total (on_total (λ (p : Place). p.bucket) nat_cmp_total)
 abbrev pub IsBelow : ℕ → ℕ → Place → Type 0
 IsBelow n i p = (p.bucket < n) ⊎ ((p.bucket ≡ n) × (p.at < i))
 
-ahead_of : (n i : ℕ) (q p : Place) → q.bucket ≡ n → q.at ≡ i → IsBelow n i p → seat_order p q ≡ Less
+pub ahead_of : (n i : ℕ) (q p : Place) → q.bucket ≡ n → q.at ≡ i → IsBelow n i p → seat_order p q ≡ Less
 ahead_of n i q p e f (inl l) =
     ap (λ o. ordering_then o (nat_cmp p.at q.at)) (less_is p.bucket q.bucket (omega (arith, e, l)))
 ahead_of n i q p e f (inr h) =

@@ -27,7 +27,8 @@ use Rattle.record_ledger.specs.declared.record.FlowRecord.{FlowRecord}
 use Rattle.record_ledger.specs.declared.store.Store.{Store}
 use Rattle.record_ledger.specs.declared.place.Place.{Place}
 use Rattle.record_ledger.specs.Buckets.{Bucket, Piece, records_of, LieFrom, AreDealt, EndInTurn, IsPlaceOf}
-use Rattle.record_ledger.specs.Buckets.{IsPartPlaceOf, alone_record, record_where, record_at, part_in, item_at, leading_number}
+use Rattle.record_ledger.specs.Buckets.{IsPartPlaceOf, alone_record, record_at, part_in, item_at, leading_number}
+use Rattle.record_ledger.specs.RecordWith.{record_where}
 use Rattle.record_ledger.specs.Gathered.{AreJoined, IsGathered, parts_with}
 use Rattle.record_ledger.specs.Lawful.{parts_of, of_key, reason_of, EachWithNext, StandsApart, HasReason, IsLawfulBy}
 use Rattle.record_ledger.specs.Order.{joining_order, key_then_last, written_order}

@@ -15,7 +15,8 @@ use Rattle.record_ledger.specs.declared.record.FlowRecord.{FlowRecord}
 use Rattle.record_ledger.specs.declared.place.Place.{Place}
 use Rattle.record_ledger.specs.declared.store.Store.{Store}
 use Rattle.record_ledger.specs.Lawful.{reason_of}
-use Rattle.record_ledger.specs.Buckets.{Bucket, Piece, item_at, part_of_piece, part_in, record_where, alone_record}
+use Rattle.record_ledger.specs.Buckets.{Bucket, Piece, item_at, part_of_piece, part_in, alone_record}
+use Rattle.record_ledger.specs.RecordWith.{record_where}
 use Rattle.record_ledger.specs.Buckets.{record_at, IsPlace}
 
 -- the record has this fragment and this reason

@@ -1,6 +1,6 @@
 -- The code's own: records in buckets, and places in them. No law speaks of these.
 use Rattle.std.specs.Prelude.{◌≡◌, ◌≢◌, ℕ, suc, ◌<◌, ◌≤◌, List, [], ◌∷◌, ◌++◌, Option, Some, None, slice_get, length, flat_map}
-use Rattle.std.specs.Prelude.{option_and_then, nat_lt, slice_index, count_by, map, ◌⊎◌}
+use Rattle.std.specs.Prelude.{option_and_then, nat_lt, slice_index, count_by, map, take}
 use Rattle.std.specs.List.{AllZip, range_with_len}
 use native.Mathlib.Decide.{dec_lt}
 use Rattle.std.specs.Prelude.{All, IsPermutation, ⊤, ◌==◌, ◌+◌, ◌-◌, ◌*◌, ◌/◌, ◌%◌, ◌^◌, if◌then◌else◌}
@@ -17,9 +17,11 @@ use Rattle.flow_parts.specs.declared.timeouts.Timeouts.{Timeouts}
 use Rattle.flow_parts.specs.Reaching.{Reaches}
 use Rattle.record_ledger.specs.declared.record.FlowRecord.{FlowRecord}
 use Rattle.record_ledger.specs.declared.place.Place.{Place}
+use Rattle.record_ledger.specs.declared.dealing.Dealing.{Dealing}
 use Rattle.record_ledger.specs.declared.store.Store.{Store}
 use Rattle.record_ledger.specs.Gathered.{AreJoined}
 use Rattle.record_ledger.specs.Lawful.{parts_of, reason_of}
+use Rattle.record_ledger.specs.RecordWith.{record_where}
 use Rattle.record_ledger.specs.Steps.{Rises, NotAfter, NoneJoinable, HasReasons}
 
 abbrev pub Bucket : Type 0
@@ -62,11 +64,6 @@ part_of_piece (Some p) at = slice_get p.items at
 -- The fragment at a place of some pieces, if there is one.
 abbrev pub part_in : List Piece → Place → Option Fragment
 part_in pieces place = part_of_piece (slice_get pieces place.bucket) place.at
-
--- The record of this fragment with this reason, where the reason fits or doesn't.
-unfoldable pub record_where : (reason : ℕ) → Dec (reason < 2 ^ 8) → Fragment → Option FlowRecord
-record_where reason (yes fits) part = Some (record { part = part; reason = reason; sized = fits })
-record_where reason (no wide) part = None
 
 -- The record of a fragment whose key no other has: its reason is that of a flow of which nothing follows.
 abbrev pub alone_record : Timeouts → ℕ → Fragment → Option FlowRecord
@@ -147,9 +144,9 @@ pub record AreDealt (parts : List Fragment) (pieces : List Piece) (order : List 
   pub unlike_others : All (λ (f : Fragment). All (λ (r : FlowRecord). f.key ≢ r.part.key) (records_of buckets)) alone
   pub by_key : AreByKey buckets
 
--- Places that rise by piece or bucket, then by place in it, and are all before the one with these numbers.
-pub record AreBefore (bucket at : ℕ) (order : List Place) : Type 0 where
-  pub below : All (λ place. (place.bucket < bucket) ⊎ ((place.bucket ≡ bucket) × (place.at < at))) order
+-- Places in the piece with this number that rise, all before the one given.
+pub record AreBefore (number at : ℕ) (order : List Place) : Type 0 where
+  pub below : All (λ place. (place.bucket ≡ number) × (place.at < at)) order
   pub rising : Rises (λ one other. seat_order one other ≡ Less) order
 
 -- The slot of a key, among so many: these share out the 32 bits of the hash behind `set_number`.
@@ -188,3 +185,24 @@ pub record AreDealtBy (counts : List ℕ) (parts : List Fragment) (pieces : List
   pub places : AllZip (IsPartPlaceOf pieces) alone order
   pub counted : All (IsCountedAlone counts) alone
   pub by_key : AreByKey buckets
+
+-- The fragment lies at this place of a piece.
+abbrev pub LiesAt : List Fragment → Fragment → ℕ → Type 0
+LiesAt piece f at = slice_get piece at ≡ Some f
+
+-- The first fragments of the piece with this number, up to a place, as counts of slots deal them: those that stay, each
+-- alone in its slot, have their places, and the others lie where they are to be moved from.
+pub record AreDealtIn (counts : List ℕ) (pieces : List Piece) (number : ℕ) (piece : List Fragment) (at : ℕ)
+    (dealing : Dealing) : Type 0 where
+  pub alone : List Fragment
+  pub others : List Fragment
+  pub whole : IsPermutation (take at piece) (alone ++ others)
+  pub places : AllZip (IsPartPlaceOf pieces) alone dealing.alone.items
+  pub first : AreBefore number at dealing.alone.items
+  pub counted : All (IsCountedAlone counts) alone
+  pub moved : AllZip (LiesAt piece) others dealing.moved.items
+
+-- All fragments of the piece with this number are dealt so.
+abbrev pub IsDealing : List ℕ → List Piece → ℕ → Dealing → Type 0
+IsDealing counts pieces number dealing = (p : Piece) → slice_get pieces number ≡ Some p
+    → AreDealtIn counts pieces number p.items (length p.items) dealing

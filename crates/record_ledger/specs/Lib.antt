@@ -3,6 +3,7 @@ pub mod Gathered
 pub mod Laws
 pub mod Lawful
 pub mod Order
+pub mod RecordWith
 pub mod Regrouping
 pub mod Sessions
 pub mod Steps

@@ -32,10 +32,10 @@ use std::thread::Threads;
 /// time of the latest packet of all, in milliseconds since 1970-01-01T00:00:00Z; `None` without a packet. It is taken
 /// as given, even where `parts` holds the fragments of some keys alone, as long as it holds all of these.
 ///
-/// Fragments whose keys no other has are records as they lie. The others are dealt to buckets by their keys; at most
-/// `threads` threads sort, join and give reasons there, and then sort the places of all records. It takes the time of
-/// sorting. What is held is `parts`, a record for each fragment that was dealt to a bucket, and 32 bytes for each place;
-/// where all are dealt to buckets, `parts` is let go.
+/// Fragments whose keys no other has are records as they lie. The others are dealt to buckets by their keys. At most
+/// `threads` threads find out which stay, sort, join and give reasons in the buckets, and then sort the places of all
+/// records. It takes the time of sorting. What is held is `parts`, a record for each fragment that was dealt to a bucket,
+/// and 32 bytes for each place; where all are dealt to buckets, `parts` is let go.
 ///
 /// # Errors
 ///
@@ -66,7 +66,7 @@ pub fn gather<R: Threads + Sync>(
         pieces,
         alone,
         mut buckets,
-    } = deal(alloc, parts)?;
+    } = deal(rt, alloc, parts, threads)?;
     settle_all(rt, &mut buckets, &timeouts, clock, threads);
     let store = Store {
         pieces,

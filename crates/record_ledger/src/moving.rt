@@ -1,9 +1,11 @@
 //! Moving: fragments as records into buckets, by their keys.
 
-ghost use Rattle.std.specs.Prelude.{◌≡◌, [], ◌≤◌, ◌∷◌, ◌++◌, IfOk, OnOk, length, IsPermutation};
+ghost use Rattle.std.specs.Prelude.{◌≡◌, List, [], ◌≤◌, ◌∷◌, ◌++◌, IfOk, OnOk, length, IsPermutation};
+ghost use Rattle.std.specs.List.{AllZip};
+ghost use Rattle.flow_parts.specs.declared.fragment.Fragment.{Fragment};
 ghost use Rattle.flow_parts.specs.Pieces.{items_of};
 ghost use Rattle.record_ledger.specs.Lawful.{parts_of};
-ghost use Rattle.record_ledger.specs.Buckets.{records_of, AreByKey};
+ghost use Rattle.record_ledger.specs.Buckets.{records_of, AreByKey, LiesAt};
 
 use crate::record::FlowRecord;
 use flow_parts::Fragment;
@@ -110,8 +112,27 @@ fn move_parts(parts: &[Fragment], buckets: &mut [Vec<FlowRecord>]) -> Result<(),
     Ok(())
 }
 
+/// Moves the fragments at some places of a piece.
+pub fn move_these(
+    piece: &[Fragment],
+    places: &[usize],
+    buckets: &mut [Vec<FlowRecord>],
+) -> Result<(), NoMemory>
+    requires buckets { 1 ≤ length buckets.old }
+    requires places { (parts : List Fragment) × AllZip (LiesAt piece.now) parts places.now }
+    ensures many { length buckets.new ≡ length buckets.old }
+    ensures whole { OnOk result ((parts : List Fragment) → AllZip (LiesAt piece.now) parts places.now
+        → IsPermutation (parts ++ parts_of (records_of buckets.old)) (parts_of (records_of buckets.new))) }
+    ensures by_key { OnOk result (AreByKey buckets.old → AreByKey buckets.new) }
+{
+    for at in places {
+        move_part(&piece[*at], buckets)?;
+    }
+    Ok(())
+}
+
 /// Moves a fragment to the bucket of its key.
-pub fn move_part(part: &Fragment, buckets: &mut [Vec<FlowRecord>]) -> Result<(), NoMemory>
+fn move_part(part: &Fragment, buckets: &mut [Vec<FlowRecord>]) -> Result<(), NoMemory>
     requires { 1 ≤ length buckets.old }
     ensures many { length buckets.new ≡ length buckets.old }
     ensures whole { OnOk result (IsPermutation (part.now ∷ parts_of (records_of buckets.old))

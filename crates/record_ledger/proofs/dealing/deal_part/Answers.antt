@@ -1,17 +1,17 @@
--- The fragment stays, or is moved.
-use Rattle.std.proofs.lemmas.Result.{on_ok_weaker}
-use Rattle.record_ledger.proofs.Leaving.{ok_both, one_left, one_moved}
+-- The fragment stays, or is to be moved.
+use Rattle.std.proofs.Common.{refl, ap, ◌∙◌}
+use Rattle.record_ledger.specs.Buckets.{part_of_piece}
+use Rattle.record_ledger.proofs.Leaving.{one_left, one_moved}
 use Rattle.record_ledger.proofs.dealing.deal_part.Goals as goal
 
-pub returns-then-has_one-clause-dealt : goal.returns-then-has_one-clause-dealt
-returns-then-has_one-clause-dealt c =
-    on_ok_weaker c.leave_part.result (λ places before pieces here h.
-    one_left c.args.counts.now pieces before c.args.part.now c.args.alone.now.items c.args.buckets.now h
-    c.leave_part.new.alone.items (c.has_one.ensures c.if-has_one.true) (λ A. places A pieces here))
-    c.leave_part.ensures.places
+pub returns-in_ok-leave_part : goal.returns-in_ok-leave_part
+returns-in_ok-leave_part c = λ pieces p at_piece here h.
+    one_left c.args.counts.now pieces c.args.number c.args.at p.items c.args.part.now c.args.dealing.now _ here h
+    (c.has_one.ensures c.if-has_one.true) refl
+    (λ A. c.in_ok-leave_part.ensures.places A pieces (ap (λ o. part_of_piece o c.args.at) at_piece ∙ here))
+    c.in_ok-leave_part.ensures.first
 
-pub returns-else-has_one-clause-dealt : goal.returns-else-has_one-clause-dealt
-returns-else-has_one-clause-dealt c =
-    ok_both c.move_part.result (λ whole by_key before pieces here h.
-    one_moved c.args.counts.now pieces before c.args.part.now c.args.alone.now.items c.args.buckets.now h
-    c.move_part.new.buckets whole by_key) c.move_part.ensures.whole c.move_part.ensures.by_key
+pub returns-in_ok-push : goal.returns-in_ok-push
+returns-in_ok-push c = λ pieces p at_piece here h.
+    one_moved c.args.counts.now pieces c.args.number c.args.at p.items c.args.part.now c.args.dealing.now _ here h refl
+    c.in_ok-push.ensures.items

@@ -1,7 +1,6 @@
 -- The place goes behind the others.
 use Rattle.std.proofs.Common.{refl}
-use Rattle.record_ledger.proofs.Leaving.{one_placed}
-use Rattle.record_ledger.proofs.Placed.{more_ahead}
+use Rattle.record_ledger.proofs.Leaving.{one_placed, more_before}
 use Rattle.record_ledger.proofs.dealing.leave_part.Goals as goal
 
 pub returns-clause-places : goal.returns-clause-places
@@ -11,6 +10,5 @@ returns-clause-places c = λ before pieces here h.
 
 pub returns-clause-first : goal.returns-clause-first
 returns-clause-first c = λ h.
-    let more = more_ahead c.args.number c.args.at c.args.alone.now.items c.push.new.self.items _ refl refl
-    c.in_ok-push.ensures.items (h.below, h.rising) in
-    record { below = more.0; rising = more.1 }
+    more_before c.args.number c.args.at c.args.alone.now.items c.push.new.self.items _ refl refl
+    c.in_ok-push.ensures.items h
