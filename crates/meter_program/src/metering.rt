@@ -25,7 +25,7 @@ use std::thread::Threads;
 const WINDOW_OF_ONE: usize = 262_184;
 
 /// The bytes of a capture that are held at a time for several workers: more, since threads are started for each window.
-const WINDOW_OF_SEVERAL: usize = 1 << 20;
+const WINDOW_OF_SEVERAL: usize = 1 << 21;
 
 /// What is known of a capture whose packets a cache has metered: its tally, and how many bytes are left behind its last
 /// record.

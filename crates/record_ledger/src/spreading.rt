@@ -7,8 +7,8 @@ ghost use Rattle.std.specs.Prelude.{◌≡◌, ◌<◌, ◌≤◌, length, IsPer
 
 use crate::place::Place;
 
-/// The most ranges, a power of two.
-pub const RANGES: usize = 4096;
+/// The most ranges, a power of two. Where the next place of each goes stays in the nearest cache of a processor.
+pub const RANGES: usize = 1024;
 
 /// Ranges of 2^`shift` milliseconds each, from a first time on.
 #[derive(Clone, Copy, Debug)]
@@ -45,7 +45,7 @@ fn ranges_of(order: &[Place]) -> Ranges {
 /// The number of the range of a place.
 #[inline]
 fn range_of(place: &Place, ranges: Ranges) -> usize
-    ensures { result < 4096 }
+    ensures { result < 1024 }
 {
     let number = place.last.saturating_sub(ranges.first) >> ranges.shift.min(63);
     (number as usize).min(RANGES - 1)
@@ -91,7 +91,7 @@ fn bring(order: &mut [Place], ranges: Ranges, starts: &[usize; RANGES], next: &m
 
 /// Where a range ends in a list of so many places.
 fn end_of(range: usize, starts: &[usize; RANGES], count: usize) -> usize
-    requires { range < 4096 }
+    requires { range < 1024 }
     ensures { result ≤ count }
 {
     match starts.get(range + 1) {

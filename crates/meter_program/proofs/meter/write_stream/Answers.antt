@@ -1,4 +1,4 @@
-use Rattle.std.proofs.Common.{◌∙◌, refl}
+use Rattle.std.proofs.Common.{refl}
 use Rattle.meter_io.specs.Sides.{side}
 use Rattle.meter_program.proofs.Streams.{wrote-both, wrote-first, wrote-some}
 use Rattle.meter_program.proofs.meter.write_stream.Goals as goal
