@@ -20,7 +20,7 @@ mixed_hash hash word = bit_xor hash word * 0x9E3779B97F4A7C15 % 2 ^ 64
 abbrev pub set_number : FlowKey → ℕ → ℕ
 set_number k sets = fold mixed_hash 0 (words_of k) / 2 ^ 32 % sets
 
--- The order of keys: by their fields, in the order of the declaration.
+-- The order of keys: by version, then by source address, destination address, protocol, source port and destination port.
 abbrev pub key_order : FlowKey → FlowKey → Ordering
 key_order a b =
     ordering_then (nat_cmp a.version b.version)

@@ -7,15 +7,15 @@ use std::cmp::Ordering;
 /// The key of a flow (RFC 7011, section 2: the properties that define a flow).
 ///
 /// Addresses are numbers: the octets of the address field read in network order. The ports are 0 where a
-/// packet has none. The order of keys is the order of their fields, the first field first.
-#[derive(Clone, Copy, PartialEq, Eq, PartialOrd, Ord, Hash, Debug)]
+/// packet has none. The addresses stand first, so that no padding lies between the fields.
+#[derive(Clone, Copy, PartialEq, Eq, Hash, Debug)]
 pub struct FlowKey {
-    /// The IP version, 4 or 6.
-    pub version: u8,
     /// The source address; below 2^32 for version 4.
     pub source: u128,
     /// The destination address; below 2^32 for version 4.
     pub destination: u128,
+    /// The IP version, 4 or 6.
+    pub version: u8,
     /// The protocol number of the IANA registry.
     pub protocol: u8,
     /// The source port, or 0.
@@ -102,11 +102,23 @@ impl FlowKey {
         (hash >> 32) % sets
     }
 
-    /// How this key and another stand in the order of keys.
+    /// How this key and another stand in the order of keys: by version, source address, destination address, protocol,
+    /// source port and destination port, the first that differs.
     pub fn order(&self, other: &FlowKey) -> Ordering
         ensures { result ≡ key_order self.now other.now }
     {
-        self.cmp(other)
+        let addresses = self
+            .version
+            .cmp(&other.version)
+            .then(self.source.cmp(&other.source))
+            .then(self.destination.cmp(&other.destination));
+        if addresses != Ordering::Equal {
+            return addresses;
+        }
+        self.protocol
+            .cmp(&other.protocol)
+            .then(self.source_port.cmp(&other.source_port))
+            .then(self.destination_port.cmp(&other.destination_port))
     }
 }
 
