@@ -32,9 +32,8 @@ static inline void keep_part(struct parts *parts, const uint64_t *words)
 struct held {
     uint64_t number;
     struct {
-        uint8_t version;
         unsigned __int128 source, destination;
-        uint8_t protocol;
+        uint8_t version, protocol;
         uint16_t source_port, destination_port;
     } key;
     uint64_t time;
@@ -42,7 +41,7 @@ struct held {
     uint16_t flags;
 };
 
-_Static_assert(sizeof(struct held) == 96, "as many bytes as there");
+_Static_assert(sizeof(struct held) == 80, "as many bytes as there");
 
 struct runner {
     pthread_t thread;

@@ -1,7 +1,7 @@
 //! The key of a flow: the six values that all packets of one flow have in common.
 //!
 //! A [`FlowKey`] holds the IP version, both addresses, the protocol number and both ports. Keys are equal
-//! where all fields are, and they are ordered by their fields in the order of the declaration. A key is
+//! where all fields are, and they are ordered by version, then by addresses, protocol and ports. A key is
 //! carried as five 64-bit words ([`FlowKey::to_words`], [`FlowKey::of_words`]), and [`FlowKey::set_of`]
 //! says which set of a table of sets a key belongs to.
 //!
