@@ -1,6 +1,6 @@
 //! Data records as text.
 
-ghost use Rattle.std.specs.Prelude.{◌≡◌, ◌<◌, ◌≤◌, ◌++◌, length, map, flat_map, decimal, codes, OnOk};
+ghost use Rattle.std.specs.Prelude.{◌≡◌, ◌<◌, ◌≤◌, ◌++◌, length, map, flat_map, decimal, OnOk};
 ghost use Rattle.std.specs.List.{join_with_byte};
 ghost use Rattle.meter_program.specs.Shows.{number_text, iana_text, value_text, name_text, field_text, line_of};
 

@@ -1,6 +1,6 @@
 //! The command `show`.
 
-ghost use Rattle.std.specs.Prelude.{◌≡◌, ◌^◌, List, ℕ, codes, IfOk, IfErr, IsErrOf};
+ghost use Rattle.std.specs.Prelude.{◌^◌, List, ℕ, codes, IfOk, IfErr, IsErrOf};
 ghost use Rattle.flow_parts.specs.declared.fragment.Fragment.{Fragment};
 ghost use Rattle.meter_program.specs.Outcome.{Ends, IsShown};
 ghost use Rattle.meter_io.specs.Causes.{Rose};

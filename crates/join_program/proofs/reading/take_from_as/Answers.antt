@@ -1,5 +1,6 @@
 -- What was kept of the file, by how it was read.
 use Rattle.std.proofs.Common.{◌++◌, List, subst, sym}
+use Rattle.std.proofs.lemmas.Result.{err_from_is_err_and}
 use Rattle.meter_io.specs.Sides.{side, IsWrong}
 use Rattle.record_ledger.specs.declared.record.FlowRecord.{FlowRecord}
 use Rattle.join_program.specs.Outcome.{HasTooMany, limit}
@@ -8,16 +9,19 @@ use Rattle.join_program.specs.Taking.{IsTaken}
 use Rattle.join_program.proofs.Filed.{filed-none, begins, unread, has_other, too_many, given}
 use Rattle.join_program.proofs.reading.take_from_as.Goals as goal
 
-pub returns-in-Err-clause-wrong : goal.returns-in-Err-clause-wrong
-returns-in-Err-clause-wrong g c = λ before told. unread _ before _ c.in-Err.error (c.in-Err.ensures.wrong (
-  c.requires.share,
-  filed-none (HasBegun g.K.Begun.start g.K.Begun.share) g.K.Begun.share c.args.taken
-      (begins g.K.Begun.start g.K.Begun.share c.args.taken c.requires.start),
-))
+pub returns-in_err-read_stream-clause-wrong : goal.returns-in_err-read_stream-clause-wrong
+returns-in_err-read_stream-clause-wrong g c =
+    let p = err_from_is_err_and c.from_residual.result c.from_residual.ensures.1 in
+    rw (p.1, p.2)
+    (λ before told. unread _ before _ _ (c.in_err-read_stream.ensures.wrong (
+      c.requires.share,
+      filed-none (HasBegun g.K.Begun.start g.K.Begun.share) g.K.Begun.share c.args.taken
+          (begins g.K.Begun.start g.K.Begun.share c.args.taken c.requires.start),
+    )))
 
 pub returns-then-taker-clause-wrong : goal.returns-then-taker-clause-wrong
 returns-then-taker-clause-wrong g c = λ before told.
-    let way = c.in-Ok.ensures.taken (
+    let way = c.in_ok-read_stream.ensures.taken (
       c.requires.share,
       filed-none (HasBegun g.K.Begun.start g.K.Begun.share) g.K.Begun.share c.args.taken
           (begins g.K.Begun.start g.K.Begun.share c.args.taken c.requires.start),
@@ -28,7 +32,7 @@ returns-then-taker-clause-wrong g c = λ before told.
 
 pub returns-then-taker-2-clause-wrong : goal.returns-then-taker-2-clause-wrong
 returns-then-taker-2-clause-wrong g c = λ before told.
-    let way = c.in-Ok.ensures.taken (
+    let way = c.in_ok-read_stream.ensures.taken (
       c.requires.share,
       filed-none (HasBegun g.K.Begun.start g.K.Begun.share) g.K.Begun.share c.args.taken
           (begins g.K.Begun.start g.K.Begun.share c.args.taken c.requires.start),
@@ -41,7 +45,7 @@ returns-then-taker-2-clause-wrong g c = λ before told.
 
 pub returns-clause-taken : goal.returns-clause-taken
 returns-clause-taken g c =
-    let way = c.in-Ok.ensures.taken (
+    let way = c.in_ok-read_stream.ensures.taken (
       c.requires.share,
       filed-none (HasBegun g.K.Begun.start g.K.Begun.share) g.K.Begun.share c.args.taken
           (begins g.K.Begun.start g.K.Begun.share c.args.taken c.requires.start),

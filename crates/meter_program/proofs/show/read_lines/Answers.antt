@@ -5,8 +5,8 @@ use Rattle.meter_program.specs.Summary.{count_line}
 use Rattle.meter_program.proofs.Shown.{lines-none}
 use Rattle.meter_program.proofs.show.read_lines.Goals as goal
 
-pub returns-in-Ok-clause-lines : goal.returns-in-Ok-clause-lines
-returns-in-Ok-clause-lines g c =
+pub returns-in-Ok-read_stream-clause-lines : goal.returns-in-Ok-read_stream-clause-lines
+returns-in-Ok-read_stream-clause-lines g c =
     let way = c.in-Ok-read_stream.ensures.taken (lines-none _ _ c.new.ensures.items refl) in (
       way.0,
       way.1,
@@ -18,5 +18,6 @@ returns-in-Ok-clause-lines g c =
       },
     )
 
-pub returns-in-Err-clause-refused : goal.returns-in-Err-clause-refused
-returns-in-Err-clause-refused g c = c.in-Err-read_stream.ensures.wrong (lines-none _ _ c.new.ensures.items refl)
+pub returns-in-Err-read_stream-clause-refused : goal.returns-in-Err-read_stream-clause-refused
+returns-in-Err-read_stream-clause-refused g c =
+    c.in-Err-read_stream.ensures.wrong (lines-none _ _ c.new.ensures.items refl)

@@ -63,7 +63,8 @@ pieces-preserved g c =
     subst (λ l. IsPieced c.args.limit had has before now c.pieces.walk l c.read_on.new.left)
     (sym c.bytes-in-pieces.ensures)
     (pieced_on c.args.limit had has before (g.S.Source.left c.pieces.source) c.pieces.walk c.pieces.window.bytes
-    c.pieces.left c.pieces.invariant.pieced c.read_on.new.window.bytes c.read_on.new.left now c.in-Ok-false.ensures.read) in
+    c.pieces.left c.pieces.invariant.pieced c.read_on.new.window.bytes c.read_on.new.left now
+    c.in-Ok-false.ensures.read) in
     let kept : c.keep.new.self.bytes ≡ drop c.in-Ok.count piece =
     ap (λ w. w.bytes) c.keep.ensures ∙ ap (drop c.in-Ok.count) (sym c.bytes-in-pieces.ensures) in
     record {
@@ -93,7 +94,8 @@ returns-in-Ok-drop_rest-clause-wrong g c =
     subst (λ l. IsPieced c.args.limit had has before now c.pieces.walk l c.read_on.new.left)
     (sym c.bytes-in-pieces.ensures)
     (pieced_on c.args.limit had has before (g.S.Source.left c.pieces.source) c.pieces.walk c.pieces.window.bytes
-    c.pieces.left c.pieces.invariant.pieced c.read_on.new.window.bytes c.read_on.new.left now c.in-Ok-false.ensures.read) in
+    c.pieces.left c.pieces.invariant.pieced c.read_on.new.window.bytes c.read_on.new.left now
+    c.in-Ok-false.ensures.read) in
     subst (λ fault. had [] → IsWrong (side g.S.Source.left g.S.Source.faults c.args.source.now c.drop_rest.new.source)
     c.args.limit (λ bytes. decode bytes ≡ Err fault)) (sym c.in-Err-Fault.fault-is)
     (pieced_fault c.args.limit had has before now c.pieces.walk piece c.read_on.new.left on c.in-Err-Fault.fault
