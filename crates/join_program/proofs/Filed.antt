@@ -11,13 +11,16 @@ use Rattle.ipfix_reader.specs.Messages.{decode}
 use Rattle.ipfix_reader.specs.Others.{HasOther, IsFirstOther}
 use Rattle.ipfix_reader.proofs.FlowLists.{flows-more, flows-other, flows-behind, first-other, flows-whole}
 use Rattle.meter_io.specs.Sides.{Side, IsRead, IsWrong}
-use Rattle.join_program.specs.declared.file_error.FileError.{FileError}
-use Rattle.join_program.specs.declared.file_error.FileError.TheVariants.{Fault, NoMemory}
-use Rattle.join_program.specs.declared.status.FileFault.TheVariants.{ReadFault, TooLarge, NotStream, NotFlows, TooMany}
+use Rattle.stream_input.specs.declared.error.StreamInputError.{StreamInputError}
+use Rattle.stream_input.specs.declared.error.StreamInputError.TheVariants.{ReadFault as SourceFailed}
+use Rattle.stream_input.specs.declared.error.StreamInputError.TheVariants.{TooLarge as MoreBytes}
+use Rattle.stream_input.specs.declared.error.StreamInputError.TheVariants.{NotStream as OtherBytes}
+use Rattle.stream_input.specs.declared.error.StreamInputError.TheVariants.{NoMemory as NoRoom}
+use Rattle.stream_input.specs.Failing.{ReadFails}
 use Rattle.join_program.specs.Outcome.{HasTooMany}
 use Rattle.join_program.specs.declared.taken.Taken.{Taken}
 use Rattle.join_program.specs.Joined.{AreFew}
-use Rattle.join_program.specs.Pieces.{IsFiled, HasBegun, HasGivenAll, ReadFails, TakingFails}
+use Rattle.join_program.specs.Filed.{IsFiled, HasBegun, HasGivenAll, TakingFails, error_for}
 use Rattle.join_program.specs.Taking.{IsTaken}
 use Rattle.join_program.specs.Words.{OneOf}
 use Rattle.join_program.proofs.Counts.{few-front}
@@ -116,14 +119,12 @@ pub begins : (start : Option Taken) (share : Option OneOf) (taken : Taken) → s
 begins start share taken is before told = subst (λ o. HasBegun o share before) is told
 
 -- why the records of a file aren't taken, where it wasn't read as a stream
-pub unread : (share : Option OneOf) (before : List FlowRecord) (file : Side) (error : FileError) → ReadFails file error
-    → TakingFails share before file error
-unread share before file NoMemory h = tt
-unread share before file (Fault ReadFault) h = h
-unread share before file (Fault TooLarge) h = h
-unread share before file (Fault (NotStream fault)) h = h
-unread share before file (Fault (NotFlows place)) h = absurd h
-unread share before file (Fault TooMany) h = absurd h
+pub unread : (share : Option OneOf) (before : List FlowRecord) (file : Side) (error : StreamInputError)
+    → ReadFails 4294967296 file error → TakingFails share before file (error_for error)
+unread share before file SourceFailed h = h
+unread share before file MoreBytes h = h
+unread share before file (OtherBytes fault) h = h
+unread share before file NoRoom h = tt
 
 -- a file that was read, and what is kept of its records
 module _ (begun : List FlowRecord → Type 0) (share : Option OneOf) (taken : Taken) (count : ℕ) (other many : Bool)

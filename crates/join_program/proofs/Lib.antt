@@ -13,4 +13,3 @@ pub mod Shared
 pub mod Standing
 pub mod Together
 pub mod Whole
-pub mod Windows

@@ -4,5 +4,5 @@ pub mod Joined
 pub mod Statuses
 pub mod Outcome
 pub mod Taking
-pub mod Pieces
+pub mod Filed
 pub mod Laws

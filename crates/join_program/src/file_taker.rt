@@ -6,7 +6,7 @@ ghost use Rattle.record_ledger.specs.declared.record.FlowRecord.{FlowRecord};
 ghost use Rattle.ipfix_model.specs.declared.values.DataRecord.{DataRecord};
 ghost use Rattle.ipfix_reader.specs.Flows.{flow};
 ghost use Rattle.join_program.specs.Words.{OneOf};
-ghost use Rattle.join_program.specs.Pieces.{IsFiled, HasBegun};
+ghost use Rattle.join_program.specs.Filed.{IsFiled, HasBegun};
 ghost use Rattle.join_program.specs.Taking.{share_of};
 
 use crate::settings::Share;

@@ -1,9 +1,10 @@
 //! Joining: the streams of many captures as one.
 //!
 //! [`run_join`] is the top call: it reads files of flow records, one after the other, as they come from an [`Opener`],
-//! takes the fragments of all their records, gathers them anew by the time-outs given, and writes the stream of the
-//! records that they become. A record of a lawful stream is a heap of its packets, so the fragments of all records
-//! share out the packets of all captures, and what is gathered from them is lawful for all these packets.
+//! each message by message through one window (`stream_input`). It takes the fragments of all their records, gathers
+//! them anew by the time-outs given, and writes the stream of the records that they become. A record of a lawful
+//! stream is a heap of its packets, so the fragments of all records share out the packets of all captures, and what is
+//! gathered from them is lawful for all these packets.
 //!
 //! Where one share of several is asked for, only the records whose keys fall to it are kept; the clock is still the
 //! latest time of all records.
@@ -17,7 +18,6 @@ mod file_taker;
 mod joining;
 pub mod laws;
 mod opener;
-mod pieces;
 mod reading;
 mod refusal;
 mod running;

@@ -7,13 +7,12 @@ ghost use Rattle.meter_io.specs.Sides.{side};
 ghost use Rattle.record_ledger.specs.declared.record.FlowRecord.{FlowRecord};
 ghost use Rattle.join_program.specs.Joined.{together};
 ghost use Rattle.join_program.specs.Outcome.{HasGiven, HaveGiven, files_seen};
-ghost use Rattle.join_program.specs.Pieces.{HasBegun, HasGivenAll, TakingFails};
+ghost use Rattle.join_program.specs.Filed.{HasBegun, HasGivenAll, TakingFails};
 ghost use Rattle.join_program.specs.Taking.{IsTaken, share_of, asked_of, FileFails, FilesFail};
 
 use crate::file_error::FileError;
 use crate::file_taker::{Begun, FileTaker};
 use crate::opener::Opener;
-use crate::pieces::{open_window, read_pieces};
 use crate::settings::{JoinSettings, Share};
 use crate::status::{FileFault, JoinStatus};
 use crate::taken::Taken;
@@ -23,6 +22,10 @@ use ipfix_reader::laws::records_are_few;
 use meter_io::{Failed, Source};
 use std::alloc::Global;
 use std::marker::{Brand, PhantomData};
+use stream_input::{open_window, read_stream};
+
+/// The most bytes of a file.
+const FILE_LIMIT: u64 = 1 << 32;
 
 /// Takes the records of a source, which is one file, in addition to `taken`. `K` says what `taken` was taken from.
 fn take_from_as<K: Begun, S: Source>(
@@ -56,10 +59,7 @@ fn take_from_as<K: Begun, S: Source>(
         are_many: false,
         begun: PhantomData,
     };
-    match read_pieces(alloc, source, window, &mut taker) {
-        Ok(()) => {}
-        Err(error) => return Err(error),
-    }
+    read_stream(alloc, source, window, FILE_LIMIT, &mut taker)?;
     if taker.has_other {
         return Err(FileError::Fault(FileFault::NotFlows(taker.flows)));
     }

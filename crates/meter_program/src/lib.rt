@@ -10,8 +10,8 @@
 //!    closed, and the fragments that it handed out and kept are gathered into records. `meter.rt` makes an emitter for
 //!    their stream, with all memory that writing takes. Up to here the run may refuse, and nothing was written. Then
 //!    the stream goes out, in whole messages through a buffer, and the summary goes to standard error.
-//! 3. **`show`** (`show.rt`): the input is read to its end and decoded as a stream, whose data records become text
-//!    (`lines.rt`).
+//! 3. **`show`** (`show.rt`): the input is read to its end as a stream, message by message through a window
+//!    (`stream_input`). Each data record becomes a line of text as it is read (`lines.rt`), and the text alone is held.
 //!    **`make`** (`make.rt`): a capture is made by a seed; nothing is read. **`schedule`** (`schedule.rt`): the input
 //!    is read to its end as a schedule and replayed, and the replay is printed. The text of each goes out in one piece,
 //!    and a count to standard error (`ending.rt`).

@@ -1,20 +1,15 @@
 //! Data records as text.
 
-ghost use Rattle.std.specs.Prelude.{◌≡◌, ◌<◌, ◌≤◌, ◌++◌, length, map, flat_map, decimal, codes, IfOk, IfErr, OnOk};
+ghost use Rattle.std.specs.Prelude.{◌≡◌, ◌<◌, ◌≤◌, ◌++◌, length, map, flat_map, decimal, OnOk};
 ghost use Rattle.std.specs.List.{join_with_byte};
 ghost use Rattle.meter_program.specs.Shows.{number_text, iana_text, value_text, name_text, field_text, line_of};
-ghost use Rattle.ipfix_reader.specs.Messages.{decode};
-ghost use Rattle.ipfix_reader.specs.Outcome.{IsFaultOf};
-ghost use Rattle.meter_program.specs.Outcome.{IsShown};
-ghost use Rattle.meter_program.specs.Summary.{count_line};
 
 use ipfix_model::elements::{AbstractType, abstract_type};
 use ipfix_model::{DataRecord, FieldValue};
-use ipfix_reader::{RecordTaker, StreamError, read_into};
+use ipfix_reader::RecordTaker;
 use no_memory::NoMemory;
 use octets::{numbers_law, uint_at};
 use plain_text::{append, append_decimal, append_hexadecimal};
-use std::alloc::Global;
 
 /// Appends four numbers in decimal, with points between them.
 fn append_address(text: &mut Vec<u8>, address: &[u8]) -> Result<(), NoMemory>
@@ -115,7 +110,14 @@ fn append_line(text: &mut Vec<u8>, line: &DataRecord) -> Result<(), NoMemory>
     append(text, b"\n")
 }
 
-/// The lines of the data records that were taken, and how many there are.
+/// The text of the data records that were taken, and how many there are: a line for each, with the number of its
+/// template and then a space and `NAME=VALUE` for each field, in their order. A record's values are let go as soon as
+/// its line is written.
+///
+/// NAME is the number of the element, or `ENTERPRISE.ELEMENT` where it is an enterprise's. VALUE is in decimal for
+/// octet and packet counts, protocols, TCP flags, ports, times and end reasons of one to eight bytes, and four decimal
+/// numbers joined by points for IPv4 addresses of four bytes. Any other value, and each value of an enterprise's
+/// element, is in lower-case hexadecimal, two digits for each byte.
 #[derive(Drop)]
 pub struct Lines {
     pub text: Vec<u8>,
@@ -131,29 +133,5 @@ impl RecordTaker for Lines {
         append_line(&mut self.text, &rec)?;
         self.count = self.count.saturating_add(1);
         Ok(())
-    }
-}
-
-/// The text of the data records of a stream: a line for each, with the number of its template and then a space and
-/// `NAME=VALUE` for each field, in their order. A record's values are let go as soon as its line is written.
-///
-/// NAME is the number of the element, or `ENTERPRISE.ELEMENT` where it is an enterprise's. VALUE is in decimal for
-/// octet and packet counts, protocols, TCP flags, ports, times and end reasons of one to eight bytes, and four decimal
-/// numbers joined by points for IPv4 addresses of four bytes. Any other value, and each value of an enterprise's
-/// element, is in lower-case hexadecimal, two digits for each byte.
-///
-/// `Fault` has the stream's first fault; the one other error is `NoMemory`: out of memory.
-pub fn lines_of(alloc: Global, stream: &[u8]) -> Result<Lines, StreamError>
-    ensures lines { IfOk result (λ lines. IsShown stream.now lines.text.items
-        (count_line (codes "records") lines.count)) }
-    ensures fault { IfErr result (IsFaultOf (decode stream.now)) }
-{
-    let mut lines = Lines {
-        text: Vec::new(alloc),
-        count: 0,
-    };
-    match read_into(alloc, stream, &mut lines) {
-        Ok(()) => Ok(lines),
-        Err(error) => Err(error),
     }
 }

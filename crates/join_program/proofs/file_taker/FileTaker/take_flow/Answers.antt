@@ -2,7 +2,7 @@
 use Rattle.std.proofs.Common.{◌++◌, ◌∷◌, [], List, Err, ap, subst, arith}
 use Rattle.record_ledger.specs.declared.record.FlowRecord.{FlowRecord}
 use Rattle.join_program.specs.Joined.{AreFew}
-use Rattle.join_program.specs.Pieces.{HasBegun}
+use Rattle.join_program.specs.Filed.{HasBegun}
 use Rattle.join_program.specs.Taking.{IsTaken}
 use Rattle.join_program.proofs.Filed.{filed-many, filed-taken, filed-over}
 use Rattle.join_program.proofs.file_taker.FileTaker.take_flow.Goals as goal

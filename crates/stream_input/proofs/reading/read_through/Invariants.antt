@@ -1,11 +1,11 @@
 -- The messages so far were read, and the window has what came behind them.
 use Rattle.std.proofs.Common.{◌≡◌, ◌<◌, ◌≤◌, length}
-use Rattle.join_program.proofs.Windows.{IsPieced}
-use Rattle.join_program.proofs.pieces.read_through.Given as goal
+use Rattle.stream_input.proofs.Windows.{IsPieced}
+use Rattle.stream_input.proofs.reading.read_through.Given as goal
 
 abbrev pub invariant-pieces : goal.invariant-pieces
 invariant-pieces g l = record {
-  pieced : IsPieced (g.T.RecordTaker.has_taken l.fn.taker) (g.T.RecordTaker.has_taken l.taker)
+  pieced : IsPieced l.limit (g.T.RecordTaker.has_taken l.fn.taker) (g.T.RecordTaker.has_taken l.taker)
       (g.S.Source.left l.fn.source) (g.S.Source.left l.source) l.walk l.window.bytes l.left;
   some : 0 < l.left;
   size : l.window.size ≡ 262184;

@@ -1,5 +1,5 @@
 -- Bytes that come through a window, piece by piece.
-use Rattle.std.proofs.Common.{◌≡◌, ◌+◌, ◌<◌, ◌≤◌, ℕ, List, [], ◌++◌, length, take, drop, Option, Err, refl, sym, ap}
+use Rattle.std.proofs.Common.{◌≡◌, ◌+◌, ◌<◌, ◌≤◌, ℕ, List, [], ◌++◌, length, take, drop, Option, Err, sym, ap}
 use Rattle.std.proofs.Common.{◌∙◌, subst, arith, append_assoc, length-append, take-append-drop, length-drop}
 use Rattle.std.specs.Io.KnownBytes.{Consumes, IsAtEnd}
 use Rattle.std.proofs.KnownBytes.{Consumes-nil, Consumes-trans}
@@ -8,14 +8,13 @@ use Rattle.ipfix_model.specs.declared.values.DataRecord.{DataRecord}
 use Rattle.ipfix_reader.specs.declared.fault.StreamFault.{StreamFault}
 use Rattle.ipfix_reader.specs.Messages.{decode}
 use Rattle.ipfix_reader.specs.Pieces.{WalkState, HasRead}
-use Rattle.join_program.specs.declared.file_error.FileError.{FileError}
-use Rattle.join_program.specs.declared.file_error.FileError.TheVariants.{Fault, NoMemory}
-use Rattle.join_program.specs.declared.status.FileFault.{FileFault}
-use Rattle.join_program.specs.declared.status.FileFault.TheVariants.{ReadFault, TooLarge, NotStream, NotFlows, TooMany}
-use Rattle.join_program.specs.Pieces.{HasReadOn, HasReadRest, StopsReading, EndFails, ReadFails}
+use Rattle.stream_input.specs.declared.error.StreamInputError.{StreamInputError}
+use Rattle.stream_input.specs.declared.error.StreamInputError.TheVariants.{ReadFault, TooLarge, NotStream, NoMemory}
+use Rattle.stream_input.specs.Failing.{ReadFails}
+use Rattle.stream_input.specs.Pieces.{HasReadOn, HasReadRest, StopsReading, EndFails}
 
 -- reading stopped behind what came before
-pub stops_later : (before middle after : Option (List ℕ)) (got : List ℕ) (most left : ℕ) (fault : FileFault)
+pub stops_later : (before middle after : Option (List ℕ)) (got : List ℕ) (most left : ℕ) (fault : StreamInputError)
     → Consumes before middle got → length got + left ≡ most → StopsReading left middle after fault
     → StopsReading most before after fault
 stops_later before middle after got most left ReadFault taken sum stop = (
@@ -29,8 +28,7 @@ stops_later before middle after got most left TooLarge taken sum stop = (
   Consumes-trans before middle after got stop.0 taken stop.2,
 )
 stops_later before middle after got most left (NotStream fault) taken sum stop = absurd stop
-stops_later before middle after got most left (NotFlows place) taken sum stop = absurd stop
-stops_later before middle after got most left TooMany taken sum stop = absurd stop
+stops_later before middle after got most left NoMemory taken sum stop = absurd stop
 
 -- the rest came behind what came before
 pub rest_later : (before middle after : Option (List ℕ)) (got : List ℕ) (most left : ℕ)
@@ -63,33 +61,34 @@ got_on before middle after got window grown most left new taken sum h = (
   (let counted = h.counted in omega (arith, length-append got h.got)),
 )
 
--- ---- a file, message by message
+-- ---- a stream, message by message
 
--- The bytes that came are those of the messages that were read and those in the window; so many may still come.
-pub record IsPieced (had has : List DataRecord → Type 0) (before now : Option (List ℕ)) (walk : WalkState)
-    (window : List ℕ) (left : ℕ) : Type 0 where
+-- The bytes that came are those of the messages that were read and those in the window. With `left` more there are too
+-- many.
+pub record IsPieced (limit : ℕ) (had has : List DataRecord → Type 0) (before now : Option (List ℕ))
+    (walk : WalkState) (window : List ℕ) (left : ℕ) : Type 0 where
   pub front : List ℕ
   pub given : Consumes before now (front ++ window)
-  pub counted : length front + length window + left ≡ 4294967297
+  pub counted : length front + length window + left ≡ limit + 1
   pub place : walk.at ≡ length front
   pub taken : had [] → (records : List DataRecord) × has records × HasRead front records walk
 
 -- nothing came yet
-pub pieced_none : (had : List DataRecord → Type 0) (before : Option (List ℕ)) (walk : WalkState)
-    → HasRead [] [] walk → IsPieced had had before before walk [] 4294967297
-pieced_none had before walk read = record {
+pub pieced_none : (limit : ℕ) (had : List DataRecord → Type 0) (before : Option (List ℕ)) (walk : WalkState)
+    → HasRead [] [] walk → IsPieced limit had had before before walk [] (limit + 1)
+pieced_none limit had before walk read = record {
   front = [];
   given = Consumes-nil before;
-  counted = refl;
+  counted = omega arith;
   place = read.place;
   taken = λ none. ([], none, read);
 }
 
-module _ (had has : List DataRecord → Type 0) (before now : Option (List ℕ)) (walk : WalkState) (window : List ℕ)
-    (left : ℕ) (h : IsPieced had has before now walk window left) where
+module _ (limit : ℕ) (had has : List DataRecord → Type 0) (before now : Option (List ℕ)) (walk : WalkState)
+    (window : List ℕ) (left : ℕ) (h : IsPieced limit had has before now walk window left) where
   -- more came into the window
   pub pieced_on : (grown : List ℕ) (new : ℕ) (after : Option (List ℕ)) → HasReadOn left new window grown now after
-      → IsPieced had has before after walk grown new
+      → IsPieced limit had has before after walk grown new
   pieced_on grown new after on = record {
     front = h.front;
     given = subst (λ l. Consumes before after l)
@@ -109,7 +108,7 @@ module _ (had has : List DataRecord → Type 0) (before now : Option (List ℕ))
       → next.at ≡ walk.at + count
       → ((front : List ℕ) (records : List DataRecord) → HasRead front records walk → has records
       → (after : List DataRecord) × has_more after × HasRead (front ++ take count window) after next)
-      → IsPieced had has_more before now next (drop count window) left
+      → IsPieced limit had has_more before now next (drop count window) left
   pieced_read has_more next count inside at step = record {
     front = h.front ++ take count window;
     given = subst (λ l. Consumes before now l)
@@ -130,7 +129,7 @@ module _ (had has : List DataRecord → Type 0) (before now : Option (List ℕ))
         step h.front one.0 one.2 one.1;
   }
 
-  -- the file is at its end
+  -- the source is at its end
   pub pieced_all : 0 < left → IsAtEnd now → (faults_before faults_now : ℕ) → (more : List ℕ) → more ≡ window
       → IsRead (record {
         before = before;
@@ -138,7 +137,7 @@ module _ (had has : List DataRecord → Type 0) (before now : Option (List ℕ))
         faults_before = faults_before;
         faults_after =
             faults_now;
-      }) 4294967296
+      }) limit
       (h.front ++ more)
   pieced_all some ended faults_before faults_now more is = record {
     given = subst (λ l. Consumes before now (h.front ++ l)) (sym is) h.given;
@@ -150,26 +149,25 @@ module _ (had has : List DataRecord → Type 0) (before now : Option (List ℕ))
   }
 
   -- a read failed, or too much came
-  pub pieced_stop : (after : Option (List ℕ)) (fault : FileFault) (faults_before faults_now : ℕ)
+  pub pieced_stop : (after : Option (List ℕ)) (fault : StreamInputError) (faults_before faults_now : ℕ)
       → StopsReading left now after fault
-      → ReadFails (record { before = before; after = after; faults_before = faults_before; faults_after = faults_now })
-      (Fault fault)
+      → ReadFails limit
+      (record { before = before; after = after; faults_before = faults_before; faults_after = faults_now }) fault
   pieced_stop after fault faults_before faults_now stop = by fault (stops_later before now after (h.front ++ window)
-      4294967297 left fault h.given
+      (limit + 1) left fault h.given
       (let so_far = h.counted in omega (arith, length-append h.front window)) stop)
     where
-      by : (fault : FileFault) → StopsReading 4294967297 before after fault
-          → ReadFails (record {
+      by : (fault : StreamInputError) → StopsReading (limit + 1) before after fault
+          → ReadFails limit (record {
             before = before;
             after = after;
             faults_before = faults_before;
             faults_after = faults_now;
-          }) (Fault fault)
+          }) fault
       by ReadFault whole = (whole.0, (let few = whole.1 in omega arith), whole.2)
       by TooLarge whole = whole
       by (NotStream fault) whole = absurd whole
-      by (NotFlows place) whole = absurd whole
-      by TooMany whole = absurd whole
+      by NoMemory whole = absurd whole
 
   -- the stream has a fault, and the rest was read
   pub pieced_fault : (fault : StreamFault) (after : Option (List ℕ)) (faults_before faults_now : ℕ)
@@ -178,7 +176,7 @@ module _ (had has : List DataRecord → Type 0) (before now : Option (List ℕ))
       → decode (front ++ (window ++ more)) ≡ Err fault)
       → had []
       → IsWrong (record { before = before; after = after; faults_before = faults_before; faults_after = faults_now })
-      4294967296 (λ bytes. decode bytes ≡ Err fault)
+      limit (λ bytes. decode bytes ≡ Err fault)
   pieced_fault fault after faults_before faults_now rest wrong none =
       let one = h.taken none in
       record {
@@ -196,11 +194,9 @@ module _ (had has : List DataRecord → Type 0) (before now : Option (List ℕ))
       }
 
 -- what isn't a stream at its end
-pub end_fails : (file : Side) (bytes : List ℕ) (error : FileError) → IsRead file 4294967296 bytes → EndFails bytes error
-    → ReadFails file error
-end_fails file bytes NoMemory read wrong = tt
-end_fails file bytes (Fault ReadFault) read wrong = absurd wrong
-end_fails file bytes (Fault TooLarge) read wrong = absurd wrong
-end_fails file bytes (Fault (NotStream fault)) read wrong = record { bytes = bytes; read = read; fault = wrong }
-end_fails file bytes (Fault (NotFlows place)) read wrong = absurd wrong
-end_fails file bytes (Fault TooMany) read wrong = absurd wrong
+pub end_fails : (limit : ℕ) (input : Side) (bytes : List ℕ) (error : StreamInputError) → IsRead input limit bytes
+    → EndFails bytes error → ReadFails limit input error
+end_fails limit input bytes ReadFault read wrong = absurd wrong
+end_fails limit input bytes TooLarge read wrong = absurd wrong
+end_fails limit input bytes (NotStream fault) read wrong = record { bytes = bytes; read = read; fault = wrong }
+end_fails limit input bytes NoMemory read wrong = tt

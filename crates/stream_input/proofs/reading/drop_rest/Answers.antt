@@ -1,7 +1,7 @@
 -- Piece by piece, to the end.
 use Rattle.std.proofs.Common.{◌∙◌, arith, ap}
-use Rattle.join_program.proofs.Windows.{stops_later, rest_later, rest_on, got_on}
-use Rattle.join_program.proofs.pieces.drop_rest.Goals as goal
+use Rattle.stream_input.proofs.Windows.{stops_later, rest_later, rest_on, got_on}
+use Rattle.stream_input.proofs.reading.drop_rest.Goals as goal
 
 pub returns-in-Ok-true-clause-rest : goal.returns-in-Ok-true-clause-rest
 returns-in-Ok-true-clause-rest g c =

@@ -1,7 +1,7 @@
 -- What came so far, and how much may still come.
 use Rattle.std.proofs.Common.{◌≡◌, ◌+◌, ◌<◌, ◌≤◌, List, ℕ, length}
 use Rattle.std.specs.Io.KnownBytes.{Consumes}
-use Rattle.join_program.proofs.pieces.drop_rest.Given as goal
+use Rattle.stream_input.proofs.reading.drop_rest.Given as goal
 
 abbrev pub invariant-rest : goal.invariant-rest
 invariant-rest g l = record {
