@@ -39,6 +39,9 @@ fn sort_ranges<R: Threads + Sync>(rt: &R, store: &Store, order: &mut [Place], th
 
 /// Sorts places by at most `threads` threads. `starts` tells where each of their ranges begins, in a list of which they
 /// are a part.
+///
+/// The calling thread starts each of the others itself: where one that has hardly begun starts a further one, this one is
+/// often left waiting beside it.
 #[cycle(parts)]
 fn sort_parts<R: Threads + Sync>(
     rt: &R,
@@ -53,12 +56,14 @@ fn sort_parts<R: Threads + Sync>(
     if threads < 2 || starts.len() < 2 {
         sort_in_turn(store, order, starts);
     } else {
-        let (low, high) = order.split_at_mut(before_middle(starts, order.len()));
+        let share = order.len() / threads;
+        let (low, high) = order.split_at_mut(before_share(starts, share, order.len()));
         sort_both(rt, store, low, high, starts, threads);
     }
 }
 
-/// Sorts the places before the middle range and those from it on at once, by at most `threads` threads together.
+/// Sorts the places of one thread's share in a new thread, and at once those behind them, by at most `threads` threads
+/// together.
 #[cycle(parts)]
 fn sort_both<R: Threads + Sync>(
     rt: &R,
@@ -73,14 +78,12 @@ fn sort_both<R: Threads + Sync>(
     ensures low { IsPermutation low.old low.new }
     ensures high { IsPermutation high.old high.new }
 {
-    let middle = middle_of(starts, low.len().saturating_add(high.len()));
-    let (first, second) = starts.split_at(middle);
-    let some = threads / 2;
-    let rest = threads - some;
+    let share = low.len().saturating_add(high.len()) / threads;
+    let (first, second) = starts.split_at(ranges_of_share(starts, share));
+    let rest = threads - 1;
     let mut left = ||
-        requires { IsSync R.row }
         ensures { IsPermutation low.entry.now low.exit.now }
-    { sort_parts(rt, store, low, first, some) };
+    { sort_in_turn(store, low, first) };
     let mut right = ||
         requires { IsSync R.row }
         ensures { IsPermutation high.entry.now high.exit.now }
@@ -88,23 +91,23 @@ fn sort_both<R: Threads + Sync>(
     join_mut(rt, &mut left, &mut right);
 }
 
-/// How many of so many places are before the middle range.
-fn before_middle(starts: &[usize], count: usize) -> usize
+/// How many of so many places are in the ranges of a share of them.
+fn before_share(starts: &[usize], share: usize, count: usize) -> usize
     requires { 2 ≤ length starts.now }
     ensures { result ≤ count }
 {
-    let middle = middle_of(starts, count);
-    starts[middle].saturating_sub(starts[0]).min(count)
+    let ranges = ranges_of_share(starts, share);
+    starts[ranges].saturating_sub(starts[0]).min(count)
 }
 
-/// The first range that begins in the second half of so many places, but neither the first of all nor none.
-fn middle_of(starts: &[usize], count: usize) -> usize
+/// How many ranges begin before a share of the places ends, but at least one and not all.
+fn ranges_of_share(starts: &[usize], share: usize) -> usize
     requires { 2 ≤ length starts.now }
     ensures { (1 ≤ result) × (result < length starts.now) }
 {
-    let half = starts[0].saturating_add(count / 2);
+    let end = starts[0].saturating_add(share);
     starts
-        .partition_point(|start| *start < half)
+        .partition_point(|start| *start < end)
         .clamp(1, starts.len() - 1)
 }
 
