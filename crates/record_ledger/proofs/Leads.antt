@@ -1,5 +1,5 @@
 -- The leading numbers of keys: no key comes before one whose number is less.
-use Rattle.std.proofs.Common.{◌≡◌, ℕ, ◌+◌, ◌*◌, ◌^◌, ◌-◌, ◌<◌, refl, sym, ap, ◌∙◌, arith, ◌⊎◌, inl, inr}
+use Rattle.std.proofs.Common.{◌≡◌, ℕ, ◌+◌, ◌*◌, ◌/◌, ◌^◌, ◌<◌, refl, sym, ap, ◌∙◌, arith, ◌⊎◌, inl, inr}
 use Rattle.std.specs.Prelude.{◌==◌, if◌then◌else◌}
 use Rattle.std.specs.Ordering.{MatchOrdering, nat_cmp, ordering_then, ordering_reverse}
 use Rattle.std.specs.declared.cmp.Ordering.{Ordering}
@@ -29,12 +29,12 @@ version_of k = go (nat_cmp k.version 4) (ranked k.version 4 (nat_cmp k.version 4
     go Greater h = inr (k.known (λ e. omega (arith, h, e)))
 
 abbrev leading_by : FlowKey → ℕ → ℕ
-leading_by k v = if v == 4 then k.source * 2 ^ 32 + k.destination else 2 ^ 64 - 1
+leading_by k v = if v == 4 then (k.source * 2 ^ 32 + k.destination) / 2 else 2 ^ 63 + k.source / 2 ^ 65
 
-of_four : (k : FlowKey) → k.version ≡ 4 → leading_number k ≡ k.source * 2 ^ 32 + k.destination
+of_four : (k : FlowKey) → k.version ≡ 4 → leading_number k ≡ (k.source * 2 ^ 32 + k.destination) / 2
 of_four k e = ap (leading_by k) e
 
-of_six : (k : FlowKey) → k.version ≡ 6 → leading_number k ≡ 2 ^ 64 - 1
+of_six : (k : FlowKey) → k.version ≡ 6 → leading_number k ≡ 2 ^ 63 + k.source / 2 ^ 65
 of_six k e = ap (leading_by k) e
 
 -- numbers side by side stand by the first, then by the second
@@ -69,7 +69,11 @@ less_leading a b l = go (version_of a) (version_of b)
     go (inr p) (inl q) = let one = of_six a p in let two = of_four b q in
         let source = (b.narrow q).0 in let destination = (b.narrow q).1 in
         absurd (omega (arith, one, two, l, source, destination))
-    go (inr p) (inr q) = let one = of_six a p in let two = of_six b q in absurd (omega (arith, one, two, l))
+    go (inr p) (inr q) =
+        (λ i. ordering_then (nat_cmp (p i) (q i)) Apart)
+        ∙ (let one = of_six a p in let two = of_six b q in
+        ap (λ o. ordering_then o (ordering_then (nat_cmp a.destination b.destination) Rest))
+        (less_is a.source b.source (omega (arith, one, two, l))))
 
 -- keys stand by their numbers, then by themselves, as they stand by themselves
 pub leading_first : (a b : FlowKey)

@@ -77,10 +77,10 @@ record_at store place = if nat_lt place.bucket (length store.pieces.items)
     then option_and_then (alone_record store.timeouts store.clock) (part_in store.pieces.items place)
     else item_at (slice_get store.buckets.items (place.bucket - length store.pieces.items)) place.at
 
--- The addresses of a key of version 4 as one number, and the greatest number of 64 bits for a key of version 6. No key
--- comes before one whose number is less.
+-- The leading bits of a key's addresses as a number of 64 bits: of those of version 4 side by side in the lower half of
+-- these numbers, of the source of version 6 in the upper half. No key comes before one whose number is less.
 abbrev pub leading_number : FlowKey → ℕ
-leading_number k = if k.version == 4 then k.source * 2 ^ 32 + k.destination else 2 ^ 64 - 1
+leading_number k = if k.version == 4 then (k.source * 2 ^ 32 + k.destination) / 2 else 2 ^ 63 + k.source / 2 ^ 65
 
 -- The place is that of the record, with its last time and the leading number of its key.
 pub record IsPlaceOf (store : Store) (r : FlowRecord) (place : Place) : Type 0 where
