@@ -6,10 +6,11 @@
 //! 1. **Words.** `words.rt` reads them by `command_words` and a table of options for each command: a [`Command`] with
 //!    its settings, or none, which is `Usage`. Nothing is read then.
 //! 2. **`meter`**: `metering.rt` opens a cache of the caches that were handed in, with a pass for each worker. The
-//!    input is read in windows, and the workers meter each, all at once, before the next is read. Then the cache is
-//!    closed, and the fragments that it handed out and kept are gathered into records. `meter.rt` makes an emitter for
-//!    their stream, with all memory that writing takes. Up to here the run may refuse, and nothing was written. Then
-//!    the stream goes out, in whole messages through a buffer, and the summary goes to standard error.
+//!    input is read in windows. One worker meters each before the next is read; several meter a window all at once
+//!    while the next is read. Then the cache is closed, and the fragments that it handed out and kept are gathered into
+//!    records. `meter.rt` makes an emitter for their stream, with all memory that writing takes. Up to here the run may
+//!    refuse, and nothing was written. Then the stream goes out, in whole messages through a buffer, and the summary
+//!    goes to standard error.
 //! 3. **`show`** (`show.rt`): the input is read to its end as a stream, message by message through a window
 //!    (`stream_input`). Each data record becomes a line of text as it is read (`lines.rt`), and the text alone is held.
 //!    **`make`** (`make.rt`): a capture is made by a seed; nothing is read. **`schedule`** (`schedule.rt`): the input

@@ -3,3 +3,4 @@ pub mod Shares
 pub mod Working
 pub mod Whole
 pub mod Batched
+pub mod Ahead

@@ -29,6 +29,7 @@ use flow_parts::Timeouts;
 use meter_io::Source;
 use no_memory::NoMemory;
 use pcap_reader::RecordIndex;
+use side_by_side::for_each_mut;
 use std::alloc::Global;
 use std::sync::Wait;
 use std::thread::{Threads, join_mut};
@@ -174,7 +175,7 @@ fn run_workers<C: FlowCache, G: Gate, R: Threads + Wait + Sync>(
     let Engine { rt, alloc, gate } = *engine;
     let mut crew = mem::replace(workers, Vec::new(alloc));
     let count = crew.len();
-    thread::for_each_mut(
+    for_each_mut(
         rt,
         crew.as_mut_slice(),
         count,

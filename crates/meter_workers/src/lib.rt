@@ -1,7 +1,8 @@
 //! Workers that meter a capture through one shared cache, each record once.
 //!
-//! One engine serves two ways to read. [`meter_windows`] reads a window of the capture, meters it by all workers at
-//! once, and reads the next: the records of a window are cut into pieces, which the workers draw ([`work_pieces`]).
+//! One engine serves two ways to read. [`meter_windows`] reads a window of the capture and meters it by all workers at
+//! once; where there are several, it reads the next one meanwhile. The records of a window are cut into pieces, which
+//! the workers draw ([`work_pieces`]). All threads of a window are started by the calling one ([`side_by_side`]).
 //! [`meter_batches`] reads while workers meter: the reader hands whole windows on as batches of a queue
 //! ([`batch_queue`]), and meters one itself where the queue is full. [`meter_all`] meters a capture in memory.
 //!
@@ -17,6 +18,7 @@
 //! workers run on is an [`Engine`]; its [`Gate`] is told before each piece and batch: tests hold workers there.
 #![tactic(auto)]
 
+mod ahead;
 mod batches;
 mod engine;
 mod gate;

@@ -1,4 +1,4 @@
-//! A capture that is read in windows, each metered before the next is read.
+//! A capture that is read in windows: each is metered before the next is read, or while it is read (`ahead.rt`).
 
 ghost use Rattle.std.specs.Prelude.{◌≡◌, ◌≢◌, ◌+◌, ◌++◌, ◌^◌, ◌<◌, ◌≤◌, [], List, length, All};
 ghost use Rattle.std.specs.Prelude.{IfOk, IfErr, IfSome, OnOk, IsPermutation};
@@ -17,6 +17,7 @@ ghost use Rattle.meter_workers.specs.Shares.{IsShareOf};
 ghost use Rattle.meter_workers.specs.Working.{IsReady, IsToDraw};
 ghost use Rattle.meter_workers.specs.Whole.{IsMeteredWhole};
 
+use crate::ahead::meter_parts_ahead;
 use crate::engine::Engine;
 use crate::gate::Gate;
 use crate::share::{Share, meter_run, open_shares};
@@ -26,7 +27,7 @@ use capture_input::{MeterFault, Part, Reading};
 use flow_parts::Timeouts;
 use meter_io::Source;
 use no_memory::NoMemory;
-use std::thread;
+use side_by_side::for_each_mut;
 use std::thread::Threads;
 use work_pieces::{DrawPass, Pieces, WorkState, Worker, seat_workers, unseat_workers};
 
@@ -70,7 +71,7 @@ fn work_through<C: FlowCache, G: Gate>(
 }
 
 /// The same for a worker, whose state tells how it ended.
-fn work<C: FlowCache, G: Gate>(
+pub(crate) fn work<C: FlowCache, G: Gate>(
     part: &Part<'_>,
     pieces: &Pieces,
     cache: &C,
@@ -116,7 +117,7 @@ fn run_workers<C: FlowCache, G: Gate, R: Threads + Sync>(
 {
     let count = workers.len();
     let gate = engine.gate;
-    thread::for_each_mut(
+    for_each_mut(
         engine.rt,
         workers.as_mut_slice(),
         count,
@@ -133,7 +134,7 @@ fn run_workers<C: FlowCache, G: Gate, R: Threads + Sync>(
 }
 
 /// Meters a part by a worker for each share, all at once. Gives the shares back once all pieces are metered.
-fn meter_part<C: FlowCache, G: Gate, R: Threads + Sync>(
+pub(crate) fn meter_part<C: FlowCache, G: Gate, R: Threads + Sync>(
     engine: &Engine<'_, R, G>,
     part: &Part<'_>,
     cache: &C,
@@ -158,8 +159,8 @@ fn meter_part<C: FlowCache, G: Gate, R: Threads + Sync>(
     Ok(shares)
 }
 
-/// Reads a capture in windows and meters each. Gives the shares back, and how many bytes are left behind the last
-/// record.
+/// Reads a capture in windows and meters each before the next is read. Gives the shares back, and how many bytes are
+/// left behind the last record.
 fn meter_parts<S: Source, C: FlowCache, G: Gate, R: Threads + Sync>(
     engine: &Engine<'_, R, G>,
     source: &mut S,
@@ -197,18 +198,46 @@ fn meter_parts<S: Source, C: FlowCache, G: Gate, R: Threads + Sync>(
     }
 }
 
-/// Meters a capture that is read in windows, through a cache, by one worker for each of its passes (1 to 64). Each
-/// window is metered, by all workers at once, before the next is read; what is left behind the last record of a window
-/// begins the next one. The memory of the window and of its index is taken once. Where fronts are asked for, each
-/// worker has one across all windows, and only what leaves it goes into the cache; behind the last window each front is
-/// emptied into the cache through its own pass.
+/// Meters all parts of a capture: by one share, each before the next is read; by several, each while the next is read.
+fn meter_all_parts<S: Source, C: FlowCache, G: Gate, R: Threads + Sync>(
+    engine: &Engine<'_, R, G>,
+    source: &mut S,
+    cache: &C,
+    shares: Vec<Share<C>>,
+    windows: Windows,
+) -> Result<(Vec<Share<C>>, u64), MeterFault>
+    requires some { (0 < length shares.items) × (length shares.items ≤ 64) }
+    requires shares { All (IsShareOf C.FlowCache cache.now []) shares.items }
+    ensures many { IfOk result (λ r. length r.0.items ≡ length shares.items) }
+    ensures metered { IfOk result
+        (λ r. (answers : List Answer) × IsReadWhole (S.left source.old) (S.left source.new) windows.limit answers r.1
+        × HaveDone (IsShareOf C.FlowCache cache.now) answers r.0.items) }
+    ensures refused { IfErr result (λ fault. IsRefused (side S.left S.faults source.old source.new)
+        windows.limit fault) }
+    ensures faults { HasFaults (side S.left S.faults source.old source.new) result }
+{
+    if shares.len() == 1 {
+        meter_parts(engine, source, cache, shares, windows)
+    } else {
+        meter_parts_ahead(engine, source, cache, shares, windows)
+    }
+}
+
+/// Meters a capture that is read in windows, through a cache, by one worker for each of its passes (1 to 64). One worker
+/// meters each window before the next is read, all in the calling thread, and the memory of a window and of its index
+/// is taken once. Several workers meter a window at once, each in a thread of its own, while the calling thread reads
+/// the next one; the memory of two windows and of two indices is taken once, and the last window is metered by the
+/// calling thread too. What is left behind the last record of a window begins the next one. Where fronts are asked for,
+/// each worker has one across all windows, and only what leaves it goes into the cache; behind the last window each
+/// front is emptied into the cache through its own pass.
 ///
 /// The records of a window are cut into pieces; the gate is told of each piece, by its number within the window. What
 /// was put in through the united pass shares out the packets of the capture; `parts` are the fragments that it was
 /// handed; the tally is that of all records, and the source has nothing left.
 ///
 /// Refusals in the order of [`MeterFault`]: where the input isn't a capture, has an unknown link type or is damaged, it
-/// is read to its end first, so that `Failed` and `TooLarge` keep their place. `NoMemory` may come at any time.
+/// is read to its end first, so that `Failed` and `TooLarge` keep their place. `NoMemory` may come at any time; but where
+/// a worker ran out of memory while the next window was refused, that refusal is the answer.
 pub fn meter_windows<S: Source, C: FlowCache, G: Gate, R: Threads + Sync>(
     engine: &Engine<'_, R, G>,
     source: &mut S,
@@ -231,7 +260,7 @@ pub fn meter_windows<S: Source, C: FlowCache, G: Gate, R: Threads + Sync>(
     let Ok(shares) = open_shares(engine.alloc, cache, passes, windows.front) else {
         return Err(MeterFault::NoMemory);
     };
-    let (shares, tail) = meter_parts(engine, source, cache, shares, windows)?;
+    let (shares, tail) = meter_all_parts(engine, source, cache, shares, windows)?;
     match unite_shares(cache, shares, tail) {
         Ok(all) => Ok(all),
         Err(NoMemory) => Err(MeterFault::NoMemory),

@@ -10,6 +10,8 @@ ghost use Rattle.flow_parts.specs.Pieces.{items_of};
 ghost use Rattle.record_ledger.specs.Lawful.{parts_of};
 ghost use Rattle.record_ledger.specs.Buckets.{records_of, AreByKey, AreDealt, AreDealtIn, AreBefore, IsDealing};
 ghost use Rattle.record_ledger.specs.Buckets.{CountsSlots, LiesAt, IsPartPlaceOf, Piece, part_of_piece};
+ghost use Rattle.record_ledger.specs.Buckets.{IsCountedAlone};
+ghost use Rattle.std.specs.Prelude.{◌-◌, true, false};
 
 use crate::leading::leading_number;
 use crate::moving::{buckets_for, move_all, move_these};
@@ -18,12 +20,16 @@ use crate::record::FlowRecord;
 use crate::slots::Slots;
 use flow_parts::{Fragment, PartList};
 use no_memory::NoMemory;
+use side_by_side::for_each_mut;
 use std::alloc::Global;
 use std::mem;
-use std::thread::{Threads, for_each_mut};
+use std::thread::{Threads, join};
 
 /// Which part of all fragments is thought to be moved to buckets, where most stay.
 const MOVED_PART: usize = 8;
+
+/// How many fragments' slots are looked up together.
+const RUN: usize = 16;
 
 /// Fragments that were dealt.
 #[derive(Drop)]
@@ -63,10 +69,11 @@ pub fn deal<R: Threads + Sync>(
 {
     let pieces = parts.into_pieces()?;
     let fragments = count_of(&pieces);
-    let counts = count_slots(alloc, &pieces, fragments)?;
+    let (counts, room) = count_beside(rt, alloc, &pieces, fragments, threads)?;
     if most_stay(&counts, fragments) {
-        return deal_pieces(rt, alloc, pieces, &counts, fragments, threads);
+        return deal_pieces(rt, alloc, pieces, &counts, room, threads);
     }
+    drop(room);
     Ok(Dealt {
         pieces: Vec::new(alloc),
         alone: Vec::new(alloc),
@@ -79,23 +86,26 @@ fn most_stay(counts: &Slots, fragments: usize) -> bool {
     counts.with_one() >= fragments / 2
 }
 
-/// Deals the fragments of all pieces, where most stay.
+/// Deals the fragments of all pieces, where most stay. Their places come into `room`, where there is some.
 fn deal_pieces<R: Threads + Sync>(
     rt: &R,
     alloc: Global,
     pieces: Vec<Vec<Fragment>>,
     counts: &Slots,
-    fragments: usize,
+    room: Vec<Place>,
     threads: usize,
 ) -> Result<Dealt, NoMemory>
     requires threads { 0 < threads }
     requires counts { CountsSlots (items_of pieces.items) counts.now }
+    requires room { room.items ≡ [] }
     ensures { IfOk result (λ dealt. AreDealt (items_of pieces.items) dealt.pieces.items dealt.alone.items
         dealt.buckets.items) }
 {
-    let mut dealings = deal_each(rt, alloc, &pieces, counts, fragments, threads)?;
+    let fragments = count_of(&pieces);
+    let more = fragments.saturating_sub(room.capacity());
+    let mut dealings = deal_each(rt, alloc, &pieces, counts, more, threads)?;
     let mut buckets = buckets_for(alloc, fragments / MOVED_PART)?;
-    let mut alone = Vec::new(alloc);
+    let mut alone = room;
     for number in 0..pieces.len() {
         let dealing = mem::replace(&mut dealings[number], Ok(no_dealing(alloc)))?;
         take_dealing(&pieces[number], dealing, &mut alone, &mut buckets)?;
@@ -105,6 +115,50 @@ fn deal_pieces<R: Threads + Sync>(
         alone,
         buckets,
     })
+}
+
+/// How many fragments each slot has, and, where there are several threads, room for the places of so many, which a second
+/// thread makes meanwhile.
+fn count_beside<R: Threads + Sync>(
+    rt: &R,
+    alloc: Global,
+    pieces: &[Vec<Fragment>],
+    fragments: usize,
+    threads: usize,
+) -> Result<(Slots, Vec<Place>), NoMemory>
+    ensures counts { IfOk result (λ made. CountsSlots (items_of pieces.now) made.0) }
+    ensures room { IfOk result (λ made. made.1.items ≡ []) }
+{
+    if threads < 2 {
+        let counts = count_slots(alloc, pieces, fragments)?;
+        return Ok((counts, Vec::new(alloc)));
+    }
+    let front = move || -> Result<Vec<Place>, NoMemory>
+        ensures { IfOk result (λ room. room.items ≡ []) }
+    { touched_room(alloc, fragments) };
+    let back = move || -> Result<Slots, NoMemory>
+        ensures { IfOk result (λ counts. CountsSlots (items_of pieces.entry.now) counts) }
+    { count_slots(alloc, pieces, fragments) };
+    let (room, counts) = join(rt, front, back);
+    Ok((counts?, room?))
+}
+
+/// Room for so many places, all of which was written to: the system gives memory when it is first touched, which takes
+/// longer than writing.
+fn touched_room(alloc: Global, count: usize) -> Result<Vec<Place>, NoMemory>
+    ensures { IfOk result (λ room. room.items ≡ []) }
+{
+    let mut room = Vec::with_capacity(alloc, count)?;
+    for _touched in 0..count {
+        room.push(Place {
+            last: 0,
+            leading: 0,
+            bucket: 0,
+            at: 0,
+        })?;
+    }
+    room.clear();
+    Ok(room)
 }
 
 /// How many fragments each slot has.
@@ -138,13 +192,13 @@ fn count_of(pieces: &[Vec<Fragment>]) -> usize {
 }
 
 /// Finds out how the fragments of each piece are dealt, by at most `threads` threads. Each piece has its dealing, or
-/// there was no memory for it.
+/// there was no memory for it. The list of the first has room for `more` places at least.
 fn deal_each<R: Threads + Sync>(
     rt: &R,
     alloc: Global,
     pieces: &[Vec<Fragment>],
     counts: &Slots,
-    fragments: usize,
+    more: usize,
     threads: usize,
 ) -> Result<Vec<Result<Dealing, NoMemory>>, NoMemory>
     requires threads { 0 < threads }
@@ -153,6 +207,7 @@ fn deal_each<R: Threads + Sync>(
         → IfOk (slice_index_or dealings.items number d) (IsDealing counts.now pieces.now number)) }
 {
     let mut dealings = no_dealings(alloc, pieces.len())?;
+    let first = first_filled(pieces);
     for_each_mut(
         rt,
         &mut dealings,
@@ -160,9 +215,21 @@ fn deal_each<R: Threads + Sync>(
         &|number, dealing: &mut Result<Dealing, NoMemory>|
             requires number { number < length pieces.now }
             ensures { IfOk dealing.new (IsDealing counts.entry.now pieces.entry.now number) }
-        { *dealing = deal_piece(alloc, pieces, number, counts, fragments) },
+        {
+            let room = if number == first { more } else { 0 };
+            *dealing = deal_piece(alloc, pieces, number, counts, room)
+        },
     );
     Ok(dealings)
+}
+
+/// The number of the first piece that has fragments.
+fn first_filled(pieces: &[Vec<Fragment>]) -> usize {
+    let mut first = 0;
+    while first < pieces.len() && pieces[first].is_empty() {
+        first += 1;
+    }
+    first
 }
 
 /// The dealing of a piece of which nothing is found out yet.
@@ -184,28 +251,65 @@ fn no_dealings(alloc: Global, count: usize) -> Result<Vec<Result<Dealing, NoMemo
     Ok(dealings)
 }
 
-/// Finds out how the fragments of the piece with this number, of so many in all, are dealt. The first list of places has
-/// room for those of the other pieces, which are added to it.
+/// Finds out how the fragments of the piece with this number are dealt. The list of places has room for `room` of them at
+/// least: the first one takes in those of the other pieces.
 fn deal_piece(
     alloc: Global,
     pieces: &[Vec<Fragment>],
     number: usize,
     counts: &Slots,
-    fragments: usize,
+    room: usize,
 ) -> Result<Dealing, NoMemory>
     requires number { number < length pieces.now }
     ensures { IfOk result (IsDealing counts.now pieces.now number) }
 {
     let piece = &pieces[number];
-    let room = if number == 0 { fragments } else { piece.len() };
     let mut dealing = Dealing {
-        alone: Vec::with_capacity(alloc, room)?,
+        alone: Vec::with_capacity(alloc, room.max(piece.len()))?,
         moved: Vec::with_capacity(alloc, piece.len())?,
     };
-    for at in 0..piece.len() {
-        deal_part(&piece[at], number, at, counts, &mut dealing)?;
+    let mut from = 0;
+    while from < piece.len() {
+        from = deal_run(piece, number, from, counts, &mut dealing)?;
     }
     Ok(dealing)
+}
+
+/// Finds out how the fragments of the piece with this number from a place on are dealt, at most 16 of them, and tells the
+/// place behind these. Their slots lie far apart in memory, and are looked up together.
+fn deal_run(
+    piece: &[Fragment],
+    number: usize,
+    from: usize,
+    counts: &Slots,
+    dealing: &mut Dealing,
+) -> Result<usize, NoMemory>
+    requires { from < length piece.now }
+    ensures further { IfOk result (λ end. (from < end) × (end ≤ length piece.now)) }
+    ensures dealt { IfOk result (λ end. (pieces : List Piece) (p : Piece) → slice_get pieces number ≡ Some p
+        → p.items ≡ piece.now → AreDealtIn counts.now pieces number p.items from dealing.old
+        → AreDealtIn counts.now pieces number p.items end dealing.new) }
+{
+    let end = from.saturating_add(RUN).min(piece.len());
+    let alone = alone_of(piece, from, end, counts);
+    for at in from..end {
+        deal_part(&piece[at], number, at, alone[at - from], dealing)?;
+    }
+    Ok(end)
+}
+
+/// Whether each of the fragments from a place of a piece up to another, at most 16, is alone in its slot.
+#[inline]
+fn alone_of(piece: &[Fragment], from: usize, end: usize, counts: &Slots) -> [bool; RUN]
+    requires { (from ≤ end) × (end ≤ length piece.now) × (end ≤ from + 16) }
+    ensures { (at : ℕ) (f : Fragment) → from ≤ at → at < end → slice_get piece.now at ≡ Some f
+        → slice_index_or result (at - from) false ≡ true → IsCountedAlone counts.now f }
+{
+    let mut alone = [false; RUN];
+    for at in from..end {
+        alone[at - from] = counts.has_one(&piece[at]);
+    }
+    alone
 }
 
 /// Finds out how the fragment at a place of the piece with this number is dealt: it stays there where its slot has no
@@ -215,15 +319,15 @@ fn deal_part(
     part: &Fragment,
     number: usize,
     at: usize,
-    counts: &Slots,
+    alone: bool,
     dealing: &mut Dealing,
 ) -> Result<(), NoMemory>
-    ensures { OnOk result ((pieces : List Piece) (p : Piece) → slice_get pieces number ≡ Some p
-        → slice_get p.items at ≡ Some part.now
-        → AreDealtIn counts.now pieces number p.items at dealing.old
-        → AreDealtIn counts.now pieces number p.items (at + 1) dealing.new) }
+    ensures { OnOk result ((counts : List ℕ) (pieces : List Piece) (p : Piece) → slice_get pieces number ≡ Some p
+        → slice_get p.items at ≡ Some part.now → (alone ≡ true → IsCountedAlone counts part.now)
+        → AreDealtIn counts pieces number p.items at dealing.old
+        → AreDealtIn counts pieces number p.items (at + 1) dealing.new) }
 {
-    if counts.has_one(part) {
+    if alone {
         leave_part(part, number, at, &mut dealing.alone)?;
     } else {
         dealing.moved.push(at)?;
@@ -270,7 +374,7 @@ fn take_dealing(
     ensures by_key { OnOk result (AreByKey buckets.old → AreByKey buckets.new) }
 {
     let Dealing { alone: more, moved } = dealing;
-    if alone.is_empty() {
+    if alone.is_empty() && alone.capacity() == 0 {
         *alone = more;
     } else {
         alone.extend_from_slice(&more)?;

@@ -29,6 +29,7 @@ mod reasons;
 mod record;
 mod record_list;
 mod settling;
+mod sharing;
 mod slots;
 mod sorting;
 mod spreading;

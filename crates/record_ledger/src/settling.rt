@@ -11,7 +11,8 @@ use crate::orders::sort_by_key;
 use crate::reasons::give_reasons;
 use crate::record::FlowRecord;
 use flow_parts::Timeouts;
-use std::thread::{self, Threads};
+use side_by_side::for_each_mut;
+use std::thread::Threads;
 
 /// Settles the records of all buckets, by at most `threads` threads.
 pub fn settle_all<R: Threads + Sync>(
@@ -27,7 +28,7 @@ pub fn settle_all<R: Threads + Sync>(
     ensures { AllZip (λ (before after : Bucket). AreSettled timeouts.now clock before.items after.items)
         buckets.old buckets.new }
 {
-    thread::for_each_mut(
+    for_each_mut(
         rt,
         buckets,
         threads,

@@ -6,6 +6,7 @@ ghost use Rattle.record_ledger.specs.Buckets.{place_order};
 
 use crate::orders::by_place;
 use crate::place::Place;
+use crate::sharing::part_share;
 use crate::spreading::{RANGES, spread};
 use crate::store::Store;
 use std::thread::{Threads, join_mut};
@@ -15,100 +16,71 @@ const FEW: usize = 8192;
 
 /// Sorts places into the written order of their records, by at most `threads` threads.
 ///
-/// Many are first brought into ranges of time, which threads sort, each by itself; a last sort of all then finds them
-/// in order.
+/// Threads share out the places by time, and each brings its own into ranges of time, which it sorts one by one; a last
+/// sort of all then finds them in order.
 pub fn sort_places<R: Threads + Sync>(rt: &R, store: &Store, order: &mut Vec<Place>, threads: usize)
     ensures permutation { IsPermutation order.old.items order.new.items }
     ensures order { IsSorted (place_order store.now) order.new.items }
 {
-    sort_ranges(rt, store, order.as_mut_slice(), threads);
+    sort_shares(rt, store, order.as_mut_slice(), threads);
     order.sort_unstable_by(|one, other| by_place(store, one, other));
 }
 
-/// Brings places into ranges of time, where they are many, and sorts these by at most `threads` threads.
-fn sort_ranges<R: Threads + Sync>(rt: &R, store: &Store, order: &mut [Place], threads: usize)
-    ensures permutation { IsPermutation order.old order.new }
-    ensures many { length order.new ≡ length order.old }
-{
-    if order.len() >= FEW {
-        let mut starts = [0; RANGES];
-        spread(order, &mut starts);
-        sort_parts(rt, store, order, &starts, threads);
-    }
-}
-
-/// Sorts places by at most `threads` threads. `starts` tells where each of their ranges begins, in a list of which they
-/// are a part.
+/// Sorts places by at most `threads` threads, each a share of them that ends before the next one begins.
 ///
 /// The calling thread starts each of the others itself: where one that has hardly begun starts a further one, this one is
 /// often left waiting beside it.
-#[cycle(parts)]
-fn sort_parts<R: Threads + Sync>(
-    rt: &R,
-    store: &Store,
-    order: &mut [Place],
-    starts: &[usize],
-    threads: usize,
-)
+#[cycle(shares)]
+fn sort_shares<R: Threads + Sync>(rt: &R, store: &Store, order: &mut [Place], threads: usize)
     ensures permutation { IsPermutation order.old order.new }
     ensures many { length order.new ≡ length order.old }
 {
-    if threads < 2 || starts.len() < 2 {
-        sort_in_turn(store, order, starts);
+    if threads < 2 || order.len() < FEW {
+        sort_share(store, order);
     } else {
-        let share = order.len() / threads;
-        let (low, high) = order.split_at_mut(before_share(starts, share, order.len()));
-        sort_both(rt, store, low, high, starts, threads);
+        let before = part_share(order, threads);
+        let (low, high) = order.split_at_mut(before);
+        sort_both(rt, store, low, high, threads);
     }
 }
 
 /// Sorts the places of one thread's share in a new thread, and at once those behind them, by at most `threads` threads
 /// together.
-#[cycle(parts)]
+#[cycle(shares)]
 fn sort_both<R: Threads + Sync>(
     rt: &R,
     store: &Store,
     low: &mut [Place],
     high: &mut [Place],
-    starts: &[usize],
     threads: usize,
 )
-    requires threads { 2 ≤ threads }
-    requires starts { 2 ≤ length starts.now }
+    requires { 2 ≤ threads }
     ensures low { IsPermutation low.old low.new }
     ensures high { IsPermutation high.old high.new }
 {
-    let share = low.len().saturating_add(high.len()) / threads;
-    let (first, second) = starts.split_at(ranges_of_share(starts, share));
     let rest = threads - 1;
     let mut left = ||
         ensures { IsPermutation low.entry.now low.exit.now }
-    { sort_in_turn(store, low, first) };
+    { sort_share(store, low) };
     let mut right = ||
         requires { IsSync R.row }
         ensures { IsPermutation high.entry.now high.exit.now }
-    { sort_parts(rt, store, high, second, rest) };
+    { sort_shares(rt, store, high, rest) };
     join_mut(rt, &mut left, &mut right);
 }
 
-/// How many of so many places are in the ranges of a share of them.
-fn before_share(starts: &[usize], share: usize, count: usize) -> usize
-    requires { 2 ≤ length starts.now }
-    ensures { result ≤ count }
+/// Sorts the places of one thread's share: where they are many, range by range.
+fn sort_share(store: &Store, order: &mut [Place])
+    ensures permutation { IsPermutation order.old order.new }
+    ensures many { length order.new ≡ length order.old }
 {
-    let ranges = ranges_of_share(starts, share);
-    starts[ranges].saturating_sub(starts[0]).min(count)
-}
-
-/// How many ranges begin before a share of the places ends, but at least one and not all.
-fn ranges_of_share(starts: &[usize], share: usize) -> usize
-    requires { 2 ≤ length starts.now }
-    ensures { (1 ≤ result) × (result < length starts.now) }
-{
-    let end = starts[0].saturating_add(share);
-    starts
-        .partition_point(|start| *start < end)
-        .clamp(1, starts.len() - 1)
+    if order.len() < FEW {
+        order.sort_unstable_by(|one, other| by_place(store, one, other));
+    } else {
+        let mut starts = [0; RANGES];
+        spread(order, &mut starts);
+        sort_in_turn(store, order, &starts);
+    }
 }
 
 /// Sorts places range by range.

@@ -55,7 +55,7 @@ impl<'a> Source for Watched<'a> {
 }
 
 #[test]
-fn a_window_is_metered_before_the_next_is_read(rt: HostRuntime) -> Result<(), Fail> {
+fn one_worker_meters_a_window_before_the_next_is_read(rt: HostRuntime) -> Result<(), Fail> {
     let alloc = rt.alloc();
     let bytes = capture(alloc, 1, 20_000, 64)?;
     let reached = AtomicU64::new(0);
@@ -67,7 +67,7 @@ fn a_window_is_metered_before_the_next_is_read(rt: HostRuntime) -> Result<(), Fa
         reached: &reached,
         early: &early,
     };
-    let done = meter_source(&rt, alloc, &mut source, Setting { seats: 2, ..ONE }, &gate)?;
+    let done = meter_source(&rt, alloc, &mut source, ONE, &gate)?;
     assert_eq!(rt; done.ok().ok_or("records")?.tally.captured, 20_000);
     assert_eq!(rt; reached.load(Ordering::SeqCst), 1);
     assert_eq!(rt; early.load(Ordering::SeqCst), 0);

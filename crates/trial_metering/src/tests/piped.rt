@@ -36,7 +36,7 @@ struct Outcome {
 }
 
 /// How a capture is metered: with how many passes, in windows of which size, at most how many bytes of it, and which
-/// read of the source fails. With a room of 0 there is no queue, and a window is metered before the next is read.
+/// read of the source fails. With a room of 0 there is no queue, and one window is metered behind the other.
 #[derive(Clone, Copy)]
 struct Setting {
     passes: usize,

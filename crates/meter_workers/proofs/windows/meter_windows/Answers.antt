@@ -11,7 +11,7 @@ returns-in-Ok-unite_shares-clause-metered g c =
     let told = c.in_ok-shares.ensures.metered in
     let all = c.in-Ok-unite_shares.ensures in
     metered-whole g.C.FlowCache c.args.cache.now told.0 c.in-Ok-unite_shares.all
-    (side g.S.Source.left g.S.Source.faults c.args.source.now c.meter_parts.new.source) c.args.windows.limit
+    (side g.S.Source.left g.S.Source.faults c.args.source.now c.meter_all_parts.new.source) c.args.windows.limit
     c.in_ok-shares.tail told.1 (all.metered told.0 told.2) all.tail
 
 pub returns-in-Ok-unite_shares-clause-parts : goal.returns-in-Ok-unite_shares-clause-parts

@@ -11,7 +11,7 @@ returns-clause-worked g c =
     let W : Type 0 = Worker (Share g.row.C.Denot g.row.C-Pass.Denot) DrawPass in
     let R : W → W → Type 0 =
     HasDrawnAll (IsShareOf g.C.FlowCache c.args.cache.now) c.args.pieces.now (answers_by c.args.part.now) in
-    let new : List W = c.for_each_mut.new.s in
+    let new : List W = c.for_each_mut.new.items in
     let same : c.as_mut_slice.result.now ≡ c.args.workers.items = search rules in
     let long : length new ≡ length c.as_mut_slice.result.now = search rules in
     let each : AllZip R c.as_mut_slice.result.now new = all-zip R c.as_mut_slice.result.now new long (λ i d lt.

@@ -5,13 +5,13 @@ use Rattle.record_ledger.proofs.Leaving.{one_left, one_moved}
 use Rattle.record_ledger.proofs.dealing.deal_part.Goals as goal
 
 pub returns-in_ok-leave_part : goal.returns-in_ok-leave_part
-returns-in_ok-leave_part c = λ pieces p at_piece here h.
-    one_left c.args.counts.now pieces c.args.number c.args.at p.items c.args.part.now c.args.dealing.now _ here h
-    (c.has_one.ensures c.if-has_one.true) refl
+returns-in_ok-leave_part c = λ counts pieces p at_piece here counted h.
+    one_left counts pieces c.args.number c.args.at p.items c.args.part.now c.args.dealing.now _ here h
+    (counted c.if-alone.true) refl
     (λ A. c.in_ok-leave_part.ensures.places A pieces (ap (λ o. part_of_piece o c.args.at) at_piece ∙ here))
     c.in_ok-leave_part.ensures.first
 
 pub returns-in_ok-push : goal.returns-in_ok-push
-returns-in_ok-push c = λ pieces p at_piece here h.
-    one_moved c.args.counts.now pieces c.args.number c.args.at p.items c.args.part.now c.args.dealing.now _ here h refl
+returns-in_ok-push c = λ counts pieces p at_piece here counted h.
+    one_moved counts pieces c.args.number c.args.at p.items c.args.part.now c.args.dealing.now _ here h refl
     c.in_ok-push.ensures.items

@@ -17,16 +17,16 @@ pub loop-number-init : goal.loop-number-init
 loop-number-init g c =
     let counts = c.args.counts.now in
     let pieces = c.args.pieces.items in
-    let lent : c.deref.result.now ≡ pieces = c.deref.ensures.value in
+    let lent : c.deref-2.result.now ≡ pieces = c.deref-2.ensures.value in
     record {
       few = omega arith;
       some = c.in_ok-buckets.ensures.some;
       many = c.in_ok-dealings.ensures.many ∙ ap length lent;
       left = λ i d le low. subst (λ l. IfOk (get_or c.in_ok-dealings.dealings.items i d) (IsDealing counts l i)) lent
           (c.in_ok-dealings.ensures.dealt i d (let long = ap length lent in omega (arith, low, long)));
-      dealt = none_dealt counts pieces c.new-alone.result.items c.in_ok-buckets.buckets.items
-          c.new-alone.ensures.items c.in_ok-buckets.ensures.none;
-      first = subst (AreFirst 0) (sym c.new-alone.ensures.items)
+      dealt = none_dealt counts pieces c.args.room.items c.in_ok-buckets.buckets.items
+          c.requires.room c.in_ok-buckets.ensures.none;
+      first = subst (AreFirst 0) (sym c.requires.room)
           (record { below = All-nil (λ place. place.bucket < 0); rising = tt });
     }
 

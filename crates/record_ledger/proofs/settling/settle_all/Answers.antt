@@ -15,7 +15,7 @@ for_each_mut-requires-clause-accepts g c = λ κs within i p low is. (
 pub returns : goal.returns
 returns g c =
     let R : Bucket → Bucket → Type 0 = Settled c.args.timeouts.now c.args.clock in
-    let same : length c.for_each_mut.new.s ≡ length c.args.buckets.now = search rules in
-    all-zip R c.args.buckets.now c.for_each_mut.new.s same (λ i d lt.
+    let same : length c.for_each_mut.new.items ≡ length c.args.buckets.now = search rules in
+    all-zip R c.args.buckets.now c.for_each_mut.new.items same (λ i d lt.
     let k = (c.for_each_mut.ensures i d lt).1 in
-    subst (λ o. R o (get_or c.for_each_mut.new.s i d)) k.argument_is (subst (λ w. R k.argument.now w) k.left k.call))
+    subst (λ o. R o (get_or c.for_each_mut.new.items i d)) k.argument_is (subst (λ w. R k.argument.now w) k.left k.call))

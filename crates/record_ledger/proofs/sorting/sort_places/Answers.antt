@@ -17,9 +17,9 @@ returns-clause-order g c = c.sort_unstable_by.ensures.sorted
 pub returns-clause-permutation : goal.returns-clause-permutation
 returns-clause-permutation g c =
     let old = c.args.order.now in
-    let parts : List Place = c.sort_ranges.new.order in
+    let parts : List Place = c.sort_shares.new.order in
     let same = given_back old.len old.items c.as_mut_slice.result.now parts old.ok.0 c.as_mut_slice.ensures.value
-    (sym c.sort_ranges.ensures.many) in
+    (sym c.sort_shares.ensures.many) in
     IsPermutation-trans old.items parts c.sort_unstable_by.new.self.items
-    (subst (λ l. IsPermutation l parts) c.as_mut_slice.ensures.value c.sort_ranges.ensures.permutation)
+    (subst (λ l. IsPermutation l parts) c.as_mut_slice.ensures.value c.sort_shares.ensures.permutation)
     (subst (λ l. IsPermutation l c.sort_unstable_by.new.self.items) same c.sort_unstable_by.ensures.permutation)

@@ -1,9 +1,9 @@
 -- Behind one thread's share there is one thread fewer.
 use Rattle.std.proofs.Common.{◌+◌, ◌*◌}
-use Rattle.record_ledger.proofs.sorting.+parts.Given as goal
+use Rattle.record_ledger.proofs.sorting.+shares.Given as goal
 
-abbrev pub decreases-sort_parts : goal.decreases-sort_parts
-decreases-sort_parts g l = 4 * l.threads + 3
+abbrev pub decreases-sort_shares : goal.decreases-sort_shares
+decreases-sort_shares g l = 4 * l.threads + 3
 
 abbrev pub decreases-sort_both : goal.decreases-sort_both
 decreases-sort_both g l = 4 * l.threads + 2
