@@ -20,11 +20,11 @@ use record_ledger::{RecordList, gather};
 use std::alloc::Global;
 use std::thread::Threads;
 
-/// The bytes of a capture that are held at a time for a single worker: the fewest that a window may have, since a
+/// The bytes of the one window that is held for a single worker: the fewest that a window may have, since a
 /// longer one takes the room of open flows in the near cache of the processor.
 const WINDOW_OF_ONE: usize = 262_184;
 
-/// The bytes of a capture that are held at a time for several workers: more, since threads are started for each window.
+/// The bytes of a window for several workers, of which two are held at a time: more, since threads are started for each.
 const WINDOW_OF_SEVERAL: usize = 1 << 21;
 
 /// What is known of a capture whose packets a cache has metered: its tally, and how many bytes are left behind its last
@@ -43,7 +43,7 @@ pub struct Gathered {
     pub tail: u64,
 }
 
-/// The bytes of a capture that are held at a time for so many workers.
+/// The bytes of a window for so many workers.
 fn window_size(workers: usize) -> usize
     ensures { (262184 ≤ result) × (result ≤ 2 ^ 27) }
 {
