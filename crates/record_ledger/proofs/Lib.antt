@@ -15,6 +15,7 @@ pub mod Made
 pub mod Matched
 pub mod Meeting
 pub mod Packed
+pub mod Parted
 pub mod Placed
 pub mod Reaching
 pub mod Rising

@@ -1,6 +1,6 @@
 -- The code's own: records in buckets, and places in them. No law speaks of these.
 use Rattle.std.specs.Prelude.{◌≡◌, ◌≢◌, ℕ, suc, ◌<◌, ◌≤◌, List, [], ◌∷◌, ◌++◌, Option, Some, None, slice_get, length, flat_map}
-use Rattle.std.specs.Prelude.{option_and_then, nat_lt, slice_index, count_by, map, take}
+use Rattle.std.specs.Prelude.{option_and_then, nat_lt, slice_index, count_by, map, take, drop}
 use Rattle.std.specs.List.{AllZip, range_with_len}
 use native.Mathlib.Decide.{dec_lt}
 use Rattle.std.specs.Prelude.{All, IsPermutation, ⊤, ◌==◌, ◌+◌, ◌-◌, ◌*◌, ◌/◌, ◌%◌, ◌^◌, if◌then◌else◌}
@@ -116,6 +116,11 @@ record_order store one other = ordering_then
 abbrev pub place_order : Store → Place → Place → Ordering
 place_order store one other = ordering_then (nat_cmp one.last other.last) (ordering_then
     (nat_cmp one.leading other.leading) (record_order store one other))
+
+-- So many places of a list, its first ones, have last times before some time, and the others haven't.
+abbrev pub ArePartedAt : ℕ → List Place → Type 0
+ArePartedAt count order = (time : ℕ) × All (λ place. place.last < time) (take count order)
+    × All (λ place. time ≤ place.last) (drop count order)
 
 -- The places are of pieces and buckets below the number, and rise by these, then by place in them.
 pub record AreFirst (buckets : ℕ) (order : List Place) : Type 0 where

@@ -1,9 +1,11 @@
 //! Sharing out places by time: those of one share brought in front of the others, by swaps.
 //!
 //! That a share has as many as the others isn't proved here, and nothing rests on it but time: what is promised is a
-//! permutation.
+//! permutation in which the share ends before the others begin.
 
-ghost use Rattle.std.specs.Prelude.{◌≡◌, ◌≤◌, length, IsPermutation};
+ghost use Rattle.std.specs.Prelude.{◌≡◌, ◌≤◌, ◌<◌, ℕ, length, IsPermutation, slice_index_or};
+ghost use Rattle.record_ledger.specs.Buckets.{ArePartedAt};
+ghost use Rattle.record_ledger.specs.declared.place.Place.{Place};
 
 use crate::place::Place;
 
@@ -16,6 +18,7 @@ pub fn part_share(order: &mut [Place], shares: usize) -> usize
     ensures permutation { IsPermutation order.old order.new }
     ensures many { length order.new ≡ length order.old }
     ensures within { result ≤ length order.new }
+    ensures parted { ArePartedAt result order.new }
 {
     let bound = bound_of(order, shares);
     part_before(order, bound)
@@ -39,6 +42,9 @@ fn part_before(order: &mut [Place], bound: u64) -> usize
     ensures permutation { IsPermutation order.old order.new }
     ensures many { length order.new ≡ length order.old }
     ensures within { result ≤ length order.new }
+    ensures before { (k : ℕ) (d : Place) → k < result → (slice_index_or order.new k d).last < bound }
+    ensures behind { (k : ℕ) (d : Place) → result ≤ k → k < length order.new
+        → bound ≤ (slice_index_or order.new k d).last }
 {
     let mut low = 0;
     let mut high = order.len();

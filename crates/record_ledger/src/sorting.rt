@@ -17,13 +17,12 @@ const FEW: usize = 8192;
 /// Sorts places into the written order of their records, by at most `threads` threads.
 ///
 /// Threads share out the places by time, and each brings its own into ranges of time, which it sorts one by one; a last
-/// sort of all then finds them in order.
+/// sort of its share then finds them in order.
 pub fn sort_places<R: Threads + Sync>(rt: &R, store: &Store, order: &mut Vec<Place>, threads: usize)
     ensures permutation { IsPermutation order.old.items order.new.items }
     ensures order { IsSorted (place_order store.now) order.new.items }
 {
     sort_shares(rt, store, order.as_mut_slice(), threads);
-    order.sort_unstable_by(|one, other| by_place(store, one, other));
 }
 
 /// Sorts places by at most `threads` threads, each a share of them that ends before the next one begins.
@@ -34,6 +33,7 @@ pub fn sort_places<R: Threads + Sync>(rt: &R, store: &Store, order: &mut Vec<Pla
 fn sort_shares<R: Threads + Sync>(rt: &R, store: &Store, order: &mut [Place], threads: usize)
     ensures permutation { IsPermutation order.old order.new }
     ensures many { length order.new ≡ length order.old }
+    ensures order { IsSorted (place_order store.now) order.new }
 {
     if threads < 2 || order.len() < FEW {
         sort_share(store, order);
@@ -56,31 +56,35 @@ fn sort_both<R: Threads + Sync>(
 )
     requires { 2 ≤ threads }
     ensures low { IsPermutation low.old low.new }
+    ensures low_order { IsSorted (place_order store.now) low.new }
     ensures high { IsPermutation high.old high.new }
+    ensures high_order { IsSorted (place_order store.now) high.new }
 {
     let rest = threads - 1;
     let mut left = ||
-        ensures { IsPermutation low.entry.now low.exit.now }
+        ensures permutation { IsPermutation low.entry.now low.exit.now }
+        ensures order { IsSorted (place_order store.entry.now) low.exit.now }
     { sort_share(store, low) };
     let mut right = ||
         requires { IsSync R.row }
-        ensures { IsPermutation high.entry.now high.exit.now }
+        ensures permutation { IsPermutation high.entry.now high.exit.now }
+        ensures order { IsSorted (place_order store.entry.now) high.exit.now }
     { sort_shares(rt, store, high, rest) };
     join_mut(rt, &mut left, &mut right);
 }
 
-/// Sorts the places of one thread's share: where they are many, range by range.
+/// Sorts the places of one thread's share: where they are many, range by range first.
 fn sort_share(store: &Store, order: &mut [Place])
     ensures permutation { IsPermutation order.old order.new }
     ensures many { length order.new ≡ length order.old }
+    ensures order { IsSorted (place_order store.now) order.new }
 {
-    if order.len() < FEW {
-        order.sort_unstable_by(|one, other| by_place(store, one, other));
-    } else {
+    if order.len() >= FEW {
         let mut starts = [0; RANGES];
         spread(order, &mut starts);
         sort_in_turn(store, order, &starts);
     }
+    order.sort_unstable_by(|one, other| by_place(store, one, other));
 }
 
 /// Sorts places range by range.

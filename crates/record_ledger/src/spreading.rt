@@ -1,6 +1,6 @@
 //! Spreading: places brought into ranges of time, by swaps, before they are sorted.
 //!
-//! Each range is then sorted by itself, and a last sort of all finds the places in order. That it does isn't proved
+//! Each range is then sorted by itself, and a last sort of all that were spread finds them in order. That it does isn't proved
 //! here, and nothing rests on it but time: what is promised is a permutation.
 
 ghost use Rattle.std.specs.Prelude.{◌≡◌, ◌<◌, ◌≤◌, length, IsPermutation};
