@@ -1,11 +1,11 @@
 -- Fragments that stay where they lie, beside those that are moved to buckets.
 use Rattle.std.proofs.Common.{◌≡◌, ◌≢◌, ℕ, ◌+◌, ◌<◌, List, [], ◌∷◌, ◌++◌, Some, length, take, drop, get_or, sym, ap, ◌∙◌, subst}
 use Rattle.std.proofs.Common.{append_assoc, append-nil, add-one, All, IsPermutation, inl, inr, refl, arith}
-use Rattle.std.proofs.Common.{Result, Ok, IfOk}
+use Rattle.std.proofs.Common.{Vec, Global, Result, Ok, IfOk, suc, length-append}
 use Rattle.no_memory.specs.declared.NoMemory.{NoMemory}
 use Rattle.std.specs.Prelude.{slice_get}
 use Rattle.std.specs.List.{AllZip}
-use Rattle.std.proofs.Math.Seq.{take-suc}
+use Rattle.std.proofs.Math.Seq.{take-suc, get_or-append_seam}
 use Rattle.std.proofs.lemmas.Grind.{flat_map-append}
 use Rattle.std.proofs.lemmas.List.Elements.{All-append, All-nil, All-weaker}
 use Rattle.std.proofs.lemmas.List.Sorted.{IsPermutation-refl, IsPermutation-trans}
@@ -18,9 +18,11 @@ use Rattle.record_ledger.specs.declared.record.FlowRecord.{FlowRecord}
 use Rattle.record_ledger.specs.declared.place.Place.{Place}
 use Rattle.record_ledger.specs.Lawful.{parts_of}
 use Rattle.record_ledger.specs.Buckets.{Bucket, Piece, records_of, part_in, leading_number, IsPartPlaceOf, AreByKey}
-use Rattle.record_ledger.specs.Buckets.{CountsSlots, IsCountedAlone, AreDealt, AreDealtBy, AreFirst}
-use Rattle.record_ledger.specs.Buckets.{AreDealtIn, AreBefore, LiesAt, IsDealing, seat_order}
+use Rattle.record_ledger.specs.Buckets.{CountsSlots, IsCountedAlone, AreDealt, AreDealings, AreFirst}
+use Rattle.record_ledger.specs.Buckets.{AreDealtIn, AreBefore, LiesAt, LieIn, IsDealing, MovesDealt, places_of}
+use Rattle.record_ledger.specs.Buckets.{seat_order}
 use Rattle.record_ledger.specs.declared.dealing.Dealing.{Dealing}
+use Rattle.record_ledger.specs.declared.dealing.Dealings.{Dealings}
 use Rattle.record_ledger.specs.Steps.{Rises}
 use Rattle.record_ledger.proofs.Dealt.{behind, none_lie}
 use Rattle.record_ledger.proofs.Placed.{IsBelow, ahead_of, more_ahead, some_at}
@@ -149,48 +151,6 @@ zip_at R xs ys i y z l =
       subst (λ a. R a (get_or ys i y)) (sym x.2) (AllZip-at R xs ys i x.0 y z low),
     )
 
--- the dealing at a place of some
-pub dealing_at : (counts : List ℕ) (pieces : List Piece) (n : ℕ) (ds : List (Result Dealing NoMemory))
-    (r t : Result Dealing NoMemory) (d : Dealing) → r ≡ get_or ds n r → t ≡ r → t ≡ Ok d
-    → IfOk (get_or ds n r) (IsDealing counts pieces n) → IsDealing counts pieces n d
-dealing_at counts pieces n ds r t d is same got h =
-    subst (λ o. IfOk o (IsDealing counts pieces n)) (sym is ∙ sym same ∙ got) h
-
--- the fragments at places of a piece are moved
-abbrev pub MovesThese : List Fragment → List ℕ → List Bucket → List Bucket → Type 0
-MovesThese P places bs cs = (parts : List Fragment) → AllZip (LiesAt P) parts places
-    → IsPermutation (parts ++ parts_of (records_of bs)) (parts_of (records_of cs))
-
--- the dealing of one more piece is taken
-pub piece_added : (counts : List ℕ) (before : List Fragment) (pieces : List Piece) (n : ℕ) (P : List Fragment) (d : Dealing)
-    (ps qs : List Place) (bs cs : List Bucket) → AreDealtIn counts pieces n P (length P) d → qs ≡ ps ++ d.alone.items
-    → MovesThese P d.moved.items bs cs
-    → (AreByKey bs → AreByKey cs) → AreDealtBy counts before pieces ps bs → AreDealtBy counts (before ++ P) pieces qs cs
-piece_added counts before pieces n P d ps qs bs cs k e more by_key h =
-    let R = parts_of (records_of bs) in
-    let all : IsPermutation P (k.alone ++ k.others) =
-    subst (λ l. IsPermutation l (k.alone ++ k.others)) (take_all (length P) P (omega arith)) k.whole in
-    let turned : IsPermutation (before ++ P) (h.alone ++ ((k.alone ++ k.others) ++ R)) =
-    IsPermutation-trans (before ++ P) (h.alone ++ (R ++ (k.alone ++ k.others))) (h.alone ++ ((k.alone ++ k.others) ++ R))
-    (subst (IsPermutation (before ++ P)) (append_assoc h.alone R (k.alone ++ k.others))
-    (IsPermutation-append before (h.alone ++ R) P (k.alone ++ k.others) h.whole all))
-    (IsPermutation-append_right h.alone (R ++ (k.alone ++ k.others)) ((k.alone ++ k.others) ++ R)
-    (IsPermutation-append_comm R (k.alone ++ k.others))) in
-    record {
-      alone = h.alone ++ k.alone;
-      whole = IsPermutation-trans (before ++ P) ((h.alone ++ k.alone) ++ (k.others ++ R))
-          ((h.alone ++ k.alone) ++ parts_of (records_of cs))
-          (subst (IsPermutation (before ++ P))
-          (ap (λ l. h.alone ++ l) (append_assoc k.alone k.others R)
-          ∙ sym (append_assoc h.alone k.alone (k.others ++ R))) turned)
-          (IsPermutation-append_right (h.alone ++ k.alone) (k.others ++ R) (parts_of (records_of cs))
-          (more k.others k.moved));
-      places = subst (AllZip (IsPartPlaceOf pieces) (h.alone ++ k.alone)) (sym e)
-          (AllZip-append (IsPartPlaceOf pieces) h.alone ps k.alone d.alone.items h.places k.places);
-      counted = All-append (IsCountedAlone counts) h.alone k.alone h.counted k.counted;
-      by_key = by_key h.by_key;
-    }
-
 -- the fragments of one more piece
 pub piece_taken : (pieces : List Piece) (i : ℕ) (p : Piece) → i < length pieces → p ≡ get_or pieces i p
     → items_of (take i pieces) ++ p.items ≡ items_of (take (i + 1) pieces)
@@ -200,29 +160,149 @@ piece_taken pieces i p l is =
     ∙ ap items_of (ap (λ f. take i pieces ++ f ∷ []) is ∙ sym (take-suc pieces i p l)
     ∙ ap (λ n. take n pieces) (sym (add-one i)))
 
-pub none_dealt : (counts : List ℕ) (pieces : List Piece) (ps : List Place) (bs : List Bucket) → ps ≡ []
-    → records_of bs ≡ [] → AreDealtBy counts [] pieces ps bs
-none_dealt counts pieces ps bs e none = record {
+-- two lists in the middle change places
+inner_changed : {X : Type 0} (A B C D : List X) → IsPermutation ((A ++ B) ++ (C ++ D)) ((A ++ C) ++ (B ++ D))
+inner_changed A B C D =
+    subst (λ l. IsPermutation l ((A ++ C) ++ (B ++ D))) (sym (append_assoc A B (C ++ D)))
+    (subst (IsPermutation (A ++ (B ++ (C ++ D)))) (sym (append_assoc A C (B ++ D)))
+    (IsPermutation-append_right A (B ++ (C ++ D)) (C ++ (B ++ D))
+    (subst (λ l. IsPermutation l (C ++ (B ++ D))) (append_assoc B C D)
+    (subst (IsPermutation ((B ++ C) ++ D)) (append_assoc C B D)
+    (IsPermutation-append_left D (B ++ C) (C ++ B) (IsPermutation-append_comm B C))))))
+
+-- the lists of places up to one more
+places_added : (lists : List (Vec Place Global)) (list : Vec Place Global)
+    → places_of (lists ++ list ∷ []) ≡ places_of lists ++ list.items
+places_added lists list = flat_map-append (λ (l : Vec Place Global). l.items) lists (list ∷ [])
+    ∙ ap (λ z. places_of lists ++ z) (append-nil list.items)
+
+-- the fragments that lie in one more piece
+lie_added : (pieces : List Piece) (moved : List (Vec ℕ Global)) (others : List Fragment) (p : Piece) (m : Vec ℕ Global)
+    (parts : List Fragment) → AllZip (LiesAt p.items) parts m.items → LieIn pieces moved others
+    → LieIn (pieces ++ p ∷ []) (moved ++ m ∷ []) (others ++ parts)
+lie_added [] [] others p m parts z h = (parts, [], ap (λ l. l ++ parts) h ∙ sym (append-nil parts), z, refl)
+lie_added [] (n ∷ moved) others p m parts z h = absurd h
+lie_added (q ∷ pieces) [] others p m parts z h = absurd h
+lie_added (q ∷ pieces) (n ∷ moved) others p m parts z h = (
+  h.0,
+  h.1 ++ parts,
+  ap (λ l. l ++ parts) h.2 ∙ append_assoc h.0 h.1 parts,
+  h.3,
+  lie_added pieces moved h.1 p m parts z h.4,
+)
+
+-- no piece is dealt yet
+pub none_dealt : (counts : List ℕ) (pieces : List Piece) (ds : Dealings) → ds.alone.items ≡ [] → ds.moved.items ≡ []
+    → AreDealings counts pieces 0 ds
+none_dealt counts pieces ds e f = record {
   alone = [];
-  whole = subst (λ rs. IsPermutation [] (parts_of rs)) (sym none) (IsPermutation-refl []);
-  places = subst (AllZip (IsPartPlaceOf pieces) []) (sym e) tt;
+  others = [];
+  whole = IsPermutation-refl [];
+  places = subst (λ l. AllZip (IsPartPlaceOf pieces) [] (places_of l)) (sym e) tt;
+  first = subst (λ l. AreFirst 0 (places_of l)) (sym e)
+      (record { below = All-nil (λ place. place.bucket < 0); rising = tt });
   counted = All-nil (IsCountedAlone counts);
-  by_key = none_lie (length bs) 0 bs (ap length none);
+  moved = subst (λ l. LieIn [] l []) (sym f) refl;
 }
 
-pub all_dealt : (counts : List ℕ) (parts : List Fragment) (pieces : List Piece) (ps : List Place) (bs : List Bucket)
-    → CountsSlots parts counts → AreFirst (length pieces) ps → AreDealtBy counts parts pieces ps bs
-    → AreDealt parts pieces ps bs
-all_dealt counts parts pieces ps bs counted first h =
-    let unlike = counted_unlike counts parts h.alone (parts_of (records_of bs)) counted h.whole h.counted in
+-- the next one of the dealings is that of the next piece
+pub dealing_next : (counts : List ℕ) (pieces : List Piece) (ds ys rest : List (Result Dealing NoMemory))
+    (r : Result Dealing NoMemory) (d : Dealing) → ds ≡ ys ++ r ∷ rest → r ≡ Ok d → length ds ≡ length pieces
+    → ((n : ℕ) (t : Result Dealing NoMemory) → n < length pieces → IfOk (get_or ds n t) (IsDealing counts pieces n))
+    → (length ys < length pieces) × IsDealing counts pieces (length ys) d
+dealing_next counts pieces ds ys rest r d e is long each =
+    let low : length ys < length pieces =
+    (let all = ap length e in omega (arith, all, long, length-append ys (r ∷ rest))) in
+    let here : get_or ds (length ys) r ≡ Ok d =
+    ap (λ l. get_or l (length ys) r) e ∙ get_or-append_seam ys r rest r ∙ is in
+    (low, subst (λ o. IfOk o (IsDealing counts pieces (length ys))) here (each (length ys) r low))
+
+-- each piece has its list
+pub lie_many : (pieces : List Piece) (moved : List (Vec ℕ Global)) (parts : List Fragment) → LieIn pieces moved parts
+    → length moved ≡ length pieces
+lie_many [] [] parts h = refl
+lie_many [] (m ∷ moved) parts h = absurd h
+lie_many (p ∷ pieces) [] parts h = absurd h
+lie_many (p ∷ pieces) (m ∷ moved) parts h = ap suc (lie_many pieces moved h.1 h.4)
+
+-- one more piece is dealt
+pub piece_added : (counts : List ℕ) (pieces : List Piece) (n : ℕ) (p : Piece) (d : Dealing) (ds es : Dealings)
+    → n < length pieces → p ≡ get_or pieces n p → AreDealtIn counts pieces n p.items (length p.items) d
+    → es.alone.items ≡ ds.alone.items ++ d.alone ∷ [] → es.moved.items ≡ ds.moved.items ++ d.moved ∷ []
+    → AreDealings counts pieces n ds → AreDealings counts pieces (n + 1) es
+piece_added counts pieces n p d ds es low is k e f h =
+    let all : IsPermutation p.items (k.alone ++ k.others) =
+    subst (λ l. IsPermutation l (k.alone ++ k.others)) (take_all (length p.items) p.items (omega arith)) k.whole in
+    let more : places_of es.alone.items ≡ places_of ds.alone.items ++ d.alone.items =
+    ap places_of e ∙ places_added ds.alone.items d.alone in
+    let taken : take (n + 1) pieces ≡ take n pieces ++ p ∷ [] =
+    take_more pieces n p low ∙ ap (λ q. take n pieces ++ q ∷ []) (sym is) in
+    record {
+      alone = h.alone ++ k.alone;
+      others = h.others ++ k.others;
+      whole = subst (λ l. IsPermutation l ((h.alone ++ k.alone) ++ (h.others ++ k.others)))
+          (piece_taken pieces n p low is)
+          (IsPermutation-trans (items_of (take n pieces) ++ p.items)
+          ((h.alone ++ h.others) ++ (k.alone ++ k.others)) ((h.alone ++ k.alone) ++ (h.others ++ k.others))
+          (IsPermutation-append (items_of (take n pieces)) (h.alone ++ h.others) p.items (k.alone ++ k.others)
+          h.whole all)
+          (inner_changed h.alone h.others k.alone k.others));
+      places = subst (AllZip (IsPartPlaceOf pieces) (h.alone ++ k.alone)) (sym more)
+          (AllZip-append (IsPartPlaceOf pieces) h.alone (places_of ds.alone.items) k.alone d.alone.items
+          h.places k.places);
+      first = first_added n (length p.items) (places_of ds.alone.items) d.alone.items (places_of es.alone.items) more
+          k.first h.first;
+      counted = All-append (IsCountedAlone counts) h.alone k.alone h.counted k.counted;
+      moved = subst (λ l. LieIn l es.moved.items (h.others ++ k.others)) (sym taken)
+          (subst (λ l. LieIn (take n pieces ++ p ∷ []) l (h.others ++ k.others)) (sym f)
+          (lie_added (take n pieces) ds.moved.items h.others p d.moved k.others k.moved h.moved));
+    }
+
+-- all pieces are dealt, and the others moved to empty buckets
+pub all_dealt : (counts : List ℕ) (pieces : List Piece) (ds : Dealings) (ps : List Place) (none bs : List Bucket)
+    → CountsSlots (items_of pieces) counts → AreDealings counts pieces (length pieces) ds
+    → ps ≡ places_of ds.alone.items → records_of none ≡ [] → MovesDealt pieces ds.moved.items none bs
+    → (AreByKey none → AreByKey bs) → AreDealt (items_of pieces) pieces ps bs
+all_dealt counts pieces ds ps none bs counted h e empty moves by_key =
+    let all : take (length pieces) pieces ≡ pieces = take_all (length pieces) pieces (omega arith) in
+    let there : IsPermutation (h.others ++ parts_of (records_of none)) (parts_of (records_of bs)) =
+    moves h.others (subst (λ l. LieIn l ds.moved.items h.others) all h.moved) in
+    let moved : IsPermutation h.others (parts_of (records_of bs)) =
+    subst (λ l. IsPermutation l (parts_of (records_of bs)))
+    (ap (λ rs. h.others ++ parts_of rs) empty ∙ append-nil h.others) there in
+    let whole : IsPermutation (items_of pieces) (h.alone ++ parts_of (records_of bs)) =
+    IsPermutation-trans (items_of pieces) (h.alone ++ h.others) (h.alone ++ parts_of (records_of bs))
+    (subst (λ l. IsPermutation (items_of l) (h.alone ++ h.others)) all h.whole)
+    (IsPermutation-append_right h.alone h.others (parts_of (records_of bs)) moved) in
+    let unlike = counted_unlike counts (items_of pieces) h.alone (parts_of (records_of bs)) counted whole h.counted in
     record {
       alone = h.alone;
-      whole = h.whole;
-      places = h.places;
-      first = first;
+      whole = whole;
+      places = subst (AllZip (IsPartPlaceOf pieces) h.alone) (sym e) h.places;
+      first = subst (AreFirst (length pieces)) (sym e) h.first;
       unlike = unlike.0;
       unlike_others = All-weaker (λ (f : Fragment). All (λ (g : Fragment). f.key ≢ g.key) (parts_of (records_of bs)))
           (λ (f : Fragment). All (λ (r : FlowRecord). f.key ≢ r.part.key) (records_of bs))
           (λ f u. All-unmap part_of (λ (g : Fragment). f.key ≢ g.key) (records_of bs) u) h.alone unlike.1;
-      by_key = h.by_key;
+      by_key = by_key (none_lie (length none) 0 none (ap length empty));
     }
+
+-- the fragments of the next piece are moved
+pub piece_moved : (pieces : List Piece) (moved : List (Vec ℕ Global)) (n : ℕ) (p : Piece) (m : Vec ℕ Global)
+    (A rest X Y : List Fragment) → drop n pieces ≡ p ∷ drop (n + 1) pieces → drop n moved ≡ m ∷ drop (n + 1) moved
+    → LieIn (drop n pieces) (drop n moved) rest → IsPermutation A (rest ++ X)
+    → ((parts : List Fragment) → AllZip (LiesAt p.items) parts m.items → IsPermutation (parts ++ X) Y)
+    → (left : List Fragment) × LieIn (drop (n + 1) pieces) (drop (n + 1) moved) left × IsPermutation A (left ++ Y)
+piece_moved pieces moved n p m A rest X Y e f h k more =
+    let next : LieIn (p ∷ drop (n + 1) pieces) (m ∷ drop (n + 1) moved) rest =
+    subst (λ l. LieIn (p ∷ drop (n + 1) pieces) l rest) f (subst (λ l. LieIn l (drop n moved) rest) e h) in (
+      next.1,
+      next.4,
+      IsPermutation-trans A (next.1 ++ (next.0 ++ X)) (next.1 ++ Y)
+          (IsPermutation-trans A ((next.0 ++ next.1) ++ X) (next.1 ++ (next.0 ++ X))
+          (subst (λ l. IsPermutation A (l ++ X)) next.2 k)
+          (subst (IsPermutation ((next.0 ++ next.1) ++ X)) (append_assoc next.1 next.0 X)
+          (IsPermutation-append_left X (next.0 ++ next.1) (next.1 ++ next.0)
+          (IsPermutation-append_comm next.0 next.1))))
+          (IsPermutation-append_right next.1 (next.0 ++ X) Y (more next.0 next.3)),
+    )

@@ -14,10 +14,13 @@ use Rattle.flow_key.specs.Key.{set_number, key_order}
 use Rattle.flow_key.specs.declared.key.FlowKey.{FlowKey}
 use Rattle.flow_parts.specs.declared.fragment.Fragment.{Fragment}
 use Rattle.flow_parts.specs.declared.timeouts.Timeouts.{Timeouts}
+use Rattle.flow_parts.specs.Pieces.{items_of}
 use Rattle.flow_parts.specs.Reaching.{Reaches}
 use Rattle.record_ledger.specs.declared.record.FlowRecord.{FlowRecord}
 use Rattle.record_ledger.specs.declared.place.Place.{Place}
 use Rattle.record_ledger.specs.declared.dealing.Dealing.{Dealing}
+use Rattle.record_ledger.specs.declared.dealing.Dealings.{Dealings}
+use Rattle.record_ledger.specs.declared.dealing.Room.{Room}
 use Rattle.record_ledger.specs.declared.store.Store.{Store}
 use Rattle.record_ledger.specs.Gathered.{AreJoined}
 use Rattle.record_ledger.specs.Lawful.{parts_of, reason_of}
@@ -181,16 +184,6 @@ abbrev pub IsCountedAlone : List ℕ → Fragment → Type 0
 IsCountedAlone counts f = (slot_number f.key (length counts) < length counts)
     × (slice_index counts (slot_number f.key (length counts)) ≡ 1)
 
--- Fragments that are dealt by counts of slots, so far: those at the places stay in the pieces, where each is alone in its
--- slot, and the others lie in the buckets of their keys.
-pub record AreDealtBy (counts : List ℕ) (parts : List Fragment) (pieces : List Piece) (order : List Place)
-    (buckets : List Bucket) : Type 0 where
-  pub alone : List Fragment
-  pub whole : IsPermutation parts (alone ++ parts_of (records_of buckets))
-  pub places : AllZip (IsPartPlaceOf pieces) alone order
-  pub counted : All (IsCountedAlone counts) alone
-  pub by_key : AreByKey buckets
-
 -- The fragment lies at this place of a piece.
 abbrev pub LiesAt : List Fragment → Fragment → ℕ → Type 0
 LiesAt piece f at = slice_get piece at ≡ Some f
@@ -211,3 +204,35 @@ pub record AreDealtIn (counts : List ℕ) (pieces : List Piece) (number : ℕ) (
 abbrev pub IsDealing : List ℕ → List Piece → ℕ → Dealing → Type 0
 IsDealing counts pieces number dealing = (p : Piece) → slice_get pieces number ≡ Some p
     → AreDealtIn counts pieces number p.items (length p.items) dealing
+
+-- The places of some lists, one list after the other.
+abbrev pub places_of : List (Vec Place Global) → List Place
+places_of lists = flat_map (λ (list : Vec Place Global). list.items) lists
+
+-- The fragments lie at the places that are listed for each piece, those of one piece after those of the other.
+abbrev pub LieIn : List Piece → List (Vec ℕ Global) → List Fragment → Type 0
+LieIn [] [] parts = parts ≡ []
+LieIn [] (m ∷ moved) parts = ⊥
+LieIn (p ∷ pieces) [] parts = ⊥
+LieIn (p ∷ pieces) (m ∷ moved) parts = (here : List Fragment) × (rest : List Fragment) × (parts ≡ here ++ rest)
+    × AllZip (LiesAt p.items) here m.items × LieIn pieces moved rest
+
+-- The fragments that lie so have become records of the buckets, beside those that were there before.
+abbrev pub MovesDealt : List Piece → List (Vec ℕ Global) → List Bucket → List Bucket → Type 0
+MovesDealt pieces moved before after = (parts : List Fragment) → LieIn pieces moved parts
+    → IsPermutation (parts ++ parts_of (records_of before)) (parts_of (records_of after))
+
+-- The fragments of the first pieces, as many as the number, as counts of slots deal them: those that stay, each alone
+-- in its slot, have their places, and the others lie where they are to be moved from.
+pub record AreDealings (counts : List ℕ) (pieces : List Piece) (number : ℕ) (dealings : Dealings) : Type 0 where
+  pub alone : List Fragment
+  pub others : List Fragment
+  pub whole : IsPermutation (items_of (take number pieces)) (alone ++ others)
+  pub places : AllZip (IsPartPlaceOf pieces) alone (places_of dealings.alone.items)
+  pub first : AreFirst number (places_of dealings.alone.items)
+  pub counted : All (IsCountedAlone counts) alone
+  pub moved : LieIn (take number pieces) dealings.moved.items others
+
+-- Nothing is there yet.
+abbrev pub IsEmptyRoom : Room → Type 0
+IsEmptyRoom room = (room.places.items ≡ []) × (records_of room.buckets.items ≡ [])

@@ -1,5 +1,6 @@
 //! Dealing: fragments whose keys no other fragment has stay where they lie; the others go as records into buckets, by
-//! their keys. Threads find out which stay, and one moves the others.
+//! their keys. Threads find out which stay; then one moves the others, while another adds up the places of those that
+//! stay.
 
 ghost use Rattle.std.specs.Prelude.{◌≡◌, ℕ, List, [], ◌≤◌, ◌<◌, ◌+◌, ◌∷◌, ◌++◌, Some, IfOk, OnOk, length, slice_get};
 ghost use Rattle.std.specs.Prelude.{IsPermutation, Result, slice_index_or};
@@ -9,12 +10,13 @@ ghost use Rattle.flow_parts.specs.declared.fragment.Fragment.{Fragment};
 ghost use Rattle.flow_parts.specs.Pieces.{items_of};
 ghost use Rattle.record_ledger.specs.Lawful.{parts_of};
 ghost use Rattle.record_ledger.specs.Buckets.{records_of, AreByKey, AreDealt, AreDealtIn, AreBefore, IsDealing};
-ghost use Rattle.record_ledger.specs.Buckets.{CountsSlots, LiesAt, IsPartPlaceOf, Piece, part_of_piece};
+ghost use Rattle.record_ledger.specs.Buckets.{AreDealings, MovesDealt, LieIn, places_of, IsEmptyRoom};
+ghost use Rattle.record_ledger.specs.Buckets.{CountsSlots, IsPartPlaceOf, Piece, part_of_piece};
 ghost use Rattle.record_ledger.specs.Buckets.{IsCountedAlone};
 ghost use Rattle.std.specs.Prelude.{◌-◌, true, false};
 
 use crate::leading::leading_number;
-use crate::moving::{buckets_for, move_all, move_these};
+use crate::moving::{buckets_for, move_all, move_dealt, touched_buckets};
 use crate::place::Place;
 use crate::record::FlowRecord;
 use crate::slots::Slots;
@@ -22,7 +24,6 @@ use flow_parts::{Fragment, PartList};
 use no_memory::NoMemory;
 use side_by_side::for_each_mut;
 use std::alloc::Global;
-use std::mem;
 use std::thread::{Threads, join};
 
 /// Which part of all fragments is thought to be moved to buckets, where most stay.
@@ -51,13 +52,32 @@ pub struct Dealing {
     pub moved: Vec<usize>,
 }
 
+/// How the fragments of all pieces are dealt, in the order of these.
+#[derive(Drop)]
+pub struct Dealings {
+    /// The places of those that stay there.
+    pub alone: Vec<Vec<Place>>,
+    /// The places in each piece, from 0, of those that are moved.
+    pub moved: Vec<Vec<usize>>,
+}
+
+/// Where dealings go.
+#[derive(Drop)]
+pub struct Room {
+    /// The places of the fragments that stay.
+    pub places: Vec<Place>,
+    /// The others, as records with no reason yet.
+    pub buckets: Vec<Vec<FlowRecord>>,
+}
+
 /// Deals fragments: those of which no other has the key stay where they lie, and the others become records with no
 /// reason yet, each in the bucket of its key.
 ///
 /// Fragments are told apart by slots, to which their keys are spread: where a slot has one fragment alone, no other has
 /// its key. Of fragments with keys of their own about one in eight shares a slot, and is dealt to a bucket all the same.
 /// Where less than half would stay, all are moved to buckets, and the room of the pieces is let go meanwhile. At most
-/// `threads` threads find out which stay.
+/// `threads` threads find out which stay. Where there may be several, two others make room while slots are counted, and
+/// later one adds up the places of those that stay, while the calling one moves the others.
 pub fn deal<R: Threads + Sync>(
     rt: &R,
     alloc: Global,
@@ -86,66 +106,186 @@ fn most_stay(counts: &Slots, fragments: usize) -> bool {
     counts.with_one() >= fragments / 2
 }
 
-/// Deals the fragments of all pieces, where most stay. Their places come into `room`, where there is some.
+/// Deals the fragments of all pieces, where most stay. What is dealt comes into `room`, as far as there is some.
 fn deal_pieces<R: Threads + Sync>(
     rt: &R,
     alloc: Global,
     pieces: Vec<Vec<Fragment>>,
     counts: &Slots,
-    room: Vec<Place>,
+    room: Room,
     threads: usize,
 ) -> Result<Dealt, NoMemory>
     requires threads { 0 < threads }
     requires counts { CountsSlots (items_of pieces.items) counts.now }
-    requires room { room.items ≡ [] }
+    requires room { IsEmptyRoom room }
     ensures { IfOk result (λ dealt. AreDealt (items_of pieces.items) dealt.pieces.items dealt.alone.items
         dealt.buckets.items) }
 {
     let fragments = count_of(&pieces);
-    let more = fragments.saturating_sub(room.capacity());
-    let mut dealings = deal_each(rt, alloc, &pieces, counts, more, threads)?;
-    let mut buckets = buckets_for(alloc, fragments / MOVED_PART)?;
-    let mut alone = room;
-    for number in 0..pieces.len() {
-        let dealing = mem::replace(&mut dealings[number], Ok(no_dealing(alloc)))?;
-        take_dealing(&pieces[number], dealing, &mut alone, &mut buckets)?;
-    }
+    let more = fragments.saturating_sub(room.places.capacity());
+    let dealings = parted(alloc, deal_each(rt, alloc, &pieces, counts, more, threads)?)?;
+    let room = with_buckets(alloc, room, fragments)?;
+    let Room { places, buckets } = take_dealings(rt, &pieces, dealings, room, threads)?;
     Ok(Dealt {
         pieces,
-        alone,
+        alone: places,
         buckets,
     })
 }
 
-/// How many fragments each slot has, and, where there are several threads, room for the places of so many, which a second
-/// thread makes meanwhile.
+/// The lists of all dealings, or that there was no memory for one of them.
+fn parted(alloc: Global, dealings: Vec<Result<Dealing, NoMemory>>) -> Result<Dealings, NoMemory>
+    ensures { IfOk result (λ parted. (counts : List ℕ) (pieces : List Piece)
+        → length dealings.items ≡ length pieces
+        → ((number : ℕ) (d : Result Dealing NoMemory) → number < length pieces
+        → IfOk (slice_index_or dealings.items number d) (IsDealing counts pieces number))
+        → AreDealings counts pieces (length pieces) parted) }
+{
+    let mut alone = Vec::with_capacity(alloc, dealings.len())?;
+    let mut moved = Vec::with_capacity(alloc, dealings.len())?;
+    for dealing in dealings {
+        let dealing = dealing?;
+        alone.push(dealing.alone)?;
+        moved.push(dealing.moved)?;
+    }
+    Ok(Dealings { alone, moved })
+}
+
+/// The room, with buckets for the fragments that are moved, of so many in all.
+fn with_buckets(alloc: Global, room: Room, fragments: usize) -> Result<Room, NoMemory>
+    requires { IsEmptyRoom room }
+    ensures empty { IfOk result IsEmptyRoom }
+    ensures some { IfOk result (λ filled. 1 ≤ length filled.buckets.items) }
+{
+    let Room { places, buckets } = room;
+    let buckets = if buckets.is_empty() {
+        buckets_for(alloc, fragments / MOVED_PART)?
+    } else {
+        buckets
+    };
+    Ok(Room { places, buckets })
+}
+
+/// Takes the dealings of all pieces into `room`. Where there are several threads, a second one adds up the places while
+/// the calling one moves fragments.
+fn take_dealings<R: Threads + Sync>(
+    rt: &R,
+    pieces: &[Vec<Fragment>],
+    dealings: Dealings,
+    room: Room,
+    threads: usize,
+) -> Result<Room, NoMemory>
+    requires buckets { 1 ≤ length room.buckets.items }
+    requires moved { (parts : List Fragment) × LieIn pieces.now dealings.moved.items parts }
+    ensures places { IfOk result (λ taken. taken.places.items ≡ room.places.items ++ places_of dealings.alone.items) }
+    ensures whole { IfOk result (λ taken. MovesDealt pieces.now dealings.moved.items room.buckets.items
+        taken.buckets.items) }
+    ensures by_key { IfOk result (λ taken. AreByKey room.buckets.items → AreByKey taken.buckets.items) }
+{
+    let Dealings { alone, moved } = dealings;
+    let Room { places, buckets } = room;
+    if threads < 2 {
+        let places = append_places(alone, places)?;
+        let buckets = move_dealt(pieces, moved, buckets)?;
+        return Ok(Room { places, buckets });
+    }
+    let front = move || -> Result<Vec<Place>, NoMemory>
+        ensures { IfOk result (λ added. added.items ≡ places.items ++ places_of alone.items) }
+    { append_places(alone, places) };
+    let back = move || -> Result<Vec<Vec<FlowRecord>>, NoMemory>
+        requires buckets { 1 ≤ length buckets.items }
+        requires moved { (parts : List Fragment) × LieIn pieces.now moved.items parts }
+        ensures whole { IfOk result (λ filled. MovesDealt pieces.entry.now moved.items buckets.items filled.items) }
+        ensures by_key { IfOk result (λ filled. AreByKey buckets.items → AreByKey filled.items) }
+    { move_dealt(pieces, moved, buckets) };
+    let (places, buckets) = join(rt, front, back);
+    Ok(Room {
+        places: places?,
+        buckets: buckets?,
+    })
+}
+
+/// Adds up the places of the fragments that stay, piece by piece. Where there is no room yet, the first list is taken
+/// as it is.
+fn append_places(alone: Vec<Vec<Place>>, room: Vec<Place>) -> Result<Vec<Place>, NoMemory>
+    ensures { IfOk result (λ added. added.items ≡ room.items ++ places_of alone.items) }
+{
+    let mut added = room;
+    for places in alone {
+        if added.is_empty() && added.capacity() == 0 {
+            added = places;
+        } else {
+            added.extend_from_slice(&places)?;
+        }
+    }
+    Ok(added)
+}
+
+/// How many fragments each slot has, and, where there are several threads, room for what is dealt of so many, which a
+/// second and a third thread make meanwhile.
 fn count_beside<R: Threads + Sync>(
     rt: &R,
     alloc: Global,
     pieces: &[Vec<Fragment>],
     fragments: usize,
     threads: usize,
-) -> Result<(Slots, Vec<Place>), NoMemory>
+) -> Result<(Slots, Room), NoMemory>
     ensures counts { IfOk result (λ made. CountsSlots (items_of pieces.now) made.0) }
-    ensures room { IfOk result (λ made. made.1.items ≡ []) }
+    ensures room { IfOk result (λ made. IsEmptyRoom made.1) }
 {
     if threads < 2 {
         let counts = count_slots(alloc, pieces, fragments)?;
-        return Ok((counts, Vec::new(alloc)));
+        return Ok((counts, no_room(alloc)));
     }
     let front = move || -> Result<Vec<Place>, NoMemory>
         ensures { IfOk result (λ room. room.items ≡ []) }
-    { touched_room(alloc, fragments) };
+    { touched_places(alloc, fragments) };
+    let back = move || -> Result<(Slots, Vec<Vec<FlowRecord>>), NoMemory>
+        ensures counts { IfOk result (λ made. CountsSlots (items_of pieces.entry.now) made.0) }
+        ensures buckets { IfOk result (λ made. records_of made.1.items ≡ []) }
+    { count_beside_buckets(rt, alloc, pieces, fragments) };
+    let (places, counted) = join(rt, front, back);
+    let (counts, buckets) = counted?;
+    let room = Room {
+        places: places?,
+        buckets,
+    };
+    Ok((counts, room))
+}
+
+/// How many fragments each slot has, and buckets for what is moved of so many, which a second thread makes meanwhile.
+fn count_beside_buckets<R: Threads + Sync>(
+    rt: &R,
+    alloc: Global,
+    pieces: &[Vec<Fragment>],
+    fragments: usize,
+) -> Result<(Slots, Vec<Vec<FlowRecord>>), NoMemory>
+    ensures counts { IfOk result (λ made. CountsSlots (items_of pieces.now) made.0) }
+    ensures buckets { IfOk result (λ made. records_of made.1.items ≡ []) }
+{
+    let front = move || -> Result<Vec<Vec<FlowRecord>>, NoMemory>
+        ensures { IfOk result (λ buckets. records_of buckets.items ≡ []) }
+    { touched_buckets(alloc, fragments / MOVED_PART) };
     let back = move || -> Result<Slots, NoMemory>
         ensures { IfOk result (λ counts. CountsSlots (items_of pieces.entry.now) counts) }
     { count_slots(alloc, pieces, fragments) };
-    let (room, counts) = join(rt, front, back);
-    Ok((counts?, room?))
+    let (buckets, counts) = join(rt, front, back);
+    Ok((counts?, buckets?))
+}
+
+/// No room yet.
+fn no_room(alloc: Global) -> Room
+    ensures { IsEmptyRoom result }
+{
+    Room {
+        places: Vec::new(alloc),
+        buckets: Vec::new(alloc),
+    }
 }
 
 /// Room for so many places, all of which was written to: the system gives memory when it is first touched, which takes
 /// longer than writing.
-fn touched_room(alloc: Global, count: usize) -> Result<Vec<Place>, NoMemory>
+fn touched_places(alloc: Global, count: usize) -> Result<Vec<Place>, NoMemory>
     ensures { IfOk result (λ room. room.items ≡ []) }
 {
     let mut room = Vec::with_capacity(alloc, count)?;
@@ -356,28 +496,4 @@ fn leave_part(
         at,
     })?;
     Ok(())
-}
-
-/// Takes a dealing of a piece: adds the places of the fragments that stay, and moves the others to buckets.
-fn take_dealing(
-    piece: &[Fragment],
-    dealing: Dealing,
-    alone: &mut Vec<Place>,
-    buckets: &mut [Vec<FlowRecord>],
-) -> Result<(), NoMemory>
-    requires buckets { 1 ≤ length buckets.old }
-    requires moved { (parts : List Fragment) × AllZip (LiesAt piece.now) parts dealing.moved.items }
-    ensures many { length buckets.new ≡ length buckets.old }
-    ensures alone { OnOk result (alone.new.items ≡ alone.old.items ++ dealing.alone.items) }
-    ensures whole { OnOk result ((parts : List Fragment) → AllZip (LiesAt piece.now) parts dealing.moved.items
-        → IsPermutation (parts ++ parts_of (records_of buckets.old)) (parts_of (records_of buckets.new))) }
-    ensures by_key { OnOk result (AreByKey buckets.old → AreByKey buckets.new) }
-{
-    let Dealing { alone: more, moved } = dealing;
-    if alone.is_empty() && alone.capacity() == 0 {
-        *alone = more;
-    } else {
-        alone.extend_from_slice(&more)?;
-    }
-    move_these(piece, &moved, buckets)
 }

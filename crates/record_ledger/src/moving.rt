@@ -5,9 +5,10 @@ ghost use Rattle.std.specs.List.{AllZip};
 ghost use Rattle.flow_parts.specs.declared.fragment.Fragment.{Fragment};
 ghost use Rattle.flow_parts.specs.Pieces.{items_of};
 ghost use Rattle.record_ledger.specs.Lawful.{parts_of};
-ghost use Rattle.record_ledger.specs.Buckets.{records_of, AreByKey, LiesAt};
+ghost use Rattle.record_ledger.specs.Buckets.{records_of, AreByKey, LiesAt, LieIn, MovesDealt};
 
 use crate::record::FlowRecord;
+use flow_key::FlowKey;
 use flow_parts::Fragment;
 use no_memory::NoMemory;
 use std::alloc::Global;
@@ -33,11 +34,64 @@ pub fn buckets_for(alloc: Global, fragments: usize) -> Result<Vec<Vec<FlowRecord
     ensures none { IfOk result (λ buckets. records_of buckets.items ≡ []) }
 {
     let count = bucket_count(fragments);
+    empty_buckets(alloc, count, bucket_room(fragments, count))
+}
+
+/// Such buckets, all room of which was written to, so that the system has given memory for it.
+pub fn touched_buckets(alloc: Global, fragments: usize) -> Result<Vec<Vec<FlowRecord>>, NoMemory>
+    ensures some { IfOk result (λ buckets. 1 ≤ length buckets.items) }
+    ensures none { IfOk result (λ buckets. records_of buckets.items ≡ []) }
+{
+    let count = bucket_count(fragments);
+    let room = bucket_room(fragments, count);
+    let mut buckets = Vec::with_capacity(alloc, count)?;
+    for _made in 0..count {
+        buckets.push(touched_bucket(alloc, room)?)?;
+    }
+    Ok(buckets)
+}
+
+/// An empty bucket, whose room for so many records was written to.
+fn touched_bucket(alloc: Global, room: usize) -> Result<Vec<FlowRecord>, NoMemory>
+    ensures { IfOk result (λ bucket. bucket.items ≡ []) }
+{
+    let mut bucket = Vec::with_capacity(alloc, room)?;
+    for _touched in 0..room {
+        bucket.push(no_record())?;
+    }
+    bucket.clear();
+    Ok(bucket)
+}
+
+/// A record of which nothing is known.
+fn no_record() -> FlowRecord {
+    let key = FlowKey {
+        source: 0,
+        destination: 0,
+        version: 4,
+        protocol: 0,
+        source_port: 0,
+        destination_port: 0,
+    };
+    let part = Fragment {
+        key,
+        packets: 1,
+        octets: 0,
+        first: 0,
+        last: 0,
+        flags: 0,
+    };
+    FlowRecord { part, reason: 0 }
+}
+
+/// For how many records each of so many buckets has room, where fragments are shared out among them.
+fn bucket_room(fragments: usize, count: usize) -> usize
+    requires { 1 ≤ count }
+{
     let share = fragments / count;
-    let room = share
+    share
         .saturating_add(share / SPARE_PART)
-        .saturating_add(SPARE);
-    empty_buckets(alloc, count, room)
+        .saturating_add(SPARE)
 }
 
 /// How many buckets are made for so many fragments: a power of two, about one for each 2,048 of them, at most 2,048.
@@ -112,8 +166,26 @@ fn move_parts(parts: &[Fragment], buckets: &mut [Vec<FlowRecord>]) -> Result<(),
     Ok(())
 }
 
+/// Moves the fragments that lie at the places that are listed for each piece.
+pub fn move_dealt(
+    pieces: &[Vec<Fragment>],
+    moved: Vec<Vec<usize>>,
+    buckets: Vec<Vec<FlowRecord>>,
+) -> Result<Vec<Vec<FlowRecord>>, NoMemory>
+    requires buckets { 1 ≤ length buckets.items }
+    requires moved { (parts : List Fragment) × LieIn pieces.now moved.items parts }
+    ensures whole { IfOk result (λ filled. MovesDealt pieces.now moved.items buckets.items filled.items) }
+    ensures by_key { IfOk result (λ filled. AreByKey buckets.items → AreByKey filled.items) }
+{
+    let mut buckets = buckets;
+    for number in 0..pieces.len() {
+        move_these(&pieces[number], &moved[number], &mut buckets)?;
+    }
+    Ok(buckets)
+}
+
 /// Moves the fragments at some places of a piece.
-pub fn move_these(
+fn move_these(
     piece: &[Fragment],
     places: &[usize],
     buckets: &mut [Vec<FlowRecord>],
