@@ -6,6 +6,8 @@ pub mod Filling
 pub mod Templates
 pub mod UnderWay
 pub mod Runs
+pub mod Copied
+pub mod TakenIn
 pub mod OneLayout
 pub mod Rests
 pub mod Through

@@ -1,12 +1,14 @@
 -- What contracts see of an emitter between its calls; and, the code's own, what it keeps of its fields.
 use Rattle.std.specs.Prelude.{◌≡◌, ℕ, ◌<◌, ◌≤◌, ◌/◌, ◌+◌, ◌-◌, ◌%◌, ◌^◌, ◌==◌, if◌then◌else◌, min, List, [], ◌∷◌, ◌++◌}
-use Rattle.std.specs.Prelude.{length, take, Option, Some, None}
+use Rattle.std.specs.Prelude.{length, take, Option, Some, None, Result, OnOk, OnErr}
+use Rattle.meter_io.specs.Causes.{HasCause}
+use Rattle.meter_io.specs.Sides.{Side, HasTaken}
 use Rattle.record_ledger.specs.declared.record.FlowRecord.{FlowRecord}
 use Rattle.ipfix_writer.specs.declared.emitter.Phase.{Phase}
-use Rattle.ipfix_writer.specs.declared.emitter.Phase.TheVariants.{Fresh, Started}
+use Rattle.ipfix_writer.specs.declared.emitter.Phase.TheVariants.{Fresh, Started, Broken}
 use Rattle.ipfix_writer.specs.Encoding.{template_message}
 use Rattle.ipfix_writer.specs.Layout.{RecordSet, encode_flow, AreFilled, data_messages, together, message_length}
-use Rattle.ipfix_writer.specs.Layout.{length_in}
+use Rattle.ipfix_writer.specs.Layout.{length_in, BeginsLayout}
 use Rattle.ipfix_model.specs.Sizes.{v4_record_length, template_message_length}
 
 -- What contracts see of an emitter: the message size, the export time, how far it came, the records that wait for
@@ -49,6 +51,21 @@ pub record IsUnderWay (emitter : EmitterState) (flows : List FlowRecord) (writte
       ++ data_messages emitter.export_time 0 parts
   pub sequence : emitter.sequence ≡ length (together parts) % 2 ^ 32
   pub messages : emitter.messages ≡ min (1 + length parts) (2 ^ 64 - 1)
+
+-- A call that takes in these records: the emitter was given them, or a write failed and the sink took a beginning of
+-- the stream.
+pub record HasTakenIn {T E : Type 0} (before after : EmitterState) (sink : Side) (flows : List FlowRecord)
+    (result : Result T E) : Type 0 where
+  pub taken : OnOk result ((earlier : List FlowRecord) (written : List ℕ) → IsUnderWay before earlier written
+      → (bytes : List ℕ) × HasTaken sink bytes × IsUnderWay after (earlier ++ flows) (written ++ bytes))
+  pub broken : OnErr result ((earlier : List FlowRecord) (written : List ℕ) → IsUnderWay before earlier written
+      → (bytes : List ℕ) × HasTaken sink bytes × ((rest : List FlowRecord) → BeginsLayout before.size before.export_time
+      (earlier ++ (flows ++ rest)) (written ++ bytes)))
+  pub size : after.size ≡ before.size
+  pub export_time : after.export_time ≡ before.export_time
+  pub started : OnOk result (after.phase ≡ Started)
+  pub phase : OnErr result (after.phase ≡ Broken)
+  pub cause : HasCause sink.faults_before sink.faults_after result
 
 -- The code's own: what an emitter keeps of its fields: the room for a message and its records, the length of the
 -- message that waits, and the template of its last record.

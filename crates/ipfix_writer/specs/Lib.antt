@@ -4,3 +4,4 @@ pub mod Laws
 pub mod DataParts
 pub mod DataSizes
 pub mod Emitting
+pub mod Copies

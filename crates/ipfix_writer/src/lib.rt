@@ -10,14 +10,17 @@
 #![tactic(auto)]
 
 mod body;
+mod copies;
 mod emitter;
 mod encode;
 pub mod laws;
 mod message;
 mod messages;
+mod rounds;
 mod stream;
 
 pub use body::append_message_header;
+pub use copies::CopyRoom;
 pub use emitter::{Emitter, Phase};
 pub use encode::{Encode, append_counts};
 pub use message::append_template;

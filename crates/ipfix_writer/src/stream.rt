@@ -8,20 +8,27 @@ ghost use Rattle.ipfix_writer.specs.Layout.{IsLayout, IsLayoutOf, BeginsLayout};
 ghost use Rattle.ipfix_writer.specs.Emitting.{IsUnderWay};
 ghost use Rattle.ipfix_model.specs.Sizes.{template_message_length};
 
+use crate::copies::CopyRoom;
 use crate::emitter::{Emitter, Phase};
 use crate::message::encode_template_message;
 use crate::messages::{MessageForm, append_messages};
+use crate::rounds::emit_rounds;
 use ipfix_model::TEMPLATE_MESSAGE_LENGTH;
 use meter_io::{Failed, Sink};
 use no_memory::NoMemory;
-use record_ledger::{FlowRecord, RUN, RecordList};
+use record_ledger::{FlowRecord, RUN, RecordList, Run};
 use std::alloc::Global;
+use std::thread::Threads;
 
 /// Takes in these records, one after another.
 ///
 /// `Failed` comes only where the sink's count of faults rose. The sink then took a beginning of the stream, and the
 /// emitter can only be dropped.
-fn emit_run<K: Sink>(emitter: &mut Emitter, run: &[FlowRecord], sink: &mut K) -> Result<(), Failed>
+pub(crate) fn emit_run<K: Sink>(
+    emitter: &mut Emitter,
+    run: &[FlowRecord],
+    sink: &mut K,
+) -> Result<(), Failed>
     requires { emitter.old.phase ≡ Phase.Started }
     ensures taken { OnOk result ((flows : List FlowRecord) (written : List ℕ) → IsUnderWay emitter.old flows written
         → (bytes : List ℕ) × Appends (K.held sink.old) (K.held sink.new) bytes
@@ -66,12 +73,10 @@ fn emit_records<K: Sink>(
     ensures phase { OnErr result (emitter.new.phase ≡ Phase.Broken) }
     ensures cause { HasCause (K.faults sink.old) (K.faults sink.new) result }
 {
-    if records.len() == 0 {
-        return Ok(());
-    }
-    let mut run = [records.get(0); RUN];
+    let mut run = Run::empty();
     for number in 0..records.len().div_ceil(RUN) {
-        match emit_run(emitter, records.run_from(number * RUN, &mut run), sink) {
+        records.copy_run(number * RUN, &mut run);
+        match emit_run(emitter, run.as_slice(), sink) {
             Ok(()) => {}
             Err(Failed) => return Err(Failed),
         }
@@ -79,12 +84,45 @@ fn emit_records<K: Sink>(
     Ok(())
 }
 
+/// Takes in all records of a list: round by round, where there is room for copies, and else run by run.
+///
+/// `Failed` comes only where the sink's count of faults rose. The sink then took a beginning of the stream, and the
+/// emitter can only be dropped.
+fn emit_list<R: Threads + Sync, K: Sink>(
+    rt: &R,
+    emitter: &mut Emitter,
+    room: CopyRoom,
+    records: &RecordList,
+    sink: &mut K,
+) -> Result<(), Failed>
+    requires { emitter.old.phase ≡ Phase.Started }
+    ensures taken { OnOk result ((flows : List FlowRecord) (written : List ℕ) → IsUnderWay emitter.old flows written
+        → (bytes : List ℕ) × Appends (K.held sink.old) (K.held sink.new) bytes
+        × IsUnderWay emitter.new (flows ++ records.now) (written ++ bytes)) }
+    ensures broken { OnErr result ((flows : List FlowRecord) (written : List ℕ) → IsUnderWay emitter.old flows written
+        → (bytes : List ℕ) × Appends (K.held sink.old) (K.held sink.new) bytes
+        × ((rest : List FlowRecord) → BeginsLayout emitter.old.size emitter.old.export_time
+        (flows ++ (records.now ++ rest)) (written ++ bytes))) }
+    ensures settings { (emitter.new.size ≡ emitter.old.size) × (emitter.new.export_time ≡ emitter.old.export_time) }
+    ensures started { OnOk result (emitter.new.phase ≡ Phase.Started) }
+    ensures phase { OnErr result (emitter.new.phase ≡ Phase.Broken) }
+    ensures cause { HasCause (K.faults sink.old) (K.faults sink.new) result }
+{
+    if room.is_empty() {
+        emit_records(emitter, records, sink)
+    } else {
+        emit_rounds(rt, emitter, room, records, sink)
+    }
+}
+
 /// Writes the whole stream of these records by a fresh emitter, and tells how many messages it has, the one with the
 /// templates among them.
 ///
 /// `Failed` comes only where the sink's count of faults rose; the sink then took a beginning of the stream.
-pub fn emit_all<K: Sink>(
+pub fn emit_all<R: Threads + Sync, K: Sink>(
+    rt: &R,
     emitter: Emitter,
+    room: CopyRoom,
     records: &RecordList,
     sink: &mut K,
 ) -> Result<u64, Failed>
@@ -100,7 +138,7 @@ pub fn emit_all<K: Sink>(
         Ok(()) => {}
         Err(Failed) => return Err(Failed),
     }
-    match emit_records(&mut emitter, records, sink) {
+    match emit_list(rt, &mut emitter, room, records, sink) {
         Ok(()) => {}
         Err(Failed) => return Err(Failed),
     }

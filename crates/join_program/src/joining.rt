@@ -13,7 +13,7 @@ use crate::status::JoinStatus;
 use crate::taken::Taken;
 use flow_parts::Timeouts;
 use ipfix_law::layout_law;
-use ipfix_writer::{Emitter, emit_all};
+use ipfix_writer::{CopyRoom, Emitter, emit_all};
 use meter_io::{Failed, Sink};
 use no_memory::NoMemory;
 use record_ledger::laws::gathered_lists_are_one;
@@ -21,7 +21,7 @@ use record_ledger::{FlowRecord, RecordList, gather};
 use std::alloc::Global;
 use std::thread::Threads;
 
-/// The number of threads that gather the records.
+/// The number of threads that gather the records, and of those that write them or copy what is written next.
 const THREADS: usize = 4;
 
 /// The joined records: those that are gathered from what was taken.
@@ -56,7 +56,8 @@ fn export_time(clock: Option<u64>) -> u32
 }
 
 /// Writes the stream of records, message by message. All memory is allocated before the first message is written.
-pub(crate) fn write_records<K: Sink>(
+pub(crate) fn write_records<R: Threads + Sync, K: Sink>(
+    rt: &R,
     alloc: Global,
     size: u32,
     clock: Option<u64>,
@@ -70,7 +71,10 @@ pub(crate) fn write_records<K: Sink>(
     let Ok(emitter) = Emitter::open(alloc, size as usize, export_time(clock)) else {
         return JoinStatus::NoMemory;
     };
-    match emit_all(emitter, records, output) {
+    let Ok(room) = CopyRoom::open(alloc, THREADS) else {
+        return JoinStatus::NoMemory;
+    };
+    match emit_all(rt, emitter, room, records, output) {
         Ok(_) => JoinStatus::Done,
         Err(Failed) => JoinStatus::WriteFault,
     }

@@ -39,7 +39,7 @@ fn join_files<R: Threads + Sync, O: Opener, K: Sink>(
     let Ok(records) = gather_taken(rt, alloc, &command.settings, taken) else {
         return JoinStatus::NoMemory;
     };
-    write_records(alloc, command.settings.size, clock, &records, output)
+    write_records(rt, alloc, command.settings.size, clock, &records, output)
 }
 
 /// Writes the line that reports the file at this place, which is refused, to standard error.

@@ -17,7 +17,7 @@ use crate::settings::Settings;
 use crate::status::Status;
 use cache_face::Caches;
 use ipfix_law::layout_law;
-use ipfix_writer::{Emitter, Phase, emit_all};
+use ipfix_writer::{CopyRoom, Emitter, Phase, emit_all};
 use meter_io::{Failed, Sink, Source};
 use meter_workers::{Engine, Gate};
 use no_memory::NoMemory;
@@ -49,10 +49,17 @@ pub fn emitter_for(alloc: Global, gathered: &Gathered, size: u32) -> Result<Emit
     Ok(emitter)
 }
 
-/// Writes the stream of these records to a sink by an emitter for them, and tells how many messages it has.
+/// Writes the stream of these records to a sink by an emitter for them, and tells how many messages it has. Where there
+/// is room for copies, threads copy records into it meanwhile.
 ///
 /// `Failed` comes only where the sink's count of faults rose; the sink then took a beginning of the stream.
-pub fn emit<K: Sink>(emitter: Emitter, gathered: &Gathered, sink: &mut K) -> Result<u64, Failed>
+pub fn emit<R: Threads + Sync, K: Sink>(
+    rt: &R,
+    emitter: Emitter,
+    room: CopyRoom,
+    gathered: &Gathered,
+    sink: &mut K,
+) -> Result<u64, Failed>
     requires fresh { emitter.phase ≡ Phase.Fresh }
     requires size { emitter.size ≤ 65535 }
     requires time { emitter.export_time ≡ export_time gathered.now.tally.clock }
@@ -65,12 +72,14 @@ pub fn emit<K: Sink>(emitter: Emitter, gathered: &Gathered, sink: &mut K) -> Res
     ensures cause { HasCause (K.faults sink.old) (K.faults sink.new) result }
 {
     layout_law();
-    emit_all(emitter, &gathered.records, sink)
+    emit_all(rt, emitter, room, &gathered.records, sink)
 }
 
 /// Writes the stream of these records, in messages of at most `size` octets, and then the summary to standard error.
 ///
-/// All memory is taken before the first write.
+/// At most `threads` threads are at work, at most four: the calling one writes, and the others copy the records that it
+/// writes next. All memory is taken before the first write; with several threads, two rounds of at most three parts of
+/// 4,096 records each are among it.
 ///
 /// - `Done`: the output took the stream, and standard error the summary.
 /// - `WriteFault`: only where a write failed and the output or standard error counted it. Both took a beginning of what
@@ -78,10 +87,12 @@ pub fn emit<K: Sink>(emitter: Emitter, gathered: &Gathered, sink: &mut K) -> Res
 /// - `NoMemory`: out of memory; nothing was written.
 ///
 /// No other status comes.
-pub fn write_stream<K: Sink, E: Sink>(
+pub fn write_stream<R: Threads + Sync, K: Sink, E: Sink>(
+    rt: &R,
     alloc: Global,
     gathered: &Gathered,
     size: u32,
+    threads: usize,
     output: &mut K,
     stderr: &mut E,
 ) -> Status
@@ -93,7 +104,10 @@ pub fn write_stream<K: Sink, E: Sink>(
     let Ok(emitter) = emitter_for(alloc, gathered, size) else {
         return Status::NoMemory;
     };
-    let messages = match emit(emitter, gathered, output) {
+    let Ok(room) = CopyRoom::open(alloc, threads) else {
+        return Status::NoMemory;
+    };
+    let messages = match emit(rt, emitter, room, gathered, output) {
         Ok(messages) => messages,
         Err(Failed) => return Status::WriteFault,
     };
@@ -121,7 +135,10 @@ pub fn meter<R: Threads + Sync, S: Source, K: Sink, E: Sink, M: Caches, G: Gate>
         seen (IsUntouched seen.stderr) result }
 {
     match gathered_from(engine, settings, input, caches) {
-        Ok(gathered) => write_stream(engine.alloc, &gathered, settings.size, output, stderr),
+        Ok(gathered) => {
+            let (rt, alloc) = (engine.rt, engine.alloc);
+            write_stream(rt, alloc, &gathered, settings.size, settings.workers, output, stderr)
+        }
         Err(status) => status,
     }
 }

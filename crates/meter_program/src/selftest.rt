@@ -13,6 +13,7 @@ use crate::settings::{Making, Settings};
 use crate::status::Status;
 use cache_face::Caches;
 use capture_maker::capture;
+use ipfix_writer::CopyRoom;
 use meter_io::{Failed, Sink, Source};
 use meter_workers::{Engine, Gate};
 use std::alloc::Global;
@@ -96,7 +97,10 @@ pub fn selftest<R: Threads + Sync, K: Sink, M: Caches, G: Gate>(
     let Ok(emitter) = emitter_for(engine.alloc, &gathered, settings.size) else {
         return Status::NoMemory;
     };
-    let messages = match emit(emitter, &gathered, &mut Nowhere) {
+    let Ok(room) = CopyRoom::open(engine.alloc, settings.workers) else {
+        return Status::NoMemory;
+    };
+    let messages = match emit(engine.rt, emitter, room, &gathered, &mut Nowhere) {
         Ok(messages) => messages,
         Err(Failed) => unreachable!(),
     };

@@ -91,7 +91,10 @@ pub fn pipe_input<R: Threads + Wait + Sync, S: Source, K: Sink, E: Sink, M: Cach
         in Ends (as_meter (piping_of settings.now)) seen (IsUntouched seen.stderr) result }
 {
     match gathered_in_batches(engine, settings, input, caches) {
-        Ok(gathered) => write_stream(engine.alloc, &gathered, settings.size, output, stderr),
+        Ok(gathered) => {
+            let (rt, alloc) = (engine.rt, engine.alloc);
+            write_stream(rt, alloc, &gathered, settings.size, settings.workers, output, stderr)
+        }
         Err(status) => status,
     }
 }

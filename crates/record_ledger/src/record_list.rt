@@ -11,14 +11,12 @@ ghost use Rattle.record_ledger.specs.Order.{written_order};
 use crate::place::Place;
 use crate::placing::add_all_places;
 use crate::record::FlowRecord;
+use crate::run::{RUN, Run};
 use crate::sorting::sort_places;
 use crate::store::Store;
 use no_memory::NoMemory;
 use std::marker::Model;
 use std::thread::Threads;
-
-/// How many records are copied at once.
-pub const RUN: usize = 16;
 
 /// Records in the written order: by last time, then by key. Contracts see it as the list.
 ///
@@ -87,15 +85,15 @@ impl RecordList {
         }
     }
 
-    /// Copies of the records from a place of the list on, at most 16 of them, in `run`. They lie far apart in memory,
+    /// Copies the records from a place of the list on, at most 16 of them, into `run`. They lie far apart in memory,
     /// and are fetched together.
-    pub fn run_from<'a>(&self, place: usize, run: &'a mut [FlowRecord; RUN]) -> &'a [FlowRecord]
-        ensures { result.now ≡ take 16 (drop place self.now) }
+    pub fn copy_run(&self, place: usize, run: &mut Run)
+        ensures { run.new ≡ take 16 (drop place self.now) }
     {
         let count = self.len().saturating_sub(place).min(RUN);
-        self.copy_parts(place, &mut run[..count]);
-        self.give_reasons(place, &mut run[..count]);
-        &run[..count]
+        self.copy_parts(place, &mut run.records[..count]);
+        self.give_reasons(place, &mut run.records[..count]);
+        run.count = count;
     }
 
     /// Copies the fragments of the records from a place of the list on.

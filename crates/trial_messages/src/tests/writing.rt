@@ -3,7 +3,7 @@
 ghost use Rattle.std.specs.Prelude.{◌≤◌, ◌<◌, ◌^◌};
 
 use flow_parts::{Fragment, Timeouts};
-use ipfix_writer::{Emitter, emit_all, layout};
+use ipfix_writer::{CopyRoom, Emitter, emit_all, layout};
 use meter_io::{Failed, MemSink};
 use record_ledger::{FlowRecord, RecordList, gather};
 use std::alloc::Global;
@@ -92,11 +92,13 @@ fn listed(
 }
 
 /// How many messages are written of records, and how many octets the sink then has. It takes so many octets a call, and
-/// fails at one call.
+/// fails at one call. The records are written by this many threads.
 fn emitted(
+    rt: &(impl Threads + Sync),
     alloc: Global,
     list: &RecordList,
     size: usize,
+    threads: usize,
     piece: usize,
     fails: u64,
 ) -> Result<(Result<u64, Failed>, usize), Fail>
@@ -104,9 +106,10 @@ fn emitted(
     requires some { 0 < piece }
 {
     let emitter = Emitter::open(alloc, size, 1000)?;
+    let room = CopyRoom::open(alloc, threads)?;
     let fails = [fails];
     let mut sink = MemSink::open(alloc, 1 << 19, piece, fails.as_slice())?;
-    let end = emit_all(emitter, list, &mut sink);
+    let end = emit_all(rt, emitter, room, list, &mut sink);
     Ok((end, sink.held().len()))
 }
 
@@ -144,7 +147,7 @@ fn messages_are_filled(rt: HostRuntime) -> Result<(), Fail> {
         assert!(rt; count <= records.len() && size >= 116 && size < 65_536);
         let (first, _) = records.as_slice().split_at(count);
         let list = listed(&rt, rt.alloc(), first)?;
-        let emitted = emitted(rt.alloc(), &list, size, 4096, 0)?;
+        let emitted = emitted(&rt, rt.alloc(), &list, size, 1, 4096, 0)?;
         assert!(rt;
             emitted == (Ok(messages), length),
             "{count} records, size {size}"
@@ -158,21 +161,28 @@ fn a_failed_write_leaves_a_beginning(rt: HostRuntime) -> Result<(), Fail> {
     let records = [udp_flow(4000, 1, 28, 1_000_000)];
     let list = listed(&rt, rt.alloc(), records.as_slice())?;
     for (fails, held) in [(1, 0), (2, 60), (3, 120), (4, 180)] {
-        let emitted = emitted(rt.alloc(), &list, 1400, 60, fails)?;
+        let emitted = emitted(&rt, rt.alloc(), &list, 1400, 1, 60, fails)?;
         assert!(rt; emitted == (Err(Failed), held));
     }
     Ok(())
 }
 
 /// The message with the templates has 116 octets, and a message of 28 records has 1,364: the former and 192 of the
-/// latter go out in one call of at most 262,144 octets.
+/// latter go out in one call of at most 262,144 octets; 22 more such messages and one of 8 records are left. Two
+/// threads have two rounds of copies, and four have one.
 #[test]
 fn a_stream_goes_out_in_whole_messages(rt: HostRuntime) -> Result<(), Fail> {
     let records = udp_flows(rt.alloc(), 0, 6000)?;
     let list = listed(&rt, rt.alloc(), records.as_slice())?;
-    for (fails, held) in [(1, 0), (2, 116 + 192 * 1364)] {
-        let emitted = emitted(rt.alloc(), &list, 1400, 1 << 19, fails)?;
-        assert!(rt; emitted == (Err(Failed), held));
+    for threads in [1, 2, 4] {
+        for (fails, end, held) in [
+            (1, Err(Failed), 0),
+            (2, Err(Failed), 116 + 192 * 1364),
+            (0, Ok(216), 116 + 214 * 1364 + 404),
+        ] {
+            let emitted = emitted(&rt, rt.alloc(), &list, 1400, threads, 1 << 19, fails)?;
+            assert!(rt; emitted == (end, held));
+        }
     }
     Ok(())
 }

@@ -1,17 +1,9 @@
 -- One more run of 16 records; and no more are left.
-use Rattle.std.proofs.Common.{◌≡◌, ◌≤◌, ◌∙◌, ◌*◌, [], length, drop, refl, sym, arith}
-use Rattle.std.proofs.lemmas.List.{nil_from_length}
+use Rattle.std.proofs.Common.{◌≤◌, ◌∙◌, ◌*◌, length, drop, refl, arith}
 use Rattle.std.proofs.lemmas.Grind.{div_ceil_times}
 use Rattle.ipfix_writer.proofs.UnderWay.{all-taken}
 use Rattle.ipfix_writer.proofs.Runs.{takes-none, takes-all, takes-more, stops-later, run-taken, run-split}
 use Rattle.ipfix_writer.proofs.stream.emit_records.Goals as goal
-
-pub returns-then-len-eq0-clause-taken : goal.returns-then-len-eq0-clause-taken
-returns-then-len-eq0-clause-taken g c =
-    let records = c.args.records.now in
-    let none : records ≡ [] = nil_from_length records (omega (arith, c.len.ensures, c.if-len-eq0.true)) in
-    takes-all c.args.emitter.now c.args.emitter.now [] records _ _
-    (takes-none c.args.emitter.now (g.K.Sink.held c.args.sink.now)) (sym none)
 
 pub loop-number-init : goal.loop-number-init
 loop-number-init g c = record {
@@ -26,21 +18,21 @@ pub returns-in-Err-clause-broken : goal.returns-in-Err-clause-broken
 returns-in-Err-clause-broken g c =
     let records = c.args.records.now in
     let number = c.loop-number.number in
-    let run = c.run_from.result.now in
+    let run = c.as_slice.result.now in
     stops-later c.args.emitter.now c.loop-number.emitter _ run (drop 16 (drop (number * 16) records)) records
     _ _ _ c.loop-number.invariant.taken c.in-Err.ensures.broken c.loop-number.invariant.size
     c.loop-number.invariant.export_time
-    (run-split records run number c.run_from.ensures)
+    (run-split records run number (c.as_slice.ensures ∙ c.copy_run.ensures))
 
 pub loop-number-preserved : goal.loop-number-preserved
 loop-number-preserved g c =
     let records = c.args.records.now in
     let number = c.loop-number.number in
-    let run = c.run_from.result.now in
+    let run = c.as_slice.result.now in
     record {
       taken = takes-more c.args.emitter.now c.loop-number.emitter c.emit_run.new.emitter _ run _ _ _ _
           c.loop-number.invariant.taken c.in-Ok.ensures.taken
-          (run-taken records run number c.run_from.ensures);
+          (run-taken records run number (c.as_slice.ensures ∙ c.copy_run.ensures));
       size = c.in-Ok.ensures.settings.0 ∙ c.loop-number.invariant.size;
       export_time = c.in-Ok.ensures.settings.1 ∙ c.loop-number.invariant.export_time;
       started = c.in-Ok.ensures.started;
@@ -55,7 +47,7 @@ returns-clause-taken g c =
     omega (
       arith,
       div_ceil_times (length records) 16,
-      c.len-2.ensures,
+      c.len.ensures,
       c.div_ceil-number-end.ensures,
       c.loop-number-test.false,
     ) in
