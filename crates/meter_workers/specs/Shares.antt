@@ -1,5 +1,6 @@
 -- What a share of the work has done; `the` is what the type of the cache means.
-use Rattle.std.specs.Prelude.{◌≡◌, ◌<◌, ◌≤◌, ◌^◌, List, [], ◌++◌, All, Option, Some, None}
+use Rattle.std.specs.Prelude.{◌≡◌, ◌<◌, ◌≤◌, ◌^◌, List, [], ◌++◌, All, Option, Some, None, Result, IfOk}
+use Rattle.no_memory.specs.declared.NoMemory.{NoMemory}
 use Rattle.packet_accept.specs.declared.packet.Packet.{Packet}
 use Rattle.packet_accept.specs.Packets.{packets_in}
 use Rattle.flow_parts.specs.declared.fragment.Fragment.{Fragment}
@@ -51,3 +52,24 @@ pub record IsShareOf {X P : Type 0} (the : Ghosts X P) (cache : X) (answers : Li
 -- The share metered these answers besides, whatever it had metered before.
 abbrev pub HasMetered : {X P : Type 0} → Ghosts X P → X → List Answer → Share X P → Share X P → Type 0
 HasMetered the cache more old new = HasDone (IsShareOf the cache) more old new
+
+-- The same, and its front is gone: all that was put in went into the cache.
+abbrev pub IsEmptied : {X P : Type 0} → Ghosts X P → X → List Answer → Share X P → Type 0
+IsEmptied the cache answers share = IsShareOf the cache answers share × (share.front ≡ None)
+
+-- ---- places, at each of which a share stands, or that memory ran out for it
+
+-- The share there has metered some answers.
+pub record IsToEmpty {X P : Type 0} (the : Ghosts X P) (cache : X) (place : Result (Share X P) NoMemory) : Type 0 where
+  pub done : List Answer
+  pub is : IfOk place (IsShareOf the cache done)
+
+-- The share there has metered these answers, and its front is gone.
+abbrev pub StandsEmptied : {X P : Type 0} → Ghosts X P → X → List Answer → Result (Share X P) NoMemory → Type 0
+StandsEmptied the cache answers place = IfOk place (IsEmptied the cache answers)
+
+-- The share there was emptied.
+abbrev pub HasEmptied : {X P : Type 0} → Ghosts X P → X → Result (Share X P) NoMemory → Result (Share X P) NoMemory
+    → Type 0
+HasEmptied the cache old new =
+    (done : List Answer) → IfOk old (IsShareOf the cache done) → StandsEmptied the cache done new

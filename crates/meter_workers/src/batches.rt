@@ -437,7 +437,7 @@ fn open_crew<C: FlowCache>(
 
 /// What all did together, once the reader has read and the workers have worked. What is left in the queue is metered
 /// here. `tail` bytes are left behind the last record.
-fn close_crew<C: FlowCache, G: Gate, R: Wait>(
+fn close_crew<C: FlowCache, G: Gate, R: Threads + Wait + Sync>(
     engine: &Engine<'_, R, G>,
     cache: &C,
     crew: Crew<C>,
@@ -467,13 +467,13 @@ fn close_crew<C: FlowCache, G: Gate, R: Wait>(
     work_batches(engine, &shared, cache, drain, &mut seat, &mut last)?;
     shares.push(reader.share)?;
     shares.push(last)?;
-    unite_shares(cache, shares, tail)
+    unite_shares(engine, cache, shares, tail)
 }
 
 /// Meters a capture through a cache while it is read: the caller's thread reads it, in windows of so many bytes, into a
 /// queue of batches, and a thread for each worker takes them from it. The passes of the cache (3 to 64) are one for the
 /// reader, one for what is left in the queue at the end, and one for each worker; each has a front where fronts are
-/// asked for, which is emptied into the cache at the end.
+/// asked for, which is emptied into the cache at the end, by a thread of its own.
 ///
 /// Before a batch is metered, the gate is told its number and who meters it: a worker by its number, counted from 0;
 /// the reader by the number of workers; and for what is left in the queue at the end, one more than that. What was put

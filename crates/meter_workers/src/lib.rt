@@ -9,9 +9,10 @@
 //! What a seat of the cache does is a share (`share.rt`): its pass of the cache, its front, where it has one, the
 //! fragments that the cache handed it, and the tally of its records. A share meters a run of records of a [`Part`]; a
 //! packet goes into the front, and what leaves it goes into the cache. At the end each front is emptied into the cache
-//! through its own pass, and what all did is put together (`together.rt`). `specs/Shares.antt` says what a share has
-//! done: what was put in shares out the packets of the records that it metered. So how many packets were put in is
-//! known from the tally alone, and nothing is said of the order of the records.
+//! through its own pass, by a thread of its own (`emptying.rt`), and what all did is put together (`together.rt`).
+//! `specs/Shares.antt` says what a share has done: what was put in shares out the packets of the records that it
+//! metered. So how many packets were put in is known from the tally alone, and nothing is said of the order of the
+//! records.
 //!
 //! On a packet's path, workers share nothing but the cache and what hands out the work: the word that pieces are drawn
 //! from, or the queue of batches. Everything is generic over the cache ([`FlowCache`](cache_face::FlowCache)). What
@@ -20,6 +21,7 @@
 
 mod ahead;
 mod batches;
+mod emptying;
 mod engine;
 mod gate;
 mod share;

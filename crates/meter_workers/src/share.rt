@@ -9,7 +9,7 @@ ghost use Rattle.cache_face.specs.Keeping.{IsBounded, packet_count};
 ghost use Rattle.cache_face.specs.Meaning.{IsFresh};
 ghost use Rattle.front_cache.specs.Fronts.{open_in};
 ghost use Rattle.capture_input.specs.Parts.{Answer, answers_by};
-ghost use Rattle.meter_workers.specs.Shares.{HasMetered, IsSeatOf, IsShareOf, put_by};
+ghost use Rattle.meter_workers.specs.Shares.{HasMetered, IsEmptied, IsSeatOf, IsShareOf, put_by};
 
 use cache_face::FlowCache;
 use capture_input::Part;
@@ -183,7 +183,7 @@ pub(crate) fn open_shares<C: FlowCache>(
 }
 
 /// Empties a front into the cache, where there is one.
-pub(crate) fn empty_front<C: FlowCache>(
+fn empty_front<C: FlowCache>(
     cache: &C,
     pass: &mut C::Pass,
     parts: &mut PartList,
@@ -205,4 +205,15 @@ pub(crate) fn empty_front<C: FlowCache>(
         put_in(cache, pass, parts, &out)?;
     }
     Ok(())
+}
+
+/// Empties the front of a share into the cache through its own pass, where it has one.
+pub(crate) fn empty_share<C: FlowCache>(cache: &C, share: &mut Share<C>) -> Result<(), NoMemory>
+    requires share { (done : List Answer) × IsShareOf C.FlowCache cache.now done share.old }
+    ensures share { (done : List Answer) → IsShareOf C.FlowCache cache.now done share.old
+        → OnOk result (IsEmptied C.FlowCache cache.now done share.new) }
+{
+    sharing_out_counts();
+    let front = share.front.take();
+    empty_front(cache, &mut share.pass, &mut share.parts, front)
 }

@@ -3,15 +3,19 @@
 ghost use Rattle.std.specs.Prelude.{◌≡◌, ◌+◌, ◌++◌, ◌<◌, ◌≤◌, List, length, IfOk};
 ghost use Rattle.capture_input.specs.Parts.{Answer};
 ghost use Rattle.work_pieces.specs.Doing.{HaveDone};
-ghost use Rattle.meter_workers.specs.Shares.{IsShareOf};
+ghost use Rattle.meter_workers.specs.Shares.{IsShareOf, IsEmptied};
 ghost use Rattle.meter_workers.specs.Whole.{HaveMetered};
 
-use crate::share::{Share, empty_front};
+use crate::emptying::empty_fronts;
+use crate::engine::Engine;
+use crate::gate::Gate;
+use crate::share::Share;
 use cache_face::FlowCache;
 use capture_tally::{Tally, order_law, room_law};
 use flow_parts::PartList;
-use flow_parts::laws::{sharing_out_counts, sharing_out_stands};
+use flow_parts::laws::sharing_out_stands;
 use no_memory::NoMemory;
+use std::thread::Threads;
 
 /// What all workers did together with a capture: one pass for all seats, the fragments that it was handed, the tally,
 /// and how many bytes are left behind the last record.
@@ -23,32 +27,26 @@ pub struct CaptureMetered<C: FlowCache> {
     pub tail: u64,
 }
 
-/// What a share did, once its front is emptied into the cache.
-fn finish<C: FlowCache>(
-    cache: &C,
-    share: Share<C>,
-    tail: u64,
-) -> Result<CaptureMetered<C>, NoMemory>
-    requires share { (done : List Answer) × IsShareOf C.FlowCache cache.now done share }
-    ensures metered { (done : List Answer) → IsShareOf C.FlowCache cache.now done share
-        → IfOk result (HaveMetered C.FlowCache cache.now done) }
-    ensures seats { IfOk result (λ r. (C.shown r.pass).note.seats ≡ 1) }
-    ensures tail { IfOk result (λ r. r.tail ≡ tail) }
+/// What a share did, whose front was emptied.
+fn finish<C: FlowCache>(_cache: &C, share: Share<C>, tail: u64) -> CaptureMetered<C>
+    requires share { (done : List Answer) × IsEmptied C.FlowCache _cache.now done share }
+    ensures metered { (done : List Answer) → IsEmptied C.FlowCache _cache.now done share
+        → HaveMetered C.FlowCache _cache.now done result }
+    ensures seats { (C.shown result.pass).note.seats ≡ 1 }
+    ensures tail { result.tail ≡ tail }
 {
-    sharing_out_counts();
     let Share {
-        mut pass,
-        front,
-        mut parts,
+        pass,
+        parts,
         tally,
+        ..
     } = share;
-    empty_front(cache, &mut pass, &mut parts, front)?;
-    Ok(CaptureMetered {
+    CaptureMetered {
         pass,
         parts,
         tally,
         tail,
-    })
+    }
 }
 
 /// What both did.
@@ -80,8 +78,9 @@ fn unite<C: FlowCache>(
 }
 
 /// What all shares did, with `tail` bytes left behind the last record: each front is emptied into the cache through its
-/// own pass.
-pub(crate) fn unite_shares<C: FlowCache>(
+/// own pass, in a thread of its own.
+pub(crate) fn unite_shares<C: FlowCache, G: Gate, R: Threads + Sync>(
+    engine: &Engine<'_, R, G>,
     cache: &C,
     shares: Vec<Share<C>>,
     tail: u64,
@@ -95,13 +94,13 @@ pub(crate) fn unite_shares<C: FlowCache>(
 {
     order_law();
     sharing_out_stands();
-    let mut shares = shares;
-    let Some(last) = shares.pop() else {
+    let mut emptied = empty_fronts(engine, cache, shares)?;
+    let Some(last) = emptied.pop() else {
         unreachable!()
     };
-    let mut all = finish(cache, last, tail)?;
-    while let Some(share) = shares.pop() {
-        let one = finish(cache, share, tail)?;
+    let mut all = finish(cache, last?, tail);
+    while let Some(share) = emptied.pop() {
+        let one = finish(cache, share?, tail);
         all = unite(cache, all, one)?;
     }
     Ok(all)

@@ -229,7 +229,7 @@ fn meter_all_parts<S: Source, C: FlowCache, G: Gate, R: Threads + Sync>(
 /// the next one; the memory of two windows and of two indices is taken once, and the last window is metered by the
 /// calling thread too. What is left behind the last record of a window begins the next one. Where fronts are asked for,
 /// each worker has one across all windows, and only what leaves it goes into the cache; behind the last window each
-/// front is emptied into the cache through its own pass.
+/// front is emptied into the cache through its own pass, by a thread of its own.
 ///
 /// The records of a window are cut into pieces; the gate is told of each piece, by its number within the window. What
 /// was put in through the united pass shares out the packets of the capture; `parts` are the fragments that it was
@@ -261,7 +261,7 @@ pub fn meter_windows<S: Source, C: FlowCache, G: Gate, R: Threads + Sync>(
         return Err(MeterFault::NoMemory);
     };
     let (shares, tail) = meter_all_parts(engine, source, cache, shares, windows)?;
-    match unite_shares(cache, shares, tail) {
+    match unite_shares(engine, cache, shares, tail) {
         Ok(all) => Ok(all),
         Err(NoMemory) => Err(MeterFault::NoMemory),
     }
@@ -293,5 +293,5 @@ pub fn meter_all<C: FlowCache, G: Gate, R: Threads + Sync>(
 {
     let shares = open_shares(engine.alloc, cache, passes, None)?;
     let shares = meter_part(engine, part, cache, shares, piece)?;
-    unite_shares(cache, shares, part.index.tail())
+    unite_shares(engine, cache, shares, part.index.tail())
 }

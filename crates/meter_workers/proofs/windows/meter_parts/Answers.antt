@@ -1,4 +1,4 @@
-use Rattle.meter_workers.proofs.Common.{◌≡◌, ◌+◌, ◌++◌, ◌≤◌, ◌∙◌, ℕ, List, [], length, refl, sym, subst, arith}
+use Rattle.meter_workers.proofs.Common.{◌≡◌, ◌++◌, ◌≤◌, ◌∙◌, ℕ, List, [], length, refl, sym, subst, arith}
 use Rattle.meter_workers.proofs.Common.{err_from_is_err_and, Answer, answers_from, answers_by, HasGiven, part_in}
 use Rattle.meter_workers.proofs.Common.{base_in, IsRefused, seen, HaveDone, nothing-done, IsShareOf}
 use Rattle.meter_workers.proofs.windows.meter_parts.Goals.{In-Ok}
