@@ -35,7 +35,8 @@ use std::thread::Threads;
 /// Fragments whose keys no other has are records as they lie. The others are dealt to buckets by their keys. At most
 /// `threads` threads find out which stay, sort, join and give reasons in the buckets, and then sort the places of all
 /// records. It takes the time of sorting. What is held is `parts`, a record for each fragment that was dealt to a bucket,
-/// and 32 bytes for each place, for a while up to 64; where all are dealt to buckets, `parts` is let go.
+/// with several threads at least room for one for every eighth fragment and somewhat more, and 32 bytes for each place,
+/// for a while up to 64; where all are dealt to buckets, `parts` is let go.
 ///
 /// # Errors
 ///

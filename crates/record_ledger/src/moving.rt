@@ -7,8 +7,7 @@ ghost use Rattle.flow_parts.specs.Pieces.{items_of};
 ghost use Rattle.record_ledger.specs.Lawful.{parts_of};
 ghost use Rattle.record_ledger.specs.Buckets.{records_of, AreByKey, LiesAt, LieIn, MovesDealt};
 
-use crate::record::FlowRecord;
-use flow_key::FlowKey;
+use crate::record::{FlowRecord, no_record};
 use flow_parts::Fragment;
 use no_memory::NoMemory;
 use std::alloc::Global;
@@ -61,27 +60,6 @@ fn touched_bucket(alloc: Global, room: usize) -> Result<Vec<FlowRecord>, NoMemor
     }
     bucket.clear();
     Ok(bucket)
-}
-
-/// A record of which nothing is known.
-fn no_record() -> FlowRecord {
-    let key = FlowKey {
-        source: 0,
-        destination: 0,
-        version: 4,
-        protocol: 0,
-        source_port: 0,
-        destination_port: 0,
-    };
-    let part = Fragment {
-        key,
-        packets: 1,
-        octets: 0,
-        first: 0,
-        last: 0,
-        flags: 0,
-    };
-    FlowRecord { part, reason: 0 }
 }
 
 /// For how many records each of so many buckets has room, where fragments are shared out among them.

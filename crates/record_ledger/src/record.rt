@@ -2,6 +2,7 @@
 
 ghost use Rattle.std.specs.Prelude.{ℕ, ◌<◌, ◌^◌};
 
+use flow_key::FlowKey;
 use flow_parts::Fragment;
 
 /// The flow was idle for longer than the idle time-out (flowEndReason 1 of the IANA registry).
@@ -23,4 +24,25 @@ pub struct FlowRecord {
     pub reason: u8,
     // The width of the reason: a number in a clause has none of its own.
     pub ghost sized: { reason < 2 ^ 8 },
+}
+
+/// What room for records is filled with where none stands there yet.
+pub(crate) fn no_record() -> FlowRecord {
+    let key = FlowKey {
+        source: 0,
+        destination: 0,
+        version: 4,
+        protocol: 0,
+        source_port: 0,
+        destination_port: 0,
+    };
+    let part = Fragment {
+        key,
+        packets: 1,
+        octets: 0,
+        first: 0,
+        last: 0,
+        flags: 0,
+    };
+    FlowRecord { part, reason: 0 }
 }

@@ -2,9 +2,7 @@
 
 ghost use Rattle.std.specs.Prelude.{◌≡◌, []};
 
-use crate::record::{FORCED_END, FlowRecord};
-use flow_key::FlowKey;
-use flow_parts::Fragment;
+use crate::record::{FlowRecord, no_record};
 use std::marker::Model;
 
 /// How many records are copied at once.
@@ -44,27 +42,5 @@ impl Run {
         ensures { result.now ≡ self.now }
     {
         &self.records[..self.count]
-    }
-}
-
-/// What stands in the room of a run where no record was copied to.
-fn no_record() -> FlowRecord {
-    FlowRecord {
-        part: Fragment {
-            key: FlowKey {
-                source: 0,
-                destination: 0,
-                version: 4,
-                protocol: 0,
-                source_port: 0,
-                destination_port: 0,
-            },
-            packets: 1,
-            octets: 0,
-            first: 0,
-            last: 0,
-            flags: 0,
-        },
-        reason: FORCED_END,
     }
 }

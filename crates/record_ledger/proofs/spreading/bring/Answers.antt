@@ -5,7 +5,7 @@ use Rattle.record_ledger.proofs.spreading.bring.Goals as goal
 use Rattle.record_ledger.proofs.spreading.bring.Goals.{then-at-end, else-at-end}
 
 pub loop-preserved : goal.loop-preserved
-loop-preserved c = record {
+loop-preserved g c = record {
   permuted = elim c.if-at-end.branch [
     | then-at-end w ↦ subst (IsPermutation c.args.order.now) (sym w.order-is)
         (IsPermutation-trans _ _ _ c.loop.invariant.permuted w.bring_one.ensures.permutation)
