@@ -134,11 +134,10 @@ pub fn meter<R: Threads + Sync, S: Source, K: Sink, E: Sink, M: Caches, G: Gate>
         settings.now.size)
         seen (IsUntouched seen.stderr) result }
 {
+    let (rt, alloc) = (engine.rt, engine.alloc);
+    let (size, threads) = (settings.size, settings.workers);
     match gathered_from(engine, settings, input, caches) {
-        Ok(gathered) => {
-            let (rt, alloc) = (engine.rt, engine.alloc);
-            write_stream(rt, alloc, &gathered, settings.size, settings.workers, output, stderr)
-        }
+        Ok(gathered) => write_stream(rt, alloc, &gathered, size, threads, output, stderr),
         Err(status) => status,
     }
 }

@@ -90,11 +90,10 @@ pub fn pipe_input<R: Threads + Wait + Sync, S: Source, K: Sink, E: Sink, M: Cach
         (side E.held E.faults stderr.old stderr.new) (M.metered caches.new)
         in Ends (as_meter (piping_of settings.now)) seen (IsUntouched seen.stderr) result }
 {
+    let (rt, alloc) = (engine.rt, engine.alloc);
+    let (size, threads) = (settings.size, settings.workers);
     match gathered_in_batches(engine, settings, input, caches) {
-        Ok(gathered) => {
-            let (rt, alloc) = (engine.rt, engine.alloc);
-            write_stream(rt, alloc, &gathered, settings.size, settings.workers, output, stderr)
-        }
+        Ok(gathered) => write_stream(rt, alloc, &gathered, size, threads, output, stderr),
         Err(status) => status,
     }
 }
