@@ -1,3 +1,4 @@
 pub mod KeyFields
 pub mod KeyOrder
 pub mod KeyWords
+pub mod Masks

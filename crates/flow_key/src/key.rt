@@ -32,6 +32,20 @@ pub struct FlowKey {
 /// The multiplier that [`FlowKey::set_of`] mixes each word with: 2^64 divided by the golden ratio, rounded down.
 const MULTIPLIER: u64 = 0x9E37_79B9_7F4A_7C15;
 
+/// The remainder of a division by `sets`: by a mask where that is a power of two.
+#[inline]
+fn remainder(number: u64, sets: u64) -> u64
+    requires { 1 ≤ sets }
+    ensures { result ≡ number % sets }
+{
+    let power = 1u64 << sets.trailing_zeros().min(63);
+    if power == sets {
+        number & (power - 1)
+    } else {
+        number % sets
+    }
+}
+
 impl FlowKey {
     ghost use Rattle.flow_key.specs.Key.{words_of, set_number, key_order};
     ghost use Rattle.flow_key.specs.Fields.{fields_in, IsKeyOf};
@@ -89,7 +103,8 @@ impl FlowKey {
     /// The number of the set that the key belongs to, counted from 0, in a table of `sets` sets.
     ///
     /// Each word of the key is taken into a hash by `xor` and a product modulo 2^64; the upper half of the
-    /// hash, modulo `sets`, is the answer.
+    /// hash, modulo `sets`, is the answer: without a division where `sets` is a power of two.
+    #[inline]
     pub fn set_of(&self, sets: u64) -> u64
         requires { 1 ≤ sets }
         ensures number { result ≡ set_number self.now sets }
@@ -99,7 +114,7 @@ impl FlowKey {
         for word in self.to_words() {
             hash = (hash ^ word).wrapping_mul(MULTIPLIER);
         }
-        (hash >> 32) % sets
+        remainder(hash >> 32, sets)
     }
 
     /// How this key and another stand in the order of keys: by version, source address, destination address, protocol,
