@@ -51,7 +51,7 @@ fn fragments_in(alloc: Global, words: &[u64], roots: usize) -> Result<Vec<Fragme
     requires { 10 * roots ≤ length words.now }
     ensures { IfOk result (λ parts. (sets seats : ℕ) → parts.items ≡ parts_in (rows_at sets seats words.now roots)) }
 {
-    let mut parts = Vec::new(alloc);
+    let mut parts = Vec::with_capacity(alloc, roots)?;
     for root in 0..roots {
         add(&mut parts, entry(content(words, root)))?;
     }

@@ -81,7 +81,7 @@ fn root_contents(
         → slice_index (slots_items closed.now.words) (roots_from shape + root) < slot_count shape }
     ensures { IfOk result (λ contents. contents.items ≡ contents_of_roots shape (slots_items closed.now.words)) }
 {
-    let mut contents = Vec::new(alloc);
+    let mut contents = Vec::with_capacity(alloc, shape.roots.saturating_mul(shape.width))?;
     for root in 0..shape.roots {
         put_root(&mut contents, closed, shape, root)?;
     }

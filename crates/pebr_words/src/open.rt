@@ -83,13 +83,24 @@ fn put_all(words: &mut Vec<u64>, more: &[u64]) -> Result<(), NoMemory>
     Ok(())
 }
 
+/// Room for all words, of which the roots' contents are so many. It has none yet.
+fn no_words(alloc: Global, shape: Shape, contents: usize) -> Result<Vec<u64>, NoMemory>
+    requires { IsWithinLimits shape }
+    ensures { IfOk result (λ words. words.items ≡ []) }
+{
+    let room = slots_from(shape)
+        .saturating_add(contents)
+        .saturating_add(spare_words(shape));
+    Ok(Vec::with_capacity(alloc, room)?)
+}
+
 /// All words as they are at first.
 fn first_words(alloc: Global, shape: Shape, contents: &[u64]) -> Result<Vec<u64>, NoMemory>
     requires limits { IsWithinLimits shape }
     requires long { length contents.now ≡ shape.roots * shape.width }
     ensures { IfOk result (λ words. words.items ≡ opening_words shape contents.now) }
 {
-    let mut words = Vec::new(alloc);
+    let mut words = no_words(alloc, shape, contents.len())?;
     put_zeros(&mut words, roots_from(shape))?;
     push_roots(&mut words, shape.roots)?;
     put_all(&mut words, contents)?;
