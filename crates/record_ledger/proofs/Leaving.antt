@@ -22,7 +22,6 @@ use Rattle.record_ledger.specs.Buckets.{CountsSlots, IsCountedAlone, AreDealt, A
 use Rattle.record_ledger.specs.Buckets.{AreDealtIn, AreBefore, LiesAt, LieIn, IsDealing, MovesDealt, places_of}
 use Rattle.record_ledger.specs.Buckets.{seat_order}
 use Rattle.record_ledger.specs.declared.dealing.Dealing.{Dealing}
-use Rattle.record_ledger.specs.declared.dealing.Dealings.{Dealings}
 use Rattle.record_ledger.specs.Steps.{Rises}
 use Rattle.record_ledger.proofs.Dealt.{behind, none_lie}
 use Rattle.record_ledger.proofs.Placed.{IsBelow, ahead_of, more_ahead, some_at}
@@ -41,15 +40,6 @@ between F A B f h = IsPermutation-trans (F ++ f ∷ []) (f ∷ F) (A ++ f ∷ B)
     (IsPermutation-trans (f ∷ F) (f ∷ (A ++ B)) (A ++ f ∷ B)
     (IsPermutation-append_right (f ∷ []) F (A ++ B) h) (behind f A B))
 
--- one more fragment has its place
-pub one_placed : (pieces : List Piece) (before : List Fragment) (f : Fragment) (ps qs : List Place) (p : Place)
-    → part_in pieces p ≡ Some f → p.last ≡ f.last → p.leading ≡ leading_number f.key → qs ≡ ps ++ p ∷ []
-    → AllZip (IsPartPlaceOf pieces) before ps → AllZip (IsPartPlaceOf pieces) (before ++ f ∷ []) qs
-one_placed pieces before f ps qs p here last leading eq h =
-    subst (AllZip (IsPartPlaceOf pieces) (before ++ f ∷ [])) (sym eq)
-    (AllZip-append (IsPartPlaceOf pieces) before ps (f ∷ []) (p ∷ []) h
-    (record { here = here; last = last; leading = leading }, tt))
-
 one_on : (n i : ℕ) (ps : List Place) → AreBefore n i ps → AreBefore n (i + 1) ps
 one_on n i ps h = record {
   below = All-weaker (λ q. (q.bucket ≡ n) × (q.at < i)) (λ q. (q.bucket ≡ n) × (q.at < i + 1))
@@ -58,13 +48,12 @@ one_on n i ps h = record {
 }
 
 -- one more place in a piece is behind those before
-pub more_before : (n i : ℕ) (ps qs : List Place) (p : Place) → p.bucket ≡ n → p.at ≡ i → qs ≡ ps ++ p ∷ []
-    → AreBefore n i ps → AreBefore n (i + 1) qs
-more_before n i ps qs p e f eq h = record {
-  below = subst (All (λ q. (q.bucket ≡ n) × (q.at < i + 1))) (sym eq)
-      (All-append (λ q. (q.bucket ≡ n) × (q.at < i + 1)) ps (p ∷ []) (one_on n i ps h).below
-      (All-one (λ q. (q.bucket ≡ n) × (q.at < i + 1)) p (e, omega (arith, f))));
-  rising = (more_ahead n i ps qs p e f eq (
+more_before : (n i : ℕ) (ps : List Place) (p : Place) → p.bucket ≡ n → p.at ≡ i → AreBefore n i ps
+    → AreBefore n (i + 1) (ps ++ p ∷ [])
+more_before n i ps p e f h = record {
+  below = All-append (λ q. (q.bucket ≡ n) × (q.at < i + 1)) ps (p ∷ []) (one_on n i ps h).below
+      (All-one (λ q. (q.bucket ≡ n) × (q.at < i + 1)) p (e, omega (arith, f)));
+  rising = (more_ahead n i ps (ps ++ p ∷ []) p e f refl (
     All-weaker (λ q. (q.bucket ≡ n) × (q.at < i)) (IsBelow n i) (λ q b. inr b) ps h.below,
     h.rising,
   )).1;
@@ -86,41 +75,46 @@ first_added n i ps ds qs eq k h = record {
 }
 
 -- one more fragment of a piece
-module _ (counts : List ℕ) (pieces : List Piece) (n at : ℕ) (piece : List Fragment) (f : Fragment) (d e : Dealing)
-    (here : slice_get piece at ≡ Some f) (h : AreDealtIn counts pieces n piece at d) where
+module _ (counts : List ℕ) (pieces : List Piece) (n at : ℕ) (piece : List Fragment) (f : Fragment)
+    (before : List Place) (d e : Dealing) (here : slice_get piece at ≡ Some f)
+    (h : AreDealtIn counts pieces n piece at before d) where
   more_taken : take at piece ++ f ∷ [] ≡ take (at + 1) piece
   more_taken = ap (λ g. take at piece ++ g ∷ []) (sym (get_or_from_slice_get piece at f f here))
       ∙ sym (take_more piece at f (slice_get_within piece at f here))
 
   -- it stays
-  pub one_left : IsCountedAlone counts f → e.moved.items ≡ d.moved.items
-      → ((A : List Fragment) → AllZip (IsPartPlaceOf pieces) A d.alone.items
-      → AllZip (IsPartPlaceOf pieces) (A ++ f ∷ []) e.alone.items)
-      → (AreBefore n at d.alone.items → AreBefore n (at + 1) e.alone.items)
-      → AreDealtIn counts pieces n piece (at + 1) e
-  one_left is same more first = record {
+  pub one_left : IsCountedAlone counts f → e.moved.items ≡ d.moved.items → (p : Place)
+      → e.alone.items ≡ d.alone.items ++ p ∷ [] → part_in pieces p ≡ Some f → p.last ≡ f.last
+      → p.leading ≡ leading_number f.key → p.bucket ≡ n → p.at ≡ at
+      → AreDealtIn counts pieces n piece (at + 1) before e
+  one_left is same p more there last leading number seat = record {
     alone = h.alone ++ f ∷ [];
     others = h.others;
+    order = h.order ++ p ∷ [];
     whole = subst (λ l. IsPermutation l ((h.alone ++ f ∷ []) ++ h.others)) more_taken
         (subst (IsPermutation (take at piece ++ f ∷ [])) (sym (append_assoc h.alone (f ∷ []) h.others))
         (between (take at piece) h.alone h.others f h.whole));
-    places = more h.alone h.places;
-    first = first h.first;
+    behind = more ∙ ap (λ l. l ++ p ∷ []) h.behind ∙ append_assoc before h.order (p ∷ []);
+    places = AllZip-append (IsPartPlaceOf pieces) h.alone h.order (f ∷ []) (p ∷ []) h.places
+        (record { here = there; last = last; leading = leading }, tt);
+    first = more_before n at h.order p number seat h.first;
     counted = All-append (IsCountedAlone counts) h.alone (f ∷ []) h.counted (All-one (IsCountedAlone counts) f is);
     moved = subst (AllZip (LiesAt piece) h.others) (sym same) h.moved;
   }
 
   -- it is to be moved
   pub one_moved : e.alone.items ≡ d.alone.items → e.moved.items ≡ d.moved.items ++ at ∷ []
-      → AreDealtIn counts pieces n piece (at + 1) e
+      → AreDealtIn counts pieces n piece (at + 1) before e
   one_moved same more = record {
     alone = h.alone;
     others = h.others ++ f ∷ [];
+    order = h.order;
     whole = subst (λ l. IsPermutation l (h.alone ++ (h.others ++ f ∷ []))) more_taken
         (subst (IsPermutation (take at piece ++ f ∷ [])) (append_assoc h.alone h.others (f ∷ []))
         (IsPermutation-append_left (f ∷ []) (take at piece) (h.alone ++ h.others) h.whole));
-    places = subst (AllZip (IsPartPlaceOf pieces) h.alone) (sym same) h.places;
-    first = subst (AreBefore n (at + 1)) (sym same) (one_on n at d.alone.items h.first);
+    behind = same ∙ h.behind;
+    places = h.places;
+    first = one_on n at h.order h.first;
     counted = h.counted;
     moved = subst (AllZip (LiesAt piece) (h.others ++ f ∷ [])) (sym more)
         (AllZip-append (LiesAt piece) h.others d.moved.items (f ∷ []) (at ∷ []) h.moved (here, tt));
@@ -128,16 +122,17 @@ module _ (counts : List ℕ) (pieces : List Piece) (n at : ℕ) (piece : List Fr
 
 -- no fragment of a piece is dealt yet
 pub none_found : (counts : List ℕ) (pieces : List Piece) (n : ℕ) (piece : List Fragment) (d : Dealing)
-    → d.alone.items ≡ [] → d.moved.items ≡ [] → AreDealtIn counts pieces n piece 0 d
-none_found counts pieces n piece d e f = record {
+    → d.moved.items ≡ [] → AreDealtIn counts pieces n piece 0 d.alone.items d
+none_found counts pieces n piece d e = record {
   alone = [];
   others = [];
+  order = [];
   whole = IsPermutation-refl [];
-  places = subst (AllZip (IsPartPlaceOf pieces) []) (sym e) tt;
-  first = subst (AreBefore n 0) (sym e)
-      (record { below = All-nil (λ q. (q.bucket ≡ n) × (q.at < 0)); rising = tt });
+  behind = sym (append-nil d.alone.items);
+  places = tt;
+  first = record { below = All-nil (λ q. (q.bucket ≡ n) × (q.at < 0)); rising = tt };
   counted = All-nil (IsCountedAlone counts);
-  moved = subst (AllZip (LiesAt piece) []) (sym f) tt;
+  moved = subst (AllZip (LiesAt piece) []) (sym e) tt;
 }
 
 -- the elements of two lists at one place
@@ -171,7 +166,7 @@ inner_changed A B C D =
     (IsPermutation-append_left D (B ++ C) (C ++ B) (IsPermutation-append_comm B C))))))
 
 -- the lists of places up to one more
-places_added : (lists : List (Vec Place Global)) (list : Vec Place Global)
+pub places_added : (lists : List (Vec Place Global)) (list : Vec Place Global)
     → places_of (lists ++ list ∷ []) ≡ places_of lists ++ list.items
 places_added lists list = flat_map-append (λ (l : Vec Place Global). l.items) lists (list ∷ [])
     ∙ ap (λ z. places_of lists ++ z) (append-nil list.items)
@@ -192,14 +187,14 @@ lie_added (q ∷ pieces) (n ∷ moved) others p m parts z h = (
 )
 
 -- no piece is dealt yet
-pub none_dealt : (counts : List ℕ) (pieces : List Piece) (ds : Dealings) → ds.alone.items ≡ [] → ds.moved.items ≡ []
-    → AreDealings counts pieces 0 ds
-none_dealt counts pieces ds e f = record {
+pub none_dealt : (counts : List ℕ) (pieces : List Piece) (order : List Place) (moves : List (Vec ℕ Global))
+    → order ≡ [] → moves ≡ [] → AreDealings counts pieces 0 order moves
+none_dealt counts pieces order moves e f = record {
   alone = [];
   others = [];
   whole = IsPermutation-refl [];
-  places = subst (λ l. AllZip (IsPartPlaceOf pieces) [] (places_of l)) (sym e) tt;
-  first = subst (λ l. AreFirst 0 (places_of l)) (sym e)
+  places = subst (AllZip (IsPartPlaceOf pieces) []) (sym e) tt;
+  first = subst (AreFirst 0) (sym e)
       (record { below = All-nil (λ place. place.bucket < 0); rising = tt });
   counted = All-nil (IsCountedAlone counts);
   moved = subst (λ l. LieIn [] l []) (sym f) refl;
@@ -208,14 +203,14 @@ none_dealt counts pieces ds e f = record {
 -- the next one of the dealings is that of the next piece
 pub dealing_next : (counts : List ℕ) (pieces : List Piece) (ds ys rest : List (Result Dealing NoMemory))
     (r : Result Dealing NoMemory) (d : Dealing) → ds ≡ ys ++ r ∷ rest → r ≡ Ok d → length ds ≡ length pieces
-    → ((n : ℕ) (t : Result Dealing NoMemory) → n < length pieces → IfOk (get_or ds n t) (IsDealing counts pieces n))
-    → (length ys < length pieces) × IsDealing counts pieces (length ys) d
+    → ((n : ℕ) (t : Result Dealing NoMemory) → n < length pieces → IfOk (get_or ds n t) (IsDealing counts pieces n []))
+    → (length ys < length pieces) × IsDealing counts pieces (length ys) [] d
 dealing_next counts pieces ds ys rest r d e is long each =
     let low : length ys < length pieces =
     (let all = ap length e in omega (arith, all, long, length-append ys (r ∷ rest))) in
     let here : get_or ds (length ys) r ≡ Ok d =
     ap (λ l. get_or l (length ys) r) e ∙ get_or-append_seam ys r rest r ∙ is in
-    (low, subst (λ o. IfOk o (IsDealing counts pieces (length ys))) here (each (length ys) r low))
+    (low, subst (λ o. IfOk o (IsDealing counts pieces (length ys) [])) here (each (length ys) r low))
 
 -- each piece has its list
 pub lie_many : (pieces : List Piece) (moved : List (Vec ℕ Global)) (parts : List Fragment) → LieIn pieces moved parts
@@ -226,15 +221,14 @@ lie_many (p ∷ pieces) [] parts h = absurd h
 lie_many (p ∷ pieces) (m ∷ moved) parts h = ap suc (lie_many pieces moved h.1 h.4)
 
 -- one more piece is dealt
-pub piece_added : (counts : List ℕ) (pieces : List Piece) (n : ℕ) (p : Piece) (d : Dealing) (ds es : Dealings)
-    → n < length pieces → p ≡ get_or pieces n p → AreDealtIn counts pieces n p.items (length p.items) d
-    → es.alone.items ≡ ds.alone.items ++ d.alone ∷ [] → es.moved.items ≡ ds.moved.items ++ d.moved ∷ []
-    → AreDealings counts pieces n ds → AreDealings counts pieces (n + 1) es
-piece_added counts pieces n p d ds es low is k e f h =
+pub piece_added : (counts : List ℕ) (pieces : List Piece) (n : ℕ) (p : Piece) (before : List Place) (d : Dealing)
+    (order order' : List Place) (moves moves' : List (Vec ℕ Global)) → n < length pieces → p ≡ get_or pieces n p
+    → (k : AreDealtIn counts pieces n p.items (length p.items) before d) → order' ≡ order ++ k.order
+    → moves' ≡ moves ++ d.moved ∷ [] → AreDealings counts pieces n order moves
+    → AreDealings counts pieces (n + 1) order' moves'
+piece_added counts pieces n p before d order order' moves moves' low is k more f h =
     let all : IsPermutation p.items (k.alone ++ k.others) =
     subst (λ l. IsPermutation l (k.alone ++ k.others)) (take_all (length p.items) p.items (omega arith)) k.whole in
-    let more : places_of es.alone.items ≡ places_of ds.alone.items ++ d.alone.items =
-    ap places_of e ∙ places_added ds.alone.items d.alone in
     let taken : take (n + 1) pieces ≡ take n pieces ++ p ∷ [] =
     take_more pieces n p low ∙ ap (λ q. take n pieces ++ q ∷ []) (sym is) in
     record {
@@ -248,25 +242,23 @@ piece_added counts pieces n p d ds es low is k e f h =
           h.whole all)
           (inner_changed h.alone h.others k.alone k.others));
       places = subst (AllZip (IsPartPlaceOf pieces) (h.alone ++ k.alone)) (sym more)
-          (AllZip-append (IsPartPlaceOf pieces) h.alone (places_of ds.alone.items) k.alone d.alone.items
-          h.places k.places);
-      first = first_added n (length p.items) (places_of ds.alone.items) d.alone.items (places_of es.alone.items) more
-          k.first h.first;
+          (AllZip-append (IsPartPlaceOf pieces) h.alone order k.alone k.order h.places k.places);
+      first = first_added n (length p.items) order k.order order' more k.first h.first;
       counted = All-append (IsCountedAlone counts) h.alone k.alone h.counted k.counted;
-      moved = subst (λ l. LieIn l es.moved.items (h.others ++ k.others)) (sym taken)
+      moved = subst (λ l. LieIn l moves' (h.others ++ k.others)) (sym taken)
           (subst (λ l. LieIn (take n pieces ++ p ∷ []) l (h.others ++ k.others)) (sym f)
-          (lie_added (take n pieces) ds.moved.items h.others p d.moved k.others k.moved h.moved));
+          (lie_added (take n pieces) moves h.others p d.moved k.others k.moved h.moved));
     }
 
 -- all pieces are dealt, and the others moved to empty buckets
-pub all_dealt : (counts : List ℕ) (pieces : List Piece) (ds : Dealings) (ps : List Place) (none bs : List Bucket)
-    → CountsSlots (items_of pieces) counts → AreDealings counts pieces (length pieces) ds
-    → ps ≡ places_of ds.alone.items → records_of none ≡ [] → MovesDealt pieces ds.moved.items none bs
-    → (AreByKey none → AreByKey bs) → AreDealt (items_of pieces) pieces ps bs
-all_dealt counts pieces ds ps none bs counted h e empty moves by_key =
+pub all_dealt : (counts : List ℕ) (pieces : List Piece) (order ps : List Place) (lists : List (Vec ℕ Global))
+    (none bs : List Bucket) → CountsSlots (items_of pieces) counts
+    → AreDealings counts pieces (length pieces) order lists → ps ≡ order → records_of none ≡ []
+    → MovesDealt pieces lists none bs → (AreByKey none → AreByKey bs) → AreDealt (items_of pieces) pieces ps bs
+all_dealt counts pieces order ps lists none bs counted h e empty moves by_key =
     let all : take (length pieces) pieces ≡ pieces = take_all (length pieces) pieces (omega arith) in
     let there : IsPermutation (h.others ++ parts_of (records_of none)) (parts_of (records_of bs)) =
-    moves h.others (subst (λ l. LieIn l ds.moved.items h.others) all h.moved) in
+    moves h.others (subst (λ l. LieIn l lists h.others) all h.moved) in
     let moved : IsPermutation h.others (parts_of (records_of bs)) =
     subst (λ l. IsPermutation l (parts_of (records_of bs)))
     (ap (λ rs. h.others ++ parts_of rs) empty ∙ append-nil h.others) there in

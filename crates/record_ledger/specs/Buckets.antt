@@ -19,7 +19,6 @@ use Rattle.flow_parts.specs.Reaching.{Reaches}
 use Rattle.record_ledger.specs.declared.record.FlowRecord.{FlowRecord}
 use Rattle.record_ledger.specs.declared.place.Place.{Place}
 use Rattle.record_ledger.specs.declared.dealing.Dealing.{Dealing}
-use Rattle.record_ledger.specs.declared.dealing.Dealings.{Dealings}
 use Rattle.record_ledger.specs.declared.dealing.Room.{Room}
 use Rattle.record_ledger.specs.declared.store.Store.{Store}
 use Rattle.record_ledger.specs.Gathered.{AreJoined}
@@ -189,21 +188,24 @@ abbrev pub LiesAt : List Fragment → Fragment → ℕ → Type 0
 LiesAt piece f at = slice_get piece at ≡ Some f
 
 -- The first fragments of the piece with this number, up to a place, as counts of slots deal them: those that stay, each
--- alone in its slot, have their places, and the others lie where they are to be moved from.
+-- alone in its slot, have their places behind those that were listed before, and the others lie where they are to be
+-- moved from.
 pub record AreDealtIn (counts : List ℕ) (pieces : List Piece) (number : ℕ) (piece : List Fragment) (at : ℕ)
-    (dealing : Dealing) : Type 0 where
+    (before : List Place) (dealing : Dealing) : Type 0 where
   pub alone : List Fragment
   pub others : List Fragment
+  pub order : List Place
   pub whole : IsPermutation (take at piece) (alone ++ others)
-  pub places : AllZip (IsPartPlaceOf pieces) alone dealing.alone.items
-  pub first : AreBefore number at dealing.alone.items
+  pub behind : dealing.alone.items ≡ before ++ order
+  pub places : AllZip (IsPartPlaceOf pieces) alone order
+  pub first : AreBefore number at order
   pub counted : All (IsCountedAlone counts) alone
   pub moved : AllZip (LiesAt piece) others dealing.moved.items
 
 -- All fragments of the piece with this number are dealt so.
-abbrev pub IsDealing : List ℕ → List Piece → ℕ → Dealing → Type 0
-IsDealing counts pieces number dealing = (p : Piece) → slice_get pieces number ≡ Some p
-    → AreDealtIn counts pieces number p.items (length p.items) dealing
+abbrev pub IsDealing : List ℕ → List Piece → ℕ → List Place → Dealing → Type 0
+IsDealing counts pieces number before dealing = (p : Piece) → slice_get pieces number ≡ Some p
+    → AreDealtIn counts pieces number p.items (length p.items) before dealing
 
 -- The places of some lists, one list after the other.
 abbrev pub places_of : List (Vec Place Global) → List Place
@@ -224,14 +226,15 @@ MovesDealt pieces moved before after = (parts : List Fragment) → LieIn pieces 
 
 -- The fragments of the first pieces, as many as the number, as counts of slots deal them: those that stay, each alone
 -- in its slot, have their places, and the others lie where they are to be moved from.
-pub record AreDealings (counts : List ℕ) (pieces : List Piece) (number : ℕ) (dealings : Dealings) : Type 0 where
+pub record AreDealings (counts : List ℕ) (pieces : List Piece) (number : ℕ) (order : List Place)
+    (moves : List (Vec ℕ Global)) : Type 0 where
   pub alone : List Fragment
   pub others : List Fragment
   pub whole : IsPermutation (items_of (take number pieces)) (alone ++ others)
-  pub places : AllZip (IsPartPlaceOf pieces) alone (places_of dealings.alone.items)
-  pub first : AreFirst number (places_of dealings.alone.items)
+  pub places : AllZip (IsPartPlaceOf pieces) alone order
+  pub first : AreFirst number order
   pub counted : All (IsCountedAlone counts) alone
-  pub moved : LieIn (take number pieces) dealings.moved.items others
+  pub moved : LieIn (take number pieces) moves others
 
 -- Nothing is there yet.
 abbrev pub IsEmptyRoom : Room → Type 0

@@ -12,7 +12,8 @@ use crate::record::FlowRecord;
 use flow_key::FlowKey;
 use std::cmp::Ordering;
 
-/// The most records that are arranged: half as many again as a bucket is made for.
+/// The most records that are arranged. A bucket has more only where keys fall unevenly, or where very many fragments were
+/// moved.
 const MOST: usize = 3072;
 
 /// Where a record lies, and the leading number of its key.

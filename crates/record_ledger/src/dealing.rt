@@ -8,11 +8,11 @@ ghost use Rattle.std.specs.List.{AllZip};
 ghost use Rattle.no_memory.specs.declared.NoMemory.{NoMemory};
 ghost use Rattle.flow_parts.specs.declared.fragment.Fragment.{Fragment};
 ghost use Rattle.flow_parts.specs.Pieces.{items_of};
+ghost use Rattle.record_ledger.specs.declared.place.Place.{Place};
 ghost use Rattle.record_ledger.specs.Lawful.{parts_of};
-ghost use Rattle.record_ledger.specs.Buckets.{records_of, AreByKey, AreDealt, AreDealtIn, AreBefore, IsDealing};
+ghost use Rattle.record_ledger.specs.Buckets.{records_of, AreByKey, AreDealt, AreDealtIn, IsDealing};
 ghost use Rattle.record_ledger.specs.Buckets.{AreDealings, MovesDealt, LieIn, places_of, IsEmptyRoom};
-ghost use Rattle.record_ledger.specs.Buckets.{CountsSlots, IsPartPlaceOf, Piece, part_of_piece};
-ghost use Rattle.record_ledger.specs.Buckets.{IsCountedAlone};
+ghost use Rattle.record_ledger.specs.Buckets.{CountsSlots, IsCountedAlone, Piece, leading_number};
 ghost use Rattle.std.specs.Prelude.{◌-◌, true, false};
 
 use crate::leading::leading_number;
@@ -32,6 +32,9 @@ const MOVED_PART: usize = 8;
 /// How many fragments' slots are looked up together.
 const RUN: usize = 16;
 
+/// Fewer fragments than these are dealt by one thread: starting others takes longer than they save.
+const FEW: usize = 16384;
+
 /// Fragments that were dealt.
 #[derive(Drop)]
 pub struct Dealt {
@@ -46,7 +49,7 @@ pub struct Dealt {
 /// How the fragments of one piece are dealt.
 #[derive(Drop)]
 pub struct Dealing {
-    /// The places of those that stay there.
+    /// The places of those that stay there, behind those that were listed before.
     pub alone: Vec<Place>,
     /// The places in the piece, from 0, of those that are moved.
     pub moved: Vec<usize>,
@@ -55,7 +58,7 @@ pub struct Dealing {
 /// How the fragments of all pieces are dealt, in the order of these.
 #[derive(Drop)]
 pub struct Dealings {
-    /// The places of those that stay there.
+    /// The places of those that stay there, one list after the other.
     pub alone: Vec<Vec<Place>>,
     /// The places in each piece, from 0, of those that are moved.
     pub moved: Vec<Vec<usize>>,
@@ -76,8 +79,9 @@ pub struct Room {
 /// Fragments are told apart by slots, to which their keys are spread: where a slot has one fragment alone, no other has
 /// its key. Of fragments with keys of their own about one in eight shares a slot, and is dealt to a bucket all the same.
 /// Where less than half would stay, all are moved to buckets, and the room of the pieces is let go meanwhile. At most
-/// `threads` threads find out which stay. Where there may be several, two others make room while slots are counted, and
-/// later one adds up the places of those that stay, while the calling one moves the others.
+/// `threads` threads find out which stay, and one where there are fewer than 16,384 fragments. Where there may be
+/// several, two others make room while slots are counted, and later one adds up the places of those that stay, while
+/// the calling one moves the others.
 pub fn deal<R: Threads + Sync>(
     rt: &R,
     alloc: Global,
@@ -89,6 +93,7 @@ pub fn deal<R: Threads + Sync>(
 {
     let pieces = parts.into_pieces()?;
     let fragments = count_of(&pieces);
+    let threads = threads_for(fragments, threads);
     let (counts, room) = count_beside(rt, alloc, &pieces, fragments, threads)?;
     if most_stay(&counts, fragments) {
         return deal_pieces(rt, alloc, pieces, &counts, room, threads);
@@ -99,6 +104,14 @@ pub fn deal<R: Threads + Sync>(
         alone: Vec::new(alloc),
         buckets: move_all(alloc, pieces, fragments)?,
     })
+}
+
+/// At most how many threads deal so many fragments, where there may be `threads`.
+fn threads_for(fragments: usize, threads: usize) -> usize
+    requires { 0 < threads }
+    ensures { 0 < result }
+{
+    if fragments < FEW { 1 } else { threads }
 }
 
 /// Whether at least half of so many fragments stay where they lie: as many slots have one fragment alone.
@@ -122,8 +135,7 @@ fn deal_pieces<R: Threads + Sync>(
         dealt.buckets.items) }
 {
     let fragments = count_of(&pieces);
-    let more = fragments.saturating_sub(room.places.capacity());
-    let dealings = parted(alloc, deal_each(rt, alloc, &pieces, counts, more, threads)?)?;
+    let dealings = deal_all(rt, alloc, &pieces, counts, fragments, threads)?;
     let room = with_buckets(alloc, room, fragments)?;
     let Room { places, buckets } = take_dealings(rt, &pieces, dealings, room, threads)?;
     Ok(Dealt {
@@ -133,13 +145,56 @@ fn deal_pieces<R: Threads + Sync>(
     })
 }
 
+/// Finds out how the fragments of all pieces are dealt, so many of them, by at most `threads` threads. Where there may be
+/// several, each piece has a list of places of its own.
+fn deal_all<R: Threads + Sync>(
+    rt: &R,
+    alloc: Global,
+    pieces: &[Vec<Fragment>],
+    counts: &Slots,
+    fragments: usize,
+    threads: usize,
+) -> Result<Dealings, NoMemory>
+    requires threads { 0 < threads }
+    ensures { IfOk result (λ dealings. AreDealings counts.now pieces.now (length pieces.now)
+        (places_of dealings.alone.items) dealings.moved.items) }
+{
+    if threads < 2 {
+        return deal_in_turn(alloc, pieces, counts, fragments);
+    }
+    parted(alloc, deal_each(rt, alloc, pieces, counts, threads)?)
+}
+
+/// Finds out how the fragments of the pieces are dealt, so many of them, piece after piece. One list, which has room for
+/// all places from the start, takes those of all pieces.
+fn deal_in_turn(
+    alloc: Global,
+    pieces: &[Vec<Fragment>],
+    counts: &Slots,
+    fragments: usize,
+) -> Result<Dealings, NoMemory>
+    ensures { IfOk result (λ dealings. AreDealings counts.now pieces.now (length pieces.now)
+        (places_of dealings.alone.items) dealings.moved.items) }
+{
+    let mut places = Vec::with_capacity(alloc, fragments)?;
+    let mut moved = Vec::with_capacity(alloc, pieces.len())?;
+    for number in 0..pieces.len() {
+        let dealing = deal_piece(alloc, pieces, number, counts, places)?;
+        places = dealing.alone;
+        moved.push(dealing.moved)?;
+    }
+    let mut alone = Vec::with_capacity(alloc, 1)?;
+    alone.push(places)?;
+    Ok(Dealings { alone, moved })
+}
+
 /// The lists of all dealings, or that there was no memory for one of them.
 fn parted(alloc: Global, dealings: Vec<Result<Dealing, NoMemory>>) -> Result<Dealings, NoMemory>
     ensures { IfOk result (λ parted. (counts : List ℕ) (pieces : List Piece)
         → length dealings.items ≡ length pieces
         → ((number : ℕ) (d : Result Dealing NoMemory) → number < length pieces
-        → IfOk (slice_index_or dealings.items number d) (IsDealing counts pieces number))
-        → AreDealings counts pieces (length pieces) parted) }
+        → IfOk (slice_index_or dealings.items number d) (IsDealing counts pieces number []))
+        → AreDealings counts pieces (length pieces) (places_of parted.alone.items) parted.moved.items) }
 {
     let mut alone = Vec::with_capacity(alloc, dealings.len())?;
     let mut moved = Vec::with_capacity(alloc, dealings.len())?;
@@ -331,45 +386,31 @@ fn count_of(pieces: &[Vec<Fragment>]) -> usize {
     count
 }
 
-/// Finds out how the fragments of each piece are dealt, by at most `threads` threads. Each piece has its dealing, or
-/// there was no memory for it. The list of the first has room for `more` places at least.
+/// Finds out how the fragments of each piece are dealt, by at most `threads` threads. Each piece has its dealing, with a
+/// list of places of its own, or there was no memory for it.
 fn deal_each<R: Threads + Sync>(
     rt: &R,
     alloc: Global,
     pieces: &[Vec<Fragment>],
     counts: &Slots,
-    more: usize,
     threads: usize,
 ) -> Result<Vec<Result<Dealing, NoMemory>>, NoMemory>
     requires threads { 0 < threads }
     ensures many { IfOk result (λ dealings. length dealings.items ≡ length pieces.now) }
     ensures dealt { IfOk result (λ dealings. (number : ℕ) (d : Result Dealing NoMemory) → number < length pieces.now
-        → IfOk (slice_index_or dealings.items number d) (IsDealing counts.now pieces.now number)) }
+        → IfOk (slice_index_or dealings.items number d) (IsDealing counts.now pieces.now number [])) }
 {
     let mut dealings = no_dealings(alloc, pieces.len())?;
-    let first = first_filled(pieces);
     for_each_mut(
         rt,
         &mut dealings,
         threads,
         &|number, dealing: &mut Result<Dealing, NoMemory>|
             requires number { number < length pieces.now }
-            ensures { IfOk dealing.new (IsDealing counts.entry.now pieces.entry.now number) }
-        {
-            let room = if number == first { more } else { 0 };
-            *dealing = deal_piece(alloc, pieces, number, counts, room)
-        },
+            ensures { IfOk dealing.new (IsDealing counts.entry.now pieces.entry.now number []) }
+        { *dealing = deal_apart(alloc, pieces, number, counts) },
     );
     Ok(dealings)
-}
-
-/// The number of the first piece that has fragments.
-fn first_filled(pieces: &[Vec<Fragment>]) -> usize {
-    let mut first = 0;
-    while first < pieces.len() && pieces[first].is_empty() {
-        first += 1;
-    }
-    first
 }
 
 /// The dealing of a piece of which nothing is found out yet.
@@ -391,21 +432,34 @@ fn no_dealings(alloc: Global, count: usize) -> Result<Vec<Result<Dealing, NoMemo
     Ok(dealings)
 }
 
-/// Finds out how the fragments of the piece with this number are dealt. The list of places has room for `room` of them at
-/// least: the first one takes in those of the other pieces.
+/// Finds out how the fragments of the piece with this number are dealt, with a list of places of its own.
+fn deal_apart(
+    alloc: Global,
+    pieces: &[Vec<Fragment>],
+    number: usize,
+    counts: &Slots,
+) -> Result<Dealing, NoMemory>
+    requires number { number < length pieces.now }
+    ensures { IfOk result (IsDealing counts.now pieces.now number []) }
+{
+    let places = Vec::with_capacity(alloc, pieces[number].len())?;
+    deal_piece(alloc, pieces, number, counts, places)
+}
+
+/// Finds out how the fragments of the piece with this number are dealt. The places of those that stay go behind `places`.
 fn deal_piece(
     alloc: Global,
     pieces: &[Vec<Fragment>],
     number: usize,
     counts: &Slots,
-    room: usize,
+    places: Vec<Place>,
 ) -> Result<Dealing, NoMemory>
     requires number { number < length pieces.now }
-    ensures { IfOk result (IsDealing counts.now pieces.now number) }
+    ensures { IfOk result (IsDealing counts.now pieces.now number places.items) }
 {
     let piece = &pieces[number];
     let mut dealing = Dealing {
-        alone: Vec::with_capacity(alloc, room.max(piece.len()))?,
+        alone: places,
         moved: Vec::with_capacity(alloc, piece.len())?,
     };
     let mut from = 0;
@@ -426,9 +480,10 @@ fn deal_run(
 ) -> Result<usize, NoMemory>
     requires { from < length piece.now }
     ensures further { IfOk result (λ end. (from < end) × (end ≤ length piece.now)) }
-    ensures dealt { IfOk result (λ end. (pieces : List Piece) (p : Piece) → slice_get pieces number ≡ Some p
-        → p.items ≡ piece.now → AreDealtIn counts.now pieces number p.items from dealing.old
-        → AreDealtIn counts.now pieces number p.items end dealing.new) }
+    ensures dealt { IfOk result (λ end. (pieces : List Piece) (p : Piece) (before : List Place)
+        → slice_get pieces number ≡ Some p → p.items ≡ piece.now
+        → AreDealtIn counts.now pieces number p.items from before dealing.old
+        → AreDealtIn counts.now pieces number p.items end before dealing.new) }
 {
     let end = from.saturating_add(RUN).min(piece.len());
     let alone = alone_of(piece, from, end, counts);
@@ -462,10 +517,11 @@ fn deal_part(
     alone: bool,
     dealing: &mut Dealing,
 ) -> Result<(), NoMemory>
-    ensures { OnOk result ((counts : List ℕ) (pieces : List Piece) (p : Piece) → slice_get pieces number ≡ Some p
-        → slice_get p.items at ≡ Some part.now → (alone ≡ true → IsCountedAlone counts part.now)
-        → AreDealtIn counts pieces number p.items at dealing.old
-        → AreDealtIn counts pieces number p.items (at + 1) dealing.new) }
+    ensures { OnOk result ((counts : List ℕ) (pieces : List Piece) (p : Piece) (before : List Place)
+        → slice_get pieces number ≡ Some p → slice_get p.items at ≡ Some part.now
+        → (alone ≡ true → IsCountedAlone counts part.now)
+        → AreDealtIn counts pieces number p.items at before dealing.old
+        → AreDealtIn counts pieces number p.items (at + 1) before dealing.new) }
 {
     if alone {
         leave_part(part, number, at, &mut dealing.alone)?;
@@ -483,11 +539,9 @@ fn leave_part(
     at: usize,
     alone: &mut Vec<Place>,
 ) -> Result<(), NoMemory>
-    ensures places { OnOk result ((before : List Fragment) (pieces : List Piece)
-        → part_of_piece (slice_get pieces number) at ≡ Some part.now
-        → AllZip (IsPartPlaceOf pieces) before alone.old.items
-        → AllZip (IsPartPlaceOf pieces) (before ++ part.now ∷ []) alone.new.items) }
-    ensures first { OnOk result (AreBefore number at alone.old.items → AreBefore number (at + 1) alone.new.items) }
+    ensures { OnOk result ((place : Place) × (alone.new.items ≡ alone.old.items ++ place ∷ [])
+        × (place.last ≡ part.now.last) × (place.leading ≡ leading_number part.now.key)
+        × (place.bucket ≡ number) × (place.at ≡ at)) }
 {
     alone.push(Place {
         last: part.last,

@@ -13,7 +13,7 @@ use no_memory::NoMemory;
 use std::alloc::Global;
 
 /// About how many fragments a bucket is made for.
-const BUCKET: usize = 2048;
+const BUCKET: usize = 512;
 
 /// The most buckets that are made.
 const MOST_BUCKETS: usize = 2048;
@@ -72,7 +72,7 @@ fn bucket_room(fragments: usize, count: usize) -> usize
         .saturating_add(SPARE)
 }
 
-/// How many buckets are made for so many fragments: a power of two, about one for each 2,048 of them, at most 2,048.
+/// How many buckets are made for so many fragments: a power of two, about one for each 512 of them, at most 2,048.
 fn bucket_count(fragments: usize) -> usize
     ensures { 1 ≤ result }
 {

@@ -133,7 +133,8 @@ fn gaps_and_spans(rt: HostRuntime) -> Result<(), Fail> {
     expect(&rt, rt.alloc(), &[], &[])
 }
 
-/// 10,000 ports, two packets each: about two buckets for each 8,192 fragments, and one record a port, in their order.
+/// 10,000 ports, two packets each: enough fragments for several threads, all in buckets, and one record a port, in their
+/// order.
 #[test]
 fn many_keys(rt: HostRuntime) -> Result<(), Fail> {
     let alloc = rt.alloc();

@@ -1,5 +1,5 @@
 -- Each piece is dealt by one call.
-use Rattle.std.proofs.Common.{rules, ◌≡◌, get_or, length, sym, ap, ◌∙◌, subst, arith, IfOk}
+use Rattle.std.proofs.Common.{rules, ◌≡◌, get_or, [], length, sym, ap, ◌∙◌, subst, arith, IfOk}
 use Rattle.record_ledger.specs.Buckets.{IsDealing}
 use Rattle.record_ledger.proofs.Settled.{given_back}
 use Rattle.record_ledger.proofs.dealing.deal_each.Goals as goal
@@ -22,7 +22,7 @@ returns-clause-dealt g c = λ number d low.
     let lent = ap length c.deref_mut.ensures.value in
     let same : length c.for_each_mut.new.items ≡ length c.deref_mut.result.now = search rules in
     let k = (c.for_each_mut.ensures number d (omega (arith, low, lent, c.in_ok-dealings.ensures))).1 in
-    subst (λ l. IfOk (get_or l number d) (IsDealing c.args.counts.now c.args.pieces.now number))
+    subst (λ l. IfOk (get_or l number d) (IsDealing c.args.counts.now c.args.pieces.now number []))
     (sym (given_back c.in_ok-dealings.dealings.len c.in_ok-dealings.dealings.items c.deref_mut.result.now
     c.for_each_mut.new.items c.in_ok-dealings.dealings.ok.0 c.deref_mut.ensures.value (sym same)))
-    (subst (λ w. IfOk w (IsDealing c.args.counts.now c.args.pieces.now number)) k.left k.call)
+    (subst (λ w. IfOk w (IsDealing c.args.counts.now c.args.pieces.now number [])) k.left k.call)

@@ -8,7 +8,7 @@ abbrev pub invariant-loop-from : goal.invariant-loop-from
 invariant-loop-from l = record {
   within : l.from ≤ length l.piece.items;
   dealt : (p : Piece) → slice_get l.pieces l.number ≡ Some p
-      → AreDealtIn l.counts l.pieces l.number p.items l.from l.dealing;
+      → AreDealtIn l.counts l.pieces l.number p.items l.from l.fn.places.items l.dealing;
 }
 
 abbrev pub decreases-loop-from : goal.decreases-loop-from

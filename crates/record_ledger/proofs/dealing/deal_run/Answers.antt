@@ -14,8 +14,8 @@ loop-at-preserved c =
     record {
       low = omega (arith, c.loop-at.invariant.low);
       high = omega (arith, c.loop-at-test.true);
-      dealt = λ pieces p at_piece same h. c.in_ok-deal_part.ensures c.args.counts.now pieces p at_piece
+      dealt = λ pieces p before at_piece same h. c.in_ok-deal_part.ensures c.args.counts.now pieces p before at_piece
           (subst (λ items. slice_get items at ≡ Some part) (sym same) here)
           (λ told. c.alone_of-alone.ensures at part c.loop-at.invariant.low c.loop-at-test.true here told)
-          (c.loop-at.invariant.dealt pieces p at_piece same h);
+          (c.loop-at.invariant.dealt pieces p before at_piece same h);
     }

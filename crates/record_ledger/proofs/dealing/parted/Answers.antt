@@ -1,8 +1,8 @@
 -- Each turn adds the dealing of one more piece.
 use Rattle.std.proofs.Common.{rules, ◌≡◌, ◌+◌, ◌∷◌, ◌++◌, [], length, length-append, append_assoc}
 use Rattle.std.proofs.Common.{sym, ap, ◌∙◌, subst, arith}
-use Rattle.record_ledger.specs.Buckets.{AreDealings}
-use Rattle.record_ledger.proofs.Leaving.{none_dealt, piece_added, dealing_next}
+use Rattle.record_ledger.specs.Buckets.{AreDealings, places_of}
+use Rattle.record_ledger.proofs.Leaving.{none_dealt, piece_added, places_added, dealing_next}
 use Rattle.record_ledger.proofs.Placed.{some_at}
 use Rattle.record_ledger.proofs.dealing.parted.Goals as goal
 
@@ -10,7 +10,7 @@ pub loop-dealing-init : goal.loop-dealing-init
 loop-dealing-init c = record {
   left = search rules;
   dealt = λ counts pieces long each.
-      none_dealt counts pieces _ c.in_ok-alone.ensures.items c.in_ok-moved.ensures.items;
+      none_dealt counts pieces _ _ (ap places_of c.in_ok-alone.ensures.items) c.in_ok-moved.ensures.items;
 }
 
 pub loop-dealing-preserved : goal.loop-dealing-preserved
@@ -27,9 +27,12 @@ loop-dealing-preserved c =
           c.in_ok-dealing.was long each in
           let p = some_at pieces (length ys) k.0 in
           let n : length ys + 1 ≡ length (ys ++ x ∷ []) = omega (arith, length-append ys (x ∷ [])) in
-          subst (λ m. AreDealings counts pieces m
-          (record { alone = c.push.new.self; moved = c.push-in-loop-dealing.new.self })) n
-          (piece_added counts pieces (length ys) p.0 c.in_ok-dealing.dealing _ _ k.0 p.2 (k.1 p.0 p.1)
-          c.in_ok-push.ensures.items c.in_ok-push-2.ensures.items
-          (c.loop-dealing.invariant.dealt counts pieces long each));
+          let d = k.1 p.0 p.1 in
+          let alone = c.loop-dealing.alone.items in
+          subst (λ m. AreDealings counts pieces m (places_of c.push.new.self.items)
+          c.push-in-loop-dealing.new.self.items) n
+          (piece_added counts pieces (length ys) p.0 [] c.in_ok-dealing.dealing (places_of alone) _ _ _ k.0 p.2 d
+          (ap places_of c.in_ok-push.ensures.items ∙ places_added alone c.in_ok-dealing.dealing.alone
+          ∙ ap (λ l. places_of alone ++ l) d.behind)
+          c.in_ok-push-2.ensures.items (c.loop-dealing.invariant.dealt counts pieces long each));
     }
