@@ -1,6 +1,6 @@
 //! Room for records that threads copy out of a list, beside the one that writes them.
 
-ghost use Rattle.std.specs.Prelude.{◌≡◌, ◌-◌, ◌↔◌, min, length, All, IfOk, IsTrue};
+ghost use Rattle.std.specs.Prelude.{◌≡◌, ◌<◌, ◌≤◌, ◌-◌, ◌↔◌, min, length, All, IfOk, IsTrue};
 ghost use Rattle.ipfix_writer.specs.Copies.{IsWhole};
 
 use no_memory::NoMemory;
@@ -16,6 +16,9 @@ pub const PART_RECORDS: usize = PART * RUN;
 
 /// The most threads that copy beside the one that writes.
 const MOST_COPIERS: usize = 3;
+
+/// Where there are fewer records than so many, one thread does all.
+const FEW_RECORDS: usize = 16_384;
 
 /// Room for copies of records: a part for each thread that copies, of those that are written now, and another, of those
 /// that it copies meanwhile. Contracts see it as the number of these threads: none, where one thread does all.
@@ -38,14 +41,20 @@ impl Model for CopyRoom {
 }
 
 impl CopyRoom {
-    /// Room for so many threads, the one that writes among them: for each other one, at most three, two parts of 4,096
-    /// records. That is all memory that copying takes.
+    /// Room for so many threads, the one that writes among them, where so many records are to be written: for each
+    /// other thread, at most three, two parts of 4,096 records; and none for fewer than 16,384 records. That is all
+    /// memory that copying takes.
     ///
     /// `NoMemory` where it can't be had.
-    pub fn open(alloc: Global, threads: usize) -> Result<CopyRoom, NoMemory>
-        ensures { IfOk result (λ room. room ≡ min (threads - 1) 3) }
+    pub fn open(alloc: Global, threads: usize, records: usize) -> Result<CopyRoom, NoMemory>
+        ensures few { records < 16384 → IfOk result (λ room. room ≡ 0) }
+        ensures many { 16384 ≤ records → IfOk result (λ room. room ≡ min (threads - 1) 3) }
     {
-        let copiers = threads.saturating_sub(1).min(MOST_COPIERS);
+        let copiers = if records < FEW_RECORDS {
+            0
+        } else {
+            threads.saturating_sub(1).min(MOST_COPIERS)
+        };
         Ok(CopyRoom {
             current: empty_parts(alloc, copiers)?,
             next: empty_parts(alloc, copiers)?,

@@ -1,11 +1,11 @@
 //! Whole streams.
 
-ghost use Rattle.std.specs.Prelude.{◌≡◌, ◌≤◌, ◌<◌, ◌^◌, ◌++◌, List, ℕ, IfOk, OnOk, OnErr};
+ghost use Rattle.std.specs.Prelude.{◌≡◌, ◌≤◌, ◌<◌, ◌^◌, List, ℕ, IfOk, OnErr};
 ghost use Rattle.std.specs.Io.KnownBytes.{Appends};
 ghost use Rattle.meter_io.specs.Causes.{HasCause};
-ghost use Rattle.record_ledger.specs.declared.record.FlowRecord.{FlowRecord};
+ghost use Rattle.meter_io.specs.Sides.{side};
 ghost use Rattle.ipfix_writer.specs.Layout.{IsLayout, IsLayoutOf, BeginsLayout};
-ghost use Rattle.ipfix_writer.specs.Emitting.{IsUnderWay};
+ghost use Rattle.ipfix_writer.specs.Emitting.{HasTakenIn};
 ghost use Rattle.ipfix_model.specs.Sizes.{template_message_length};
 
 use crate::copies::CopyRoom;
@@ -30,17 +30,7 @@ pub(crate) fn emit_run<K: Sink>(
     sink: &mut K,
 ) -> Result<(), Failed>
     requires { emitter.old.phase ≡ Phase.Started }
-    ensures taken { OnOk result ((flows : List FlowRecord) (written : List ℕ) → IsUnderWay emitter.old flows written
-        → (bytes : List ℕ) × Appends (K.held sink.old) (K.held sink.new) bytes
-        × IsUnderWay emitter.new (flows ++ run.now) (written ++ bytes)) }
-    ensures broken { OnErr result ((flows : List FlowRecord) (written : List ℕ) → IsUnderWay emitter.old flows written
-        → (bytes : List ℕ) × Appends (K.held sink.old) (K.held sink.new) bytes
-        × ((rest : List FlowRecord) → BeginsLayout emitter.old.size emitter.old.export_time
-        (flows ++ (run.now ++ rest)) (written ++ bytes))) }
-    ensures settings { (emitter.new.size ≡ emitter.old.size) × (emitter.new.export_time ≡ emitter.old.export_time) }
-    ensures started { OnOk result (emitter.new.phase ≡ Phase.Started) }
-    ensures phase { OnErr result (emitter.new.phase ≡ Phase.Broken) }
-    ensures cause { HasCause (K.faults sink.old) (K.faults sink.new) result }
+    ensures { HasTakenIn emitter.old emitter.new (side K.held K.faults sink.old sink.new) run.now result }
 {
     for flow in run {
         match emitter.record(flow, sink) {
@@ -61,17 +51,7 @@ fn emit_records<K: Sink>(
     sink: &mut K,
 ) -> Result<(), Failed>
     requires { emitter.old.phase ≡ Phase.Started }
-    ensures taken { OnOk result ((flows : List FlowRecord) (written : List ℕ) → IsUnderWay emitter.old flows written
-        → (bytes : List ℕ) × Appends (K.held sink.old) (K.held sink.new) bytes
-        × IsUnderWay emitter.new (flows ++ records.now) (written ++ bytes)) }
-    ensures broken { OnErr result ((flows : List FlowRecord) (written : List ℕ) → IsUnderWay emitter.old flows written
-        → (bytes : List ℕ) × Appends (K.held sink.old) (K.held sink.new) bytes
-        × ((rest : List FlowRecord) → BeginsLayout emitter.old.size emitter.old.export_time
-        (flows ++ (records.now ++ rest)) (written ++ bytes))) }
-    ensures settings { (emitter.new.size ≡ emitter.old.size) × (emitter.new.export_time ≡ emitter.old.export_time) }
-    ensures started { OnOk result (emitter.new.phase ≡ Phase.Started) }
-    ensures phase { OnErr result (emitter.new.phase ≡ Phase.Broken) }
-    ensures cause { HasCause (K.faults sink.old) (K.faults sink.new) result }
+    ensures { HasTakenIn emitter.old emitter.new (side K.held K.faults sink.old sink.new) records.now result }
 {
     let mut run = Run::empty();
     for number in 0..records.len().div_ceil(RUN) {
@@ -96,17 +76,7 @@ fn emit_list<R: Threads + Sync, K: Sink>(
     sink: &mut K,
 ) -> Result<(), Failed>
     requires { emitter.old.phase ≡ Phase.Started }
-    ensures taken { OnOk result ((flows : List FlowRecord) (written : List ℕ) → IsUnderWay emitter.old flows written
-        → (bytes : List ℕ) × Appends (K.held sink.old) (K.held sink.new) bytes
-        × IsUnderWay emitter.new (flows ++ records.now) (written ++ bytes)) }
-    ensures broken { OnErr result ((flows : List FlowRecord) (written : List ℕ) → IsUnderWay emitter.old flows written
-        → (bytes : List ℕ) × Appends (K.held sink.old) (K.held sink.new) bytes
-        × ((rest : List FlowRecord) → BeginsLayout emitter.old.size emitter.old.export_time
-        (flows ++ (records.now ++ rest)) (written ++ bytes))) }
-    ensures settings { (emitter.new.size ≡ emitter.old.size) × (emitter.new.export_time ≡ emitter.old.export_time) }
-    ensures started { OnOk result (emitter.new.phase ≡ Phase.Started) }
-    ensures phase { OnErr result (emitter.new.phase ≡ Phase.Broken) }
-    ensures cause { HasCause (K.faults sink.old) (K.faults sink.new) result }
+    ensures { HasTakenIn emitter.old emitter.new (side K.held K.faults sink.old sink.new) records.now result }
 {
     if room.is_empty() {
         emit_records(emitter, records, sink)

@@ -21,7 +21,8 @@ use record_ledger::{FlowRecord, RecordList, gather};
 use std::alloc::Global;
 use std::thread::Threads;
 
-/// The number of threads that gather the records, and of those that write them or copy what is written next.
+/// The number of threads that gather the records, and, where there are many, of those that write them or copy what is
+/// written next.
 const THREADS: usize = 4;
 
 /// The joined records: those that are gathered from what was taken.
@@ -71,7 +72,7 @@ pub(crate) fn write_records<R: Threads + Sync, K: Sink>(
     let Ok(emitter) = Emitter::open(alloc, size as usize, export_time(clock)) else {
         return JoinStatus::NoMemory;
     };
-    let Ok(room) = CopyRoom::open(alloc, THREADS) else {
+    let Ok(room) = CopyRoom::open(alloc, THREADS, records.len()) else {
         return JoinStatus::NoMemory;
     };
     match emit_all(rt, emitter, room, records, output) {

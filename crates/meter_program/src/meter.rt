@@ -78,8 +78,8 @@ pub fn emit<R: Threads + Sync, K: Sink>(
 /// Writes the stream of these records, in messages of at most `size` octets, and then the summary to standard error.
 ///
 /// At most `threads` threads are at work, at most four: the calling one writes, and the others copy the records that it
-/// writes next. All memory is taken before the first write; with several threads, two rounds of at most three parts of
-/// 4,096 records each are among it.
+/// writes next; where there are fewer than 16,384 records there are no others. All memory is taken before the first
+/// write; where others copy, two rounds of at most three parts of 4,096 records each are among it.
 ///
 /// - `Done`: the output took the stream, and standard error the summary.
 /// - `WriteFault`: only where a write failed and the output or standard error counted it. Both took a beginning of what
@@ -104,7 +104,7 @@ pub fn write_stream<R: Threads + Sync, K: Sink, E: Sink>(
     let Ok(emitter) = emitter_for(alloc, gathered, size) else {
         return Status::NoMemory;
     };
-    let Ok(room) = CopyRoom::open(alloc, threads) else {
+    let Ok(room) = CopyRoom::open(alloc, threads, gathered.records.len()) else {
         return Status::NoMemory;
     };
     let messages = match emit(rt, emitter, room, gathered, output) {

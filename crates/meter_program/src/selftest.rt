@@ -97,7 +97,7 @@ pub fn selftest<R: Threads + Sync, K: Sink, M: Caches, G: Gate>(
     let Ok(emitter) = emitter_for(engine.alloc, &gathered, settings.size) else {
         return Status::NoMemory;
     };
-    let Ok(room) = CopyRoom::open(engine.alloc, settings.workers) else {
+    let Ok(room) = CopyRoom::open(engine.alloc, settings.workers, gathered.records.len()) else {
         return Status::NoMemory;
     };
     let messages = match emit(engine.rt, emitter, room, &gathered, &mut Nowhere) {

@@ -92,7 +92,7 @@ fn listed(
 }
 
 /// How many messages are written of records, and how many octets the sink then has. It takes so many octets a call, and
-/// fails at one call. The records are written by this many threads.
+/// fails at one call. The records are written by at most this many threads.
 fn emitted(
     rt: &(impl Threads + Sync),
     alloc: Global,
@@ -106,9 +106,9 @@ fn emitted(
     requires some { 0 < piece }
 {
     let emitter = Emitter::open(alloc, size, 1000)?;
-    let room = CopyRoom::open(alloc, threads)?;
+    let room = CopyRoom::open(alloc, threads, list.len())?;
     let fails = [fails];
-    let mut sink = MemSink::open(alloc, 1 << 19, piece, fails.as_slice())?;
+    let mut sink = MemSink::open(alloc, 1 << 20, piece, fails.as_slice())?;
     let end = emit_all(rt, emitter, room, list, &mut sink);
     Ok((end, sink.held().len()))
 }
@@ -130,7 +130,8 @@ fn mixed_flows(alloc: Global) -> Result<Vec<FlowRecord>, Fail> {
     Ok(records)
 }
 
-/// The record over IPv6 ends before those over IPv4, so it comes first.
+/// The record over IPv6 ends before those over IPv4, so it comes first. So few records are all written by one thread,
+/// though there may be four.
 #[test]
 fn messages_are_filled(rt: HostRuntime) -> Result<(), Fail> {
     let records = mixed_flows(rt.alloc())?;
@@ -147,7 +148,7 @@ fn messages_are_filled(rt: HostRuntime) -> Result<(), Fail> {
         assert!(rt; count <= records.len() && size >= 116 && size < 65_536);
         let (first, _) = records.as_slice().split_at(count);
         let list = listed(&rt, rt.alloc(), first)?;
-        let emitted = emitted(&rt, rt.alloc(), &list, size, 1, 4096, 0)?;
+        let emitted = emitted(&rt, rt.alloc(), &list, size, 4, 4096, 0)?;
         assert!(rt;
             emitted == (Ok(messages), length),
             "{count} records, size {size}"
@@ -168,19 +169,19 @@ fn a_failed_write_leaves_a_beginning(rt: HostRuntime) -> Result<(), Fail> {
 }
 
 /// The message with the templates has 116 octets, and a message of 28 records has 1,364: the former and 192 of the
-/// latter go out in one call of at most 262,144 octets; 22 more such messages and one of 8 records are left. Two
-/// threads have two rounds of copies, and four have one.
+/// latter go out in one call of at most 262,144 octets, then twice 192; 31 more such messages and one of 4 records are
+/// left. So many records are copied by other threads: two threads have five rounds of copies, and four have two.
 #[test]
 fn a_stream_goes_out_in_whole_messages(rt: HostRuntime) -> Result<(), Fail> {
-    let records = udp_flows(rt.alloc(), 0, 6000)?;
+    let records = udp_flows(rt.alloc(), 0, 17_000)?;
     let list = listed(&rt, rt.alloc(), records.as_slice())?;
     for threads in [1, 2, 4] {
         for (fails, end, held) in [
             (1, Err(Failed), 0),
-            (2, Err(Failed), 116 + 192 * 1364),
-            (0, Ok(216), 116 + 214 * 1364 + 404),
+            (3, Err(Failed), 116 + 384 * 1364),
+            (0, Ok(609), 116 + 607 * 1364 + 212),
         ] {
-            let emitted = emitted(&rt, rt.alloc(), &list, 1400, threads, 1 << 19, fails)?;
+            let emitted = emitted(&rt, rt.alloc(), &list, 1400, threads, 1 << 20, fails)?;
             assert!(rt; emitted == (end, held));
         }
     }

@@ -1,11 +1,10 @@
 -- One more round, whose copies are those that were made beside the round before it.
-use Rattle.std.proofs.Common.{◌≡◌, ◌∙◌, ◌+◌, ◌*◌, ◌<◌, ◌++◌, min, length, take, drop, List, All, refl, sym, ap, subst, arith}
+use Rattle.std.proofs.Common.{◌≡◌, ◌∙◌, ◌+◌, ◌*◌, ◌<◌, ◌++◌, min, length, take, drop, List, All, sym, ap, subst, arith}
 use Rattle.record_ledger.proofs.Settled.{given_back}
 use Rattle.ipfix_writer.specs.Copies.{Part, IsWhole, records_of, HaveCopies}
 use Rattle.ipfix_writer.proofs.UnderWay.{all-taken}
-use Rattle.ipfix_writer.proofs.Runs.{takes-none, takes-more}
 use Rattle.ipfix_writer.proofs.Copied.{round-taken, round-split}
-use Rattle.ipfix_writer.proofs.TakenIn.{whole-in, broken-in}
+use Rattle.ipfix_writer.proofs.TakenIn.{none-in, more-in, whole-in, broken-in}
 use Rattle.ipfix_writer.proofs.rounds.emit_rounds.Goals as goal
 
 pub loop-from-init : goal.loop-from-init
@@ -23,11 +22,7 @@ loop-from-init g c =
       alike = c.room.invariant.2 ∙ sym (ap length back ∙ many);
       whole = c.room.invariant.1;
       copies = subst (HaveCopies c.args.records.now 0) (sym back) c.copy_first.ensures.copies;
-      taken = takes-none c.args.emitter.now (g.K.Sink.held c.args.sink.now);
-      size = refl;
-      export_time = refl;
-      started = c.requires.started;
-      quiet = refl;
+      taken = none-in c.args.emitter.now _ _ c.requires.started;
     }
 
 pub returns-in-Err : goal.returns-in-Err
@@ -42,7 +37,7 @@ returns-in-Err g c =
     ∙ ap (λ n. min (from + n * 4096) (length records)) (c.len-in-loop-from.ensures ∙ c.loop-from.current.ok.0) in
     broken-in c.in-Err.field-0 c.args.emitter.now c.loop-from.emitter c.emit_beside.new.emitter (take from records)
     (records_of c.deref.result.now) (drop behind records) records _ _ _ _ _ _
-    before.taken before.size before.export_time before.quiet c.in-Err.ensures.taken
+    before.taken c.in-Err.ensures.taken
     (ap (λ ps. take from records ++ (records_of ps ++ drop behind records)) c.deref.ensures.value
     ∙ round-split records from behind parts before.copies is)
 
@@ -56,7 +51,6 @@ loop-from-preserved g c =
     let following = c.loop-from.next in
     let lent = c.deref_mut-in-loop-from in
     let copied = c.emit_beside.new.next in
-    let next = c.in-Ok.ensures.taken in
     let many : length copied ≡ length following.items = c.in-Ok.ensures.many ∙ ap length lent.ensures.value in
     let is : behind ≡ min (from + length parts * 4096) (length records) =
     c.place_behind-behind.ensures
@@ -71,21 +65,15 @@ loop-from-preserved g c =
       alike = ap length there ∙ sym before.alike ∙ sym many ∙ sym (ap length here);
       whole = subst (All IsWhole) (sym there) (λ k d l. (before.copies k d l).whole);
       copies = subst (HaveCopies records behind) (sym here) c.in-Ok.ensures.copies;
-      taken = takes-more c.args.emitter.now c.loop-from.emitter c.emit_beside.new.emitter (take from records)
-          (records_of c.deref.result.now) (take behind records) _ _ _ before.taken next.taken
+      taken = more-in tt c.args.emitter.now c.loop-from.emitter c.emit_beside.new.emitter (take from records)
+          (records_of c.deref.result.now) (take behind records) _ _ _ _ _ _ before.taken c.in-Ok.ensures.taken
           (ap (λ ps. take from records ++ records_of ps) c.deref.ensures.value
           ∙ round-taken records from behind parts before.copies is);
-      size = next.size ∙ before.size;
-      export_time = next.export_time ∙ before.export_time;
-      started = next.started;
-      quiet = next.cause.quiet ∙ before.quiet;
     }
 
 pub returns : goal.returns
 returns g c =
     let records = c.args.records.now in
     let from = c.loop-from.from in
-    let before = c.loop-from.invariant in
-    whole-in tt c.args.emitter.now c.loop-from.emitter (take from records) records _ _ _ _ before.taken before.size
-    before.export_time before.started before.quiet
+    whole-in tt c.args.emitter.now c.loop-from.emitter (take from records) records _ _ _ _ c.loop-from.invariant.taken
     (all-taken records from (omega (arith, c.loop-from-test.false, c.len.ensures)))

@@ -23,8 +23,8 @@ returns-clause-written g c =
     let now = c.emit_list.new.emitter in
     let first = c.in-Ok.ensures.started in
     let next = c.in-Ok-emit_list.ensures.taken [] first.0 first.2 in
-    let size = c.in-Ok-emit_list.ensures.settings.0 ∙ c.in-Ok.ensures.settings.0 in
-    let export_time = c.in-Ok-emit_list.ensures.settings.1 ∙ c.in-Ok.ensures.settings.1 in
+    let size = c.in-Ok-emit_list.ensures.size ∙ c.in-Ok.ensures.settings.0 in
+    let export_time = c.in-Ok-emit_list.ensures.export_time ∙ c.in-Ok.ensures.settings.1 in
     on_ok c.finish.result c.finish.ensures.finished (λ messages h.
     let last = h records (first.0 ++ next.0) next.2 in (
       (first.0 ++ next.0) ++ last.0,
@@ -44,6 +44,6 @@ returns-clause-broken g c =
       Appends-trans _ _ _ _ _ (Appends-trans _ _ _ _ _ first.1 next.1) last.1,
       begins-same c.emit_list.new.emitter.size c.args.emitter.size c.emit_list.new.emitter.export_time
           c.args.emitter.export_time _ _ _ _
-          (c.in-Ok-emit_list.ensures.settings.0 ∙ c.in-Ok.ensures.settings.0)
-          (c.in-Ok-emit_list.ensures.settings.1 ∙ c.in-Ok.ensures.settings.1) refl refl last.2,
+          (c.in-Ok-emit_list.ensures.size ∙ c.in-Ok.ensures.settings.0)
+          (c.in-Ok-emit_list.ensures.export_time ∙ c.in-Ok.ensures.settings.1) refl refl last.2,
     ))

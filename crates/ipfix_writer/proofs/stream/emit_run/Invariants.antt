@@ -1,13 +1,9 @@
-use Rattle.std.proofs.Common.{◌≡◌, take}
-use Rattle.ipfix_writer.specs.declared.emitter.Phase.TheVariants.{Started}
-use Rattle.ipfix_writer.proofs.Runs.{Takes}
+-- The records of the run so far are taken in.
+use Rattle.std.proofs.Common.{take}
+use Rattle.meter_io.specs.Sides.{side}
+use Rattle.ipfix_writer.proofs.TakenIn.{TakenSoFar}
 use Rattle.ipfix_writer.proofs.stream.emit_run.Given as goal
 
 abbrev pub invariant-loop-flow : goal.invariant-loop-flow
-invariant-loop-flow g l = record {
-  taken : Takes l.fn.emitter l.emitter (take l.flow-index l.run) (g.K.Sink.held l.fn.sink) (g.K.Sink.held l.sink);
-  size : l.emitter.size ≡ l.fn.emitter.size;
-  export_time : l.emitter.export_time ≡ l.fn.emitter.export_time;
-  started : l.emitter.phase ≡ Started;
-  quiet : g.K.Sink.faults l.sink ≡ g.K.Sink.faults l.fn.sink;
-}
+invariant-loop-flow g l =
+    TakenSoFar l.fn.emitter l.emitter (side g.K.Sink.held g.K.Sink.faults l.fn.sink l.sink) (take l.flow-index l.run)
