@@ -2,12 +2,24 @@
 
 use meter_workers::Gate;
 use std::sync::atomic::{AtomicU64, Ordering};
+use std::thread::yield_now;
 
-/// How often a worker looks for the other one before it gives up.
-const TURNS: u64 = 100_000_000;
+/// How often a thread looks for another one before it gives up.
+const TURNS: u64 = 50_000_000;
 
-/// A gate that holds the worker at the first piece until another worker has reached a piece, or `TURNS` looks were in
-/// vain.
+/// Looks until this word is 1, and lets other threads run between two looks, so that a busy machine is no reason to
+/// give up: `false` where `TURNS` looks were in vain.
+pub fn wait_for(word: &AtomicU64) -> bool {
+    for _turn in 0..TURNS {
+        if word.load(Ordering::SeqCst) == 1 {
+            return true;
+        }
+        yield_now();
+    }
+    false
+}
+
+/// A gate that holds the worker at the first piece until another worker has reached a piece, or the first one gave up.
 #[derive(Drop)]
 pub struct Meeting {
     /// The worker at the first piece, counted from 1.
@@ -44,11 +56,8 @@ impl Gate for Meeting {
         if self.first.swap(me, Ordering::SeqCst) != 0 {
             return;
         }
-        for _turn in 0..TURNS {
-            if self.met.load(Ordering::SeqCst) == 1 {
-                return;
-            }
+        if !wait_for(&self.met) {
+            self.failed.store(1, Ordering::SeqCst);
         }
-        self.failed.store(1, Ordering::SeqCst);
     }
 }

@@ -5,9 +5,7 @@ use capture_maker::capture;
 use meter_workers::Gate;
 use std::sync::atomic::{AtomicU64, Ordering};
 use std::test::Fail;
-
-/// How many times a thread that is held looks for the other before it gives up.
-const TURNS: u64 = 100_000_000;
+use trial_metering::wait_for;
 
 /// A gate that holds all but one at a batch until that one has reached a batch.
 #[derive(Drop)]
@@ -33,12 +31,9 @@ impl Gate for Holding {
         if who == self.awaited {
             self.came.store(1, Ordering::SeqCst);
         }
-        for _turn in 0..TURNS {
-            if self.came.load(Ordering::SeqCst) == 1 {
-                return;
-            }
+        if !wait_for(&self.came) {
+            self.failed.store(1, Ordering::SeqCst);
         }
-        self.failed.store(1, Ordering::SeqCst);
     }
 }
 
