@@ -6,7 +6,8 @@
 The captures are examples/web-exchange.pcap, of ten packets, and one of two packets that is written here. The packets of each are
 dealt into two files in all ways, each packet to one file or the other, in the order of the capture; and then to one file a packet.
 `meter` makes a stream of each file, and `romtyalig-join` joins them: it must write the very bytes that `meter` writes of the whole
-capture. One line for each capture. The status is 1 where any differs. ROMTYALIG and ROMTYALIG_JOIN are the programs' paths
+capture. So it must of the 20,000 flows of workers.py, which several threads gather and write, where the first packet of each flow is
+in one file and the second in the other. One line for each capture. The status is 1 where any differs. ROMTYALIG and ROMTYALIG_JOIN are the programs' paths
 (bin/romtyalig and bin/romtyalig-join unless set).
 """
 
@@ -16,6 +17,10 @@ import sys
 import tempfile
 from concurrent.futures import ThreadPoolExecutor
 from pathlib import Path
+
+sys.dont_write_bytecode = True
+
+import workers  # noqa: E402
 
 TOP = Path(__file__).resolve().parent.parent
 PROGRAM = os.environ.get("ROMTYALIG", str(TOP / "bin" / "romtyalig"))
@@ -68,6 +73,17 @@ def faults(capture: bytes, folder: Path, pool: ThreadPoolExecutor) -> list[str]:
     return [" ".join(path.stem for path in paths) for paths, holds in zip(splits, same) if not holds]
 
 
+def is_joined_alike(capture: bytes) -> bool:
+    """Whether the two halves of this capture give its stream."""
+    packets = packets_of(capture)
+    half = len(packets) // 2
+    with tempfile.TemporaryDirectory() as folder:
+        names = [Path(folder) / "first.ipfix", Path(folder) / "second.ipfix"]
+        for name, part in zip(names, (packets[:half], packets[half:])):
+            name.write_bytes(metered(capture[:24] + b"".join(part)))
+        return joined(names) == metered(capture)
+
+
 def main() -> None:
     captures = {"web-exchange": (TOP / "examples" / "web-exchange.pcap").read_bytes(), "two packets": bytes.fromhex(TWO_PACKETS)}
     differs = 0
@@ -81,7 +97,9 @@ def main() -> None:
             else:
                 print(f"same: {name}, {2**count} splits of {count} packets into two files, and one file a packet")
             differs += len(found)
-    sys.exit(1 if differs else 0)
+    alike = is_joined_alike(workers.many_flows())
+    print(f"{'same' if alike else 'DIFFERS'}: {workers.MANY} flows, each with a packet in each of two files")
+    sys.exit(0 if alike and not differs else 1)
 
 
 if __name__ == "__main__":

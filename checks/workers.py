@@ -3,9 +3,10 @@
 
     python3 checks/workers.py [RUNS [SEED]]
 
-Each capture of examples/ and of generate.py, and some of `make` by the seed (1 unless given), is metered by 1, 2, 4, 8 and 64
-workers, with the sets and pieces of the program and with one set and pieces of one record. Each stream must be one that so many
-workers may write, by second_meter.py: where the capture has one lawful list of records, all streams are the same. Then the web
+Each capture of examples/ and of generate.py, some of `make` by the seed (1 unless given), and one of 20,000 flows, which are so
+many that several threads gather and write them, is metered by 1, 2, 4, 8 and 64 workers, with the sets and pieces of the program
+and with one set and pieces of one record. Each stream must be one that so many workers may write, by second_meter.py: where the
+capture has one lawful list of records, all streams are the same. Then the web
 exchange of examples/ is metered so many times (1,000 unless given) by eight workers with one set and pieces of one record. The
 first stream that isn't allowed ends the run with status 1. ROMTYALIG is the program's path (bin/romtyalig unless set).
 """
@@ -18,6 +19,7 @@ from pathlib import Path
 
 sys.dont_write_bytecode = True
 
+import generate  # noqa: E402
 import second_meter  # noqa: E402
 
 CHECKS = Path(__file__).resolve().parent
@@ -26,6 +28,7 @@ PROGRAM = os.environ.get("ROMTYALIG", str(TOP / "bin" / "romtyalig"))
 IDLE, ACTIVE, SIZE, SETS, PIECE = 300, 1800, 1400, 4096, 256
 SETTINGS = [(workers, sets, piece) for workers in (1, 2, 4, 8, 64) for sets, piece in ((SETS, PIECE), (1, PIECE), (SETS, 1), (1, 1))]
 MADE = [(1000, 1), (5000, 64), (20000, 4096)]
+MANY = 20_000
 
 
 def stream_of(capture: bytes, workers: int, sets: int, piece: int) -> bytes:
@@ -36,6 +39,12 @@ def stream_of(capture: bytes, workers: int, sets: int, piece: int) -> bytes:
     return ran.stdout
 
 
+def many_flows() -> bytes:
+    """UDP flows of two packets each, in raw IP; all first packets come before the second ones, a tenth of a millisecond apart."""
+    frames = [generate.raw4(17, f"10.{n >> 8}.{n & 255}.1", "192.0.2.1", generate.datagram(1024 + n, 53)) for n in range(MANY)]
+    return generate.capture([(generate.START + k // 10, frame) for k, frame in enumerate(frames * 2)], generate.RAW)
+
+
 def captures(seed: int) -> dict[str, bytes]:
     found = {path.name: path.read_bytes() for path in sorted((TOP / "examples").glob("*.pcap"))}
     with tempfile.TemporaryDirectory() as folder:
@@ -44,6 +53,7 @@ def captures(seed: int) -> dict[str, bytes]:
     for packets, keys in MADE:
         words = [PROGRAM, "make", f"--seed={seed}", f"--packets={packets}", f"--keys={keys}"]
         found[" ".join(words[1:])] = subprocess.run(words, capture_output=True, check=True).stdout
+    found["many flows"] = many_flows()
     return found
 
 
