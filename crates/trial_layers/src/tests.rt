@@ -14,3 +14,4 @@ mod pieces;
 mod sides;
 mod tallies;
 mod text;
+mod threads;

@@ -2,22 +2,7 @@
 
 use meter_workers::Gate;
 use std::sync::atomic::{AtomicU64, Ordering};
-use std::thread::yield_now;
-
-/// How often a thread looks for another one before it gives up.
-const TURNS: u64 = 50_000_000;
-
-/// Looks until this word is 1, and lets other threads run between two looks, so that a busy machine is no reason to
-/// give up: `false` where `TURNS` looks were in vain.
-pub fn wait_for(word: &AtomicU64) -> bool {
-    for _turn in 0..TURNS {
-        if word.load(Ordering::SeqCst) == 1 {
-            return true;
-        }
-        yield_now();
-    }
-    false
-}
+use trial_samples::wait_for;
 
 /// A gate that holds the worker at the first piece until another worker has reached a piece, or the first one gave up.
 #[derive(Drop)]
@@ -56,7 +41,7 @@ impl Gate for Meeting {
         if self.first.swap(me, Ordering::SeqCst) != 0 {
             return;
         }
-        if !wait_for(&self.met) {
+        if !wait_for(&self.met, 1) {
             self.failed.store(1, Ordering::SeqCst);
         }
     }

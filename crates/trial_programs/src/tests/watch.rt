@@ -6,7 +6,7 @@ use std::alloc::Global;
 use std::sync::atomic::{AtomicU64, Ordering};
 use std::test::Fail;
 use std::thread::Threads;
-use trial_samples::{octets_of, words_in};
+use trial_samples::{octets_of, wait_for, words_in};
 use watch_program::{WatchStatus, run_watch};
 
 /// A capture's header: little-endian, microseconds, Ethernet.
@@ -89,21 +89,10 @@ struct Late {
     begun: AtomicU64,
 }
 
-/// How often the asker looks for the worker before it gives up, and how often it looks again after that.
-const TURNS: u64 = 100_000_000;
-
-const MORE_TURNS: u64 = 10_000_000;
+/// How often the asker looks again once the worker has begun.
+const TURNS: u64 = 10_000_000;
 
 impl Late {
-    /// Waits until the worker has begun, for at most this number of turns.
-    fn wait(&self, turns: u64) {
-        for _turn in 0..turns {
-            if self.begun.load(Ordering::SeqCst) == 1 {
-                return;
-            }
-        }
-    }
-
     /// Looks this number of times whether the worker has begun, and gives how many times it had.
     fn look(&self, turns: u64) -> u64 {
         let mut begun = 0u64;
@@ -119,8 +108,8 @@ impl Gate for Late {
         if worker == 0 {
             self.begun.store(1, Ordering::SeqCst);
         } else if piece == 0 {
-            self.wait(TURNS);
-            let _begun = self.look(MORE_TURNS);
+            let _came = wait_for(&self.begun, 1);
+            let _begun = self.look(TURNS);
         }
     }
 }

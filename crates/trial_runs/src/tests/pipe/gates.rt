@@ -5,7 +5,7 @@ use capture_maker::capture;
 use meter_workers::Gate;
 use std::sync::atomic::{AtomicU64, Ordering};
 use std::test::Fail;
-use trial_metering::wait_for;
+use trial_samples::wait_for;
 
 /// A gate that holds all but one at a batch until that one has reached a batch.
 #[derive(Drop)]
@@ -31,7 +31,7 @@ impl Gate for Holding {
         if who == self.awaited {
             self.came.store(1, Ordering::SeqCst);
         }
-        if !wait_for(&self.came) {
+        if !wait_for(&self.came, 1) {
             self.failed.store(1, Ordering::SeqCst);
         }
     }
