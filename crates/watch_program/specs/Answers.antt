@@ -1,14 +1,17 @@
 -- What asking comes to.
 use Rattle.std.specs.Prelude.{◌≡◌, ◌≤◌, ◌<◌, ◌%◌, ℕ, List, [], ◌∷◌, ◌++◌, length, take, map, slice_index_or, ⊤}
-use Rattle.std.specs.Prelude.{All, IsPermutation, flat_map}
+use Rattle.std.specs.Prelude.{All, IfOk, IsPermutation, flat_map}
 use Rattle.flow_key.specs.declared.key.FlowKey.{FlowKey}
 use Rattle.packet_accept.specs.declared.packet.Packet.{Packet}
 use Rattle.flow_parts.specs.declared.fragment.Fragment.{Fragment}
 use Rattle.flow_parts.specs.declared.timeouts.Timeouts.{Timeouts}
 use Rattle.flow_parts.specs.Heap.{IsHeap}
 use Rattle.cache_face.specs.Notes.{Note, note_seeing}
+use Rattle.flow_cache.specs.declared.cache.PebrCache.{PebrCache}
+use Rattle.flow_cache.specs.Shown.{IsOf, shown_of}
 use Rattle.watch_program.specs.declared.answer.Answer.{Answer}
 use Rattle.watch_program.specs.declared.answer.Answer.TheVariants.{Held, Absent, Lost}
+use Rattle.watch_program.specs.declared.asking.Asking.{Asking}
 
 -- A flow that was held has at least one packet, and its first time isn't after its last.
 abbrev pub IsSound : Answer → Type 0
@@ -83,3 +86,14 @@ pub record AreAnswers (packets : List Packet) (keys : List FlowKey) (answers : L
   pub active : limits.active ≡ 1800000
   pub in_turn : AreInTurn keys answers
   pub each : All (IsOfPackets limits packets) answers
+
+-- What came of so many asks through a cache for these keys: the pass put nothing in and was handed nothing, and what it
+-- saw are the flows that were held. The answers, where there was room for them, are as many as the asks, sound and in
+-- turn.
+pub record HasAsked (cache : PebrCache) (keys : List FlowKey) (asks : ℕ) (asking : Asking) : Type 0 where
+  pub own : IsOf cache asking.pass
+  pub asker : IsAsker (shown_of asking.pass).note
+  pub seen : IfOk asking.answers (λ answers. (shown_of asking.pass).note.seen ≡ held_in answers.items)
+  pub many : IfOk asking.answers (λ answers. length answers.items ≡ count_of asks keys)
+  pub sound : IfOk asking.answers (λ answers. All IsSound answers.items)
+  pub in_turn : IfOk asking.answers (λ answers. AreInTurn keys answers.items)

@@ -6,6 +6,7 @@ ghost use Rattle.flow_cache.specs.Shown.{shown_of};
 ghost use Rattle.flow_cache.specs.Shown as shown;
 ghost use Rattle.cache_watch.specs.Watching.{IsOf, held_by, note_of};
 ghost use Rattle.watch_program.specs.Answers.{IsSound, IsOfKey, AreInTurn, IsAsker, note_answered, held_in, count_of};
+ghost use Rattle.watch_program.specs.Answers.{HasAsked};
 
 use crate::answer::Answer;
 use cache_watch::{Watch, Watcher};
@@ -97,12 +98,7 @@ pub(crate) fn ask_all<G: Gate>(
 ) -> Asking
     requires own { shown.IsOf cache.now pass }
     requires fresh { (shown_of pass).note ≡ first_note }
-    ensures own { shown.IsOf cache.now result.pass }
-    ensures asker { IsAsker (shown_of result.pass).note }
-    ensures seen { IfOk result.answers (λ answers. (shown_of result.pass).note.seen ≡ held_in answers.items) }
-    ensures many { IfOk result.answers (λ answers. length answers.items ≡ count_of asks keys.now) }
-    ensures sound { IfOk result.answers (λ answers. All IsSound answers.items) }
-    ensures in_turn { IfOk result.answers (λ answers. AreInTurn keys.now answers.items) }
+    ensures { HasAsked cache.now keys.now asks result }
 {
     let mut watcher = Watcher::open(pass);
     let answers = ask_in_turn(asker, cache, &mut watcher, keys, asks);

@@ -9,8 +9,7 @@ ghost use Rattle.capture_tally.specs.Tallies.{IsTallyOf, octets_of};
 ghost use Rattle.flow_parts.specs.Sharing.{SharesOut};
 ghost use Rattle.cache_face.specs.Meaning.{IsFresh};
 ghost use Rattle.flow_cache.specs.Shown.{IsOf, means_of, shown_of};
-ghost use Rattle.watch_program.specs.Answers.{IsSound, AreInTurn, AreAnswers, IsOfSome, IsAsker, held_in, asked_keys};
-ghost use Rattle.watch_program.specs.Answers.{count_of};
+ghost use Rattle.watch_program.specs.Answers.{IsSound, AreAnswers, IsOfSome, IsAsker, HasAsked, asked_keys, count_of};
 
 use crate::answer::Answer;
 use crate::asking::{Asker, Asking, ask_all};
@@ -95,11 +94,7 @@ fn at_once<R: Threads + Sync, G: Gate>(
     requires passes { (0 < length passes.items) × (length passes.items ≤ 64)
         × All (λ p. IsOf cache.now p × IsFresh (shown_of p)) passes.items }
     requires own { IsOf cache.now own × IsFresh (shown_of own) }
-    ensures own { IsOf cache.now result.0.pass × IsAsker (shown_of result.0.pass).note }
-    ensures seen { IfOk result.0.answers (λ answers. (shown_of result.0.pass).note.seen ≡ held_in answers.items) }
-    ensures many { IfOk result.0.answers (λ answers. length answers.items ≡ count_of asks keys.now) }
-    ensures sound { IfOk result.0.answers (λ answers. All IsSound answers.items) }
-    ensures in_turn { IfOk result.0.answers (λ answers. AreInTurn keys.now answers.items) }
+    ensures asked { HasAsked cache.now keys.now asks result.0 }
     ensures seats { IfOk result.1 (λ r. IsOf cache.now r.pass × ((shown_of r.pass).note.seats ≡ length passes.items)) }
     ensures packets { IfOk result.1
         (λ r. IsCaptureOf (λ file. SharesOut (means_of cache.now).limits (packets_of file) (shown_of r.pass).note.taken)
@@ -113,11 +108,7 @@ fn at_once<R: Threads + Sync, G: Gate>(
         rt,
         move || -> Asking
             requires own { IsOf cache.now own × IsFresh (shown_of own) }
-            ensures own { IsOf cache.entry.now result.pass × IsAsker (shown_of result.pass).note }
-            ensures seen { IfOk result.answers (λ answers. (shown_of result.pass).note.seen ≡ held_in answers.items) }
-            ensures many { IfOk result.answers (λ answers. length answers.items ≡ count_of asks keys.entry.now) }
-            ensures sound { IfOk result.answers (λ answers. All IsSound answers.items) }
-            ensures in_turn { IfOk result.answers (λ answers. AreInTurn keys.entry.now answers.items) }
+            ensures { HasAsked cache.entry.now keys.entry.now asks result }
         {
             ask_all(
                 &Asker {

@@ -44,7 +44,7 @@ returns-clause-many g c =
     let asks = c.args.settings.now.asks in
     if-ok c.at_once-asking.result.0.answers c.in_ok-answers.answers
     (λ answers. length answers.items ≡ count_of asks c.as_slice.result.now)
-    c.in_ok-answers.was c.at_once-asking.ensures.many
+    c.in_ok-answers.was c.at_once-asking.ensures.asked.many
     ∙ ap (count_of asks) (c.as_slice.ensures.value ∙ c.in_ok-keys.ensures)
     ∙ count-same asks (packets_of (file_of c.args.capture.now))
 
@@ -56,14 +56,14 @@ returns-clause-answered g c =
     let same : limits ≡ c.new-limits.result = c.in_ok-cache.ensures.cache.2 in
     let seen = if-ok c.at_once-asking.result.0.answers answers
     (λ answers. (shown_of c.at_once-asking.result.0.pass).note.seen ≡ held_in answers.items)
-    c.in_ok-answers.was c.at_once-asking.ensures.seen in
+    c.in_ok-answers.was c.at_once-asking.ensures.asked.seen in
     record {
       limits = limits;
       idle = ap (λ (t : Timeouts). t.idle) same ∙ c.new-limits.ensures.idle;
       active = ap (λ (t : Timeouts). t.active) same ∙ c.new-limits.ensures.active;
       in_turn = subst (λ keys. AreInTurn keys answers.items) (c.as_slice.ensures.value ∙ c.in_ok-keys.ensures)
           (if-ok c.at_once-asking.result.0.answers answers (λ answers. AreInTurn c.as_slice.result.now answers.items)
-          c.in_ok-answers.was c.at_once-asking.ensures.in_turn);
+          c.in_ok-answers.was c.at_once-asking.ensures.asked.in_turn);
       each = each-of limits packets answers.items
           (subst (All (IsOfSome limits packets)) seen
           (of-file c.args.bytes.now (file_of c.args.capture.now)
