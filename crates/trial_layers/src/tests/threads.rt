@@ -1,5 +1,7 @@
 //! Work on the items of a slice, by threads.
 
+ghost use Rattle.std.specs.Prelude.{◌<◌};
+
 use side_by_side::{for_each_beside, for_each_mut};
 use std::sync::atomic::{AtomicU64, Ordering};
 use std::test::Fail;
