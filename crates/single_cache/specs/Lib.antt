@@ -1,0 +1,3 @@
+-- The definitions that contracts cite, a file for each subject.
+pub mod History
+pub mod Shown
