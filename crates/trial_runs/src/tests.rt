@@ -1,5 +1,6 @@
 //! Whole runs: captures and streams octet by octet, what is written of them, and what is reported.
 
+use cache_face::Caches;
 use flow_cache::PebrCaches;
 use meter_io::{MemSink, MemSource};
 use meter_program::{Status, run};
@@ -9,6 +10,7 @@ use std::process::Abort;
 use std::test::Fail;
 use std::thread::Threads;
 use trial_samples::{octets_of, words_in};
+use worker_caches::WorkerCaches;
 
 mod captures;
 mod extremes;
@@ -61,23 +63,43 @@ struct Ran {
     stderr: Vec<u8>,
 }
 
-/// A run over this input, whose workers are told to this gate.
+/// A run over this input, whose workers are told to this gate, over the caches that the program has.
 fn run_by<R: Threads + Sync + AllocGlobal, G: Gate>(
     rt: &R,
     line: &str,
     input: &[u8],
     gate: &G,
 ) -> Result<Ran, Fail> {
+    run_over(rt, line, input, gate, &mut WorkerCaches::new())
+}
+
+/// The same over these caches.
+fn run_over<R: Threads + Sync + AllocGlobal, G: Gate, M: Caches>(
+    rt: &R,
+    line: &str,
+    input: &[u8],
+    gate: &G,
+    caches: &mut M,
+) -> Result<Ran, Fail> {
     let alloc = rt.alloc();
     let words = words_in(alloc, line)?;
-    let mut source = MemSource::new(input, 1000, &[]);
+    let source = &mut MemSource::new(input, 1000, &[]);
     let mut output = MemSink::open(alloc, 65_536, 65_536, &[])?;
     let mut stderr = MemSink::open(alloc, 1000, 1000, &[])?;
-    let status = status_of(rt, &words, &mut source, (&mut output, &mut stderr), gate);
+    let status = run(
+        rt,
+        alloc,
+        &words,
+        source,
+        &mut output,
+        &mut stderr,
+        caches,
+        gate,
+    );
     ran_to(alloc, status, &output, &stderr)
 }
 
-/// The status of a run.
+/// The status of a run over the caches that the program has.
 fn status_of<R: Threads + Sync + AllocGlobal, G: Gate>(
     rt: &R,
     words: &[String],
@@ -86,7 +108,7 @@ fn status_of<R: Threads + Sync + AllocGlobal, G: Gate>(
     gate: &G,
 ) -> Status {
     let alloc = rt.alloc();
-    let caches = &mut PebrCaches::new();
+    let caches = &mut WorkerCaches::new();
     run(rt, alloc, words, source, output, stderr, caches, gate)
 }
 
@@ -104,8 +126,8 @@ fn ran_to(
     })
 }
 
-/// Runs a command line over an input, and compares status, output and standard error with what is wanted; `name` tells
-/// the run.
+/// Runs a command line over an input, over the caches that the program has and over those without turns for any number
+/// of workers, and compares status, output and standard error with what is wanted; `name` tells the run.
 fn check_run<R: Threads + Sync + Abort + AllocGlobal>(
     rt: &R,
     name: &str,
@@ -114,8 +136,20 @@ fn check_run<R: Threads + Sync + Abort + AllocGlobal>(
     (status, output, stderr): (Status, &[u8], &str),
 ) -> Result<(), Fail> {
     let ran = run_by(rt, line, input, &OpenGate)?;
+    check_ran(rt, name, &ran, (status, output, stderr));
+    let ran = run_over(rt, line, input, &OpenGate, &mut PebrCaches::new())?;
+    check_ran(rt, name, &ran, (status, output, stderr));
+    Ok(())
+}
+
+/// Compares how a run ended with what is wanted.
+fn check_ran(
+    rt: &impl Abort,
+    name: &str,
+    ran: &Ran,
+    (status, output, stderr): (Status, &[u8], &str),
+) {
     assert_eq!(rt; ran.status, status, "{name}");
     assert_eq!(rt; ran.output.as_slice(), output, "{name}");
     assert_eq!(rt; ran.stderr.as_slice(), stderr.as_bytes(), "{name}");
-    Ok(())
 }

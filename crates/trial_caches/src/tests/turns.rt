@@ -11,6 +11,7 @@ use std::process::Abort;
 use std::test::Fail;
 use trial_samples::udp_key;
 use turn_cache::TurnCaches;
+use worker_caches::WorkerCaches;
 
 /// A packet of 40 octets of a flow, at this second.
 fn packet(number: u32, flow: u16, second: u32) -> Packet
@@ -166,4 +167,14 @@ fn one_set_and_one_seat(rt: HostRuntime) {
 #[test]
 fn one_set_and_two_seats(rt: HostRuntime) -> Result<(), Fail> {
     keeps_what_two_passes_metered(&rt, rt.alloc(), TurnCaches::new())
+}
+
+#[test]
+fn one_worker_and_one_set(rt: HostRuntime) {
+    puts_the_oldest_out(&rt, rt.alloc(), WorkerCaches::new());
+}
+
+#[test]
+fn two_workers_and_one_set(rt: HostRuntime) -> Result<(), Fail> {
+    keeps_what_two_passes_metered(&rt, rt.alloc(), WorkerCaches::new())
 }

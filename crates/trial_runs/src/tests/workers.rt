@@ -1,7 +1,8 @@
 //! Workers: the same octets by any number of them, and two that wait for each other.
 
-use super::{HEADER, TEMPLATES, check_run, run_by, two_packets, two_packets_stream};
+use super::{HEADER, TEMPLATES, check_ran, check_run, run_by, two_packets, two_packets_stream};
 use meter_program::Status;
+use meter_workers::OpenGate;
 use std::alloc::Global;
 use std::test::Fail;
 use trial_metering::Meeting;
@@ -81,15 +82,12 @@ fn an_exchange_is_the_same_by_all_settings(rt: HostRuntime) -> Result<(), Fail> 
     let alloc = rt.alloc();
     let capture = exchange_capture(alloc)?;
     let wanted = exchange_stream(alloc)?;
+    let wanted = (Status::Done, wanted.as_slice(), SUMMARY);
     for line in SETTINGS {
-        for _turn in 0..100 {
-            check_run(
-                &rt,
-                line,
-                line,
-                capture.as_slice(),
-                (Status::Done, wanted.as_slice(), SUMMARY),
-            )?;
+        check_run(&rt, line, line, capture.as_slice(), wanted)?;
+        for _turn in 1..100 {
+            let ran = run_by(&rt, line, capture.as_slice(), &OpenGate)?;
+            check_ran(&rt, line, &ran, wanted);
         }
     }
     Ok(())
