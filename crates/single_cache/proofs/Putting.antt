@@ -1,21 +1,20 @@
 -- What stands when a fragment is put in.
-use Rattle.std.proofs.Common.{◌≡◌, ◌≢◌, ◌++◌, ℕ, zero, suc, ◌+◌, ◌*◌, ◌/◌, ◌^◌, ◌<◌, ◌≤◌, List, [], ◌∷◌, length, All, Option, Some, MatchOption, get_or, set}
-use Rattle.std.proofs.Common.{option_map, refl, ap, sym, ◌∙◌, subst, arith}
+use Rattle.std.proofs.Common.{◌≡◌, ◌≢◌, ◌++◌, ℕ, zero, suc, ◌+◌, ◌*◌, ◌<◌, List, [], ◌∷◌, length, All, Option, Some}
+use Rattle.std.proofs.Common.{MatchOption, get_or, set, option_map, refl, ap, sym, ◌∙◌, subst, arith}
 use Rattle.std.specs.Prelude.{map}
-use Rattle.std.proofs.lemmas.List.Elements.{All-get_or, All-nil}
+use Rattle.std.proofs.lemmas.List.Elements.{All-nil}
 use mathlib.Core.Option.{some, some-ne-none}
 use lib.ListN.{get_elem?}
 use Rattle.flow_key.specs.Key.{set_number}
 use Rattle.flow_parts.specs.declared.fragment.Fragment.{Fragment}
 use Rattle.flow_parts.specs.declared.timeouts.Timeouts.{Timeouts}
-use Rattle.flow_parts.specs.Parts.{part_words}
 use Rattle.cache_face.specs.declared.metered.How.{How}
 use Rattle.cache_face.specs.declared.metered.How.TheVariants as how
 use Rattle.cache_face.specs.Choice.{IsChoice, Takes, entry_at}
 use Rattle.flow_parts.specs.Reaching.{Reaches}
-use Rattle.cache_face.specs.Keeping.{Keeps, IsBorne, IsInSet, IsWhole, entry_of, parts_in}
+use Rattle.cache_face.specs.Keeping.{Keeps, IsBorne, IsInSet, entry_of, parts_in}
 use Rattle.cache_face.specs.Laws.{CanTake, IsUnused}
-use Rattle.cache_face.specs.Meaning.{CacheMeans, PassMeans, Written, IsAnswer}
+use Rattle.cache_face.specs.Meaning.{PassMeans, Written, IsAnswer}
 use Rattle.cache_face.specs.Notes.{Note, note_with}
 use Rattle.cache_face.specs.Tries.{HasLost, IsTryCount}
 use Rattle.cache_face.proofs.Apart.{element_at}
@@ -24,14 +23,22 @@ use Rattle.cache_face.proofs.Keeping.{keeps_taken, kept_at_end}
 use Rattle.cache_choice.specs.Chosen.{IsChosen, out_of}
 use Rattle.cache_choice.proofs.ByWords.{entry_here}
 use Rattle.single_cache.specs.History.{after_put, four_from, written_as}
-use Rattle.single_cache.specs.Shown.{IsTryOf, LostTry}
+use Rattle.single_cache.specs.Shown.{IsTryOf}
 use Rattle.single_cache.proofs.Lists.{one_of_four}
 
-module _ (limits : Timeouts) (sets : ℕ) (contents : List (List ℕ)) (means : PassMeans) (keeps : Keeps limits sets contents (means.note ∷ []))
-    (own : Fragment) (can : CanTake means.note own) (number : ℕ) (low : number < sets)
-    (is_set : number ≡ set_number own.key sets) (by : How) (place : ℕ) (below : place < 4) (words : List ℕ)
-    (chosen : IsChosen limits (four_from contents (4 * number)) own by place words) (out : Option Fragment)
-    (out_is : out ≡ out_of by (entry_of (get_or contents (4 * number + place) []))) where
+-- what is said of a pass of one seat behind a fragment that was put in by words at a place of a set's four
+pub record Stands (limits : Timeouts) (sets : ℕ) (contents : List (List ℕ)) (means : PassMeans) (own : Fragment)
+    (number : ℕ) (by : How) (place : ℕ) (words : List ℕ) (out : Option Fragment) : Type 0 where
+  pub keeps : Keeps limits sets (set contents (4 * number + place) words) (note_with means.note own out ∷ [])
+  pub answer : IsAnswer (record { sets = sets; seats = 1; limits = limits })
+      (after_put means contents number own place words out) own by out
+  pub lost : (at_set : ℕ) → HasLost (IsTryOf at_set) by [] []
+
+module _ (limits : Timeouts) (sets : ℕ) (contents : List (List ℕ)) (means : PassMeans)
+    (keeps : Keeps limits sets contents (means.note ∷ [])) (own : Fragment) (can : CanTake means.note own) (number : ℕ)
+    (low : number < sets) (is_set : number ≡ set_number own.key sets) (by : How) (place : ℕ) (below : place < 4)
+    (words : List ℕ) (chosen : IsChosen limits (four_from contents (4 * number)) own by place words)
+    (out : Option Fragment) (out_is : out ≡ out_of by (entry_of (get_or contents (4 * number + place) []))) where
   four : List (List ℕ)
   four = four_from contents (4 * number)
 
@@ -63,7 +70,7 @@ module _ (limits : Timeouts) (sets : ℕ) (contents : List (List ℕ)) (means : 
   unfolding at
   in_set = sym is_set ∙ (omega (arith, below))
 
-  pub keeps_on : Keeps limits sets (set contents (4 * number + place) words) (note_with means.note own out ∷ [])
+  keeps_on : Keeps limits sets (set contents (4 * number + place) words) (note_with means.note own out ∷ [])
   unfolding at
   keeps_on = subst (λ ws. Keeps limits sets (set contents (4 * number + place) ws) (note_with means.note own out ∷ []))
       chosen.1
@@ -88,18 +95,18 @@ module _ (limits : Timeouts) (sets : ℕ) (contents : List (List ℕ)) (means : 
   answer_by how.Replaced c = record { set = is_set; four = refl; chosen = cites how.Replaced c }
   answer_by how.PassedBy c = absurd c
 
-  pub answers : IsAnswer (record { sets = sets; seats = 1; limits = limits })
-      (after_put means contents number own place words out) own by out
-  answers = answer_by by choice
-
   few : (h : How) → IsChoice limits (map entry_of four) own h place out kept → IsTryCount h 0
   few how.Joined c = omega arith
   few how.Opened c = omega arith
   few how.Replaced c = omega arith
   few how.PassedBy c = absurd c
 
-  pub none_lost : (at_set : ℕ) → HasLost (IsTryOf at_set) by [] []
-  none_lost at_set = record { tries = []; listed = refl; each = All-nil (IsTryOf at_set); many = few by choice }
+  pub stands : Stands limits sets contents means own number by place words out
+  stands = record {
+    keeps = keeps_on;
+    answer = answer_by by choice;
+    lost = λ at_set. record { tries = []; listed = refl; each = All-nil (IsTryOf at_set); many = few by choice };
+  }
 
 -- what is left at the end, where one pass alone has done all
 pub at_end : (limits : Timeouts) (sets : ℕ) (contents : List (List ℕ)) (note : Note)

@@ -1,9 +1,9 @@
 //! A cache of open flows for any number of workers: a private one for a single worker, a shared one for several.
 //!
-//! With one worker nothing is shared. So its cache is private: it makes the same choices as a shared one, without atomic
-//! steps, and its pass is never in anybody's way. With several workers it is the shared cache without turns. Which of
-//! the two it is, [`WorkerCaches`] chooses by the number of seats as it opens the cache; a [`WorkerCache`] and each
-//! [`WorkerPass`] say which they are.
+//! With one worker nothing is shared. So its cache is private: it makes the same choices as a shared one, without
+//! atomic exchanges, and its pass is never in anybody's way. With several workers it is the shared cache without turns.
+//! Which of the two it is, [`WorkerCaches`] chooses by the number of seats as it opens the cache; a [`WorkerCache`] and
+//! each [`WorkerPass`] say which they are.
 //!
 //! A pass of one kind is never a pass of a cache of the other kind. The contracts are those of
 //! [`FlowCache`](cache_face::FlowCache) and [`Caches`](cache_face::Caches), and nothing more: what the cache and its

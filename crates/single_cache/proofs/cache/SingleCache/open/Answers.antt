@@ -1,4 +1,4 @@
-use Rattle.std.proofs.Common.{◌≡◌, ◌*◌, ◌≤◌, [], ◌∷◌, ℕ, List, refl, sym, ap, subst, arith, All, length}
+use Rattle.std.proofs.Common.{◌≤◌, [], ◌∷◌, refl, sym, ap, subst, arith}
 use Rattle.std.proofs.lemmas.List.Elements.{All-nil, All-cons}
 use Rattle.std.proofs.lemmas.List.Sums.{sum_by-cons}
 use Rattle.cache_face.specs.Keeping.{Keeps}
