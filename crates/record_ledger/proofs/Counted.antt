@@ -3,7 +3,7 @@ use Rattle.std.proofs.Common.{◌≡◌, ◌≢◌, ℕ, suc, ◌+◌, ◌<◌, 
 use Rattle.std.proofs.Common.{length, get_or, refl, sym, ap, ◌∙◌, subst, arith, All, IsPermutation}
 use Rattle.std.specs.Prelude.{count_by, ◌==◌}
 use Rattle.std.proofs.lemmas.Bool.Decides.{eqb_tells}
-use Rattle.std.proofs.lemmas.Bool.{eq-eqb}
+use Rattle.std.proofs.lemmas.Bool.{cases_lt, eq-eqb}
 use Rattle.std.proofs.lemmas.List.Sums.{sum_by-append, sum_by-cons}
 use Rattle.std.proofs.lemmas.List.Elements.{All-cons, All-nil, All-head, All-tail, All-weaker}
 use Rattle.std.proofs.lemmas.List.Sorted.{sum_by-IsPermutation}
@@ -70,6 +70,46 @@ counted_more before old new part slot same is some first others h = (
                 λ e. (let one = was.1 (sym here ∙ e) in omega (arith, sum, zero', one)),
               )
         ]
+
+-- counts of some fragments and of others, added
+pub counts_added : (before more : List Fragment) (one other both : List ℕ) → length other ≡ length one
+    → length both ≡ length one
+    → ((s : ℕ) → s < length one → (get_or both s 0 ≡ 0 → get_or one s 0 + get_or other s 0 ≡ 0)
+    × (get_or both s 0 ≡ 1 → get_or one s 0 + get_or other s 0 ≡ 1))
+    → CountsSlots before one → CountsSlots more other → CountsSlots (before ++ more) both
+counts_added before more one other both same long each h k = (
+  omega (arith, long, h.0),
+  subst (λ n. (s : ℕ) → s < n → (get_or both s 0 ≡ 0 → count_in n s (before ++ more) ≡ 0)
+      × (get_or both s 0 ≡ 1 → count_in n s (before ++ more) ≡ 1)) (sym long) all,
+)
+  where
+    here : (s : ℕ) → s < length one → (get_or other s 0 ≡ 0 → count_in (length one) s more ≡ 0)
+        × (get_or other s 0 ≡ 1 → count_in (length one) s more ≡ 1)
+    here = subst (λ n. (s : ℕ) → s < n → (get_or other s 0 ≡ 0 → count_in n s more ≡ 0)
+        × (get_or other s 0 ≡ 1 → count_in n s more ≡ 1)) same k.1
+
+    all : (s : ℕ) → s < length one → (get_or both s 0 ≡ 0 → count_in (length one) s (before ++ more) ≡ 0)
+        × (get_or both s 0 ≡ 1 → count_in (length one) s (before ++ more) ≡ 1)
+    all s l =
+        let sum = sum_by-append (λ (f : Fragment). cond {A = ℕ} (slot_number f.key (length one) == s) 1 0) before more in (
+          λ e.
+              let none = (each s l).0 e in
+              let x = (h.1 s l).0 (omega (arith, none)) in
+              let y = (here s l).0 (omega (arith, none)) in
+              omega (arith, sum, x, y),
+          λ e.
+              let once = (each s l).1 e in
+              elim (cases_lt 0 (get_or one s 0)) [
+                | inl some ↦
+                    let x = (h.1 s l).1 (omega (arith, once, some)) in
+                    let y = (here s l).0 (omega (arith, once, some)) in
+                    omega (arith, sum, x, y)
+                | inr none ↦
+                    let x = (h.1 s l).0 (omega (arith, none)) in
+                    let y = (here s l).1 (omega (arith, once, none)) in
+                    omega (arith, sum, x, y)
+              ],
+        )
 
 -- where each of some fragments is alone in its slot, none has the key of another
 module _ (n : ℕ) where

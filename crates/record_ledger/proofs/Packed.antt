@@ -6,10 +6,10 @@ use Rattle.std.proofs.lemmas.Bool.Decides.{eqb_tells}
 use Rattle.std.proofs.lemmas.List.{get_or-set_same, get_or-set_other, get_or-replicate, length-replicate}
 use Rattle.std.proofs.lemmas.List.FromFn.{length-map-range_with_len, get_or-map-range_with_len}
 use Rattle.flow_parts.specs.declared.fragment.Fragment.{Fragment}
-use Rattle.record_ledger.specs.Buckets.{slot_number, two_bits, counts_of, CountsSlots, IsCountedAlone}
-use Rattle.record_ledger.proofs.Counted.{counted_more}
+use Rattle.record_ledger.specs.Buckets.{slot_number, two_bits, counts_of, AddUp, CountsSlots, IsCountedAlone}
+use Rattle.record_ledger.proofs.Counted.{counted_more, counts_added}
 
-four : (P : ℕ → Type 0) → P 0 → P 1 → P 2 → P 3 → (k : ℕ) → k < 4 → P k
+pub four : (P : ℕ → Type 0) → P 0 → P 1 → P 2 → P 3 → (k : ℕ) → k < 4 → P k
 four P a b c d zero l = a
 four P a b c d (suc zero) l = b
 four P a b c d (suc (suc zero)) l = c
@@ -118,6 +118,26 @@ module _ (packed : List ℕ) (slot octet : ℕ) (low : slot < 4 * length packed)
       (λ one. count_is packed slot low ∙ first (sym here ∙ one))
       (λ s l off. others same s (omega (arith, l, e)) off)
       h
+
+-- the octets of some counts and of others, added
+pub octets_added : (one other both : List ℕ) → length other ≡ length one → length both ≡ length one
+    → ((at : ℕ) → at < length one → AddUp (get_or one at 0) (get_or other at 0) (get_or both at 0))
+    → (before more : List Fragment) → CountsSlots before (counts_of one) → CountsSlots more (counts_of other)
+    → CountsSlots (before ++ more) (counts_of both)
+octets_added one other both same long each before more h k =
+    let m = many_counts one in
+    counts_added before more (counts_of one) (counts_of other) (counts_of both)
+    (many_counts other ∙ ap (λ n. 4 * n) same ∙ sym m) (many_counts both ∙ ap (λ n. 4 * n) long ∙ sym m)
+    (λ s l.
+    let low : s < 4 * length one = omega (arith, l, m) in
+    let a = count_is one s low in
+    let b = count_is other s (omega (arith, low, same)) in
+    let c = count_is both s (omega (arith, low, long)) in
+    let up = each (s / 4) (omega (arith, low)) (s % 4) (omega arith) in (
+      λ e. (let none = up.0 (sym c ∙ e) in omega (arith, a, b, none)),
+      λ e. (let once = up.1 (sym c ∙ e) in omega (arith, a, b, once)),
+    ))
+    h k
 
 -- the count of one is read from its octet
 pub one_alone : (packed : List ℕ) (slot : ℕ) (part : Fragment) → slot < 4 * length packed

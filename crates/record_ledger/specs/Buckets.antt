@@ -1,6 +1,6 @@
 -- The code's own: records in buckets, and places in them. No law speaks of these.
 use Rattle.std.specs.Prelude.{◌≡◌, ◌≢◌, ℕ, suc, ◌<◌, ◌≤◌, List, [], ◌∷◌, ◌++◌, Option, Some, None, slice_get, length, flat_map}
-use Rattle.std.specs.Prelude.{option_and_then, nat_lt, slice_index, count_by, map, take, drop}
+use Rattle.std.specs.Prelude.{option_and_then, nat_lt, slice_index, count_by, map, take, drop, min, max}
 use Rattle.std.specs.List.{AllZip, range_with_len}
 use native.Mathlib.Decide.{dec_lt}
 use Rattle.std.specs.Prelude.{All, IsPermutation, ⊤, ◌==◌, ◌+◌, ◌-◌, ◌*◌, ◌/◌, ◌%◌, ◌^◌, if◌then◌else◌}
@@ -177,6 +177,17 @@ two_bits octet place = octet / 4 ^ place % 4
 -- The counts of slots that lie in octets, four of them in each.
 abbrev pub counts_of : List ℕ → List ℕ
 counts_of packed = map (λ slot. two_bits (slice_index packed (slot / 4)) (slot % 4)) (range_with_len 0 (4 * length packed))
+
+-- How many slots there are for so many fragments.
+abbrev pub slots_for : ℕ → ℕ
+slots_for fragments = min (max (fragments * 8) 4) (2 ^ 31) / 4 * 4
+
+-- The counts of an octet tell of those of two octets together: where there is none, both have none, and where there is
+-- one, they have one together.
+abbrev pub AddUp : ℕ → ℕ → ℕ → Type 0
+AddUp one other sum = (place : ℕ) → place < 4
+    → (two_bits sum place ≡ 0 → two_bits one place + two_bits other place ≡ 0)
+    × (two_bits sum place ≡ 1 → two_bits one place + two_bits other place ≡ 1)
 
 -- The slot of a fragment has just one fragment, by these counts.
 abbrev pub IsCountedAlone : List ℕ → Fragment → Type 0

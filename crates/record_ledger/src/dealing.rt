@@ -5,6 +5,7 @@
 ghost use Rattle.std.specs.Prelude.{◌≡◌, ℕ, List, [], ◌≤◌, ◌<◌, ◌+◌, ◌∷◌, ◌++◌, Some, IfOk, OnOk, length, slice_get};
 ghost use Rattle.std.specs.Prelude.{IsPermutation, Result, slice_index_or};
 ghost use Rattle.std.specs.List.{AllZip};
+ghost use Rattle.std.specs.Thread.{IsSync};
 ghost use Rattle.no_memory.specs.declared.NoMemory.{NoMemory};
 ghost use Rattle.flow_parts.specs.declared.fragment.Fragment.{Fragment};
 ghost use Rattle.flow_parts.specs.Pieces.{items_of};
@@ -12,7 +13,7 @@ ghost use Rattle.record_ledger.specs.declared.place.Place.{Place};
 ghost use Rattle.record_ledger.specs.Lawful.{parts_of};
 ghost use Rattle.record_ledger.specs.Buckets.{records_of, AreByKey, AreDealt, AreDealtIn, IsDealing};
 ghost use Rattle.record_ledger.specs.Buckets.{AreDealings, MovesDealt, LieIn, places_of, IsEmptyRoom};
-ghost use Rattle.record_ledger.specs.Buckets.{CountsSlots, IsCountedAlone, Piece, leading_number};
+ghost use Rattle.record_ledger.specs.Buckets.{CountsSlots, IsCountedAlone, Piece, leading_number, slots_for};
 ghost use Rattle.std.specs.Prelude.{◌-◌, true, false};
 
 use crate::leading::leading_number;
@@ -78,10 +79,10 @@ pub struct Room {
 ///
 /// Fragments are told apart by slots, to which their keys are spread: where a slot has one fragment alone, no other has
 /// its key. Of fragments with keys of their own about one in eight shares a slot, and is dealt to a bucket all the same.
-/// Where less than half would stay, all are moved to buckets, and the room of the pieces is let go meanwhile. At most
-/// `threads` threads find out which stay, and one where there are fewer than 16,384 fragments. Where there may be
-/// several, two others make room while slots are counted, and later one adds up the places of those that stay, while
-/// the calling one moves the others.
+/// Where less than half would stay, by a sample of the slots, all are moved to buckets, and the room of the pieces is let
+/// go meanwhile. At most `threads` threads count slots and find out which stay, and one where there are fewer than 16,384
+/// fragments. Where there may be several, two others make room while slots are counted, and later one adds up the places
+/// of those that stay, while the calling one moves the others.
 pub fn deal<R: Threads + Sync>(
     rt: &R,
     alloc: Global,
@@ -114,7 +115,7 @@ fn threads_for(fragments: usize, threads: usize) -> usize
     if fragments < FEW { 1 } else { threads }
 }
 
-/// Whether at least half of so many fragments stay where they lie: as many slots have one fragment alone.
+/// Whether about half of so many fragments or more stay where they lie: as many slots have one fragment alone.
 fn most_stay(counts: &Slots, fragments: usize) -> bool {
     counts.with_one() >= fragments / 2
 }
@@ -276,8 +277,8 @@ fn append_places(alone: Vec<Vec<Place>>, room: Vec<Place>) -> Result<Vec<Place>,
     Ok(added)
 }
 
-/// How many fragments each slot has, and, where there are several threads, room for what is dealt of so many, which a
-/// second and a third thread make meanwhile.
+/// How many fragments each slot has, counted by at most `threads` threads, and, where there are several, room for what is
+/// dealt of so many, which two others make meanwhile.
 fn count_beside<R: Threads + Sync>(
     rt: &R,
     alloc: Global,
@@ -289,7 +290,7 @@ fn count_beside<R: Threads + Sync>(
     ensures room { IfOk result (λ made. IsEmptyRoom made.1) }
 {
     if threads < 2 {
-        let counts = count_slots(alloc, pieces, fragments)?;
+        let counts = count_pieces(alloc, pieces, fragments)?;
         return Ok((counts, no_room(alloc)));
     }
     let front = move || -> Result<Vec<Place>, NoMemory>
@@ -298,7 +299,7 @@ fn count_beside<R: Threads + Sync>(
     let back = move || -> Result<(Slots, Vec<Vec<FlowRecord>>), NoMemory>
         ensures counts { IfOk result (λ made. CountsSlots (items_of pieces.entry.now) made.0) }
         ensures buckets { IfOk result (λ made. records_of made.1.items ≡ []) }
-    { count_beside_buckets(rt, alloc, pieces, fragments) };
+    { count_beside_buckets(rt, alloc, pieces, fragments, threads) };
     let (places, counted) = join(rt, front, back);
     let (counts, buckets) = counted?;
     let room = Room {
@@ -308,12 +309,13 @@ fn count_beside<R: Threads + Sync>(
     Ok((counts, room))
 }
 
-/// How many fragments each slot has, and buckets for what is moved of so many, which a second thread makes meanwhile.
+/// How many fragments each slot has, and buckets for what is moved of so many, which another thread makes meanwhile.
 fn count_beside_buckets<R: Threads + Sync>(
     rt: &R,
     alloc: Global,
     pieces: &[Vec<Fragment>],
     fragments: usize,
+    threads: usize,
 ) -> Result<(Slots, Vec<Vec<FlowRecord>>), NoMemory>
     ensures counts { IfOk result (λ made. CountsSlots (items_of pieces.now) made.0) }
     ensures buckets { IfOk result (λ made. records_of made.1.items ≡ []) }
@@ -323,7 +325,7 @@ fn count_beside_buckets<R: Threads + Sync>(
     { touched_buckets(alloc, fragments / MOVED_PART) };
     let back = move || -> Result<Slots, NoMemory>
         ensures { IfOk result (λ counts. CountsSlots (items_of pieces.entry.now) counts) }
-    { count_slots(alloc, pieces, fragments) };
+    { count_slots(rt, alloc, pieces, fragments, threads) };
     let (buckets, counts) = join(rt, front, back);
     Ok((counts?, buckets?))
 }
@@ -356,9 +358,67 @@ fn touched_places(alloc: Global, count: usize) -> Result<Vec<Place>, NoMemory>
     Ok(room)
 }
 
-/// How many fragments each slot has.
-fn count_slots(alloc: Global, pieces: &[Vec<Fragment>], fragments: usize) -> Result<Slots, NoMemory>
-    ensures { IfOk result (λ counts. CountsSlots (items_of pieces.now) counts) }
+/// How many fragments each slot has, where there are slots for so many, counted by at most `threads` threads, each with
+/// counts of its own for some of the pieces, which are then added.
+#[cycle(counts)]
+fn count_slots<R: Threads + Sync>(
+    rt: &R,
+    alloc: Global,
+    pieces: &[Vec<Fragment>],
+    fragments: usize,
+    threads: usize,
+) -> Result<Slots, NoMemory>
+    ensures counts { IfOk result (λ counts. CountsSlots (items_of pieces.now) counts) }
+    ensures many { IfOk result (λ counts. length counts ≡ slots_for fragments) }
+{
+    if threads < 2 || pieces.len() < threads {
+        count_pieces(alloc, pieces, fragments)
+    } else {
+        let (low, high) = pieces.split_at(pieces.len() / threads);
+        count_both(rt, alloc, low, high, fragments, threads)
+    }
+}
+
+/// Counts the fragments of one thread's pieces in a new thread, and at once those of the pieces behind them, by at most
+/// `threads` threads together.
+#[cycle(counts)]
+fn count_both<R: Threads + Sync>(
+    rt: &R,
+    alloc: Global,
+    low: &[Vec<Fragment>],
+    high: &[Vec<Fragment>],
+    fragments: usize,
+    threads: usize,
+) -> Result<Slots, NoMemory>
+    requires { 2 ≤ threads }
+    ensures counts { IfOk result (λ counts. CountsSlots (items_of low.now ++ items_of high.now) counts) }
+    ensures many { IfOk result (λ counts. length counts ≡ slots_for fragments) }
+{
+    let rest = threads - 1;
+    let front = move || -> Result<Slots, NoMemory>
+        ensures counts { IfOk result (λ counts. CountsSlots (items_of low.entry.now) counts) }
+        ensures many { IfOk result (λ counts. length counts ≡ slots_for fragments) }
+    { count_pieces(alloc, low, fragments) };
+    let back = move || -> Result<Slots, NoMemory>
+        requires { IsSync R.row }
+        ensures counts { IfOk result (λ counts. CountsSlots (items_of high.entry.now) counts) }
+        ensures many { IfOk result (λ counts. length counts ≡ slots_for fragments) }
+    { count_slots(rt, alloc, high, fragments, rest) };
+    let (first, others) = join(rt, front, back);
+    let mut counts = first?;
+    let others = others?;
+    counts.add(&others);
+    Ok(counts)
+}
+
+/// How many fragments each slot has, where there are slots for so many.
+fn count_pieces(
+    alloc: Global,
+    pieces: &[Vec<Fragment>],
+    fragments: usize,
+) -> Result<Slots, NoMemory>
+    ensures counts { IfOk result (λ counts. CountsSlots (items_of pieces.now) counts) }
+    ensures many { IfOk result (λ counts. length counts ≡ slots_for fragments) }
 {
     let mut counts = Slots::open(alloc, fragments)?;
     for piece in pieces {
@@ -369,8 +429,9 @@ fn count_slots(alloc: Global, pieces: &[Vec<Fragment>], fragments: usize) -> Res
 
 /// Counts the fragments of a piece in their slots.
 fn count_piece(piece: &[Fragment], counts: &mut Slots)
-    ensures { (before : List Fragment) → CountsSlots before counts.old
+    ensures counts { (before : List Fragment) → CountsSlots before counts.old
         → CountsSlots (before ++ piece.now) counts.new }
+    ensures many { length counts.new ≡ length counts.old }
 {
     for part in piece {
         counts.count(part);

@@ -14,11 +14,12 @@ loop-part-preserved c =
           (append_assoc before (take i c.args.piece.now) (part ∷ [])
           ∙ ap (λ l. before ++ l) (ap (λ p. take i c.args.piece.now ++ p ∷ []) c.part-item.is
           ∙ sym (take_more c.args.piece.now i part (omega (arith, c.loop-part-test.true)))))
-          (c.count.ensures (before ++ take i c.args.piece.now) (c.loop-part.invariant.counted before h));
+          (c.count.ensures.counts (before ++ take i c.args.piece.now) (c.loop-part.invariant.counted before h));
+      many = c.count.ensures.many ∙ c.loop-part.invariant.many;
     }
 
-pub returns : goal.returns
-returns c = λ before h.
+pub returns-clause-counts : goal.returns-clause-counts
+returns-clause-counts c = λ before h.
     subst (λ l. CountsSlots (before ++ l) c.loop-part.counts)
     (take_all c.loop-part.part-index c.args.piece.now (omega (arith, c.loop-part-test.false)))
     (c.loop-part.invariant.counted before h)

@@ -1,12 +1,22 @@
 -- One octet is changed.
-use Rattle.std.proofs.Common.{◌≡◌, ◌<◌, ◌*◌, ◌/◌, ◌%◌, List, ℕ, length, get_or, ap, ◌∙◌, sym, subst, arith}
+use Rattle.std.proofs.Common.{◌≡◌, ◌<◌, ◌*◌, ◌/◌, ◌%◌, List, ℕ, length, get_or, set, ap, ◌∙◌, sym, subst, arith}
 use Rattle.std.proofs.lemmas.Grind.{get_or_default_zero}
 use Rattle.record_ledger.specs.Buckets.{CountsSlots, slot_number, two_bits}
-use Rattle.record_ledger.proofs.Packed.{octet_counted}
+use Rattle.std.proofs.Math.ListN.{length-set}
+use Rattle.record_ledger.proofs.Packed.{many_counts, octet_counted}
 use Rattle.record_ledger.proofs.slots.Slots.count.Goals as goal
 
-pub returns : goal.returns
-returns c = λ before h.
+pub returns-clause-many : goal.returns-clause-many
+returns-clause-many c =
+    let packed : List ℕ = c.self.inside.packed.items in
+    let after : List ℕ = set packed (c.slot_of-slot.result / 4) c.one_more.result in
+    many_counts after
+    ∙ ap (λ n. 4 * n) (length-set packed (c.slot_of-slot.result / 4) c.one_more.result)
+    ∙ sym (many_counts packed)
+    ∙ ap length c.self.view_is
+
+pub returns-clause-counts : goal.returns-clause-counts
+returns-clause-counts c = λ before h.
     let packed : List ℕ = c.self.inside.packed.items in
     let slot = c.slot_of-slot.result in
     let many : c.len.result * 4 ≡ 4 * length packed =
