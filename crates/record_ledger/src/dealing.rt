@@ -80,9 +80,9 @@ pub struct Room {
 /// Fragments are told apart by slots, to which their keys are spread: where a slot has one fragment alone, no other has
 /// its key. Of fragments with keys of their own about one in eight shares a slot, and is dealt to a bucket all the same.
 /// Where less than half would stay, by a sample of the slots, all are moved to buckets, and the room of the pieces is let
-/// go meanwhile. At most `threads` threads count slots and find out which stay, and one where there are fewer than 16,384
-/// fragments. Where there may be several, two others make room while slots are counted, and later one adds up the places
-/// of those that stay, while the calling one moves the others.
+/// go meanwhile. At most `threads` threads find out which stay, and one where there are fewer than 16,384 fragments. Where
+/// there may be several, all of them but one count slots, while two others make room, and later one adds up the places of
+/// those that stay, while the calling one moves the others.
 pub fn deal<R: Threads + Sync>(
     rt: &R,
     alloc: Global,
@@ -277,8 +277,8 @@ fn append_places(alone: Vec<Vec<Place>>, room: Vec<Place>) -> Result<Vec<Place>,
     Ok(added)
 }
 
-/// How many fragments each slot has, counted by at most `threads` threads, and, where there are several, room for what is
-/// dealt of so many, which two others make meanwhile.
+/// How many fragments each slot has, and, where there are several threads, room for what is dealt of so many, which two
+/// others make while all but one count.
 fn count_beside<R: Threads + Sync>(
     rt: &R,
     alloc: Global,
@@ -296,10 +296,11 @@ fn count_beside<R: Threads + Sync>(
     let front = move || -> Result<Vec<Place>, NoMemory>
         ensures { IfOk result (λ room. room.items ≡ []) }
     { touched_places(alloc, fragments) };
+    let counting = threads - 1;
     let back = move || -> Result<(Slots, Vec<Vec<FlowRecord>>), NoMemory>
         ensures counts { IfOk result (λ made. CountsSlots (items_of pieces.entry.now) made.0) }
         ensures buckets { IfOk result (λ made. records_of made.1.items ≡ []) }
-    { count_beside_buckets(rt, alloc, pieces, fragments, threads) };
+    { count_beside_buckets(rt, alloc, pieces, fragments, counting) };
     let (places, counted) = join(rt, front, back);
     let (counts, buckets) = counted?;
     let room = Room {
@@ -309,7 +310,8 @@ fn count_beside<R: Threads + Sync>(
     Ok((counts, room))
 }
 
-/// How many fragments each slot has, and buckets for what is moved of so many, which another thread makes meanwhile.
+/// How many fragments each slot has, counted by at most `threads` threads, and buckets for what is moved of so many, which
+/// another one makes meanwhile.
 fn count_beside_buckets<R: Threads + Sync>(
     rt: &R,
     alloc: Global,

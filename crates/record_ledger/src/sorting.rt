@@ -23,8 +23,8 @@ const SHORT_RANGES: usize = 64;
 
 /// Sorts places into the written order of their records, by at most `threads` threads.
 ///
-/// Threads share out the places by time, half by half, and each brings its own into ranges of time, those of a long range
-/// into shorter ones, and sorts these one by one; a last sort of its share then finds them in order.
+/// Threads share out the places by time, and each brings its own into ranges of time, those of a long range into shorter
+/// ones, and sorts these one by one; a last sort of its share then finds them in order.
 pub fn sort_places<R: Threads + Sync>(rt: &R, store: &Store, order: &mut Vec<Place>, threads: usize)
     ensures permutation { IsPermutation order.old.items order.new.items }
     ensures order { IsSorted (place_order store.now) order.new.items }
@@ -32,8 +32,10 @@ pub fn sort_places<R: Threads + Sync>(rt: &R, store: &Store, order: &mut Vec<Pla
     sort_shares(rt, store, order.as_mut_slice(), threads);
 }
 
-/// Sorts places by at most `threads` threads: the earlier ones by half of the threads, as many places as these are of all
-/// threads, and the later ones by the other threads, each after the same division.
+/// Sorts places by at most `threads` threads, each a share of them that ends before the next one begins.
+///
+/// The calling thread starts each of the others itself: where one that has hardly begun starts a further one, this one is
+/// often left waiting beside it.
 #[cycle(shares)]
 fn sort_shares<R: Threads + Sync>(rt: &R, store: &Store, order: &mut [Place], threads: usize)
     ensures permutation { IsPermutation order.old order.new }
@@ -43,13 +45,13 @@ fn sort_shares<R: Threads + Sync>(rt: &R, store: &Store, order: &mut [Place], th
     if threads < 2 || order.len() < FEW {
         sort_share(store, order);
     } else {
-        let before = part_share(order, threads / (threads / 2));
+        let before = part_share(order, threads);
         let (low, high) = order.split_at_mut(before);
         sort_both(rt, store, low, high, threads);
     }
 }
 
-/// Sorts the earlier places in a new thread, and those behind them in the calling one, by at most `threads` threads
+/// Sorts the places of one thread's share in a new thread, and at once those behind them, by at most `threads` threads
 /// together.
 #[cycle(shares)]
 fn sort_both<R: Threads + Sync>(
@@ -65,13 +67,11 @@ fn sort_both<R: Threads + Sync>(
     ensures high { IsPermutation high.old high.new }
     ensures high_order { IsSorted (place_order store.now) high.new }
 {
-    let half = threads / 2;
-    let rest = threads - half;
+    let rest = threads - 1;
     let mut left = ||
-        requires { IsSync R.row }
         ensures permutation { IsPermutation low.entry.now low.exit.now }
         ensures order { IsSorted (place_order store.entry.now) low.exit.now }
-    { sort_shares(rt, store, low, half) };
+    { sort_share(store, low) };
     let mut right = ||
         requires { IsSync R.row }
         ensures permutation { IsPermutation high.entry.now high.exit.now }

@@ -1,4 +1,4 @@
--- Each half has fewer threads.
+-- Behind one thread's share there is one thread fewer.
 use Rattle.std.proofs.Common.{◌+◌, ◌*◌}
 use Rattle.record_ledger.proofs.sorting.+shares.Given as goal
 
@@ -7,9 +7,6 @@ decreases-sort_shares g l = 4 * l.threads + 3
 
 abbrev pub decreases-sort_both : goal.decreases-sort_both
 decreases-sort_both g l = 4 * l.threads + 2
-
-abbrev pub decreases-sort_both-left : goal.decreases-sort_both-left
-decreases-sort_both-left g l = 4 * l.half + 4
 
 abbrev pub decreases-sort_both-right : goal.decreases-sort_both-right
 decreases-sort_both-right g l = 4 * l.rest + 4
