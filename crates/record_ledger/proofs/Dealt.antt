@@ -1,14 +1,14 @@
 -- Records that lie in the buckets of their keys.
 use Rattle.std.proofs.Common.{◌≡◌, ℕ, zero, suc, ◌+◌, ◌<◌, ◌≤◌, List, [], ◌∷◌, ◌++◌}
-use Rattle.std.proofs.Common.{length, get_or, set, sum_by, sym, ap, ◌∙◌, subst, arith, append-nil, append_assoc}
+use Rattle.std.proofs.Common.{length, get_or, set, flat_map, sum_by, sym, ap, ◌∙◌, subst, arith, append-nil, append_assoc}
 use Rattle.std.proofs.Common.{length-append, All, IsPermutation}
-use Rattle.std.proofs.Math.ListN.{length-set}
 use Rattle.std.proofs.lemmas.Grind.{flat_map-append}
 use Rattle.std.proofs.lemmas.List.{map-append}
 use Rattle.std.proofs.lemmas.List.Sums.{sum_by-append}
 use Rattle.std.proofs.lemmas.List.Elements.{All-append}
 use Rattle.std.proofs.lemmas.List.Sorted.{IsPermutation-sym, IsPermutation-trans}
-use Rattle.std.proofs.lemmas.List.Sorted.{IsPermutation-to_front, IsPermutation-append_left, IsPermutation-append_right}
+use Rattle.std.proofs.lemmas.List.Sorted.{IsPermutation-to_front, IsPermutation-append_comm}
+use Rattle.std.proofs.lemmas.List.Sorted.{IsPermutation-append_left, IsPermutation-append_right}
 use Rattle.std.proofs.Common.{Vec, Global}
 use Rattle.flow_key.specs.Key.{set_number}
 use Rattle.flow_parts.specs.declared.fragment.Fragment.{Fragment}
@@ -16,46 +16,22 @@ use Rattle.flow_parts.specs.Pieces.{items_of}
 use Rattle.flow_parts.proofs.Members.{All-one}
 use Rattle.record_ledger.specs.declared.record.FlowRecord.{FlowRecord}
 use Rattle.record_ledger.specs.Lawful.{parts_of}
-use Rattle.record_ledger.specs.Buckets.{Bucket, records_of, LieFrom, AreByKey}
+use Rattle.record_ledger.specs.Buckets.{Bucket, records_of, LieFrom}
 use Rattle.record_ledger.proofs.Keyed.{part_of}
 
--- the records of the bucket with the number i + j
-pub lies_at : (n i j : ℕ) (bs : List Bucket) (d : Bucket) → LieFrom n i bs → j < length bs
-    → All (λ (r : FlowRecord). set_number r.part.key n ≡ i + j) (get_or bs j d).items
-lies_at n i j [] d h l = absurd (omega arith)
-lies_at n i zero (b ∷ bs) d h l =
-    let e : i ≡ i + 0 = omega arith in
-    subst (λ m. All (λ (r : FlowRecord). set_number r.part.key n ≡ m) b.items) e h.0
-lies_at n i (suc j) (b ∷ bs) d h l =
-    let e : suc i + j ≡ i + suc j = omega arith in
-    subst (λ m. All (λ (r : FlowRecord). set_number r.part.key n ≡ m) (get_or bs j d).items) e
-    (lies_at n (suc i) j bs d h.1 (omega arith))
-
-pub lies_set : (n i j : ℕ) (bs : List Bucket) (b : Bucket) → LieFrom n i bs
-    → All (λ (r : FlowRecord). set_number r.part.key n ≡ i + j) b.items → LieFrom n i (set bs j b)
-lies_set n i j [] b h k = tt
-lies_set n i zero (c ∷ bs) b h k =
-    let e : i + 0 ≡ i = omega arith in
-    (subst (λ m. All (λ (r : FlowRecord). set_number r.part.key n ≡ m) b.items) e k, h.1)
-lies_set n i (suc j) (c ∷ bs) b h k =
-    let e : i + suc j ≡ suc i + j = omega arith in (
-      h.0,
-      lies_set n (suc i) j bs b h.1 (subst
-          (λ m. All (λ (r : FlowRecord). set_number r.part.key n ≡ m) b.items) e k),
-    )
-
 -- one more record in its bucket
-pub lies_pushed : (bs : List Bucket) (j : ℕ) (b : Bucket) (r : FlowRecord) (d : Bucket) → j < length bs
-    → b.items ≡ (get_or bs j d).items ++ r ∷ [] → j ≡ set_number r.part.key (length bs)
-    → AreByKey bs → AreByKey (set bs j b)
-lies_pushed bs j b r d l e is h =
-    subst (λ n. LieFrom n 0 (set bs j b)) (sym (length-set bs j b))
-    (lies_set (length bs) 0 j bs b h
-    (subst (All (λ (r : FlowRecord). set_number r.part.key (length bs) ≡ 0 + j)) (sym e)
-    (All-append (λ (r : FlowRecord). set_number r.part.key (length bs) ≡ 0 + j) (get_or bs j d).items (r ∷ [])
-    (lies_at (length bs) 0 j bs d h l)
-    (All-one (λ (r : FlowRecord). set_number r.part.key (length bs) ≡ 0 + j) r
-    (let z : j ≡ 0 + j = omega arith in sym is ∙ z)))))
+pub lies_pushed : (n i : ℕ) (bs : List Bucket) (j : ℕ) (b : Bucket) (r : FlowRecord) (d : Bucket) → j < length bs
+    → b.items ≡ (get_or bs j d).items ++ r ∷ [] → set_number r.part.key n ≡ i + j
+    → LieFrom n i bs → LieFrom n i (set bs j b)
+lies_pushed n i [] j b r d l e is h = tt
+lies_pushed n i (c ∷ bs) zero b r d l e is h = (
+  subst (All (λ (r : FlowRecord). set_number r.part.key n ≡ i)) (sym e)
+      (All-append (λ (r : FlowRecord). set_number r.part.key n ≡ i) c.items (r ∷ []) h.0
+      (All-one (λ (r : FlowRecord). set_number r.part.key n ≡ i) r (omega (arith, is)))),
+  h.1,
+)
+lies_pushed n i (c ∷ bs) (suc j) b r d l e is h =
+    (h.0, lies_pushed n (suc i) bs j b r d (omega (arith, l)) e (omega (arith, is)) h.1)
 
 -- no records lie anywhere
 pub none_lie : (n i : ℕ) (bs : List Bucket) → length (records_of bs) ≡ 0 → LieFrom n i bs
@@ -71,19 +47,33 @@ behind x xs ys = subst (IsPermutation (x ∷ (xs ++ ys))) (append_assoc xs (x �
     (IsPermutation-append_left ys (x ∷ xs) (xs ++ x ∷ [])
     (IsPermutation-sym (xs ++ x ∷ []) (x ∷ xs) (IsPermutation-to_front xs x)))
 
-pub pushed : (bs : List Bucket) (j : ℕ) (b : Bucket) (r : FlowRecord) (d : Bucket) → j < length bs
-    → b.items ≡ (get_or bs j d).items ++ r ∷ [] → IsPermutation (r ∷ records_of bs) (records_of (set bs j b))
-pushed [] j b r d l e = absurd (omega arith)
-pushed (c ∷ bs) zero b r d l e =
-    subst (λ xs. IsPermutation (r ∷ (c.items ++ records_of bs)) (xs ++ records_of bs)) (sym e)
-    (subst (IsPermutation (r ∷ (c.items ++ records_of bs))) (sym (append_assoc c.items (r ∷ []) (records_of bs)))
-    (behind r c.items (records_of bs)))
-pushed (c ∷ bs) (suc j) b r d l e =
-    IsPermutation-trans (r ∷ (c.items ++ records_of bs)) (c.items ++ r ∷ records_of bs)
-    (c.items ++ records_of (set bs j b))
-    (behind r c.items (records_of bs))
-    (IsPermutation-append_right c.items (r ∷ records_of bs) (records_of (set bs j b))
-    (pushed bs j b r d (omega arith) e))
+-- two lists in the middle change places
+pub inner_changed : {X : Type 0} (A B C D : List X) → IsPermutation ((A ++ B) ++ (C ++ D)) ((A ++ C) ++ (B ++ D))
+inner_changed A B C D =
+    subst (λ l. IsPermutation l ((A ++ C) ++ (B ++ D))) (sym (append_assoc A B (C ++ D)))
+    (subst (IsPermutation (A ++ (B ++ (C ++ D)))) (sym (append_assoc A C (B ++ D)))
+    (IsPermutation-append_right A (B ++ (C ++ D)) (C ++ (B ++ D))
+    (subst (λ l. IsPermutation l (C ++ (B ++ D))) (append_assoc B C D)
+    (subst (IsPermutation ((B ++ C) ++ D)) (append_assoc C B D)
+    (IsPermutation-append_left D (B ++ C) (C ++ B) (IsPermutation-append_comm B C))))))
+
+module _ {X : Type 0} where
+  -- the elements of some lists, one list after the other
+  abbrev pub elements : List (Vec X Global) → List X
+  elements ls = flat_map (λ (v : Vec X Global). v.items) ls
+
+  -- one more element in one of some lists
+  pub pushed : (ls : List (Vec X Global)) (j : ℕ) (l : Vec X Global) (x : X) (d : Vec X Global) → j < length ls
+      → l.items ≡ (get_or ls j d).items ++ x ∷ [] → IsPermutation (x ∷ elements ls) (elements (set ls j l))
+  pushed [] j l x d low e = absurd (omega arith)
+  pushed (c ∷ ls) zero l x d low e =
+      subst (λ xs. IsPermutation (x ∷ (c.items ++ elements ls)) (xs ++ elements ls)) (sym e)
+      (subst (IsPermutation (x ∷ (c.items ++ elements ls))) (sym (append_assoc c.items (x ∷ []) (elements ls)))
+      (behind x c.items (elements ls)))
+  pushed (c ∷ ls) (suc j) l x d low e =
+      IsPermutation-trans (x ∷ (c.items ++ elements ls)) (c.items ++ x ∷ elements ls) (c.items ++ elements (set ls j l))
+      (behind x c.items (elements ls))
+      (IsPermutation-append_right c.items (x ∷ elements ls) (elements (set ls j l)) (pushed ls j l x d (omega arith) e))
 
 -- the last fragments of some are moved
 pub last_dealt : (A F rest dealt X Y : List Fragment) → F ≡ rest ++ dealt → IsPermutation A (F ++ X)

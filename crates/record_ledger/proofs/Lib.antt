@@ -1,4 +1,6 @@
 pub mod Alone
+pub mod Behind
+pub mod Classed
 pub mod Coming
 pub mod Copied
 pub mod Counted
@@ -10,16 +12,19 @@ pub mod InPlace
 pub mod Keyed
 pub mod Leads
 pub mod Leaving
+pub mod Listed
 pub mod Lying
 pub mod Made
 pub mod Matched
 pub mod Meeting
+pub mod Moved
 pub mod Packed
-pub mod Parted
 pub mod Placed
 pub mod Reaching
 pub mod Rising
+pub mod Seamed
 pub mod Settled
+pub mod Shared
 pub mod Stacking
 pub mod Staying
 pub mod Stored

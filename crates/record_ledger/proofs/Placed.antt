@@ -1,8 +1,6 @@
 -- Places of records in a store, and their order.
 use Rattle.std.proofs.Common.{◌≡◌, ℕ, zero, suc, ◌+◌, ◌<◌, Bool, false, Option, Some, None, List, [], ◌∷◌, ◌++◌, length}
-use Rattle.std.proofs.Common.{get_or}
-use Rattle.std.proofs.Common.{◌-◌, take, refl, sym, ap, ◌∙◌, subst, arith, add-one, append-nil, append_assoc, All}
-use Rattle.std.proofs.Common.{IsPermutation, ◌≤◌, true, cond, filter, ◌⊎◌, inl, inr}
+use Rattle.std.proofs.Common.{get_or, refl, sym, ap, ◌∙◌, subst, arith, All, IsPermutation, ◌≤◌, true, cond, filter}
 use Rattle.std.specs.Prelude.{slice_get, IsSorted}
 use Rattle.std.specs.Cmp.{IsTotalOrder, IsStrictWeakOrder}
 use Rattle.std.specs.List.{AllZip}
@@ -11,32 +9,26 @@ use Rattle.std.specs.Option.{option_cmp}
 use Rattle.std.specs.Ordering.{MatchOrdering, is_lt, nat_cmp, ordering_then, ordering_reverse}
 use Rattle.std.specs.declared.cmp.Ordering.{Ordering}
 use Rattle.std.specs.declared.cmp.Ordering.TheVariants.{Less, Equal, Greater}
-use Rattle.std.proofs.Math.Seq.{take-suc}
 use Rattle.std.proofs.lemmas.Cmp.{nat_cmp_total, on_total, then_total, ranked, tied_itself}
-use Rattle.std.proofs.lemmas.Grind.{flat_map-append}
-use Rattle.std.proofs.lemmas.Option.{slice_get_read}
-use Rattle.std.proofs.lemmas.List.Elements.{All-append, All-cons, All-nil, All-head, All-tail, All-weaker}
+use Rattle.std.proofs.lemmas.List.Elements.{All-cons, All-nil, All-head, All-tail}
 use Rattle.std.proofs.lemmas.List.Sorted.{ranks_by}
 use Rattle.flow_key.specs.Key.{key_order}
 use Rattle.flow_key.specs.declared.key.FlowKey.{FlowKey}
 use Rattle.flow_key.proofs.KeyOrder.{key_order_total, tied_numbers, tied_first, tied_second}
-use Rattle.flow_parts.proofs.Permuted.{AllZip-append, AllZip-permutation}
+use Rattle.flow_parts.proofs.Permuted.{AllZip-permutation}
 use Rattle.record_ledger.specs.declared.record.FlowRecord.{FlowRecord}
 use Rattle.record_ledger.specs.declared.place.Place.{Place}
+use Rattle.record_ledger.specs.declared.store.Store.{Store}
+use Rattle.record_ledger.specs.Buckets.{EndInTurn, IsPlace, IsPlaceOf, leading_number, listed, place_order, record_at}
+use Rattle.record_ledger.specs.Buckets.{records_at, seat_order}
+use Rattle.record_ledger.specs.Lawful.{of_key}
 use Rattle.record_ledger.specs.Order.{written_order}
 use Rattle.record_ledger.specs.Steps.{Rises}
-use Rattle.flow_parts.proofs.Members.{All-one}
 use Rattle.record_ledger.proofs.Filtered.{IsPermutation-filter, NotLess, one_sorted}
 use Rattle.record_ledger.proofs.Gathered.{has_key, key_from_test}
 use Rattle.record_ledger.proofs.Keyed.{rises_filter}
-use Rattle.record_ledger.proofs.Leads.{less_is, leading_first}
+use Rattle.record_ledger.proofs.Leads.{leading_first}
 use Rattle.record_ledger.proofs.Rising.{rises_from_sorted, not_less_shorter, keys_tie}
-use Rattle.record_ledger.specs.Lawful.{of_key}
-use Rattle.record_ledger.specs.Buckets.{seat_order, AreFirst, EndInTurn}
-use Rattle.record_ledger.specs.declared.store.Store.{Store}
-use Rattle.record_ledger.proofs.Stored.{of_bucket}
-use Rattle.record_ledger.specs.Buckets.{Bucket, item_at, record_at, IsPlaceOf, IsPlace, listed, records_at, place_order}
-use Rattle.record_ledger.specs.Buckets.{records_of, leading_number}
 
 sorted_more : {X : Type 0} (lt : X → X → Bool) (x : X) (xs : List X) → All (λ y. lt y x ≡ false) xs → IsSortedBy lt xs
     → (k : ℕ) (d : X) → k + 1 < length (x ∷ xs) → lt (get_or (x ∷ xs) (k + 1) d) (get_or (x ∷ xs) k d) ≡ false
@@ -100,57 +92,6 @@ seats_total : IsTotalOrder seat_order
 seats_total = then_total (on_total (λ (p : Place). p.bucket) nat_cmp_total)
     (on_total (λ (p : Place). p.at) nat_cmp_total)
 
--- the place is of a bucket below the one with this number, or in this one below a place
-abbrev pub IsBelow : ℕ → ℕ → Place → Type 0
-IsBelow n i p = (p.bucket < n) ⊎ ((p.bucket ≡ n) × (p.at < i))
-
-pub ahead_of : (n i : ℕ) (q p : Place) → q.bucket ≡ n → q.at ≡ i → IsBelow n i p → seat_order p q ≡ Less
-ahead_of n i q p e f (inl l) =
-    ap (λ o. ordering_then o (nat_cmp p.at q.at)) (less_is p.bucket q.bucket (omega (arith, e, l)))
-ahead_of n i q p e f (inr h) =
-    let same : q.bucket ≡ p.bucket = e ∙ sym h.0 in
-    ap (λ m. ordering_then (nat_cmp p.bucket m) (nat_cmp p.at q.at)) same
-    ∙ ap (λ o. ordering_then o (nat_cmp p.at q.at)) (tied_itself nat_cmp_total p.bucket)
-    ∙ less_is p.at q.at (omega (arith, f, h.1))
-
-rises_snoc : {X : Type 0} (R : X → X → Type 0) (xs : List X) (y : X) → Rises R xs → All (λ x. R x y) xs
-    → Rises R (xs ++ y ∷ [])
-rises_snoc R [] y h k = (All-nil (R y), tt)
-rises_snoc R (x ∷ xs) y h k = (
-  All-append (R x) xs (y ∷ []) h.0 (All-one (R x) y (All-head (λ x. R x y) x xs k)),
-  rises_snoc R xs y h.1 (All-tail (λ x. R x y) x xs k),
-)
-
--- one more place is behind those before
-pub more_ahead : (n i : ℕ) (ps qs : List Place) (p : Place) → p.bucket ≡ n → p.at ≡ i → qs ≡ ps ++ p ∷ []
-    → All (IsBelow n i) ps × Rises (λ one other. seat_order one other ≡ Less) ps
-    → All (IsBelow n (i + 1)) qs × Rises (λ one other. seat_order one other ≡ Less) qs
-more_ahead n i ps qs p e f eq h = (
-  subst (All (IsBelow n (i + 1))) (sym eq)
-      (All-append (IsBelow n (i + 1)) ps (p ∷ [])
-      (All-weaker (IsBelow n i) (IsBelow n (i + 1)) (λ q b. onward q b) ps h.0)
-      (All-one (IsBelow n (i + 1)) p (inr (e, omega (arith, f))))),
-  subst (Rises (λ one other. seat_order one other ≡ Less)) (sym eq)
-      (rises_snoc (λ one other. seat_order one other ≡ Less) ps p h.1
-      (All-weaker (IsBelow n i) (λ q. seat_order q p ≡ Less) (λ q b. ahead_of n i p q e f b) ps h.0)),
-)
-  where
-    onward : (q : Place) → IsBelow n i q → IsBelow n (i + 1) q
-    onward q (inl l) = inl l
-    onward q (inr b) = inr (b.0, omega (arith, b.1))
-
--- the places of one more bucket
-pub first_on : (n i : ℕ) (ps : List Place) → All (IsBelow n i) ps × Rises (λ one other. seat_order one other ≡ Less) ps
-    → AreFirst (n + 1) ps
-first_on n i ps h = record {
-  below = All-weaker (IsBelow n i) (λ p. p.bucket < n + 1) (λ p b. low p b) ps h.0;
-  rising = h.1;
-}
-  where
-    low : (p : Place) → IsBelow n i p → p.bucket < n + 1
-    low p (inl l) = omega (arith, l)
-    low p (inr b) = omega (arith, b.0)
-
 -- not less by the first, ties by the two that follow, and not less by the last of four comparisons
 in_four : (o n k t : Ordering) → is_lt o ≡ false → n ≡ Equal → k ≡ Equal → is_lt t ≡ false
     → is_lt (ordering_then o (ordering_then n (ordering_then k t))) ≡ false
@@ -169,37 +110,7 @@ abbrev has_at : FlowKey → Option FlowRecord → Bool
 has_at key None = false
 has_at key (Some r) = has_key key r
 
--- the records of one more bucket
-pub bucket_taken : (bs : List Bucket) (i : ℕ) (b : Bucket) → i < length bs → b ≡ get_or bs i b
-    → records_of (take i bs) ++ b.items ≡ records_of (take (i + 1) bs)
-bucket_taken bs i b l is =
-    ap (λ z. records_of (take i bs) ++ z) (sym (append-nil b.items))
-    ∙ sym (flat_map-append (λ (v : Bucket). v.items) (take i bs) (b ∷ []))
-    ∙ ap records_of (ap (λ f. take i bs ++ f ∷ []) is ∙ sym (take-suc bs i b l)
-    ∙ ap (λ n. take n bs) (sym (add-one i)))
-
 module _ (store : Store) where
-  -- one more record of a bucket has its place
-  pub more_placed : (before : List FlowRecord) (n i : ℕ) (b : Bucket) (r : FlowRecord) (ps qs : List Place) (p : Place)
-      → slice_get store.buckets.items n ≡ Some b → i < length b.items → r ≡ get_or b.items i r
-      → p.bucket ≡ length store.pieces.items + n → p.at ≡ i → p.last ≡ r.part.last → p.leading ≡ leading_number r.part.key → qs ≡ ps ++ p ∷ []
-      → AllZip (IsPlaceOf store) (before ++ take i b.items) ps → AllZip (IsPlaceOf store) (before ++ take (i + 1) b.items) qs
-  more_placed before n i b r ps qs p e l is eb ea el ek eq h =
-      let here : record_at store p ≡ Some r =
-      of_bucket store p (omega (arith, eb))
-      ∙ ap (λ m. item_at (slice_get store.buckets.items m) p.at)
-      (let e : p.bucket - length store.pieces.items ≡ n = omega (arith, eb) in e)
-      ∙ ap (λ o. item_at o p.at) e ∙ ap (slice_get b.items) ea
-      ∙ slice_get_read b.items (length b.items) i r refl l is in
-      let more : (before ++ take i b.items) ++ r ∷ [] ≡ before ++ take (i + 1) b.items =
-      append_assoc before (take i b.items) (r ∷ [])
-      ∙ ap (λ z. before ++ z) (ap (λ f. take i b.items ++ f ∷ []) is ∙ sym (take-suc b.items i r l)
-      ∙ ap (λ n. take n b.items) (sym (add-one i))) in
-      subst (λ l. AllZip (IsPlaceOf store) l qs) more
-      (subst (AllZip (IsPlaceOf store) ((before ++ take i b.items) ++ r ∷ [])) (sym eq)
-      (AllZip-append (IsPlaceOf store) (before ++ take i b.items) ps (r ∷ []) (p ∷ []) h
-      (record { here = here; last = el; leading = ek }, tt)))
-
   places_total : IsTotalOrder (place_order store)
   places_total = then_total (on_total (λ (p : Place). p.last) nat_cmp_total)
       (then_total (on_total (λ (p : Place). p.leading) nat_cmp_total)
@@ -272,6 +183,11 @@ module _ (store : Store) where
       ap (λ o. length (listed o ++ records_at store ps)) (All-head (IsPlace store) p ps h).1
       ∙ ap suc (as_many ps (All-tail (IsPlace store) p ps h))
 
+  -- places of records of one key stand by where they are
+  abbrev pub KeyAhead : Place → Place → Type 0
+  KeyAhead p q = (r s : FlowRecord) → record_at store p ≡ Some r → record_at store q ≡ Some s
+      → r.part.key ≡ s.part.key → seat_order p q ≡ Less
+
   pub record_of : (ps : List Place) (k : ℕ) (p : Place) (r d : FlowRecord) → All (IsPlace store) ps → k < length ps
       → record_at store (get_or ps k p) ≡ Some r → get_or (records_at store ps) k d ≡ r
   record_of [] k p r d h l e = absurd (omega arith)
@@ -324,7 +240,7 @@ module _ (store : Store) where
     InTurn p q = HasAt p ≡ true → HasAt q ≡ true → is_lt (place_order store q p) ≡ false
 
     two_in_turn : (r s : FlowRecord) (p q : Place) → IsPlaceOf store r p → IsPlaceOf store s q
-        → (r.part.key ≡ s.part.key → r.part.last ≤ s.part.last) → seat_order p q ≡ Less → InTurn p q
+        → (r.part.key ≡ s.part.key → r.part.last ≤ s.part.last) → KeyAhead p q → InTurn p q
     two_in_turn r s p q h k up ahead a b =
         let one : r.part.key ≡ key = key_from_test key r (sym (ap (has_at key) h.here) ∙ a) in
         let two : s.part.key ≡ key = key_from_test key s (sym (ap (has_at key) k.here) ∙ b) in
@@ -337,25 +253,26 @@ module _ (store : Store) where
         ∙ tied_itself nat_cmp_total (leading_number s.part.key))
         ((λ i. option_cmp (λ (r s : FlowRecord). key_order r.part.key s.part.key) (k.here i) (h.here i))
         ∙ keys_tie s.part.key r.part.key (two ∙ sym one))
-        (ap is_lt (seats_total.antisymm q p ∙ ap ordering_reverse ahead))
+        (ap is_lt (seats_total.antisymm q p
+        ∙ ap ordering_reverse (ahead r s h.here k.here (one ∙ sym two))))
 
     one_in_turn : (r : FlowRecord) (p : Place) → IsPlaceOf store r p → (rs : List FlowRecord) (ps : List Place)
         → AllZip (IsPlaceOf store) rs ps
         → All (λ (s : FlowRecord). r.part.key ≡ s.part.key → r.part.last ≤ s.part.last) rs
-        → All (λ q. seat_order p q ≡ Less) ps → All (InTurn p) ps
+        → All (KeyAhead p) ps → All (InTurn p) ps
     one_in_turn r p h [] [] z up ahead = All-nil (InTurn p)
     one_in_turn r p h [] (q ∷ ps) z up ahead = absurd z
     one_in_turn r p h (s ∷ rs) [] z up ahead = absurd z
     one_in_turn r p h (s ∷ rs) (q ∷ ps) z up ahead = All-cons (InTurn p) q ps
         (two_in_turn r s p q h z.0
         (All-head (λ (s : FlowRecord). r.part.key ≡ s.part.key → r.part.last ≤ s.part.last) s rs up)
-        (All-head (λ q. seat_order p q ≡ Less) q ps ahead))
+        (All-head (KeyAhead p) q ps ahead))
         (one_in_turn r p h rs ps z.1
         (All-tail (λ (s : FlowRecord). r.part.key ≡ s.part.key → r.part.last ≤ s.part.last) s rs up)
-        (All-tail (λ q. seat_order p q ≡ Less) q ps ahead))
+        (All-tail (KeyAhead p) q ps ahead))
 
     all_in_turn : (rs : List FlowRecord) (ps : List Place) → AllZip (IsPlaceOf store) rs ps → EndInTurn rs
-        → Rises (λ one other. seat_order one other ≡ Less) ps → Rises InTurn ps
+        → Rises KeyAhead ps → Rises InTurn ps
     all_in_turn [] [] z up ahead = tt
     all_in_turn [] (p ∷ ps) z up ahead = absurd z
     all_in_turn (r ∷ rs) [] z up ahead = absurd z
@@ -364,7 +281,7 @@ module _ (store : Store) where
 
     -- sorting the places leaves the order of the records of a key
     pub key_in_order : (rs : List FlowRecord) (ps qs : List Place) → AllZip (IsPlaceOf store) rs ps → EndInTurn rs
-        → Rises (λ one other. seat_order one other ≡ Less) ps → IsPermutation ps qs → IsSorted (place_order store) qs
+        → Rises KeyAhead ps → IsPermutation ps qs → IsSorted (place_order store) qs
         → of_key key rs ≡ of_key key (records_at store qs)
     key_in_order rs ps qs z up ahead perm sorted =
         let same : filter HasAt ps ≡ filter HasAt qs =

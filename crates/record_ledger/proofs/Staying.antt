@@ -12,6 +12,7 @@ use Rattle.std.proofs.lemmas.List.Elements.{All-append, All-cons, All-nil, All-h
 use Rattle.std.proofs.lemmas.List.Sorted.{IsPermutation-refl, sum_by-IsPermutation}
 use Rattle.std.proofs.lemmas.List.Sums.{sum_by-append}
 use Rattle.std.proofs.lemmas.Bool.{lt-ltb}
+use Rattle.std.proofs.lemmas.Option.{slice_get_within}
 use Rattle.flow_key.specs.declared.key.FlowKey.{FlowKey}
 use Rattle.flow_key.specs.Key.{key_order}
 use Rattle.packet_accept.specs.Ending.{is_tcp_end}
@@ -27,7 +28,7 @@ use Rattle.record_ledger.specs.declared.record.FlowRecord.{FlowRecord}
 use Rattle.record_ledger.specs.declared.store.Store.{Store}
 use Rattle.record_ledger.specs.declared.place.Place.{Place}
 use Rattle.record_ledger.specs.Buckets.{Bucket, Piece, records_of, LieFrom, AreDealt, EndInTurn, IsPlaceOf}
-use Rattle.record_ledger.specs.Buckets.{IsPartPlaceOf, alone_record, record_at, part_in, item_at, leading_number}
+use Rattle.record_ledger.specs.Buckets.{IsPartPlaceOf, alone_record, record_at, part_in, part_of_piece, item_at, leading_number}
 use Rattle.record_ledger.specs.RecordWith.{record_where}
 use Rattle.record_ledger.specs.Gathered.{AreJoined, IsGathered, parts_with}
 use Rattle.record_ledger.specs.Lawful.{parts_of, of_key, reason_of, EachWithNext, StandsApart, HasReason, IsLawfulBy}
@@ -74,6 +75,24 @@ module _ (limits : Timeouts) (clock : ℕ) where
       (few (is_tcp_end f.key.protocol f.flags) (nat_lt (f.last + limits.idle) clock))
       (dec_lt (reason_of limits clock f None) (2 ^ 8))
 
+-- the place of a fragment names one of the pieces
+module _ (pieces : List Piece) where
+  below_by : (p : Place) (f : Fragment) (o : Option Piece) → slice_get pieces p.bucket ≡ o
+      → part_of_piece o p.at ≡ Some f → p.bucket < length pieces
+  below_by p f None is e = absurd (cc)
+  below_by p f (Some piece) is e = slice_get_within pieces p.bucket piece is
+
+  one_below : (f : Fragment) (p : Place) → IsPartPlaceOf pieces f p → p.bucket < length pieces
+  one_below f p h = below_by p f (slice_get pieces p.bucket) refl h.here
+
+  all_below : (A : List Fragment) (ps : List Place) → AllZip (IsPartPlaceOf pieces) A ps
+      → All (λ (p : Place). p.bucket < length pieces) ps
+  all_below [] [] z = All-nil (λ (p : Place). p.bucket < length pieces)
+  all_below [] (p ∷ ps) z = absurd z
+  all_below (f ∷ A) [] z = absurd z
+  all_below (f ∷ A) (p ∷ ps) z = All-cons (λ (p : Place). p.bucket < length pieces) p ps (one_below f p z.0)
+      (all_below A ps z.1)
+
 -- the records of the fragments that stay
 module _ (store : Store) where
   abbrev Firsts : List Fragment → List Place → Type 0
@@ -88,18 +107,17 @@ module _ (store : Store) where
       (lt-ltb p.bucket (length store.pieces.items) l)
       ∙ ap (option_and_then (alone_record store.timeouts store.clock)) h.here ∙ e
 
-  pub firsts : (A : List Fragment) (ps : List Place) → AllZip (IsPartPlaceOf store.pieces.items) A ps
-      → All (λ p. p.bucket < length store.pieces.items) ps → Firsts A ps
-  firsts [] [] z l = ([], tt, refl, All-nil (HasLast store.timeouts store.clock))
-  firsts [] (p ∷ ps) z l = absurd z
-  firsts (f ∷ A) [] z l = absurd z
-  firsts (f ∷ A) (p ∷ ps) z l =
+  pub firsts : (A : List Fragment) (ps : List Place) → AllZip (IsPartPlaceOf store.pieces.items) A ps → Firsts A ps
+  firsts [] [] z = ([], tt, refl, All-nil (HasLast store.timeouts store.clock))
+  firsts [] (p ∷ ps) z = absurd z
+  firsts (f ∷ A) [] z = absurd z
+  firsts (f ∷ A) (p ∷ ps) z =
       let r = as_record store.timeouts store.clock f in
-      let rest = firsts A ps z.1 (All-tail (λ p. p.bucket < length store.pieces.items) p ps l) in (
+      let rest = firsts A ps z.1 in (
         r.0 ∷ rest.0,
         (
           record {
-            here = at_place f p (Some r.0) z.0 (All-head (λ p. p.bucket < length store.pieces.items) p ps l) r.1;
+            here = at_place f p (Some r.0) z.0 (one_below store.pieces.items f p z.0) r.1;
             last = z.0.last ∙ sym (ap (λ (g : Fragment). g.last) r.2);
             leading = z.0.leading ∙ sym (ap (λ (g : Fragment). leading_number g.key) r.2);
           },
@@ -280,7 +298,14 @@ module _ (limits : Timeouts) (clock : ℕ) (parts : List Fragment) (pieces : Vec
   given = given_back old.len old.items lent new old.ok.0 same (AllZip-length (Settled limits clock) lent new z)
 
   pub first : Firsts store dealt.alone order
-  first = firsts store dealt.alone order dealt.places dealt.first.below
+  first = firsts store dealt.alone order dealt.places
+
+  -- no two of those that stay have one key
+  pub first_unlike : Rises Unlike first.0
+  first_unlike = unlike limits clock parts pieces.items order old.items new dealt settled first.0 first.2 first.3
+
+  pub first_below : All (λ (p : Place). p.bucket < length pieces.items) order
+  first_below = all_below pieces.items dealt.alone order dealt.places
 
   module _ (L : List FlowRecord) where
     abbrev Permuted : Type 0

@@ -1,13 +1,12 @@
 -- The code's own: records in buckets, and places in them. No law speaks of these.
 use Rattle.std.specs.Prelude.{◌≡◌, ◌≢◌, ℕ, suc, ◌<◌, ◌≤◌, List, [], ◌∷◌, ◌++◌, Option, Some, None, slice_get, length, flat_map}
-use Rattle.std.specs.Prelude.{option_and_then, nat_lt, slice_index, count_by, map, take, drop, min, max}
+use Rattle.std.specs.Prelude.{option_and_then, nat_lt, nat_le, ◌&&◌, slice_index, count_by, filter, map, min, max}
 use Rattle.std.specs.List.{AllZip, range_with_len}
 use native.Mathlib.Decide.{dec_lt}
 use Rattle.std.specs.Prelude.{All, IsPermutation, ⊤, ◌==◌, ◌+◌, ◌-◌, ◌*◌, ◌/◌, ◌%◌, ◌^◌, if◌then◌else◌}
 use Rattle.std.specs.Option.{option_cmp}
 use Rattle.std.specs.Ordering.{nat_cmp, ordering_then}
 use Rattle.std.specs.declared.cmp.Ordering.{Ordering}
-use Rattle.std.specs.declared.cmp.Ordering.TheVariants.{Less}
 use Rattle.std.specs.declared.vec.Vec.{Vec}
 use Rattle.std.specs.declared.alloc.Global.{Global}
 use Rattle.flow_key.specs.Key.{set_number, key_order}
@@ -19,7 +18,8 @@ use Rattle.flow_parts.specs.Reaching.{Reaches}
 use Rattle.record_ledger.specs.declared.record.FlowRecord.{FlowRecord}
 use Rattle.record_ledger.specs.declared.place.Place.{Place}
 use Rattle.record_ledger.specs.declared.dealing.Dealing.{Dealing}
-use Rattle.record_ledger.specs.declared.dealing.Room.{Room}
+use Rattle.record_ledger.specs.declared.dealing.Way.{Way}
+use Rattle.record_ledger.specs.declared.dealing.Way.TheVariants.{Other, Stays, Moves}
 use Rattle.record_ledger.specs.declared.store.Store.{Store}
 use Rattle.record_ledger.specs.Gathered.{AreJoined}
 use Rattle.record_ledger.specs.Lawful.{parts_of, reason_of}
@@ -119,16 +119,6 @@ abbrev pub place_order : Store → Place → Place → Ordering
 place_order store one other = ordering_then (nat_cmp one.last other.last) (ordering_then
     (nat_cmp one.leading other.leading) (record_order store one other))
 
--- So many places of a list, its first ones, have last times before some time, and the others haven't.
-abbrev pub ArePartedAt : ℕ → List Place → Type 0
-ArePartedAt count order = (time : ℕ) × All (λ place. place.last < time) (take count order)
-    × All (λ place. time ≤ place.last) (drop count order)
-
--- The places are of pieces and buckets below the number, and rise by these, then by place in them.
-pub record AreFirst (buckets : ℕ) (order : List Place) : Type 0 where
-  pub below : All (λ place. place.bucket < buckets) order
-  pub rising : Rises (λ one other. seat_order one other ≡ Less) order
-
 -- Of the records of one key, none ends after a later one.
 abbrev pub EndInTurn : List FlowRecord → Type 0
 EndInTurn records = Rises (λ (r s : FlowRecord). r.part.key ≡ s.part.key → r.part.last ≤ s.part.last) records
@@ -146,15 +136,9 @@ pub record AreDealt (parts : List Fragment) (pieces : List Piece) (order : List 
   pub alone : List Fragment
   pub whole : IsPermutation parts (alone ++ parts_of (records_of buckets))
   pub places : AllZip (IsPartPlaceOf pieces) alone order
-  pub first : AreFirst (length pieces) order
   pub unlike : Rises (λ (f g : Fragment). f.key ≢ g.key) alone
   pub unlike_others : All (λ (f : Fragment). All (λ (r : FlowRecord). f.key ≢ r.part.key) (records_of buckets)) alone
   pub by_key : AreByKey buckets
-
--- Places in the piece with this number that rise, all before the one given.
-pub record AreBefore (number at : ℕ) (order : List Place) : Type 0 where
-  pub below : All (λ place. (place.bucket ≡ number) × (place.at < at)) order
-  pub rising : Rises (λ one other. seat_order one other ≡ Less) order
 
 -- The slot of a key, among so many: these share out the 32 bits of the hash behind `set_number`.
 abbrev pub slot_number : FlowKey → ℕ → ℕ
@@ -194,59 +178,80 @@ abbrev pub IsCountedAlone : List ℕ → Fragment → Type 0
 IsCountedAlone counts f = (slot_number f.key (length counts) < length counts)
     × (slice_index counts (slot_number f.key (length counts)) ≡ 1)
 
--- The fragment lies at this place of a piece.
-abbrev pub LiesAt : List Fragment → Fragment → ℕ → Type 0
-LiesAt piece f at = slice_get piece at ≡ Some f
-
--- The first fragments of the piece with this number, up to a place, as counts of slots deal them: those that stay, each
--- alone in its slot, have their places behind those that were listed before, and the others lie where they are to be
--- moved from.
-pub record AreDealtIn (counts : List ℕ) (pieces : List Piece) (number : ℕ) (piece : List Fragment) (at : ℕ)
-    (before : List Place) (dealing : Dealing) : Type 0 where
-  pub alone : List Fragment
-  pub others : List Fragment
-  pub order : List Place
-  pub whole : IsPermutation (take at piece) (alone ++ others)
-  pub behind : dealing.alone.items ≡ before ++ order
-  pub places : AllZip (IsPartPlaceOf pieces) alone order
-  pub first : AreBefore number at order
-  pub counted : All (IsCountedAlone counts) alone
-  pub moved : AllZip (LiesAt piece) others dealing.moved.items
-
--- All fragments of the piece with this number are dealt so.
-abbrev pub IsDealing : List ℕ → List Piece → ℕ → List Place → Dealing → Type 0
-IsDealing counts pieces number before dealing = (p : Piece) → slice_get pieces number ≡ Some p
-    → AreDealtIn counts pieces number p.items (length p.items) before dealing
-
 -- The places of some lists, one list after the other.
 abbrev pub places_of : List (Vec Place Global) → List Place
 places_of lists = flat_map (λ (list : Vec Place Global). list.items) lists
 
--- The fragments lie at the places that are listed for each piece, those of one piece after those of the other.
-abbrev pub LieIn : List Piece → List (Vec ℕ Global) → List Fragment → Type 0
-LieIn [] [] parts = parts ≡ []
-LieIn [] (m ∷ moved) parts = ⊥
-LieIn (p ∷ pieces) [] parts = ⊥
-LieIn (p ∷ pieces) (m ∷ moved) parts = (here : List Fragment) × (rest : List Fragment) × (parts ≡ here ++ rest)
-    × AllZip (LiesAt p.items) here m.items × LieIn pieces moved rest
+-- The number of the share that has a time, where all shares but the last one end at these times: the first one that ends
+-- behind it.
+abbrev pub share_number : List ℕ → ℕ → ℕ
+share_number [] time = 0
+share_number (end ∷ ends) time = if nat_lt time end then 0 else suc (share_number ends time)
 
--- The fragments that lie so have become records of the buckets, beside those that were there before.
-abbrev pub MovesDealt : List Piece → List (Vec ℕ Global) → List Bucket → List Bucket → Type 0
-MovesDealt pieces moved before after = (parts : List Fragment) → LieIn pieces moved parts
-    → IsPermutation (parts ++ parts_of (records_of before)) (parts_of (records_of after))
+-- The fragments whose last times a share has.
+abbrev pub share_of : List ℕ → ℕ → List Fragment → List Fragment
+share_of ends share parts = filter (λ (f : Fragment). share_number ends f.last == share) parts
 
--- The fragments of the first pieces, as many as the number, as counts of slots deal them: those that stay, each alone
--- in its slot, have their places, and the others lie where they are to be moved from.
-pub record AreDealings (counts : List ℕ) (pieces : List Piece) (number : ℕ) (order : List Place)
-    (moves : List (Vec ℕ Global)) : Type 0 where
+-- The fragments of so many shares, the first ones.
+abbrev pub first_shares : List ℕ → ℕ → List Fragment → List Fragment
+first_shares ends count parts = filter (λ (f : Fragment). nat_lt (share_number ends f.last) count) parts
+
+-- Each place lies in the list of its share, where the first of these has the number i.
+abbrev pub SharedFrom : List ℕ → ℕ → List (Vec Place Global) → Type 0
+SharedFrom ends i [] = ⊤
+SharedFrom ends i (list ∷ lists) = All (λ (place : Place). share_number ends place.last ≡ i) list.items
+    × SharedFrom ends (suc i) lists
+
+-- There is a list for each share, and each place lies in that of its share.
+abbrev pub AreShared : List ℕ → List (Vec Place Global) → Type 0
+AreShared ends lists = (length lists ≡ length ends + 1) × SharedFrom ends 0 lists
+
+-- What becomes of a fragment where those of one share are dealt: one of another share is left out, and one that stays is
+-- alone in its slot.
+abbrev pub IsWay : List ℕ → List ℕ → ℕ → Fragment → Way → Type 0
+IsWay counts ends share f Other = share_number ends f.last ≢ share
+IsWay counts ends share f Stays = (share_number ends f.last ≡ share) × IsCountedAlone counts f
+IsWay counts ends share f Moves = share_number ends f.last ≡ share
+
+-- Fragments of pieces as counts of slots deal them: those that stay, each alone in its slot, have their places in the one
+-- list, and the others in the other list.
+pub record AreDealtTo (counts : List ℕ) (pieces : List Piece) (parts : List Fragment) (dealing : Dealing) : Type 0 where
   pub alone : List Fragment
   pub others : List Fragment
-  pub whole : IsPermutation (items_of (take number pieces)) (alone ++ others)
-  pub places : AllZip (IsPartPlaceOf pieces) alone order
-  pub first : AreFirst number order
+  pub whole : IsPermutation parts (alone ++ others)
+  pub places : AllZip (IsPartPlaceOf pieces) alone dealing.alone.items
   pub counted : All (IsCountedAlone counts) alone
-  pub moved : LieIn (take number pieces) moves others
+  pub moved : AllZip (IsPartPlaceOf pieces) others dealing.moved.items
 
--- Nothing is there yet.
-abbrev pub IsEmptyRoom : Room → Type 0
-IsEmptyRoom room = (room.places.items ≡ []) × (records_of room.buckets.items ≡ [])
+-- The fragments of so many shares, the first ones, as counts of slots deal them: those that stay, each alone in its slot,
+-- have their places in the lists of their shares, and the others have theirs in other lists.
+pub record AreDealings (counts ends : List ℕ) (pieces : List Piece) (count : ℕ) (lists moves : List (Vec Place Global))
+    : Type 0 where
+  pub alone : List Fragment
+  pub others : List Fragment
+  pub whole : IsPermutation (first_shares ends count (items_of pieces)) (alone ++ others)
+  pub places : AllZip (IsPartPlaceOf pieces) alone (places_of lists)
+  pub many : length lists ≡ count
+  pub shared : SharedFrom ends 0 lists
+  pub counted : All (IsCountedAlone counts) alone
+  pub moved : AllZip (IsPartPlaceOf pieces) others (places_of moves)
+
+-- The fragments whose buckets are among so many from the one numbered `first` on, of `count` in all.
+abbrev pub parts_to : ℕ → ℕ → ℕ → List Fragment → List Fragment
+parts_to count first many parts = filter (λ (f : Fragment). nat_le first (set_number f.key count)
+    && nat_lt (set_number f.key count) (first + many)) parts
+
+-- The places of the records of the bucket with this number, from a place on.
+abbrev pub places_from : ℕ → ℕ → List FlowRecord → List Place
+places_from number at [] = []
+places_from number at (r ∷ records) = record {
+  last = r.part.last;
+  leading = leading_number r.part.key;
+  bucket = number;
+  at = at;
+} ∷ places_from number (suc at) records
+
+-- The places of the records of all buckets, the first of which has this number.
+abbrev pub bucket_places : ℕ → List Bucket → List Place
+bucket_places number [] = []
+bucket_places number (b ∷ buckets) = places_from number 0 b.items ++ bucket_places (suc number) buckets

@@ -33,11 +33,11 @@ use std::thread::Threads;
 /// as given, even where `parts` holds the fragments of some keys alone, as long as it holds all of these.
 ///
 /// Fragments whose keys no other has are records as they lie. The others are dealt to buckets by their keys. At most
-/// `threads` threads find out which stay, one where there are fewer than 16,384 fragments; at most `threads` sort, join
-/// and give reasons in the buckets, and then sort the places of all records. It takes the time of sorting. What is held
-/// is `parts`, a record for each fragment that was dealt to a bucket, where several threads may find out which stay at
-/// least room for one for every eighth fragment and somewhat more, and 32 bytes for each place, for a while up to 64;
-/// where all are dealt to buckets, `parts` is let go.
+/// `threads` threads find out which stay, and deal the others; one does both where there are fewer than 16,384 fragments. At
+/// most `threads` sort, join and give reasons in the buckets, and then sort the places of all records, each those of a share
+/// of time. It takes the time of sorting. What is held is `parts`, a record for each fragment that was dealt to a bucket,
+/// and 32 bytes for the place of each record, and of each fragment until it was dealt; where all are dealt to buckets,
+/// `parts` is let go.
 ///
 /// # Errors
 ///
@@ -68,6 +68,7 @@ pub fn gather<R: Threads + Sync>(
         pieces,
         alone,
         mut buckets,
+        shares,
     } = deal(rt, alloc, parts, threads)?;
     settle_all(rt, &mut buckets, &timeouts, clock, threads);
     let store = Store {
@@ -76,5 +77,5 @@ pub fn gather<R: Threads + Sync>(
         timeouts,
         clock,
     };
-    RecordList::in_order(rt, store, alone, threads)
+    RecordList::in_order(rt, store, alone, &shares, threads)
 }

@@ -1,16 +1,20 @@
 //! Moving: fragments as records into buckets, by their keys.
 
-ghost use Rattle.std.specs.Prelude.{◌≡◌, List, [], ◌≤◌, ◌∷◌, ◌++◌, IfOk, OnOk, length, IsPermutation};
+ghost use Rattle.std.specs.Prelude.{◌≡◌, ℕ, List, [], ◌≤◌, ◌<◌, ◌+◌, ◌∷◌, ◌++◌, IfOk, OnOk, length, IsPermutation};
+ghost use Rattle.std.specs.Thread.{IsSync};
 ghost use Rattle.std.specs.List.{AllZip};
 ghost use Rattle.flow_parts.specs.declared.fragment.Fragment.{Fragment};
 ghost use Rattle.flow_parts.specs.Pieces.{items_of};
 ghost use Rattle.record_ledger.specs.Lawful.{parts_of};
-ghost use Rattle.record_ledger.specs.Buckets.{records_of, AreByKey, LiesAt, LieIn, MovesDealt};
+ghost use Rattle.flow_key.specs.Key.{set_number};
+ghost use Rattle.record_ledger.specs.Buckets.{records_of, AreByKey, LieFrom, IsPartPlaceOf, parts_to, places_of};
 
-use crate::record::{FlowRecord, no_record};
+use crate::place::Place;
+use crate::record::FlowRecord;
 use flow_parts::Fragment;
 use no_memory::NoMemory;
 use std::alloc::Global;
+use std::thread::{Threads, join_mut};
 
 /// About how many fragments a bucket is made for.
 const BUCKET: usize = 512;
@@ -34,32 +38,6 @@ pub fn buckets_for(alloc: Global, fragments: usize) -> Result<Vec<Vec<FlowRecord
 {
     let count = bucket_count(fragments);
     empty_buckets(alloc, count, bucket_room(fragments, count))
-}
-
-/// Such buckets, all room of which was written to, so that the system has given memory for it.
-pub fn touched_buckets(alloc: Global, fragments: usize) -> Result<Vec<Vec<FlowRecord>>, NoMemory>
-    ensures some { IfOk result (λ buckets. 1 ≤ length buckets.items) }
-    ensures none { IfOk result (λ buckets. records_of buckets.items ≡ []) }
-{
-    let count = bucket_count(fragments);
-    let room = bucket_room(fragments, count);
-    let mut buckets = Vec::with_capacity(alloc, count)?;
-    for _made in 0..count {
-        buckets.push(touched_bucket(alloc, room)?)?;
-    }
-    Ok(buckets)
-}
-
-/// An empty bucket, whose room for so many records was written to.
-fn touched_bucket(alloc: Global, room: usize) -> Result<Vec<FlowRecord>, NoMemory>
-    ensures { IfOk result (λ bucket. bucket.items ≡ []) }
-{
-    let mut bucket = Vec::with_capacity(alloc, room)?;
-    for _touched in 0..room {
-        bucket.push(no_record())?;
-    }
-    bucket.clear();
-    Ok(bucket)
 }
 
 /// For how many records each of so many buckets has room, where fragments are shared out among them.
@@ -144,39 +122,167 @@ fn move_parts(parts: &[Fragment], buckets: &mut [Vec<FlowRecord>]) -> Result<(),
     Ok(())
 }
 
-/// Moves the fragments that lie at the places that are listed for each piece.
-pub fn move_dealt(
+/// Moves the fragments at the places of some lists, by at most `threads` threads, each to some of the buckets.
+pub fn move_dealt<R: Threads + Sync>(
+    rt: &R,
     pieces: &[Vec<Fragment>],
-    moved: Vec<Vec<usize>>,
-    buckets: Vec<Vec<FlowRecord>>,
-) -> Result<Vec<Vec<FlowRecord>>, NoMemory>
-    requires buckets { 1 ≤ length buckets.items }
-    requires moved { (parts : List Fragment) × LieIn pieces.now moved.items parts }
-    ensures whole { IfOk result (λ filled. MovesDealt pieces.now moved.items buckets.items filled.items) }
-    ensures by_key { IfOk result (λ filled. AreByKey buckets.items → AreByKey filled.items) }
-{
-    let mut buckets = buckets;
-    for number in 0..pieces.len() {
-        move_these(&pieces[number], &moved[number], &mut buckets)?;
-    }
-    Ok(buckets)
-}
-
-/// Moves the fragments at some places of a piece.
-fn move_these(
-    piece: &[Fragment],
-    places: &[usize],
+    moved: &[Vec<Place>],
     buckets: &mut [Vec<FlowRecord>],
+    threads: usize,
 ) -> Result<(), NoMemory>
-    requires buckets { 1 ≤ length buckets.old }
-    requires places { (parts : List Fragment) × AllZip (LiesAt piece.now) parts places.now }
+    requires some { 1 ≤ length buckets.old }
+    requires moved { (parts : List Fragment) × AllZip (IsPartPlaceOf pieces.now) parts (places_of moved.now) }
     ensures many { length buckets.new ≡ length buckets.old }
-    ensures whole { OnOk result ((parts : List Fragment) → AllZip (LiesAt piece.now) parts places.now
+    ensures whole { OnOk result ((parts : List Fragment)
+        → AllZip (IsPartPlaceOf pieces.now) parts (places_of moved.now)
         → IsPermutation (parts ++ parts_of (records_of buckets.old)) (parts_of (records_of buckets.new))) }
     ensures by_key { OnOk result (AreByKey buckets.old → AreByKey buckets.new) }
 {
-    for at in places {
-        move_part(&piece[*at], buckets)?;
+    let count = buckets.len();
+    move_shares(rt, pieces, moved, buckets, 0, count, threads)
+}
+
+/// Moves the fragments at the places of some lists that belong to buckets from the one numbered `first` on, of `count` in
+/// all, by at most `threads` threads, each to some of the buckets.
+#[cycle(moves)]
+fn move_shares<R: Threads + Sync>(
+    rt: &R,
+    pieces: &[Vec<Fragment>],
+    moved: &[Vec<Place>],
+    buckets: &mut [Vec<FlowRecord>],
+    first: usize,
+    count: usize,
+    threads: usize,
+) -> Result<(), NoMemory>
+    requires within { first + length buckets.old ≤ count }
+    requires some { 1 ≤ count }
+    requires moved { (parts : List Fragment) × AllZip (IsPartPlaceOf pieces.now) parts (places_of moved.now) }
+    ensures many { length buckets.new ≡ length buckets.old }
+    ensures whole { OnOk result ((parts : List Fragment)
+        → AllZip (IsPartPlaceOf pieces.now) parts (places_of moved.now)
+        → IsPermutation (parts_to count first (length buckets.old) parts ++ parts_of (records_of buckets.old))
+        (parts_of (records_of buckets.new))) }
+    ensures by_key { OnOk result (LieFrom count first buckets.old → LieFrom count first buckets.new) }
+{
+    if threads < 2 || buckets.len() < threads {
+        return move_to(pieces, moved, buckets, first, count);
+    }
+    let share = buckets.len() / threads;
+    let (low, high) = buckets.split_at_mut(share);
+    move_both(rt, pieces, moved, low, high, first, count, threads)
+}
+
+/// Moves fragments to the buckets of one thread in a new thread, and at once to those behind them, by at most `threads`
+/// threads together.
+#[cycle(moves)]
+fn move_both<R: Threads + Sync>(
+    rt: &R,
+    pieces: &[Vec<Fragment>],
+    moved: &[Vec<Place>],
+    low: &mut [Vec<FlowRecord>],
+    high: &mut [Vec<FlowRecord>],
+    first: usize,
+    count: usize,
+    threads: usize,
+) -> Result<(), NoMemory>
+    requires threads { 2 ≤ threads }
+    requires within { first + length low.old + length high.old ≤ count }
+    requires some { 1 ≤ count }
+    requires moved { (parts : List Fragment) × AllZip (IsPartPlaceOf pieces.now) parts (places_of moved.now) }
+    ensures low_many { length low.new ≡ length low.old }
+    ensures high_many { length high.new ≡ length high.old }
+    ensures low { OnOk result ((parts : List Fragment)
+        → AllZip (IsPartPlaceOf pieces.now) parts (places_of moved.now)
+        → IsPermutation (parts_to count first (length low.old) parts ++ parts_of (records_of low.old))
+        (parts_of (records_of low.new))) }
+    ensures high { OnOk result ((parts : List Fragment)
+        → AllZip (IsPartPlaceOf pieces.now) parts (places_of moved.now)
+        → IsPermutation (parts_to count (first + length low.old) (length high.old) parts
+        ++ parts_of (records_of high.old)) (parts_of (records_of high.new))) }
+    ensures low_by_key { OnOk result (LieFrom count first low.old → LieFrom count first low.new) }
+    ensures high_by_key { OnOk result (LieFrom count (first + length low.old) high.old
+        → LieFrom count (first + length low.old) high.new) }
+{
+    let rest = threads - 1;
+    let second = first + low.len();
+    let mut left = || -> Result<(), NoMemory>
+        requires within { first + length low.now ≤ count }
+        requires some { 1 ≤ count }
+        requires moved { (parts : List Fragment) × AllZip (IsPartPlaceOf pieces.now) parts (places_of moved.now) }
+        ensures many { length low.exit.now ≡ length low.entry.now }
+        ensures whole { OnOk result ((parts : List Fragment)
+            → AllZip (IsPartPlaceOf pieces.entry.now) parts (places_of moved.entry.now)
+            → IsPermutation (parts_to count first (length low.entry.now) parts ++ parts_of (records_of low.entry.now))
+            (parts_of (records_of low.exit.now))) }
+        ensures by_key { OnOk result (LieFrom count first low.entry.now → LieFrom count first low.exit.now) }
+    { move_to(pieces, moved, low, first, count) };
+    let mut right = || -> Result<(), NoMemory>
+        requires crosses { IsSync R.row }
+        requires within { second + length high.now ≤ count }
+        requires some { 1 ≤ count }
+        requires moved { (parts : List Fragment) × AllZip (IsPartPlaceOf pieces.now) parts (places_of moved.now) }
+        ensures many { length high.exit.now ≡ length high.entry.now }
+        ensures whole { OnOk result ((parts : List Fragment)
+            → AllZip (IsPartPlaceOf pieces.entry.now) parts (places_of moved.entry.now)
+            → IsPermutation (parts_to count second (length high.entry.now) parts
+            ++ parts_of (records_of high.entry.now)) (parts_of (records_of high.exit.now))) }
+        ensures by_key { OnOk result (LieFrom count second high.entry.now → LieFrom count second high.exit.now) }
+    { move_shares(rt, pieces, moved, high, second, count, rest) };
+    let (one, other) = join_mut(rt, &mut left, &mut right);
+    one?;
+    other
+}
+
+/// Moves the fragments at the places of some lists that belong to these buckets, which begin with the one numbered
+/// `first`, of `count` in all.
+fn move_to(
+    pieces: &[Vec<Fragment>],
+    moved: &[Vec<Place>],
+    buckets: &mut [Vec<FlowRecord>],
+    first: usize,
+    count: usize,
+) -> Result<(), NoMemory>
+    requires within { first + length buckets.old ≤ count }
+    requires some { 1 ≤ count }
+    requires moved { (parts : List Fragment) × AllZip (IsPartPlaceOf pieces.now) parts (places_of moved.now) }
+    ensures many { length buckets.new ≡ length buckets.old }
+    ensures whole { OnOk result ((parts : List Fragment)
+        → AllZip (IsPartPlaceOf pieces.now) parts (places_of moved.now)
+        → IsPermutation (parts_to count first (length buckets.old) parts ++ parts_of (records_of buckets.old))
+        (parts_of (records_of buckets.new))) }
+    ensures by_key { OnOk result (LieFrom count first buckets.old → LieFrom count first buckets.new) }
+{
+    for places in moved {
+        move_these(pieces, places, buckets, first, count)?;
+    }
+    Ok(())
+}
+
+/// Moves the fragments at some places that belong to these buckets, which begin with the one numbered `first`, of `count`
+/// in all.
+fn move_these(
+    pieces: &[Vec<Fragment>],
+    places: &[Place],
+    buckets: &mut [Vec<FlowRecord>],
+    first: usize,
+    count: usize,
+) -> Result<(), NoMemory>
+    requires within { first + length buckets.old ≤ count }
+    requires some { 1 ≤ count }
+    requires places { (parts : List Fragment) × AllZip (IsPartPlaceOf pieces.now) parts places.now }
+    ensures many { length buckets.new ≡ length buckets.old }
+    ensures whole { OnOk result ((parts : List Fragment)
+        → AllZip (IsPartPlaceOf pieces.now) parts places.now
+        → IsPermutation (parts_to count first (length buckets.old) parts ++ parts_of (records_of buckets.old))
+        (parts_of (records_of buckets.new))) }
+    ensures by_key { OnOk result (LieFrom count first buckets.old → LieFrom count first buckets.new) }
+{
+    for place in places {
+        let part = &pieces[place.bucket][place.at];
+        let bucket = part.key.set_of(count as u64) as usize;
+        if first <= bucket && bucket - first < buckets.len() {
+            put_part(part, buckets, bucket - first)?;
+        }
     }
     Ok(())
 }
@@ -190,7 +296,19 @@ fn move_part(part: &Fragment, buckets: &mut [Vec<FlowRecord>]) -> Result<(), NoM
     ensures by_key { OnOk result (AreByKey buckets.old → AreByKey buckets.new) }
 {
     let bucket = part.key.set_of(buckets.len() as u64) as usize;
-    buckets[bucket].push(FlowRecord {
+    put_part(part, buckets, bucket)
+}
+
+/// Puts a fragment into the bucket at a place, as a record with no reason yet.
+fn put_part(part: &Fragment, buckets: &mut [Vec<FlowRecord>], place: usize) -> Result<(), NoMemory>
+    requires { place < length buckets.old }
+    ensures many { length buckets.new ≡ length buckets.old }
+    ensures whole { OnOk result (IsPermutation (part.now ∷ parts_of (records_of buckets.old))
+        (parts_of (records_of buckets.new))) }
+    ensures by_key { OnOk result ((count first : ℕ) → set_number part.now.key count ≡ first + place
+        → LieFrom count first buckets.old → LieFrom count first buckets.new) }
+{
+    buckets[place].push(FlowRecord {
         part: *part,
         reason: 0,
     })?;

@@ -12,3 +12,13 @@ pub struct Place {
     /// The place in the piece or the bucket, from 0.
     pub at: usize,
 }
+
+/// What room for places is filled with where none stands there yet.
+pub(crate) fn no_place() -> Place {
+    Place {
+        last: 0,
+        leading: 0,
+        bucket: 0,
+        at: 0,
+    }
+}

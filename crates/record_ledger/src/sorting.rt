@@ -1,15 +1,18 @@
 //! Sorting places by several threads.
 
 ghost use Rattle.std.specs.Prelude.{◌≡◌, ◌<◌, ◌≤◌, length, IsPermutation, IsSorted};
-ghost use Rattle.std.specs.Thread.{IsSync};
+ghost use Rattle.std.specs.List.{AllZip};
+ghost use Rattle.std.specs.declared.vec.Vec.{Vec};
+ghost use Rattle.std.specs.declared.alloc.Global.{Global};
+ghost use Rattle.record_ledger.specs.declared.place.Place.{Place};
 ghost use Rattle.record_ledger.specs.Buckets.{place_order};
 
 use crate::orders::by_place;
 use crate::place::Place;
-use crate::sharing::part_share;
 use crate::spreading::spread;
 use crate::store::Store;
-use std::thread::{Threads, join_mut};
+use side_by_side::for_each_mut;
+use std::thread::Threads;
 
 /// Fewer places than these are sorted as they lie, by one thread.
 const FEW: usize = 8192;
@@ -21,66 +24,32 @@ const RANGES: usize = 1024;
 /// The most shorter ranges of such a range, a power of two.
 const SHORT_RANGES: usize = 64;
 
-/// Sorts places into the written order of their records, by at most `threads` threads.
+/// Sorts the places of each share into the written order of their records, by at most `threads` threads.
 ///
-/// Threads share out the places by time, and each brings its own into ranges of time, those of a long range into shorter
-/// ones, and sorts these one by one; a last sort of its share then finds them in order.
-pub fn sort_places<R: Threads + Sync>(rt: &R, store: &Store, order: &mut Vec<Place>, threads: usize)
-    ensures permutation { IsPermutation order.old.items order.new.items }
-    ensures order { IsSorted (place_order store.now) order.new.items }
-{
-    sort_shares(rt, store, order.as_mut_slice(), threads);
-}
-
-/// Sorts places by at most `threads` threads, each a share of them that ends before the next one begins.
-///
-/// The calling thread starts each of the others itself: where one that has hardly begun starts a further one, this one is
-/// often left waiting beside it.
-#[cycle(shares)]
-fn sort_shares<R: Threads + Sync>(rt: &R, store: &Store, order: &mut [Place], threads: usize)
-    ensures permutation { IsPermutation order.old order.new }
-    ensures many { length order.new ≡ length order.old }
-    ensures order { IsSorted (place_order store.now) order.new }
-{
-    if threads < 2 || order.len() < FEW {
-        sort_share(store, order);
-    } else {
-        let before = part_share(order, threads);
-        let (low, high) = order.split_at_mut(before);
-        sort_both(rt, store, low, high, threads);
-    }
-}
-
-/// Sorts the places of one thread's share in a new thread, and at once those behind them, by at most `threads` threads
-/// together.
-#[cycle(shares)]
-fn sort_both<R: Threads + Sync>(
+/// A thread brings those of its share into ranges of time, those of a long range into shorter ones, and sorts these one by
+/// one; a last sort of the share then finds them in order.
+pub fn sort_places<R: Threads + Sync>(
     rt: &R,
     store: &Store,
-    low: &mut [Place],
-    high: &mut [Place],
+    order: &mut [Vec<Place>],
     threads: usize,
 )
-    requires { 2 ≤ threads }
-    ensures low { IsPermutation low.old low.new }
-    ensures low_order { IsSorted (place_order store.now) low.new }
-    ensures high { IsPermutation high.old high.new }
-    ensures high_order { IsSorted (place_order store.now) high.new }
+    requires { 0 < threads }
+    ensures { AllZip (λ (before after : Vec Place Global). IsPermutation before.items after.items
+        × IsSorted (place_order store.now) after.items) order.old order.new }
 {
-    let rest = threads - 1;
-    let mut left = ||
-        ensures permutation { IsPermutation low.entry.now low.exit.now }
-        ensures order { IsSorted (place_order store.entry.now) low.exit.now }
-    { sort_share(store, low) };
-    let mut right = ||
-        requires { IsSync R.row }
-        ensures permutation { IsPermutation high.entry.now high.exit.now }
-        ensures order { IsSorted (place_order store.entry.now) high.exit.now }
-    { sort_shares(rt, store, high, rest) };
-    join_mut(rt, &mut left, &mut right);
+    for_each_mut(
+        rt,
+        order,
+        threads,
+        &|_, places: &mut Vec<Place>|
+            ensures permutation { IsPermutation places.old.items places.new.items }
+            ensures order { IsSorted (place_order store.entry.now) places.new.items }
+        { sort_share(store, places) },
+    );
 }
 
-/// Sorts the places of one thread's share: where they are many, range by range first.
+/// Sorts the places of one share: where they are many, range by range first.
 fn sort_share(store: &Store, order: &mut [Place])
     ensures permutation { IsPermutation order.old order.new }
     ensures many { length order.new ≡ length order.old }

@@ -1,11 +1,11 @@
--- At first none is dealt.
-use Rattle.std.proofs.Common.{arith}
-use Rattle.record_ledger.proofs.Leaving.{none_found}
+-- In the end all fragments of the piece are dealt.
+use Rattle.std.proofs.Common.{◌++◌, subst, arith}
+use Rattle.std.proofs.lemmas.List.{take_all}
+use Rattle.record_ledger.specs.Buckets.{AreDealtTo, share_of}
 use Rattle.record_ledger.proofs.dealing.deal_piece.Goals as goal
 
-pub loop-from-init : goal.loop-from-init
-loop-from-init c = record {
-  within = omega arith;
-  dealt = λ p at_piece. none_found c.args.counts.now c.args.pieces.now c.args.number p.items _
-      c.in_ok-with_capacity.ensures.items;
-}
+pub returns : goal.returns
+returns c = λ pieces p before at_piece same h.
+    subst (λ l. AreDealtTo c.args.counts.now pieces (share_of c.args.shares.now c.args.share (before ++ l))
+    c.loop-from.dealing) (take_all c.loop-from.from c.args.piece.now (omega (arith, c.loop-from-test.false)))
+    (c.loop-from.invariant.dealt pieces p before at_piece same h)

@@ -1,15 +1,17 @@
 -- The fragments of the piece so far are dealt.
-use Rattle.std.proofs.Common.{◌≡◌, ◌≤◌, ◌-◌, Some, length}
+use Rattle.std.proofs.Common.{◌≡◌, ◌≤◌, ◌-◌, ◌++◌, List, Some, length, take}
 use Rattle.std.specs.Prelude.{slice_get}
-use Rattle.record_ledger.specs.Buckets.{Piece, AreDealtIn}
+use Rattle.flow_parts.specs.declared.fragment.Fragment.{Fragment}
+use Rattle.record_ledger.specs.Buckets.{Piece, AreDealtTo, share_of}
 use Rattle.record_ledger.proofs.dealing.deal_piece.Given as goal
 
 abbrev pub invariant-loop-from : goal.invariant-loop-from
 invariant-loop-from l = record {
-  within : l.from ≤ length l.piece.items;
-  dealt : (p : Piece) → slice_get l.pieces l.number ≡ Some p
-      → AreDealtIn l.counts l.pieces l.number p.items l.from l.fn.places.items l.dealing;
+  within : l.from ≤ length l.piece;
+  dealt : (pieces : List Piece) (p : Piece) (before : List Fragment) → slice_get pieces l.number ≡ Some p
+      → p.items ≡ l.piece → AreDealtTo l.counts pieces (share_of l.shares l.share before) l.initial.dealing
+      → AreDealtTo l.counts pieces (share_of l.shares l.share (before ++ take l.from l.piece)) l.dealing;
 }
 
 abbrev pub decreases-loop-from : goal.decreases-loop-from
-decreases-loop-from l = length l.piece.items - l.from
+decreases-loop-from l = length l.piece - l.from

@@ -1,36 +1,34 @@
--- Each piece is dealt, and all dealings are taken.
-use Rattle.std.proofs.Common.{◌++◌, length, sym, ap, ◌∙◌, subst, arith}
-use Rattle.std.proofs.lemmas.List.{take_all}
-use Rattle.record_ledger.specs.Buckets.{AreDealings, LieIn, MovesDealt, places_of}
+-- All shares are dealt, and what doesn't stay is moved to buckets that were empty.
+use Rattle.std.proofs.Common.{◌+◌, ◌++◌, List, length, sym, subst, IsPermutation}
+use Rattle.std.specs.List.{AllZip}
+use Rattle.flow_parts.specs.declared.fragment.Fragment.{Fragment}
+use Rattle.flow_parts.specs.Pieces.{items_of}
+use Rattle.record_ledger.specs.Lawful.{parts_of}
+use Rattle.record_ledger.specs.Buckets.{AreDealings, AreDealt, AreByKey, IsPartPlaceOf, places_of, records_of}
 use Rattle.record_ledger.proofs.Leaving.{all_dealt}
+use Rattle.record_ledger.proofs.Settled.{given_back}
 use Rattle.record_ledger.proofs.dealing.deal_pieces.Goals as goal
 
-pub take_dealings-requires-clause-moved : goal.take_dealings-requires-clause-moved
-take_dealings-requires-clause-moved g c κs within =
+pub returns-clause-dealt : goal.returns-clause-dealt
+returns-clause-dealt g c =
     let pieces = c.args.pieces.items in
-    let order = places_of c.in_ok-dealings.dealings.alone.items in
-    let moved = c.in_ok-dealings.dealings.moved.items in
-    let h : AreDealings c.args.counts.now pieces (length pieces) order moved =
-    subst (λ l. AreDealings c.args.counts.now l (length l) order moved) c.deref-2.ensures.value
-    c.in_ok-dealings.ensures in (
-      h.others,
-      subst (λ l. LieIn l moved h.others)
-          (take_all (length pieces) pieces (omega arith) ∙ sym c.deref-3.ensures.value) h.moved,
-    )
-
-pub returns : goal.returns
-returns g c =
-    let pieces = c.args.pieces.items in
-    let order = places_of c.in_ok-dealings.dealings.alone.items in
-    let moved = c.in_ok-dealings.dealings.moved.items in
-    let h : AreDealings c.args.counts.now pieces (length pieces) order moved =
-    subst (λ l. AreDealings c.args.counts.now l (length l) order moved) c.deref-2.ensures.value
-    c.in_ok-dealings.ensures in
-    let taken = c.in_ok-places.ensures in
-    let none = c.in_ok-room.ensures.empty in
-    all_dealt c.args.counts.now pieces order c.in_ok-places.field-0.places.items moved c.in_ok-room.room.buckets.items
-    c.in_ok-places.field-0.buckets.items c.requires.counts h
-    (taken.places ∙ ap (λ l. l ++ order) none.0) none.1
-    (subst (λ l. MovesDealt l moved c.in_ok-room.room.buckets.items
-    c.in_ok-places.field-0.buckets.items) c.deref-3.ensures.value taken.whole)
-    taken.by_key
+    let ends = c.args.shares in
+    let lists = c.in_ok-alone.field-0.alone.items in
+    let moves = c.in_ok-alone.field-0.moved.items in
+    let none = c.in_ok-buckets.buckets.items in
+    let bs = c.move_dealt.new.buckets in
+    let lent = c.deref_mut.ensures.value in
+    let h : AreDealings c.args.counts.now ends pieces (length ends + 1) lists moves =
+    subst (λ l. AreDealings c.args.counts.now ends l (length ends + 1) lists moves) c.deref-2.ensures.value
+    c.in_ok-alone.ensures in
+    let whole : (parts : List Fragment) → AllZip (IsPartPlaceOf pieces) parts (places_of moves)
+    → IsPermutation (parts ++ parts_of (records_of none)) (parts_of (records_of bs)) =
+    λ parts z. subst (λ l. IsPermutation (parts ++ parts_of (records_of l)) (parts_of (records_of bs))) lent
+    (c.in_ok-move_dealt.ensures.whole parts
+    (subst (λ l. AllZip (IsPartPlaceOf l) parts (places_of c.deref-4.result.now)) (sym c.deref-3.ensures.value)
+    (subst (λ l. AllZip (IsPartPlaceOf pieces) parts (places_of l)) (sym c.deref-4.ensures.value) z))) in
+    subst (AreDealt (items_of pieces) pieces (places_of lists))
+    (sym (given_back c.in_ok-buckets.buckets.len none c.deref_mut.result.now bs c.in_ok-buckets.buckets.ok.0 lent
+    (sym c.in_ok-move_dealt.ensures.many)))
+    (all_dealt c.args.counts.now ends pieces lists moves none bs c.requires.counts h
+    c.in_ok-buckets.ensures.none whole (subst (λ l. AreByKey l → AreByKey bs) lent c.in_ok-move_dealt.ensures.by_key))

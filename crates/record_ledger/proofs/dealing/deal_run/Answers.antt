@@ -1,7 +1,9 @@
 -- Each turn deals one more fragment.
-use Rattle.std.proofs.Common.{◌≡◌, Some, length, refl, sym, subst, arith}
+use Rattle.std.proofs.Common.{◌≡◌, ◌++◌, Some, length, take, refl, sym, subst, arith}
 use Rattle.std.specs.Prelude.{slice_get}
 use Rattle.std.proofs.lemmas.Option.{slice_get_read}
+use Rattle.record_ledger.specs.Buckets.{AreDealtTo, share_of}
+use Rattle.record_ledger.proofs.Leaving.{one_taken}
 use Rattle.record_ledger.proofs.dealing.deal_run.Goals as goal
 
 pub loop-at-preserved : goal.loop-at-preserved
@@ -14,8 +16,11 @@ loop-at-preserved c =
     record {
       low = omega (arith, c.loop-at.invariant.low);
       high = omega (arith, c.loop-at-test.true);
-      dealt = λ pieces p before at_piece same h. c.in_ok-deal_part.ensures c.args.counts.now pieces p before at_piece
-          (subst (λ items. slice_get items at ≡ Some part) (sym same) here)
-          (λ told. c.alone_of-alone.ensures at part c.loop-at.invariant.low c.loop-at-test.true here told)
-          (c.loop-at.invariant.dealt pieces p before at_piece same h);
+      dealt = λ pieces p before at_piece same h.
+          subst (λ l. AreDealtTo c.args.counts.now pieces (share_of c.args.shares.now c.args.share l)
+          c.deal_part.new.dealing) (one_taken before piece at part here)
+          (c.in_ok-deal_part.ensures c.args.counts.now c.args.shares.now c.args.share pieces p (before ++ take at piece)
+          at_piece (subst (λ items. slice_get items at ≡ Some part) (sym same) here)
+          (c.ways_of-ways.ensures at part c.loop-at.invariant.low c.loop-at-test.true here)
+          (c.loop-at.invariant.dealt pieces p before at_piece same h));
     }

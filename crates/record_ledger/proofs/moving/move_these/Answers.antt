@@ -1,57 +1,122 @@
--- Each turn moves the next fragment.
-use Rattle.std.proofs.Common.{◌≡◌, ◌+◌, ◌∷◌, ◌++◌, drop, get_or, sym, ap, ◌∙◌, subst, arith, IsPermutation}
+-- Each turn moves the next fragment, where it belongs to these buckets.
+use Rattle.std.proofs.Common.{◌≡◌, ◌+◌, ◌<◌, ◌≤◌, ◌∷◌, ◌++◌, List, length, drop, get_or, sym, ap, ◌∙◌, subst, arith}
+use Rattle.std.proofs.Common.{IsPermutation, ◌⊎◌, inl, inr}
+use Rattle.std.specs.List.{AllZip}
+use Rattle.flow_key.specs.Key.{set_number}
 use Rattle.std.proofs.Math.ListN.{drop_of_length-le}
 use Rattle.std.proofs.lemmas.Option.{get_or_from_slice_get, slice_get_within}
+use Rattle.flow_parts.specs.declared.fragment.Fragment.{Fragment}
 use Rattle.flow_parts.proofs.Permuted.{AllZip-length}
+use Rattle.record_ledger.specs.declared.place.Place.{Place}
 use Rattle.record_ledger.specs.Lawful.{parts_of}
-use Rattle.record_ledger.specs.Buckets.{records_of, LiesAt}
+use Rattle.record_ledger.specs.Buckets.{Piece, records_of, IsPartPlaceOf, LieFrom, parts_to}
 use Rattle.record_ledger.proofs.Dealt.{next_dealt}
-use Rattle.record_ledger.proofs.Leaving.{zip_at}
+use Rattle.record_ledger.proofs.Moved.{part_at, next_to, next_not_to}
 use Rattle.record_ledger.proofs.moving.move_these.Goals as goal
+use Rattle.record_ledger.proofs.moving.move_these.Goals.{then-first-bucket+then-bucket-first+in_ok-put_part, else-first-bucket}
+use Rattle.record_ledger.proofs.moving.move_these.Goals.{else-first-bucket-via-then-first-bucket+else-bucket-first}
+use Rattle.record_ledger.proofs.moving.move_these.Goals.{else-first-bucket-via-else-first-bucket}
 
-pub bounds-piece-at : goal.bounds-piece-at
-bounds-piece-at c =
-    let piece = c.args.piece.now in
-    let i = c.loop-at.at-index in
-    let r = c.requires.places in
-    let x = zip_at (LiesAt piece) r.0 c.args.places.now i 0 r.1 (omega (arith, c.loop-at-test.true)) in
-    slice_get_within piece (get_or c.args.places.now i 0) x.0 x.2
+abbrev nowhere : Place
+nowhere = record { last = 0; leading = 0; bucket = 0; at = 0 }
 
-pub offset_bounds-piece-at : goal.offset_bounds-piece-at
-offset_bounds-piece-at c =
-    let piece = c.args.piece.now in
-    let i = c.loop-at.at-index in
-    let r = c.requires.places in
-    let x = zip_at (LiesAt piece) r.0 c.args.places.now i 0 r.1 (omega (arith, c.loop-at-test.true)) in
-    let low = slice_get_within piece (get_or c.args.places.now i 0) x.0 x.2 in
+pub offset_bounds-pieces-place : goal.offset_bounds-pieces-place
+offset_bounds-pieces-place c =
+    let pieces = c.args.pieces.now in
+    let places = c.args.places.now in
+    let i = c.loop-place.place-index in
+    let x = part_at pieces c.requires.places.0 places i nowhere c.requires.places.1 (omega (arith, c.loop-place-test.true)) in
+    let low = slice_get_within pieces (get_or places i nowhere).bucket x.1 x.3 in
     omega (arith, low)
 
-pub loop-at-preserved : goal.loop-at-preserved
-loop-at-preserved c =
-    let piece = c.args.piece.now in
-    let i = c.loop-at.at-index in
-    let at = get_or c.args.places.now i 0 in
-    let part = c.index-piece-at.result in
-    record {
-      many = c.move_part.ensures.many ∙ c.loop-at.invariant.many;
-      whole = λ parts z.
-          let x = zip_at (LiesAt piece) parts c.args.places.now i 0 z (omega (arith, c.loop-at-test.true)) in
-          let same : part ≡ x.0 = c.index-piece-at.is ∙ get_or_from_slice_get piece at x.0 part x.2 in
-          next_dealt (parts ++ parts_of (records_of c.args.buckets.now)) (drop i parts) (drop (i + 1) parts) part
-          (parts_of (records_of c.loop-at.buckets)) (parts_of (records_of c.move_part.new.buckets))
-          (x.1 ∙ ap (λ p. p ∷ drop (i + 1) parts) (sym same))
-          (c.loop-at.invariant.whole parts z) c.in_ok-move_part.ensures.whole;
-      by_key = λ before. c.in_ok-move_part.ensures.by_key (c.loop-at.invariant.by_key before);
-    }
+pub bounds-pieces-place : goal.bounds-pieces-place
+bounds-pieces-place c =
+    let pieces = c.args.pieces.now in
+    let places = c.args.places.now in
+    let i = c.loop-place.place-index in
+    let x = part_at pieces c.requires.places.0 places i nowhere c.requires.places.1 (omega (arith, c.loop-place-test.true)) in
+    slice_get_within pieces (get_or places i nowhere).bucket x.1 x.3
+
+pub index-part-requires : goal.index-part-requires
+index-part-requires c =
+    let pieces = c.args.pieces.now in
+    let places = c.args.places.now in
+    let i = c.loop-place.place-index in
+    let piece : Piece = c.index-pieces-place.result in
+    let at = (get_or places i nowhere).at in
+    let x = part_at pieces c.requires.places.0 places i nowhere c.requires.places.1 (omega (arith, c.loop-place-test.true)) in
+    let same : piece ≡ x.1 = c.index-pieces-place.is
+    ∙ get_or_from_slice_get pieces (get_or places i nowhere).bucket x.1 piece x.3 in
+    subst (λ n. at < n) (sym piece.ok.0)
+    (subst (λ (p : Piece). at < length p.items) (sym same) (slice_get_within x.1.items at x.0 x.4))
+
+pub loop-place-preserved : goal.loop-place-preserved
+loop-place-preserved c =
+    let pieces = c.args.pieces.now in
+    let places = c.args.places.now in
+    let i = c.loop-place.place-index in
+    let count = c.args.count in
+    let first = c.args.first in
+    let many = length c.args.buckets.now in
+    let piece : Piece = c.index-pieces-place.result in
+    let part = c.index-part.result.now in
+    let before = c.loop-place.buckets in
+    let here : (parts : List Fragment) → AllZip (IsPartPlaceOf pieces) parts places
+    → drop i parts ≡ part ∷ drop (i + 1) parts = λ parts z.
+    (let x = part_at pieces parts places i nowhere z (omega (arith, c.loop-place-test.true)) in
+    let same : piece ≡ x.1 = c.index-pieces-place.is
+    ∙ get_or_from_slice_get pieces (get_or places i nowhere).bucket x.1 piece x.3 in
+    let is : part ≡ x.0 = c.index-part.ensures
+    ∙ ap (λ (p : Piece). get_or p.items (get_or places i nowhere).at part) same
+    ∙ get_or_from_slice_get x.1.items (get_or places i nowhere).at x.0 part x.4 in
+    x.2 ∙ ap (λ f. f ∷ drop (i + 1) parts) (sym is)) in
+    let all : List Fragment → List Fragment = λ parts.
+    parts_to count first many parts ++ parts_of (records_of c.args.buckets.now) in
+    let number : c.set_of-bucket.result ≡ set_number part.key count = c.set_of-bucket.ensures.number in
+    let skipped : (set_number part.key count < first) ⊎ (first + many ≤ set_number part.key count)
+    → (parts : List Fragment) → AllZip (IsPartPlaceOf pieces) parts places
+    → IsPermutation (all parts) (parts_to count first many (drop (i + 1) parts) ++ parts_of (records_of before)) = λ out parts z.
+    subst (λ l. IsPermutation (all parts) (l ++ parts_of (records_of before)))
+    (ap (parts_to count first many) (here parts z) ∙ next_not_to count first many part (drop (i + 1) parts) out)
+    (c.loop-place.invariant.whole parts z) in
+    elim c.if-first-bucket.branch [
+      | then-first-bucket+then-bucket-first+in_ok-put_part w ↦ record {
+        many = omega (arith, c.if-first-bucket.auto.buckets, c.loop-place.invariant.many);
+        whole = λ parts z. subst (λ bs. IsPermutation (all parts)
+            (parts_to count first many (drop (i + 1) parts) ++ parts_of (records_of bs))) (sym w.buckets-is)
+            (next_dealt (all parts) (parts_to count first many (drop i parts))
+            (parts_to count first many (drop (i + 1) parts)) part
+            (parts_of (records_of before)) (parts_of (records_of w.put_part.new.buckets))
+            (ap (parts_to count first many) (here parts z)
+            ∙ next_to count first many part (drop (i + 1) parts) (omega (arith, number, w.if-first-bucket.true))
+            (omega (arith, number, w.if-bucket-first.true, c.loop-place.invariant.many)))
+            (c.loop-place.invariant.whole parts z) w.in_ok-put_part.ensures.whole);
+        by_key = λ h. subst (LieFrom count first) (sym w.buckets-is)
+            (w.in_ok-put_part.ensures.by_key count first (omega (arith, number, w.if-first-bucket.true))
+            (c.loop-place.invariant.by_key h));
+      }
+      | else-first-bucket w ↦ (let out : (set_number part.key count < first) ⊎ (first + many ≤ set_number part.key count) =
+          elim w.else-first-bucket.branch [
+            | else-first-bucket-via-then-first-bucket+else-bucket-first v ↦
+                inr (omega (arith, number, v.if-bucket-first.false, c.loop-place.invariant.many))
+            | else-first-bucket-via-else-first-bucket v ↦ inl (omega (arith, number, v.if-first-bucket.false))
+          ] in record {
+            many = omega (arith, c.if-first-bucket.auto.buckets, c.loop-place.invariant.many);
+            whole = λ parts z. subst (λ bs. IsPermutation (all parts)
+                (parts_to count first many (drop (i + 1) parts) ++ parts_of (records_of bs))) (sym w.buckets-is)
+                (skipped out parts z);
+            by_key = λ h. subst (LieFrom count first) (sym w.buckets-is) (c.loop-place.invariant.by_key h);
+          })
+    ]
 
 pub returns-clause-whole : goal.returns-clause-whole
 returns-clause-whole c = λ parts z.
-    subst (λ l. IsPermutation (parts ++ parts_of (records_of c.args.buckets.now))
-    (l ++ parts_of (records_of c.loop-at.buckets)))
+    subst (λ l. IsPermutation (parts_to c.args.count c.args.first (length c.args.buckets.now) parts
+    ++ parts_of (records_of c.args.buckets.now))
+    (parts_to c.args.count c.args.first (length c.args.buckets.now) l ++ parts_of (records_of c.loop-place.buckets)))
     (drop_of_length-le parts (omega (
       arith,
-      c.loop-at-test.false,
-      AllZip-length (LiesAt c.args.piece.now) parts
-          c.args.places.now z,
+      c.loop-place-test.false,
+      AllZip-length (IsPartPlaceOf c.args.pieces.now) parts c.args.places.now z,
     )))
-    (c.loop-at.invariant.whole parts z)
+    (c.loop-place.invariant.whole parts z)

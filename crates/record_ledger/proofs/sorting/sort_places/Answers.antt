@@ -1,24 +1,16 @@
--- The places are sorted where they lie.
-use Rattle.std.proofs.Common.{List, sym, subst, IsPermutation}
-use Rattle.std.specs.Prelude.{IsSorted}
-use Rattle.record_ledger.specs.Buckets.{place_order}
+-- Each list is sorted by one call.
+use Rattle.std.proofs.Common.{rules, ◌≡◌, get_or, length, subst}
+use Rattle.std.specs.declared.vec.Vec.{Vec}
+use Rattle.std.specs.declared.alloc.Global.{Global}
 use Rattle.record_ledger.specs.declared.place.Place.{Place}
-use Rattle.record_ledger.proofs.Settled.{given_back}
+use Rattle.record_ledger.proofs.Seamed.{Sorts}
+use Rattle.record_ledger.proofs.Settled.{all-zip}
 use Rattle.record_ledger.proofs.sorting.sort_places.Goals as goal
 
-pub returns-clause-order : goal.returns-clause-order
-returns-clause-order g c =
-    let old = c.args.order.now in
-    let sorted : List Place = c.sort_shares.new.order in
-    let same = given_back old.len old.items c.as_mut_slice.result.now sorted old.ok.0 c.as_mut_slice.ensures.value
-    (sym c.sort_shares.ensures.many) in
-    subst (IsSorted (place_order c.args.store.now)) (sym same) c.sort_shares.ensures.order
-
-pub returns-clause-permutation : goal.returns-clause-permutation
-returns-clause-permutation g c =
-    let old = c.args.order.now in
-    let sorted : List Place = c.sort_shares.new.order in
-    let same = given_back old.len old.items c.as_mut_slice.result.now sorted old.ok.0 c.as_mut_slice.ensures.value
-    (sym c.sort_shares.ensures.many) in
-    subst (IsPermutation old.items) (sym same)
-    (subst (λ l. IsPermutation l sorted) c.as_mut_slice.ensures.value c.sort_shares.ensures.permutation)
+pub returns : goal.returns
+returns g c =
+    let R : Vec Place Global → Vec Place Global → Type 0 = Sorts c.args.store.now in
+    let same : length c.for_each_mut.new.items ≡ length c.args.order.now = search rules in
+    all-zip R c.args.order.now c.for_each_mut.new.items same (λ i d lt.
+    let k = (c.for_each_mut.ensures i d lt).1 in
+    subst (λ o. R o (get_or c.for_each_mut.new.items i d)) k.argument_is (subst (λ w. R k.argument.now w) k.left k.call))

@@ -1,30 +1,38 @@
 -- The record lies where its place says.
-use Rattle.std.proofs.Common.{arith}
-use Rattle.record_ledger.specs.Buckets.{record_at}
-use Rattle.record_ledger.proofs.Copied.{as_long, placed_at, part_known, reason_known, known}
+use Rattle.std.proofs.Common.{◌≡◌, ◌<◌, ◌∙◌, get_or, length, ap, sym, subst, arith}
+use Rattle.record_ledger.specs.Buckets.{places_of, record_at}
+use Rattle.record_ledger.proofs.Copied.{as_long, place_there, record_here, same_found}
 use Rattle.record_ledger.proofs.record_list.RecordList.get.Goals as goal
 
-pub index-place-requires : goal.index-place-requires
-index-place-requires c =
-    let many = as_long c.self.inside.store c.self.inside.order.items c.args.self.now c.self.invariant c.self.view_is in
-    omega (arith, many, c.requires, c.self.inside.order.ok.0)
+pub place_at-place-requires : goal.place_at-place-requires
+place_at-place-requires c =
+    let ps = places_of c.self.inside.order.items in
+    let many = as_long c.self.inside.store ps c.args.self.now c.self.invariant.0 c.self.view_is in
+    subst (λ l. c.args.place < length (places_of l)) (sym c.deref.ensures.value) (omega (arith, many, c.requires))
 
 pub part_at-requires : goal.part_at-requires
 part_at-requires c =
-    let v = placed_at c.self.inside.store c.self.inside.order.items c.args.self.now c.args.place
-    c.index-place.result.now c.self.invariant c.self.view_is c.requires c.index-place.ensures in
-    record { place = (v.0, v.1) }
+    let ps = places_of c.self.inside.order.items in
+    let q = c.place_at-place.result in
+    record {
+      place = place_there c.self.inside.store ps c.args.self.now c.self.invariant.0 c.self.view_is c.args.place q c.requires
+          (c.place_at-place.ensures ∙ ap (λ l. get_or (places_of l) c.args.place q) c.deref.ensures.value);
+    }
 
 pub reason_at-requires-clause-place : goal.reason_at-requires-clause-place
 reason_at-requires-clause-place c =
-    let v = placed_at c.self.inside.store c.self.inside.order.items c.args.self.now c.args.place
-    c.index-place.result.now c.self.invariant c.self.view_is c.requires c.index-place.ensures in
-    (v.0, v.1)
+    let ps = places_of c.self.inside.order.items in
+    let q = c.place_at-place.result in
+    place_there c.self.inside.store ps c.args.self.now c.self.invariant.0 c.self.view_is c.args.place q c.requires
+    (c.place_at-place.ensures ∙ ap (λ l. get_or (places_of l) c.args.place q) c.deref.ensures.value)
 
 pub returns : goal.returns
 returns c =
-    let v = placed_at c.self.inside.store c.self.inside.order.items c.args.self.now c.args.place
-    c.index-place.result.now c.self.invariant c.self.view_is c.requires c.index-place.ensures in
-    let o = record_at c.self.inside.store c.index-place.result.now in
-    known c.args.self.now c.args.place v.0 v.2 _ _ (part_known o v.0 c.part_at.result.now v.1 c.part_at.ensures)
-    (reason_known o v.0 c.reason_at.result v.1 c.reason_at.ensures)
+    let store = c.self.inside.store in
+    let ps = places_of c.self.inside.order.items in
+    let q = c.place_at-place.result in
+    let is : q ≡ get_or ps c.args.place q =
+    c.place_at-place.ensures ∙ ap (λ l. get_or (places_of l) c.args.place q) c.deref.ensures.value in
+    let there = place_there store ps c.args.self.now c.self.invariant.0 c.self.view_is c.args.place q c.requires is in
+    record_here store ps c.args.self.now c.self.invariant.0 c.self.view_is c.args.place q _ _ c.requires
+    (ap (record_at store) (sym is) ∙ same_found (record_at store q) there _ c.part_at.ensures c.reason_at.ensures)

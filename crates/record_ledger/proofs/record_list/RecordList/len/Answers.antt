@@ -1,9 +1,9 @@
--- There are as many records as places.
-use Rattle.std.proofs.Common.{length, sym, ap, ◌∙◌}
-use Rattle.record_ledger.proofs.Placed.{as_many}
+-- There is a record at each of the places.
+use Rattle.std.proofs.Common.{◌∙◌}
+use Rattle.record_ledger.specs.Buckets.{places_of}
+use Rattle.record_ledger.proofs.Copied.{as_long}
 use Rattle.record_ledger.proofs.record_list.RecordList.len.Goals as goal
 
 pub returns : goal.returns
-returns c = c.len.ensures ∙ c.self.inside.order.ok.0
-    ∙ sym (as_many c.self.inside.store c.self.inside.order.items c.self.invariant)
-    ∙ ap length c.self.view_is
+returns c = c.self.invariant.1 ∙ as_long c.self.inside.store (places_of c.self.inside.order.items) c.args.self.now
+    c.self.invariant.0 c.self.view_is
