@@ -15,6 +15,7 @@ pub mod Leaving
 pub mod Listed
 pub mod Lying
 pub mod Made
+pub mod Marked
 pub mod Matched
 pub mod Meeting
 pub mod Moved

@@ -188,6 +188,15 @@ abbrev pub share_number : List ℕ → ℕ → ℕ
 share_number [] time = 0
 share_number (end ∷ ends) time = if nat_lt time end then 0 else suc (share_number ends time)
 
+-- The marks of fragments: the number of the share of each.
+abbrev pub marks_of : List ℕ → List Fragment → List ℕ
+marks_of ends parts = map (λ (f : Fragment). share_number ends f.last) parts
+
+-- Each piece has a list with the marks of its fragments.
+abbrev pub AreMarked : List ℕ → List Piece → List (Vec ℕ Global) → Type 0
+AreMarked ends pieces marks = AllZip (λ (piece : Piece) (list : Vec ℕ Global). list.items ≡ marks_of ends piece.items)
+    pieces marks
+
 -- The fragments whose last times a share has.
 abbrev pub share_of : List ℕ → ℕ → List Fragment → List Fragment
 share_of ends share parts = filter (λ (f : Fragment). share_number ends f.last == share) parts

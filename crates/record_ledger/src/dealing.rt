@@ -1,6 +1,10 @@
 //! Dealing: fragments whose keys no other fragment has stay where they lie; the others go as records into buckets, by
 //! their keys. Threads find out which stay, each for the fragments of one share of time, and then move the others, each
 //! to some of the buckets.
+//!
+//! A fragment takes 96 octets, and a thread that went through all of them for those of its share would wait for memory. So
+//! the one pass in which fragments are counted also notes the number of each one's share in an octet, its mark. The thread
+//! then goes through the marks, and looks at a fragment only where the mark is its share's.
 
 ghost use Rattle.std.specs.Prelude.{◌≡◌, ℕ, List, [], ◌≤◌, ◌<◌, ◌+◌, ◌-◌, ◌∷◌, ◌++◌, Some, IfOk, OnOk, length, slice_get};
 ghost use Rattle.std.specs.Prelude.{Result, slice_index_or, take};
@@ -12,7 +16,8 @@ ghost use Rattle.record_ledger.specs.declared.place.Place.{Place};
 ghost use Rattle.record_ledger.specs.declared.dealing.Dealing.{Dealing};
 ghost use Rattle.record_ledger.specs.declared.dealing.Way.TheVariants.{Other};
 ghost use Rattle.record_ledger.specs.Buckets.{AreDealt, AreShared, AreDealtTo, AreDealings, IsWay, Piece, leading_number};
-ghost use Rattle.record_ledger.specs.Buckets.{CountsSlots, places_of, share_of, slots_for};
+ghost use Rattle.record_ledger.specs.Buckets.{AreMarked, CountsSlots, marks_of, places_of, share_number, share_of};
+ghost use Rattle.record_ledger.specs.Buckets.{slots_for};
 
 use crate::leading::leading_number;
 use crate::moving::{buckets_for, move_all, move_dealt};
@@ -35,7 +40,7 @@ const RUN: usize = 16;
 /// Fewer fragments than these are dealt by one thread: starting others takes longer than they save.
 const FEW: usize = 16384;
 
-/// The most shares of time: each thread looks at all fragments for those of its share.
+/// The most shares of time: each thread goes through the marks of all fragments for those of its share.
 const MOST_SHARES: usize = 16;
 
 /// How many places a share has room for beside its part of all, and which part of that besides: times don't spread evenly.
@@ -54,6 +59,16 @@ pub struct Dealt {
     pub buckets: Vec<Vec<FlowRecord>>,
     /// The shares of time.
     pub shares: Shares,
+}
+
+/// What one pass over pieces finds: how many fragments each slot has, and the number of the share of each fragment, piece
+/// by piece.
+#[derive(Drop)]
+pub struct Counted {
+    /// How many fragments each slot has.
+    pub counts: Slots,
+    /// The number of the share of each fragment, a list for each piece.
+    pub marks: Vec<Vec<u8>>,
 }
 
 /// How the fragments of one share are dealt.
@@ -108,9 +123,9 @@ pub fn deal<R: Threads + Sync>(
     let fragments = count_of(&pieces);
     let threads = threads_for(fragments, threads);
     let shares = Shares::of(alloc, &pieces, fragments, threads.min(MOST_SHARES))?;
-    let counts = count_slots(rt, alloc, &pieces, fragments, threads)?;
-    if most_stay(&counts, fragments) {
-        return deal_pieces(rt, alloc, pieces, &counts, shares, threads);
+    let counted = count_slots(rt, alloc, &pieces, &shares, fragments, threads)?;
+    if most_stay(&counted.counts, fragments) {
+        return deal_pieces(rt, alloc, pieces, &counted, shares, threads);
     }
     Ok(Dealt {
         pieces: Vec::new(alloc),
@@ -151,19 +166,21 @@ fn deal_pieces<R: Threads + Sync>(
     rt: &R,
     alloc: Global,
     pieces: Vec<Vec<Fragment>>,
-    counts: &Slots,
+    counted: &Counted,
     shares: Shares,
     threads: usize,
 ) -> Result<Dealt, NoMemory>
     requires threads { 0 < threads }
-    requires counts { CountsSlots (items_of pieces.items) counts.now }
+    requires counts { CountsSlots (items_of pieces.items) counted.now.counts }
+    requires marked { AreMarked shares pieces.items counted.now.marks.items }
     ensures dealt { IfOk result (λ dealt. AreDealt (items_of pieces.items) dealt.pieces.items
         (places_of dealt.alone.items) dealt.buckets.items) }
     ensures shared { IfOk result (λ dealt. AreShared dealt.shares dealt.alone.items) }
 {
     let fragments = count_of(&pieces);
-    let room = room_for(fragments, shares.count());
-    let Dealings { alone, moved } = deal_all(rt, alloc, &pieces, counts, &shares, room, threads)?;
+    let count = shares.count();
+    let room = room_for(fragments, count);
+    let Dealings { alone, moved } = deal_all(rt, alloc, &pieces, counted, count, room, threads)?;
     let mut buckets = buckets_for(alloc, fragments / MOVED_PART)?;
     move_dealt(rt, &pieces, &moved, &mut buckets, threads)?;
     Ok(Dealt {
@@ -187,30 +204,34 @@ fn room_for(fragments: usize, shares: usize) -> usize
         .saturating_add(SPARE)
 }
 
-/// Finds out how the fragments of all pieces are dealt, by at most `threads` threads, each for some of the shares, which
-/// have room for so many places each at first.
+/// Finds out how the fragments of so many shares, the first ones, are dealt, by at most `threads` threads, each for some of
+/// the shares, which have room for so many places each at first.
 fn deal_all<R: Threads + Sync>(
     rt: &R,
     alloc: Global,
     pieces: &[Vec<Fragment>],
-    counts: &Slots,
-    shares: &Shares,
+    counted: &Counted,
+    shares: usize,
     room: usize,
     threads: usize,
 ) -> Result<Dealings, NoMemory>
     requires threads { 0 < threads }
-    ensures { IfOk result (λ dealings. AreDealings counts.now shares.now pieces.now (length shares.now + 1)
-        dealings.alone.items dealings.moved.items) }
+    requires marked { (ends : List ℕ) × AreMarked ends pieces.now counted.now.marks.items }
+    ensures { IfOk result (λ dealings. (ends : List ℕ) → AreMarked ends pieces.now counted.now.marks.items
+        → AreDealings counted.now.counts ends pieces.now shares dealings.alone.items dealings.moved.items) }
 {
-    let mut dealings = no_dealings(alloc, shares.count())?;
+    let mut dealings = no_dealings(alloc, shares)?;
     for_each_mut(
         rt,
         &mut dealings,
         threads,
         &|share, dealing: &mut Result<Dealing, NoMemory>|
-            ensures { IfOk dealing.new (AreDealtTo counts.entry.now pieces.entry.now
-                (share_of shares.entry.now share (items_of pieces.entry.now))) }
-        { *dealing = deal_share(alloc, pieces, counts, shares, share, room) },
+            requires { (ends : List ℕ) × AreMarked ends pieces.now counted.now.marks.items }
+            ensures { IfOk dealing.new (λ dealing. (ends : List ℕ)
+                → AreMarked ends pieces.entry.now counted.entry.now.marks.items
+                → AreDealtTo counted.entry.now.counts pieces.entry.now
+                (share_of ends share (items_of pieces.entry.now)) dealing) }
+        { *dealing = deal_share(alloc, pieces, counted, share, room) },
     );
     parted(alloc, dealings)
 }
@@ -256,19 +277,27 @@ fn parted(alloc: Global, dealings: Vec<Result<Dealing, NoMemory>>) -> Result<Dea
 fn deal_share(
     alloc: Global,
     pieces: &[Vec<Fragment>],
-    counts: &Slots,
-    shares: &Shares,
+    counted: &Counted,
     share: usize,
     room: usize,
 ) -> Result<Dealing, NoMemory>
-    ensures { IfOk result (AreDealtTo counts.now pieces.now (share_of shares.now share (items_of pieces.now))) }
+    requires { (ends : List ℕ) × AreMarked ends pieces.now counted.now.marks.items }
+    ensures { IfOk result (λ dealing. (ends : List ℕ) → AreMarked ends pieces.now counted.now.marks.items
+        → AreDealtTo counted.now.counts pieces.now (share_of ends share (items_of pieces.now)) dealing) }
 {
     let mut dealing = Dealing {
         alone: Vec::with_capacity(alloc, room)?,
         moved: Vec::with_capacity(alloc, room / MOVED_PART)?,
     };
     for number in 0..pieces.len() {
-        deal_piece(&pieces[number], number, counts, shares, share, &mut dealing)?;
+        deal_piece(
+            &pieces[number],
+            number,
+            &counted.counts,
+            &counted.marks[number],
+            share,
+            &mut dealing,
+        )?;
     }
     Ok(dealing)
 }
@@ -279,18 +308,19 @@ fn deal_piece(
     piece: &[Fragment],
     number: usize,
     counts: &Slots,
-    shares: &Shares,
+    marks: &[u8],
     share: usize,
     dealing: &mut Dealing,
 ) -> Result<(), NoMemory>
-    ensures { OnOk result ((pieces : List Piece) (p : Piece) (before : List Fragment)
-        → slice_get pieces number ≡ Some p → p.items ≡ piece.now
-        → AreDealtTo counts.now pieces (share_of shares.now share before) dealing.old
-        → AreDealtTo counts.now pieces (share_of shares.now share (before ++ piece.now)) dealing.new) }
+    requires { length marks.now ≡ length piece.now }
+    ensures { OnOk result ((ends : List ℕ) (pieces : List Piece) (p : Piece) (before : List Fragment)
+        → marks.now ≡ marks_of ends piece.now → slice_get pieces number ≡ Some p → p.items ≡ piece.now
+        → AreDealtTo counts.now pieces (share_of ends share before) dealing.old
+        → AreDealtTo counts.now pieces (share_of ends share (before ++ piece.now)) dealing.new) }
 {
     let mut from = 0;
     while from < piece.len() {
-        from = deal_run(piece, number, from, counts, shares, share, dealing)?;
+        from = deal_run(piece, number, from, counts, marks, share, dealing)?;
     }
     Ok(())
 }
@@ -302,19 +332,20 @@ fn deal_run(
     number: usize,
     from: usize,
     counts: &Slots,
-    shares: &Shares,
+    marks: &[u8],
     share: usize,
     dealing: &mut Dealing,
 ) -> Result<usize, NoMemory>
-    requires { from < length piece.now }
+    requires from { from < length piece.now }
+    requires marks { length marks.now ≡ length piece.now }
     ensures further { IfOk result (λ end. (from < end) × (end ≤ length piece.now)) }
-    ensures dealt { IfOk result (λ end. (pieces : List Piece) (p : Piece) (before : List Fragment)
-        → slice_get pieces number ≡ Some p → p.items ≡ piece.now
-        → AreDealtTo counts.now pieces (share_of shares.now share (before ++ take from piece.now)) dealing.old
-        → AreDealtTo counts.now pieces (share_of shares.now share (before ++ take end piece.now)) dealing.new) }
+    ensures dealt { IfOk result (λ end. (ends : List ℕ) (pieces : List Piece) (p : Piece) (before : List Fragment)
+        → marks.now ≡ marks_of ends piece.now → slice_get pieces number ≡ Some p → p.items ≡ piece.now
+        → AreDealtTo counts.now pieces (share_of ends share (before ++ take from piece.now)) dealing.old
+        → AreDealtTo counts.now pieces (share_of ends share (before ++ take end piece.now)) dealing.new) }
 {
     let end = from.saturating_add(RUN).min(piece.len());
-    let ways = ways_of(piece, from, end, counts, shares, share);
+    let ways = ways_of(piece, from, end, counts, marks, share);
     for at in from..end {
         deal_part(&piece[at], number, at, ways[at - from], dealing)?;
     }
@@ -329,26 +360,28 @@ fn ways_of(
     from: usize,
     end: usize,
     counts: &Slots,
-    shares: &Shares,
+    marks: &[u8],
     share: usize,
 ) -> [Way; RUN]
-    requires { (from ≤ end) × (end ≤ length piece.now) × (end ≤ from + 16) }
-    ensures { (at : ℕ) (f : Fragment) → from ≤ at → at < end → slice_get piece.now at ≡ Some f
-        → IsWay counts.now shares.now share f (slice_index_or result (at - from) Other) }
+    requires run { (from ≤ end) × (end ≤ length piece.now) × (end ≤ from + 16) }
+    requires marks { length marks.now ≡ length piece.now }
+    ensures { (ends : List ℕ) → marks.now ≡ marks_of ends piece.now → (at : ℕ) (f : Fragment) → from ≤ at → at < end
+        → slice_get piece.now at ≡ Some f → IsWay counts.now ends share f (slice_index_or result (at - from) Other) }
 {
     let mut ways = [Way::Other; RUN];
     for at in from..end {
-        ways[at - from] = way_of(&piece[at], counts, shares, share);
+        ways[at - from] = way_of(&piece[at], marks[at], counts, share);
     }
     ways
 }
 
-/// What becomes of a fragment where those of one share are dealt.
+/// What becomes of a fragment with this mark where those of one share are dealt. The fragment is looked at only where it
+/// is of the share.
 #[inline]
-fn way_of(part: &Fragment, counts: &Slots, shares: &Shares, share: usize) -> Way
-    ensures { IsWay counts.now shares.now share part.now result }
+fn way_of(part: &Fragment, mark: u8, counts: &Slots, share: usize) -> Way
+    ensures { (ends : List ℕ) → mark ≡ share_number ends part.now.last → IsWay counts.now ends share part.now result }
 {
-    if shares.number(part.last) != share {
+    if mark as usize != share {
         Way::Other
     } else if counts.has_one(part) {
         Way::Stays
@@ -400,84 +433,125 @@ fn list_part(
     Ok(())
 }
 
-/// How many fragments each slot has, where there are slots for so many, counted by at most `threads` threads, each with
+/// Counts and marks the fragments of all pieces, where there are slots for so many, by at most `threads` threads, each with
 /// counts of its own for some of the pieces, which are then added.
 #[cycle(counts)]
 fn count_slots<R: Threads + Sync>(
     rt: &R,
     alloc: Global,
     pieces: &[Vec<Fragment>],
+    shares: &Shares,
     fragments: usize,
     threads: usize,
-) -> Result<Slots, NoMemory>
-    ensures counts { IfOk result (λ counts. CountsSlots (items_of pieces.now) counts) }
-    ensures many { IfOk result (λ counts. length counts ≡ slots_for fragments) }
+) -> Result<Counted, NoMemory>
+    requires few { length shares.now < 256 }
+    ensures counts { IfOk result (λ counted. CountsSlots (items_of pieces.now) counted.counts) }
+    ensures many { IfOk result (λ counted. length counted.counts ≡ slots_for fragments) }
+    ensures marked { IfOk result (λ counted. AreMarked shares.now pieces.now counted.marks.items) }
 {
     if threads < 2 || pieces.len() < threads {
-        count_pieces(alloc, pieces, fragments)
+        count_pieces(alloc, pieces, shares, fragments)
     } else {
         let (low, high) = pieces.split_at(pieces.len() / threads);
-        count_both(rt, alloc, low, high, fragments, threads)
+        count_both(rt, alloc, low, high, shares, fragments, threads)
     }
 }
 
-/// Counts the fragments of one thread's pieces in a new thread, and at once those of the pieces behind them, by at most
-/// `threads` threads together.
+/// Counts and marks the fragments of one thread's pieces in a new thread, and at once those of the pieces behind them, by
+/// at most `threads` threads together.
 #[cycle(counts)]
 fn count_both<R: Threads + Sync>(
     rt: &R,
     alloc: Global,
     low: &[Vec<Fragment>],
     high: &[Vec<Fragment>],
+    shares: &Shares,
     fragments: usize,
     threads: usize,
-) -> Result<Slots, NoMemory>
-    requires { 2 ≤ threads }
-    ensures counts { IfOk result (λ counts. CountsSlots (items_of low.now ++ items_of high.now) counts) }
-    ensures many { IfOk result (λ counts. length counts ≡ slots_for fragments) }
+) -> Result<Counted, NoMemory>
+    requires threads { 2 ≤ threads }
+    requires few { length shares.now < 256 }
+    ensures counts { IfOk result (λ counted. CountsSlots (items_of low.now ++ items_of high.now) counted.counts) }
+    ensures many { IfOk result (λ counted. length counted.counts ≡ slots_for fragments) }
+    ensures marked { IfOk result (λ counted. AreMarked shares.now (low.now ++ high.now) counted.marks.items) }
 {
     let rest = threads - 1;
-    let front = move || -> Result<Slots, NoMemory>
-        ensures counts { IfOk result (λ counts. CountsSlots (items_of low.entry.now) counts) }
-        ensures many { IfOk result (λ counts. length counts ≡ slots_for fragments) }
-    { count_pieces(alloc, low, fragments) };
-    let back = move || -> Result<Slots, NoMemory>
-        requires { IsSync R.row }
-        ensures counts { IfOk result (λ counts. CountsSlots (items_of high.entry.now) counts) }
-        ensures many { IfOk result (λ counts. length counts ≡ slots_for fragments) }
-    { count_slots(rt, alloc, high, fragments, rest) };
+    let front = move || -> Result<Counted, NoMemory>
+        requires { length shares.now < 256 }
+        ensures counts { IfOk result (λ counted. CountsSlots (items_of low.entry.now) counted.counts) }
+        ensures many { IfOk result (λ counted. length counted.counts ≡ slots_for fragments) }
+        ensures marked { IfOk result (λ counted. AreMarked shares.entry.now low.entry.now counted.marks.items) }
+    { count_pieces(alloc, low, shares, fragments) };
+    let back = move || -> Result<Counted, NoMemory>
+        requires { IsSync R.row × (length shares.now < 256) }
+        ensures counts { IfOk result (λ counted. CountsSlots (items_of high.entry.now) counted.counts) }
+        ensures many { IfOk result (λ counted. length counted.counts ≡ slots_for fragments) }
+        ensures marked { IfOk result (λ counted. AreMarked shares.entry.now high.entry.now counted.marks.items) }
+    { count_slots(rt, alloc, high, shares, fragments, rest) };
     let (first, others) = join(rt, front, back);
-    let mut counts = first?;
-    let others = others?;
-    counts.add(&others);
-    Ok(counts)
+    joined(first?, others?)
 }
 
-/// How many fragments each slot has, where there are slots for so many.
+/// What was found of some pieces, and then of others behind them, as what one pass over all of them finds.
+fn joined(first: Counted, others: Counted) -> Result<Counted, NoMemory>
+    requires { length others.counts ≡ length first.counts }
+    ensures counts { IfOk result (λ counted. (before more : List Fragment) → CountsSlots before first.counts
+        → CountsSlots more others.counts → CountsSlots (before ++ more) counted.counts) }
+    ensures many { IfOk result (λ counted. length counted.counts ≡ length first.counts) }
+    ensures marks { IfOk result (λ counted. counted.marks.items ≡ first.marks.items ++ others.marks.items) }
+{
+    let Counted {
+        mut counts,
+        mut marks,
+    } = first;
+    let Counted {
+        counts: other_counts,
+        marks: mut other_marks,
+    } = others;
+    counts.add(&other_counts);
+    marks.append(&mut other_marks)?;
+    Ok(Counted { counts, marks })
+}
+
+/// Counts and marks the fragments of pieces, where there are slots for so many.
 fn count_pieces(
     alloc: Global,
     pieces: &[Vec<Fragment>],
+    shares: &Shares,
     fragments: usize,
-) -> Result<Slots, NoMemory>
-    ensures counts { IfOk result (λ counts. CountsSlots (items_of pieces.now) counts) }
-    ensures many { IfOk result (λ counts. length counts ≡ slots_for fragments) }
+) -> Result<Counted, NoMemory>
+    requires few { length shares.now < 256 }
+    ensures counts { IfOk result (λ counted. CountsSlots (items_of pieces.now) counted.counts) }
+    ensures many { IfOk result (λ counted. length counted.counts ≡ slots_for fragments) }
+    ensures marked { IfOk result (λ counted. AreMarked shares.now pieces.now counted.marks.items) }
 {
     let mut counts = Slots::open(alloc, fragments)?;
+    let mut marks = Vec::with_capacity(alloc, pieces.len())?;
     for piece in pieces {
-        count_piece(piece, &mut counts);
+        marks.push(count_piece(alloc, piece, shares, &mut counts)?)?;
     }
-    Ok(counts)
+    Ok(Counted { counts, marks })
 }
 
-/// Counts the fragments of a piece in their slots.
-fn count_piece(piece: &[Fragment], counts: &mut Slots)
-    ensures counts { (before : List Fragment) → CountsSlots before counts.old
-        → CountsSlots (before ++ piece.now) counts.new }
+/// Counts the fragments of a piece in their slots, and lists the number of the share of each.
+fn count_piece(
+    alloc: Global,
+    piece: &[Fragment],
+    shares: &Shares,
+    counts: &mut Slots,
+) -> Result<Vec<u8>, NoMemory>
+    requires few { length shares.now < 256 }
+    ensures counts { OnOk result ((before : List Fragment) → CountsSlots before counts.old
+        → CountsSlots (before ++ piece.now) counts.new) }
     ensures many { length counts.new ≡ length counts.old }
+    ensures marks { IfOk result (λ marks. marks.items ≡ marks_of shares.now piece.now) }
 {
+    let mut marks = Vec::with_capacity(alloc, piece.len())?;
     for part in piece {
         counts.count(part);
+        marks.push(shares.number(part.last) as u8)?;
     }
+    Ok(marks)
 }
 
 /// How many fragments the pieces have.

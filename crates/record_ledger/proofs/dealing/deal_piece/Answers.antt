@@ -5,7 +5,7 @@ use Rattle.record_ledger.specs.Buckets.{AreDealtTo, share_of}
 use Rattle.record_ledger.proofs.dealing.deal_piece.Goals as goal
 
 pub returns : goal.returns
-returns c = λ pieces p before at_piece same h.
-    subst (λ l. AreDealtTo c.args.counts.now pieces (share_of c.args.shares.now c.args.share (before ++ l))
+returns c = λ ends pieces p before marked at_piece same h.
+    subst (λ l. AreDealtTo c.args.counts.now pieces (share_of ends c.args.share (before ++ l))
     c.loop-from.dealing) (take_all c.loop-from.from c.args.piece.now (omega (arith, c.loop-from-test.false)))
-    (c.loop-from.invariant.dealt pieces p before at_piece same h)
+    (c.loop-from.invariant.dealt ends pieces p before marked at_piece same h)

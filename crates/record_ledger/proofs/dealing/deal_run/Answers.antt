@@ -16,11 +16,11 @@ loop-at-preserved c =
     record {
       low = omega (arith, c.loop-at.invariant.low);
       high = omega (arith, c.loop-at-test.true);
-      dealt = λ pieces p before at_piece same h.
-          subst (λ l. AreDealtTo c.args.counts.now pieces (share_of c.args.shares.now c.args.share l)
+      dealt = λ ends pieces p before marked at_piece same h.
+          subst (λ l. AreDealtTo c.args.counts.now pieces (share_of ends c.args.share l)
           c.deal_part.new.dealing) (one_taken before piece at part here)
-          (c.in_ok-deal_part.ensures c.args.counts.now c.args.shares.now c.args.share pieces p (before ++ take at piece)
+          (c.in_ok-deal_part.ensures c.args.counts.now ends c.args.share pieces p (before ++ take at piece)
           at_piece (subst (λ items. slice_get items at ≡ Some part) (sym same) here)
-          (c.ways_of-ways.ensures at part c.loop-at.invariant.low c.loop-at-test.true here)
-          (c.loop-at.invariant.dealt pieces p before at_piece same h));
+          (c.ways_of-ways.ensures ends marked at part c.loop-at.invariant.low c.loop-at-test.true here)
+          (c.loop-at.invariant.dealt ends pieces p before marked at_piece same h));
     }

@@ -7,6 +7,7 @@ use Rattle.std.proofs.lemmas.List.{get_or-set_other}
 use Rattle.std.proofs.lemmas.Option.{get_or_from_slice_get}
 use Rattle.record_ledger.specs.declared.dealing.Way.TheVariants.{Other}
 use Rattle.record_ledger.specs.Buckets.{IsWay}
+use Rattle.record_ledger.proofs.Marked.{mark_is}
 use Rattle.record_ledger.proofs.dealing.ways_of.Goals as goal
 
 pub loop-at-preserved : goal.loop-at-preserved
@@ -21,18 +22,20 @@ loop-at-preserved c =
       many = length-set ways (at - c.args.from) way ∙ was.many;
       low = omega (arith, was.low);
       high = omega (arith, c.loop-at-test.true);
-      each = λ i f low l here. elim (cases_lt i at) [
-        | inl before ↦ subst (IsWay c.args.counts.now c.args.shares.now c.args.share f)
+      each = λ ends marked i f low l here. elim (cases_lt i at) [
+        | inl before ↦ subst (IsWay c.args.counts.now ends c.args.share f)
             (sym (get_or-set_other ways (at - c.args.from) (i - c.args.from) way Other
             (λ e. absurd (omega (arith, e, before, low)))))
-            (was.each i f low before here)
+            (was.each ends marked i f low before here)
         | inr behind ↦
             let here' : i ≡ at = omega (arith, l, behind) in
             let same : part ≡ f = c.index-piece-at.is
             ∙ ap (λ n. get_or piece n part) (sym here') ∙ get_or_from_slice_get piece i f part here in
-            subst (IsWay c.args.counts.now c.args.shares.now c.args.share f)
+            subst (IsWay c.args.counts.now ends c.args.share f)
             (sym (get_or-set_at ways (at - c.args.from) (i - c.args.from) way Other (ap (λ n. n - c.args.from) here')
-            (omega (arith, was.many, was.low, c.loop-at-test.true, c.requires.2))))
-            (subst (λ g. IsWay c.args.counts.now c.args.shares.now c.args.share g way) same c.way_of.ensures)
+            (omega (arith, was.many, was.low, c.loop-at-test.true, c.requires.run.2))))
+            (subst (λ g. IsWay c.args.counts.now ends c.args.share g way) same (c.way_of.ensures ends
+            (mark_is ends piece c.args.marks.now at part (omega (arith, c.loop-at-test.true, c.requires.run.1)) marked
+            c.index-piece-at.is)))
       ];
     }
