@@ -19,6 +19,7 @@ use crate::sharing::Shares;
 use crate::sorting::sort_places;
 use crate::store::Store;
 use no_memory::NoMemory;
+use std::alloc::Global;
 use std::marker::Model;
 use std::thread::Threads;
 
@@ -74,7 +75,7 @@ impl RecordList {
         let mut order = alone;
         add_all_places(&store, shares, &mut order)?;
         sort_places(rt, &store, &mut order, threads);
-        let count = count_of(&order)?;
+        let count = count_of(*order.allocator(), &order)?;
         Ok(RecordList {
             store,
             order,
@@ -117,14 +118,16 @@ impl RecordList {
     }
 }
 
-/// How many places lists have that follow one another. No memory holds more of them than can be counted.
-fn count_of(order: &[Vec<Place>]) -> Result<usize, NoMemory>
+/// How many places lists have that follow one another. Room for an octet each is asked for, and let go again: where they
+/// are more than can be counted, it is refused.
+fn count_of(alloc: Global, order: &[Vec<Place>]) -> Result<usize, NoMemory>
     ensures { IfOk result (λ count. count ≡ length (places_of order.now)) }
 {
     let mut count = 0usize;
     for places in order {
-        count = count.checked_add(places.len()).ok_or(NoMemory)?;
+        count = count.saturating_add(places.len());
     }
+    let _room: Vec<u8> = Vec::with_capacity(alloc, count)?;
     Ok(count)
 }
 
