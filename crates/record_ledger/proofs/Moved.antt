@@ -5,21 +5,23 @@ use Rattle.std.proofs.Common.{arith, length-append, suc, IsPermutation, Vec, Glo
 use Rattle.std.proofs.Math.Nat.{mod-lt}
 use Rattle.std.specs.Prelude.{slice_get}
 use Rattle.std.specs.List.{AllZip}
-use Rattle.std.proofs.lemmas.Bool.{and_parts, and_from, leb-true, le-leb, ltb-true, lt-ltb}
+use Rattle.std.proofs.lemmas.Bool.{and_parts, and_from, cases_lt, leb-true, le-leb, ltb-true, lt-ltb}
 use Rattle.std.proofs.lemmas.Bool.Decides.{nat_tests}
 use Rattle.std.proofs.lemmas.Grind.{flat_map-append}
 use Rattle.std.proofs.lemmas.List.{map-append, drop_more}
 use Rattle.std.proofs.lemmas.List.Elements.{filter-append}
 use Rattle.std.proofs.lemmas.List.Sorted.{IsPermutation-trans, IsPermutation-append}
-use Rattle.std.proofs.lemmas.List.Sorted.{IsPermutation-append_comm, IsPermutation-append_left}
+use Rattle.std.proofs.lemmas.List.Sorted.{IsPermutation-append_comm, IsPermutation-append_left, IsPermutation-refl}
 use Rattle.flow_key.specs.Key.{set_number}
 use Rattle.flow_parts.specs.declared.fragment.Fragment.{Fragment}
 use Rattle.flow_parts.proofs.Permuted.{AllZip-length, AllZip-at}
 use Rattle.record_ledger.specs.declared.place.Place.{Place}
 use Rattle.record_ledger.specs.Lawful.{parts_of}
-use Rattle.record_ledger.specs.Buckets.{Bucket, Piece, records_of, LieFrom, part_of_piece, parts_to, IsPartPlaceOf}
+use Rattle.record_ledger.specs.Buckets.{AreMovedTo, Bucket, Piece, records_of, LieFrom, part_of_piece, parts_to}
+use Rattle.record_ledger.specs.Buckets.{IsPartPlaceOf}
 use Rattle.record_ledger.proofs.Classed.{kept_all, kept_by_either}
 use Rattle.record_ledger.proofs.Dealt.{elements, inner_changed, last_dealt}
+use Rattle.record_ledger.proofs.Filtered.{kept_none}
 use Rattle.record_ledger.proofs.Gathered.{not_true}
 use Rattle.record_ledger.proofs.Keyed.{part_of}
 
@@ -190,3 +192,44 @@ module _ (count : ℕ) where
       (to_both first (length low) (length high) parts))
       (IsPermutation-trans ((one ++ other) ++ (L ++ H)) ((one ++ L) ++ (other ++ H)) (L' ++ H')
       (inner_changed one other L H) (IsPermutation-append (one ++ L) L' (other ++ H) H' h k)))))
+
+-- no fragment belongs to none of the buckets
+none_to : (count first : ℕ) (parts : List Fragment) → parts_to count first 0 parts ≡ []
+none_to count first parts = kept_none (λ (f : Fragment). nat_le first (set_number f.key count)
+    && nat_lt (set_number f.key count) (first + 0)) parts
+    (λ k d l. belongs_not count first 0 (get_or parts k d) (outside (get_or parts k d)))
+  where
+    outside : (f : Fragment) → (set_number f.key count < first) ⊎ (first + 0 ≤ set_number f.key count)
+    outside f = elim (cases_lt (set_number f.key count) first) [
+      | inl l ↦ inl l
+      | inr l ↦ inr (omega (arith, l))
+    ]
+
+-- none is moved to no bucket
+pub none_moved : (pieces : List Piece) (places : List Place) (count first : ℕ) → AreMovedTo pieces places count first [] []
+none_moved pieces places count first = record {
+  whole = λ parts z. subst (λ l. IsPermutation (l ++ []) []) (sym (none_to count first parts)) (IsPermutation-refl []);
+  by_key = λ h. h;
+}
+
+-- the fragments of both halves are moved, each half by itself
+pub halves_moved : (pieces : List Piece) (places : List Place) (count first : ℕ) (low high low' high' : List Bucket)
+    → length low' ≡ length low → AreMovedTo pieces places count first low low'
+    → AreMovedTo pieces places count (first + length low) high high'
+    → AreMovedTo pieces places count first (low ++ high) (low' ++ high')
+halves_moved pieces places count first low high low' high' many h k = record {
+  whole = λ parts z. both_moved count first parts low high low' high' (h.whole parts z) (k.whole parts z);
+  by_key = λ x.
+      let halves = lie_halves count first low high x in
+      lie_both count first low' high' (h.by_key halves.0)
+      (subst (λ n. LieFrom count (first + n) high') (sym many) (k.by_key halves.1));
+}
+
+-- all fragments are moved where the buckets are all there are
+pub all_moved : (pieces : List Piece) (places : List Place) (old new : List Bucket) → 1 ≤ length old
+    → AreMovedTo pieces places (length old) 0 old new → (parts : List Fragment)
+    → AllZip (IsPartPlaceOf pieces) parts places
+    → IsPermutation (parts ++ parts_of (records_of old)) (parts_of (records_of new))
+all_moved pieces places old new some moved parts z =
+    subst (λ l. IsPermutation (l ++ parts_of (records_of old)) (parts_of (records_of new)))
+    (to_all (length old) some parts) (moved.whole parts z)

@@ -250,6 +250,17 @@ abbrev pub parts_to : ℕ → ℕ → ℕ → List Fragment → List Fragment
 parts_to count first many parts = filter (λ (f : Fragment). nat_le first (set_number f.key count)
     && nat_lt (set_number f.key count) (first + many)) parts
 
+-- The places are those of some fragments in pieces.
+abbrev pub ArePartPlaces : List Piece → List Place → Type 0
+ArePartPlaces pieces places = (parts : List Fragment) × AllZip (IsPartPlaceOf pieces) parts places
+
+-- Of the fragments at some places, those were moved to buckets from the one numbered `first` on, of `count` in all, that
+-- belong to these.
+pub record AreMovedTo (pieces : List Piece) (places : List Place) (count first : ℕ) (old new : List Bucket) : Type 0 where
+  pub whole : (parts : List Fragment) → AllZip (IsPartPlaceOf pieces) parts places
+      → IsPermutation (parts_to count first (length old) parts ++ parts_of (records_of old)) (parts_of (records_of new))
+  pub by_key : LieFrom count first old → LieFrom count first new
+
 -- The places of the records of the bucket with this number, from a place on.
 abbrev pub places_from : ℕ → ℕ → List FlowRecord → List Place
 places_from number at [] = []

@@ -1,4 +1,5 @@
 pub mod Buckets
+pub mod Counting
 pub mod Gathered
 pub mod Laws
 pub mod Lawful

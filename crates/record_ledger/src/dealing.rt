@@ -16,8 +16,9 @@ ghost use Rattle.record_ledger.specs.declared.place.Place.{Place};
 ghost use Rattle.record_ledger.specs.declared.dealing.Dealing.{Dealing};
 ghost use Rattle.record_ledger.specs.declared.dealing.Way.TheVariants.{Other};
 ghost use Rattle.record_ledger.specs.Buckets.{AreDealt, AreShared, AreDealtTo, AreDealings, IsWay, Piece, leading_number};
-ghost use Rattle.record_ledger.specs.Buckets.{AreMarked, CountsSlots, marks_of, places_of, share_number, share_of};
-ghost use Rattle.record_ledger.specs.Buckets.{slots_for};
+ghost use Rattle.record_ledger.specs.Buckets.{AreMarked, CountsSlots, marks_of, places_of, share_number};
+ghost use Rattle.record_ledger.specs.Buckets.{share_of};
+ghost use Rattle.record_ledger.specs.Counting.{IsCounted};
 
 use crate::leading::leading_number;
 use crate::moving::{buckets_for, move_all, move_dealt};
@@ -434,8 +435,7 @@ fn list_part(
 }
 
 /// Counts and marks the fragments of all pieces, where there are slots for so many, by at most `threads` threads, each with
-/// counts of its own for some of the pieces, which are then added.
-#[cycle(counts)]
+/// counts of its own for some of the pieces, which are then added. Where one would do all, that is the calling one.
 fn count_slots<R: Threads + Sync>(
     rt: &R,
     alloc: Global,
@@ -444,21 +444,58 @@ fn count_slots<R: Threads + Sync>(
     fragments: usize,
     threads: usize,
 ) -> Result<Counted, NoMemory>
-    requires few { length shares.now < 256 }
-    ensures counts { IfOk result (λ counted. CountsSlots (items_of pieces.now) counted.counts) }
-    ensures many { IfOk result (λ counted. length counted.counts ≡ slots_for fragments) }
-    ensures marked { IfOk result (λ counted. AreMarked shares.now pieces.now counted.marks.items) }
+    requires { length shares.now < 256 }
+    ensures { IfOk result (IsCounted shares.now pieces.now fragments) }
 {
     if threads < 2 || pieces.len() < threads {
         count_pieces(alloc, pieces, shares, fragments)
     } else {
-        let (low, high) = pieces.split_at(pieces.len() / threads);
-        count_both(rt, alloc, low, high, shares, fragments, threads)
+        count_shares(rt, alloc, pieces, shares, fragments, threads)
     }
 }
 
+/// Counts and marks the fragments of all pieces, where there are slots for so many, by so many threads, one or more, that
+/// the calling one starts and waits for.
+#[cycle(counts)]
+fn count_shares<R: Threads + Sync>(
+    rt: &R,
+    alloc: Global,
+    pieces: &[Vec<Fragment>],
+    shares: &Shares,
+    fragments: usize,
+    threads: usize,
+) -> Result<Counted, NoMemory>
+    requires { length shares.now < 256 }
+    ensures { IfOk result (IsCounted shares.now pieces.now fragments) }
+{
+    if threads < 2 {
+        return count_apart(rt, alloc, pieces, shares, fragments);
+    }
+    let (low, high) = pieces.split_at(pieces.len() / threads);
+    count_both(rt, alloc, low, high, shares, fragments, threads)
+}
+
+/// Counts and marks the fragments of pieces in a new thread, for which the calling one waits.
+fn count_apart<R: Threads + Sync>(
+    rt: &R,
+    alloc: Global,
+    pieces: &[Vec<Fragment>],
+    shares: &Shares,
+    fragments: usize,
+) -> Result<Counted, NoMemory>
+    requires { length shares.now < 256 }
+    ensures { IfOk result (IsCounted shares.now pieces.now fragments) }
+{
+    let apart = move || -> Result<Counted, NoMemory>
+        requires { length shares.now < 256 }
+        ensures { IfOk result (IsCounted shares.entry.now pieces.entry.now fragments) }
+    { count_pieces(alloc, pieces, shares, fragments) };
+    let (counted, ()) = join(rt, apart, || {});
+    counted
+}
+
 /// Counts and marks the fragments of one thread's pieces in a new thread, and at once those of the pieces behind them, by
-/// at most `threads` threads together.
+/// the other ones of so many threads.
 #[cycle(counts)]
 fn count_both<R: Threads + Sync>(
     rt: &R,
@@ -471,23 +508,17 @@ fn count_both<R: Threads + Sync>(
 ) -> Result<Counted, NoMemory>
     requires threads { 2 ≤ threads }
     requires few { length shares.now < 256 }
-    ensures counts { IfOk result (λ counted. CountsSlots (items_of low.now ++ items_of high.now) counted.counts) }
-    ensures many { IfOk result (λ counted. length counted.counts ≡ slots_for fragments) }
-    ensures marked { IfOk result (λ counted. AreMarked shares.now (low.now ++ high.now) counted.marks.items) }
+    ensures { IfOk result (IsCounted shares.now (low.now ++ high.now) fragments) }
 {
     let rest = threads - 1;
     let front = move || -> Result<Counted, NoMemory>
         requires { length shares.now < 256 }
-        ensures counts { IfOk result (λ counted. CountsSlots (items_of low.entry.now) counted.counts) }
-        ensures many { IfOk result (λ counted. length counted.counts ≡ slots_for fragments) }
-        ensures marked { IfOk result (λ counted. AreMarked shares.entry.now low.entry.now counted.marks.items) }
+        ensures { IfOk result (IsCounted shares.entry.now low.entry.now fragments) }
     { count_pieces(alloc, low, shares, fragments) };
     let back = move || -> Result<Counted, NoMemory>
         requires { IsSync R.row × (length shares.now < 256) }
-        ensures counts { IfOk result (λ counted. CountsSlots (items_of high.entry.now) counted.counts) }
-        ensures many { IfOk result (λ counted. length counted.counts ≡ slots_for fragments) }
-        ensures marked { IfOk result (λ counted. AreMarked shares.entry.now high.entry.now counted.marks.items) }
-    { count_slots(rt, alloc, high, shares, fragments, rest) };
+        ensures { IfOk result (IsCounted shares.entry.now high.entry.now fragments) }
+    { count_shares(rt, alloc, high, shares, fragments, rest) };
     let (first, others) = join(rt, front, back);
     joined(first?, others?)
 }
@@ -495,10 +526,9 @@ fn count_both<R: Threads + Sync>(
 /// What was found of some pieces, and then of others behind them, as what one pass over all of them finds.
 fn joined(first: Counted, others: Counted) -> Result<Counted, NoMemory>
     requires { length others.counts ≡ length first.counts }
-    ensures counts { IfOk result (λ counted. (before more : List Fragment) → CountsSlots before first.counts
-        → CountsSlots more others.counts → CountsSlots (before ++ more) counted.counts) }
-    ensures many { IfOk result (λ counted. length counted.counts ≡ length first.counts) }
-    ensures marks { IfOk result (λ counted. counted.marks.items ≡ first.marks.items ++ others.marks.items) }
+    ensures { IfOk result (λ counted. (ends : List ℕ) (pieces more : List Piece) (fragments : ℕ)
+        → IsCounted ends pieces fragments first → IsCounted ends more fragments others
+        → IsCounted ends (pieces ++ more) fragments counted) }
 {
     let Counted {
         mut counts,
@@ -520,10 +550,8 @@ fn count_pieces(
     shares: &Shares,
     fragments: usize,
 ) -> Result<Counted, NoMemory>
-    requires few { length shares.now < 256 }
-    ensures counts { IfOk result (λ counted. CountsSlots (items_of pieces.now) counted.counts) }
-    ensures many { IfOk result (λ counted. length counted.counts ≡ slots_for fragments) }
-    ensures marked { IfOk result (λ counted. AreMarked shares.now pieces.now counted.marks.items) }
+    requires { length shares.now < 256 }
+    ensures { IfOk result (IsCounted shares.now pieces.now fragments) }
 {
     let mut counts = Slots::open(alloc, fragments)?;
     let mut marks = Vec::with_capacity(alloc, pieces.len())?;

@@ -7,7 +7,8 @@ ghost use Rattle.flow_parts.specs.declared.fragment.Fragment.{Fragment};
 ghost use Rattle.flow_parts.specs.Pieces.{items_of};
 ghost use Rattle.record_ledger.specs.Lawful.{parts_of};
 ghost use Rattle.flow_key.specs.Key.{set_number};
-ghost use Rattle.record_ledger.specs.Buckets.{records_of, AreByKey, LieFrom, IsPartPlaceOf, parts_to, places_of};
+ghost use Rattle.record_ledger.specs.Buckets.{records_of, AreByKey, AreMovedTo, ArePartPlaces, IsPartPlaceOf, LieFrom};
+ghost use Rattle.record_ledger.specs.Buckets.{places_of};
 
 use crate::place::Place;
 use crate::record::FlowRecord;
@@ -131,7 +132,7 @@ pub fn move_dealt<R: Threads + Sync>(
     threads: usize,
 ) -> Result<(), NoMemory>
     requires some { 1 ≤ length buckets.old }
-    requires moved { (parts : List Fragment) × AllZip (IsPartPlaceOf pieces.now) parts (places_of moved.now) }
+    requires places { ArePartPlaces pieces.now (places_of moved.now) }
     ensures many { length buckets.new ≡ length buckets.old }
     ensures whole { OnOk result ((parts : List Fragment)
         → AllZip (IsPartPlaceOf pieces.now) parts (places_of moved.now)
@@ -139,11 +140,14 @@ pub fn move_dealt<R: Threads + Sync>(
     ensures by_key { OnOk result (AreByKey buckets.old → AreByKey buckets.new) }
 {
     let count = buckets.len();
+    if threads < 2 {
+        return move_to(pieces, moved, buckets, 0, count);
+    }
     move_shares(rt, pieces, moved, buckets, 0, count, threads)
 }
 
 /// Moves the fragments at the places of some lists that belong to buckets from the one numbered `first` on, of `count` in
-/// all, by at most `threads` threads, each to some of the buckets.
+/// all, by a thread for each of so many shares of these buckets, or for each of them, where they are fewer.
 #[cycle(moves)]
 fn move_shares<R: Threads + Sync>(
     rt: &R,
@@ -152,28 +156,33 @@ fn move_shares<R: Threads + Sync>(
     buckets: &mut [Vec<FlowRecord>],
     first: usize,
     count: usize,
-    threads: usize,
+    shares: usize,
 ) -> Result<(), NoMemory>
     requires within { first + length buckets.old ≤ count }
     requires some { 1 ≤ count }
-    requires moved { (parts : List Fragment) × AllZip (IsPartPlaceOf pieces.now) parts (places_of moved.now) }
+    requires places { ArePartPlaces pieces.now (places_of moved.now) }
     ensures many { length buckets.new ≡ length buckets.old }
-    ensures whole { OnOk result ((parts : List Fragment)
-        → AllZip (IsPartPlaceOf pieces.now) parts (places_of moved.now)
-        → IsPermutation (parts_to count first (length buckets.old) parts ++ parts_of (records_of buckets.old))
-        (parts_of (records_of buckets.new))) }
-    ensures by_key { OnOk result (LieFrom count first buckets.old → LieFrom count first buckets.new) }
+    ensures moved { OnOk result (AreMovedTo pieces.now (places_of moved.now) count first buckets.old buckets.new) }
 {
-    if threads < 2 || buckets.len() < threads {
-        return move_to(pieces, moved, buckets, first, count);
+    if buckets.is_empty() {
+        return Ok(());
     }
-    let share = buckets.len() / threads;
+    let share = share_of(buckets.len(), shares);
     let (low, high) = buckets.split_at_mut(share);
-    move_both(rt, pieces, moved, low, high, first, count, threads)
+    move_both(rt, pieces, moved, low, high, first, count, shares)
 }
 
-/// Moves fragments to the buckets of one thread in a new thread, and at once to those behind them, by at most `threads`
-/// threads together.
+/// How many of so many buckets are one share, where there are so many shares: at least one, and all where there is one
+/// share.
+fn share_of(buckets: usize, shares: usize) -> usize
+    requires { 1 ≤ buckets }
+    ensures some { 1 ≤ result }
+    ensures inside { result ≤ buckets }
+{
+    (buckets / shares.max(1)).max(1)
+}
+
+/// Moves fragments to the buckets of one share in a new thread, and at once to those behind them.
 #[cycle(moves)]
 fn move_both<R: Threads + Sync>(
     rt: &R,
@@ -183,50 +192,35 @@ fn move_both<R: Threads + Sync>(
     high: &mut [Vec<FlowRecord>],
     first: usize,
     count: usize,
-    threads: usize,
+    shares: usize,
 ) -> Result<(), NoMemory>
-    requires threads { 2 ≤ threads }
     requires within { first + length low.old + length high.old ≤ count }
     requires some { 1 ≤ count }
-    requires moved { (parts : List Fragment) × AllZip (IsPartPlaceOf pieces.now) parts (places_of moved.now) }
+    requires places { ArePartPlaces pieces.now (places_of moved.now) }
     ensures low_many { length low.new ≡ length low.old }
     ensures high_many { length high.new ≡ length high.old }
-    ensures low { OnOk result ((parts : List Fragment)
-        → AllZip (IsPartPlaceOf pieces.now) parts (places_of moved.now)
-        → IsPermutation (parts_to count first (length low.old) parts ++ parts_of (records_of low.old))
-        (parts_of (records_of low.new))) }
-    ensures high { OnOk result ((parts : List Fragment)
-        → AllZip (IsPartPlaceOf pieces.now) parts (places_of moved.now)
-        → IsPermutation (parts_to count (first + length low.old) (length high.old) parts
-        ++ parts_of (records_of high.old)) (parts_of (records_of high.new))) }
-    ensures low_by_key { OnOk result (LieFrom count first low.old → LieFrom count first low.new) }
-    ensures high_by_key { OnOk result (LieFrom count (first + length low.old) high.old
-        → LieFrom count (first + length low.old) high.new) }
+    ensures low { OnOk result (AreMovedTo pieces.now (places_of moved.now) count first low.old low.new) }
+    ensures high { OnOk result (AreMovedTo pieces.now (places_of moved.now) count (first + length low.old) high.old
+        high.new) }
 {
-    let rest = threads - 1;
+    let rest = shares.saturating_sub(1);
     let second = first + low.len();
     let mut left = || -> Result<(), NoMemory>
         requires within { first + length low.now ≤ count }
         requires some { 1 ≤ count }
-        requires moved { (parts : List Fragment) × AllZip (IsPartPlaceOf pieces.now) parts (places_of moved.now) }
+        requires places { ArePartPlaces pieces.now (places_of moved.now) }
         ensures many { length low.exit.now ≡ length low.entry.now }
-        ensures whole { OnOk result ((parts : List Fragment)
-            → AllZip (IsPartPlaceOf pieces.entry.now) parts (places_of moved.entry.now)
-            → IsPermutation (parts_to count first (length low.entry.now) parts ++ parts_of (records_of low.entry.now))
-            (parts_of (records_of low.exit.now))) }
-        ensures by_key { OnOk result (LieFrom count first low.entry.now → LieFrom count first low.exit.now) }
+        ensures moved { OnOk result (AreMovedTo pieces.entry.now (places_of moved.entry.now) count first low.entry.now
+            low.exit.now) }
     { move_to(pieces, moved, low, first, count) };
     let mut right = || -> Result<(), NoMemory>
         requires crosses { IsSync R.row }
         requires within { second + length high.now ≤ count }
         requires some { 1 ≤ count }
-        requires moved { (parts : List Fragment) × AllZip (IsPartPlaceOf pieces.now) parts (places_of moved.now) }
+        requires places { ArePartPlaces pieces.now (places_of moved.now) }
         ensures many { length high.exit.now ≡ length high.entry.now }
-        ensures whole { OnOk result ((parts : List Fragment)
-            → AllZip (IsPartPlaceOf pieces.entry.now) parts (places_of moved.entry.now)
-            → IsPermutation (parts_to count second (length high.entry.now) parts
-            ++ parts_of (records_of high.entry.now)) (parts_of (records_of high.exit.now))) }
-        ensures by_key { OnOk result (LieFrom count second high.entry.now → LieFrom count second high.exit.now) }
+        ensures moved { OnOk result (AreMovedTo pieces.entry.now (places_of moved.entry.now) count second high.entry.now
+            high.exit.now) }
     { move_shares(rt, pieces, moved, high, second, count, rest) };
     let (one, other) = join_mut(rt, &mut left, &mut right);
     one?;
@@ -244,13 +238,9 @@ fn move_to(
 ) -> Result<(), NoMemory>
     requires within { first + length buckets.old ≤ count }
     requires some { 1 ≤ count }
-    requires moved { (parts : List Fragment) × AllZip (IsPartPlaceOf pieces.now) parts (places_of moved.now) }
+    requires places { ArePartPlaces pieces.now (places_of moved.now) }
     ensures many { length buckets.new ≡ length buckets.old }
-    ensures whole { OnOk result ((parts : List Fragment)
-        → AllZip (IsPartPlaceOf pieces.now) parts (places_of moved.now)
-        → IsPermutation (parts_to count first (length buckets.old) parts ++ parts_of (records_of buckets.old))
-        (parts_of (records_of buckets.new))) }
-    ensures by_key { OnOk result (LieFrom count first buckets.old → LieFrom count first buckets.new) }
+    ensures moved { OnOk result (AreMovedTo pieces.now (places_of moved.now) count first buckets.old buckets.new) }
 {
     for places in moved {
         move_these(pieces, places, buckets, first, count)?;
@@ -269,13 +259,9 @@ fn move_these(
 ) -> Result<(), NoMemory>
     requires within { first + length buckets.old ≤ count }
     requires some { 1 ≤ count }
-    requires places { (parts : List Fragment) × AllZip (IsPartPlaceOf pieces.now) parts places.now }
+    requires places { ArePartPlaces pieces.now places.now }
     ensures many { length buckets.new ≡ length buckets.old }
-    ensures whole { OnOk result ((parts : List Fragment)
-        → AllZip (IsPartPlaceOf pieces.now) parts places.now
-        → IsPermutation (parts_to count first (length buckets.old) parts ++ parts_of (records_of buckets.old))
-        (parts_of (records_of buckets.new))) }
-    ensures by_key { OnOk result (LieFrom count first buckets.old → LieFrom count first buckets.new) }
+    ensures moved { OnOk result (AreMovedTo pieces.now places.now count first buckets.old buckets.new) }
 {
     for place in places {
         let part = &pieces[place.bucket][place.at];

@@ -12,9 +12,10 @@ mod shares;
 use shares::{share_out, start_each};
 use std::thread::Threads;
 
-/// Calls `f` with each item and its place, from 0, by at most `threads` threads side by side, the calling one among
-/// them. Each has as many items as the others, or one more, and takes them in their order. Where a thread can't be made,
-/// the calling one takes its items too.
+/// Calls `f` with each item and its place, from 0, by at most `threads` threads side by side. Each has as many items as
+/// the others, or one more, and takes them in their order. Where one thread would do all, that is the calling one. Else it
+/// starts them and waits: with a share of its own it would hold up the first of them, which is often left to wait for its
+/// processor. Where a thread can't be made, the calling one takes its items.
 pub fn for_each_mut<R: Threads + Sync, T: Send, F: Fn(usize, &mut T) + Sync>(
     rt: &R,
     items: &mut [T],

@@ -10,8 +10,8 @@ ghost use Rattle.side_by_side.specs.Shares.{AcceptsFrom, ChangesFrom};
 
 use std::thread::{Threads, join_mut};
 
-/// Calls `f` with each item and its place, by at most `threads` threads, the calling one among them.
-#[cycle(shares)]
+/// Calls `f` with each item and its place, by at most `threads` threads that the calling one starts and waits for. Where
+/// one would do all, that is the calling one.
 pub fn share_out<R: Threads + Sync, T: Send, F: Fn(usize, &mut T) + Sync>(
     rt: &R,
     f: &F,
@@ -26,13 +26,39 @@ pub fn share_out<R: Threads + Sync, T: Send, F: Fn(usize, &mut T) + Sync>(
     if threads < 2 || items.len() < 2 {
         in_turn(f, base, items);
     } else {
-        let share = share_of(items.len(), threads);
-        let (low, high) = items.split_at_mut(share);
-        share_both(rt, f, base, low, base + share, threads - 1, high);
+        start_shares(rt, f, base, threads, items);
     }
 }
 
-/// Takes one thread's share in a new thread, and at once shares out the items behind it among `rest` threads.
+/// Starts a thread for each share of the items: for so many shares, or for one of each item, where these are fewer.
+#[cycle(shares)]
+fn start_shares<R: Threads + Sync, T: Send, F: Fn(usize, &mut T) + Sync>(
+    rt: &R,
+    f: &F,
+    base: usize,
+    shares: usize,
+    items: &mut [T],
+)
+    requires room { base + length items.old < 2 ^ 64 }
+    requires accepts { AcceptsFrom F.Fn f.now base items.old }
+    ensures { ChangesFrom F.Fn f.now base items.old items.new }
+{
+    if !items.is_empty() {
+        let share = share_of(items.len(), shares);
+        let (low, high) = items.split_at_mut(share);
+        share_both(
+            rt,
+            f,
+            base,
+            low,
+            base + share,
+            shares.saturating_sub(1),
+            high,
+        );
+    }
+}
+
+/// Takes one share in a new thread, and at once starts a thread for each of the `rest` shares behind it.
 #[cycle(shares)]
 fn share_both<R: Threads + Sync, T: Send, F: Fn(usize, &mut T) + Sync>(
     rt: &R,
@@ -60,18 +86,17 @@ fn share_both<R: Threads + Sync, T: Send, F: Fn(usize, &mut T) + Sync>(
         requires room { middle + length high.now < 2 ^ 64 }
         requires accepts { AcceptsFrom F.Fn f.now middle high.now }
         ensures { ChangesFrom F.Fn f.entry.now middle high.entry.now high.exit.now }
-    { share_out(rt, f, middle, rest, high) };
+    { start_shares(rt, f, middle, rest, high) };
     join_mut(rt, &mut left, &mut right);
 }
 
-/// How many items are one thread's share, where so many threads share them: at least one.
-fn share_of(count: usize, threads: usize) -> usize
-    requires count { 2 ≤ count }
-    requires threads { 2 ≤ threads }
+/// How many items are one share, where so many items are shared out so: at least one, and all where there is one share.
+fn share_of(count: usize, shares: usize) -> usize
+    requires { 1 ≤ count }
     ensures some { 1 ≤ result }
-    ensures inside { result < count }
+    ensures inside { result ≤ count }
 {
-    (count / threads).max(1)
+    (count / shares.max(1)).max(1)
 }
 
 /// Calls `f` with each item and its place, each in a thread of its own where one can be made, and beside them `beside`

@@ -109,14 +109,17 @@ loop-place-preserved c =
           })
     ]
 
-pub returns-clause-whole : goal.returns-clause-whole
-returns-clause-whole c = λ parts z.
-    subst (λ l. IsPermutation (parts_to c.args.count c.args.first (length c.args.buckets.now) parts
-    ++ parts_of (records_of c.args.buckets.now))
-    (parts_to c.args.count c.args.first (length c.args.buckets.now) l ++ parts_of (records_of c.loop-place.buckets)))
-    (drop_of_length-le parts (omega (
-      arith,
-      c.loop-place-test.false,
-      AllZip-length (IsPartPlaceOf c.args.pieces.now) parts c.args.places.now z,
-    )))
-    (c.loop-place.invariant.whole parts z)
+pub returns-clause-moved : goal.returns-clause-moved
+returns-clause-moved c = record {
+  whole = λ parts z.
+      subst (λ l. IsPermutation (parts_to c.args.count c.args.first (length c.args.buckets.now) parts
+      ++ parts_of (records_of c.args.buckets.now))
+      (parts_to c.args.count c.args.first (length c.args.buckets.now) l ++ parts_of (records_of c.loop-place.buckets)))
+      (drop_of_length-le parts (omega (
+        arith,
+        c.loop-place-test.false,
+        AllZip-length (IsPartPlaceOf c.args.pieces.now) parts c.args.places.now z,
+      )))
+      (c.loop-place.invariant.whole parts z);
+  by_key = c.loop-place.invariant.by_key;
+}

@@ -10,7 +10,7 @@ use Rattle.record_ledger.proofs.moving.move_to.Goals as goal
 pub move_these-requires-clause-places : goal.move_these-requires-clause-places
 move_these-requires-clause-places c =
     let pieces = c.args.pieces.now in
-    let k = c.loop-places.invariant.whole c.requires.moved.0 c.requires.moved.1 in
+    let k = c.loop-places.invariant.whole c.requires.places.0 c.requires.places.1 in
     let x = zip_list (IsPartPlaceOf pieces) k.0 c.args.moved.now c.loop-places.places-index c.places-item.result k.1
     (omega (arith, c.loop-places-test.true)) c.places-item.is in
     (x.0, subst (AllZip (IsPartPlaceOf pieces) x.0) (sym c.deref.ensures.value) x.3)
@@ -36,19 +36,22 @@ loop-places-preserved c =
                 (subst (λ n. IsPermutation
                 (parts_to c.args.count c.args.first n x.0 ++ parts_of (records_of c.loop-places.buckets))
                 (parts_of (records_of c.move_these.new.buckets))) same
-                (c.in_ok-move_these.ensures.whole x.0
+                (c.in_ok-move_these.ensures.moved.whole x.0
                 (subst (AllZip (IsPartPlaceOf pieces) x.0) (sym c.deref.ensures.value) x.3))),
           );
-      by_key = λ h. c.in_ok-move_these.ensures.by_key (c.loop-places.invariant.by_key h);
+      by_key = λ h. c.in_ok-move_these.ensures.moved.by_key (c.loop-places.invariant.by_key h);
     }
 
-pub returns-clause-whole : goal.returns-clause-whole
-returns-clause-whole c = λ parts z.
-    let k = c.loop-places.invariant.whole parts z in
-    let none : places_of (drop c.loop-places.places-index c.args.moved.now) ≡ [] =
-    ap places_of (drop_of_length-le c.args.moved.now (omega (arith, c.loop-places-test.false))) in
-    subst (λ l. IsPermutation (parts_to c.args.count c.args.first (length c.args.buckets.now) parts
-    ++ parts_of (records_of c.args.buckets.now))
-    (parts_to c.args.count c.args.first (length c.args.buckets.now) l ++ parts_of (records_of c.loop-places.buckets)))
-    (zip_none (IsPartPlaceOf c.args.pieces.now) k.0 (subst (AllZip (IsPartPlaceOf c.args.pieces.now) k.0) none k.1))
-    k.2
+pub returns-clause-moved : goal.returns-clause-moved
+returns-clause-moved c = record {
+  whole = λ parts z.
+      let k = c.loop-places.invariant.whole parts z in
+      let none : places_of (drop c.loop-places.places-index c.args.moved.now) ≡ [] =
+      ap places_of (drop_of_length-le c.args.moved.now (omega (arith, c.loop-places-test.false))) in
+      subst (λ l. IsPermutation (parts_to c.args.count c.args.first (length c.args.buckets.now) parts
+      ++ parts_of (records_of c.args.buckets.now))
+      (parts_to c.args.count c.args.first (length c.args.buckets.now) l ++ parts_of (records_of c.loop-places.buckets)))
+      (zip_none (IsPartPlaceOf c.args.pieces.now) k.0 (subst (AllZip (IsPartPlaceOf c.args.pieces.now) k.0) none k.1))
+      k.2;
+  by_key = c.loop-places.invariant.by_key;
+}
