@@ -6,7 +6,7 @@
 Each of the files (300 unless given) has a few sections in either order of octets, interfaces of known and unknown links with
 resolutions and offsets, enhanced, simple and obsolete packets and blocks that are skipped; most are whole, the others are cut
 or have a number changed. `romtyalig-pcapng` of the program, at ROMTYALIG_PCAPNG or bin/romtyalig-pcapng, must have the status
-that this reader finds, and write the very bytes. Then the same for the files that programs of wireshark-common write (editcap,
+that this reader finds, and write the very bytes and, to standard error, the very summary. Then the same for the files that programs of wireshark-common write (editcap,
 mergecap, text2pcap) and for those below /usr/share and /usr/lib, if there are any. The first difference ends the run with
 status 1 and leaves the file in the current folder.
 """
@@ -67,6 +67,7 @@ class Reader:
 
     def __init__(self) -> None:
         self.order = "<"
+        self.blocks = self.tail = 0
         self.interfaces: list[Interface] = []
         self.records: list[tuple[int, int | None, int, int, bytes]] = []
 
@@ -80,10 +81,12 @@ class Reader:
         while len(octets) - at >= 12:
             length = self.block_length(octets[at:at + 12])
             if length > len(octets) - at:
-                return
+                break
             bad_unless(self.number(octets, at + length - 4) == length)
             self.block(octets[at:at + length])
+            self.blocks += 1
             at += length
+        self.tail = len(octets) - at
 
     def block_length(self, head: bytes) -> int:
         if head[:4] == b"\x0a\x0d\x0d\x0a":
@@ -137,31 +140,54 @@ class Reader:
                 block[28:28 + captured])
 
 
+CAUSES = ("not-ip", "short", "bad-header", "short-transport", "bad-time")
+
+
+def cause_of(link: int, seconds: int | None, fraction: int, original: int, frame: bytes) -> str | None:
+    """Why a record is left out, or None."""
+    if seconds is None:
+        return "bad-time"
+    if link not in LINKS:
+        return "not-ip"
+    try:
+        second_meter.packet_of(link, 1_000_000, seconds, fraction, original, frame)
+    except second_meter.Ignored as ignored:
+        return str(ignored)
+    return None
+
+
 def written_of(records: list[tuple[int, int | None, int, int, bytes]]) -> bytes:
     """The classic capture of the accepted packets."""
     out = HEADER
     for link, seconds, fraction, original, frame in records:
-        if seconds is None or link not in LINKS:
-            continue
-        try:
-            second_meter.packet_of(link, 1_000_000, seconds, fraction, original, frame)
-        except second_meter.Ignored:
-            continue
-        start, _ = second_meter.network_of(link, frame)
-        out += struct.pack("<IIII", seconds, fraction, len(frame) - start, max(0, original - start)) + frame[start:]
+        if cause_of(link, seconds, fraction, original, frame) is None:
+            start, _ = second_meter.network_of(link, frame)
+            out += struct.pack("<IIII", seconds, fraction, len(frame) - start, max(0, original - start)) + frame[start:]
     return out
 
 
-def answer_to(octets: bytes) -> tuple[int, bytes]:
-    """The status and the output for a file."""
+def summary_of(reader: Reader) -> bytes:
+    """The lines of the summary: the numbers, and the link types that aren't read."""
+    causes = [cause_of(*record) for record in reader.records]
+    unread = sorted(record[0] for record, cause in zip(reader.records, causes)
+                    if cause == "not-ip" and record[0] not in LINKS)
+    numbers = [("blocks", reader.blocks), ("packets", len(causes)), ("written", causes.count(None))]
+    numbers += [(name, causes.count(name)) for name in CAUSES]
+    numbers += [("tail", reader.tail)]
+    numbers += [(f"link-type-{link}", unread.count(link)) for link in sorted(set(unread))]
+    return "".join(f"romtyalig-pcapng: {name} {number}\n" for name, number in numbers).encode()
+
+
+def answer_to(octets: bytes) -> tuple[int, bytes, bytes | None]:
+    """The status, the output and the summary for a file. Without one, any lines may stand on standard error."""
     reader = Reader()
     try:
         reader.file(octets)
     except NoPcapng:
-        return 4, b""
+        return 4, b"", None
     except Bad:
-        return 6, b""
-    return 0, written_of(reader.records)
+        return 6, b"", None
+    return 0, written_of(reader.records), summary_of(reader)
 
 
 class Maker:
@@ -258,9 +284,9 @@ class Maker:
 
 
 def compare(program: str, octets: bytes, what: str) -> int:
-    status, written = answer_to(octets)
+    status, written, summary = answer_to(octets)
     ran = subprocess.run([program, "pcapng"], input=octets, capture_output=True)
-    if (ran.returncode, ran.stdout) != (status, written):
+    if (ran.returncode, ran.stdout) != (status, written) or summary not in (None, ran.stderr):
         Path("different.pcapng").write_bytes(octets)
         sys.exit(f"different: {what}, left in different.pcapng: status {ran.returncode}, here {status}")
     return status

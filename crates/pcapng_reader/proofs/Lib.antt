@@ -9,3 +9,5 @@ pub mod Fitting
 pub mod Gathered
 pub mod Answered
 pub mod Cutting
+pub mod Answering
+pub mod Tallying

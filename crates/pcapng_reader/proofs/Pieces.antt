@@ -1,13 +1,15 @@
 -- The blocks that stand one behind the other: the first of them, and none.
 use Rattle.std.proofs.Common.{◌≡◌, ℕ, zero, suc, ◌+◌, ◌-◌, ◌≤◌, List, [], ◌∷◌, take, drop, Ok, Err, refl, sym, ap, ◌∙◌}
 use Rattle.std.proofs.Common.{arith}
-use Rattle.std.specs.Prelude.{Result, slice_range}
-use Rattle.std.proofs.lemmas.List.{drop-drop}
+use Rattle.std.specs.Prelude.{Result, slice_range, sum_by, length}
+use Rattle.std.proofs.lemmas.List.{drop-drop, length-take-le}
+use Rattle.std.proofs.lemmas.List.Sums.{sum_by-cons}
 use Rattle.octets.specs.declared.endianness.Endianness.{Endianness}
 use Rattle.octets.specs.Outcome.{◌>>=◌}
 use Rattle.pcapng_reader.specs.declared.front.Front.TheVariants as Front
 use Rattle.pcapng_reader.specs.Blocks.{Block, front, pieces_from}
 use Rattle.pcapng_reader.specs.Reading.{Found, with_block, with_pieces}
+use Rattle.pcapng_reader.specs.Tallied.{piece_length}
 
 -- those behind some octets are those of what is left
 pieces_from-drop : (section : Endianness) (at skip : ℕ) (bytes : List ℕ)
@@ -96,3 +98,38 @@ pub at-malformed : (bytes : List ℕ) (found : Found) (section : Endianness) (at
     → front section (drop at bytes) ≡ Front.Malformed
     → with_pieces found (pieces_from section at 0 (drop at bytes)) ≡ Err at
 at-malformed bytes found section at h = ap (with_pieces found) (pieces-malformed section at (drop at bytes) h)
+
+-- a block is the first of the pieces, and the others are those behind it
+pub pieces-more : (bytes : List ℕ) (section order : Endianness) (at len to : ℕ)
+    → front section (drop at bytes) ≡ Front.Block order len → 12 ≤ len → to ≡ at + len
+    → pieces_from section at 0 (drop at bytes)
+    ≡ Ok (record { at = at; order = order; part = take len (drop at bytes) }) ∷ pieces_from order to 0 (drop to bytes)
+pieces-more bytes section order at len to stands long is =
+    let left : pieces_from order (at + len) 0 (drop len (drop at bytes)) ≡ pieces_from order to 0 (drop to bytes) =
+    ap (pieces_from order (at + len) 0) (drop-drop len at bytes)
+    ∙ ap (λ (k : ℕ). pieces_from order k 0 (drop k bytes)) (sym is) in
+    pieces-block section order at len (drop at bytes) stands long
+    ∙ ap (λ (others : List (Result Block ℕ)).
+    Ok (record { at = at; order = order; part = take len (drop at bytes) }) ∷ others) left
+
+-- so there is one piece more in front of those behind it
+pub count-more : (bytes : List ℕ) (section order : Endianness) (at len to blocks whole : ℕ)
+    → front section (drop at bytes) ≡ Front.Block order len → 12 ≤ len → to ≡ at + len
+    → blocks + length (pieces_from section at 0 (drop at bytes)) ≡ whole
+    → blocks + 1 + length (pieces_from order to 0 (drop to bytes)) ≡ whole
+count-more bytes section order at len to blocks whole stands long is count =
+    let more = ap (λ (l : List (Result Block ℕ)). length l) (pieces-more bytes section order at len to stands long is) in
+    omega (arith, more, count)
+
+-- and its octets are more in front of theirs
+pub octets-more : (bytes : List ℕ) (section order : Endianness) (at len to whole : ℕ)
+    → front section (drop at bytes) ≡ Front.Block order len → 12 ≤ len → to ≡ at + len
+    → len ≤ length (drop at bytes)
+    → at + sum_by piece_length (pieces_from section at 0 (drop at bytes)) ≡ whole
+    → to + sum_by piece_length (pieces_from order to 0 (drop to bytes)) ≡ whole
+octets-more bytes section order at len to whole stands long is within octets =
+    let more = ap (sum_by piece_length) (pieces-more bytes section order at len to stands long is) in
+    let taken = length-take-le len (drop at bytes) within in
+    let first : Result Block ℕ = Ok (record { at = at; order = order; part = take len (drop at bytes) }) in
+    let split = sum_by-cons piece_length first (pieces_from order to 0 (drop to bytes)) in
+    omega (arith, more ∙ split, taken, octets, is)

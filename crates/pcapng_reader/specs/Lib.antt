@@ -10,5 +10,7 @@ pub mod Fronts
 pub mod Filtered
 pub mod Statuses
 pub mod Outcome
+pub mod Tallied
+pub mod Counting
 pub mod Filtering
 pub mod Cut

@@ -7,6 +7,7 @@ ghost use Rattle.pcapng_reader.specs.Blocks.{file_order};
 ghost use Rattle.pcap_reader.specs.Records.{most_captured};
 ghost use Rattle.pcapng_reader.specs.Reading.{Found, with_block, found_in};
 ghost use Rattle.pcapng_reader.specs.Views.{bytes_of};
+ghost use Rattle.pcapng_reader.specs.Counting.{IsExtentOf};
 ghost use Rattle.pcapng_reader.specs.Index.{HasUnits, IsPlaceIn, IsIndexOf, found_at, record_at, linked_read};
 
 use crate::content::{Content, content_of};
@@ -14,6 +15,7 @@ use crate::front::{Front, begins_section, front_at, magic_order};
 use crate::index::{Place, PngIndex};
 use crate::interface::Interface;
 use crate::record::{PngRecord, enhanced_record, simple_record};
+use crate::tally::Extent;
 use meter_io::NoMemory;
 use octets::Endianness;
 use std::alloc::Global;
@@ -116,15 +118,32 @@ impl<'a> PngCapture<'a> {
         ensures index { IfOk result (λ index. IsIndexOf index (bytes_of self.now)) }
         ensures bad { (at : ℕ) → result ≡ Err (PngFault.BadBlock at) → found_in (bytes_of self.now) ≡ Err at }
     {
+        match self.index_blocks(alloc) {
+            Ok((index, _)) => Ok(index),
+            Err(fault) => Err(fault),
+        }
+    }
+
+    /// The same, and how many blocks there are and how many bytes are left behind them.
+    pub(crate) fn index_blocks(&self, alloc: Global) -> Result<(PngIndex, Extent), PngFault>
+        requires { length (bytes_of self.now) < 2 ^ 32 }
+        ensures index { IfOk result (λ found. IsIndexOf found.0 (bytes_of self.now)) }
+        ensures extent { IfOk result (λ found. IsExtentOf found.1 (bytes_of self.now)) }
+        ensures bad { (at : ℕ) → result ≡ Err (PngFault.BadBlock at) → found_in (bytes_of self.now) ≡ Err at }
+    {
         let bytes = self.bytes;
         let mut interfaces: Vec<Interface> = Vec::new(alloc);
         let mut places: Vec<Place> = Vec::new(alloc);
         let mut section = Endianness::Little;
         let mut at = 0;
+        let mut blocks = 0;
         'blocks: loop {
             let (_, left) = bytes.split_at(at);
             match front_at(section, left) {
-                Front::Tail => return Ok(PngIndex::new(places)),
+                Front::Tail => {
+                    let tail = left.len() as u64;
+                    return Ok((PngIndex::new(places), Extent { blocks, tail }));
+                }
                 Front::Malformed => return Err(PngFault::BadBlock(at as u64)),
                 Front::Block(order, len) => {
                     let to = at + len;
@@ -134,6 +153,7 @@ impl<'a> PngCapture<'a> {
                     }
                     section = order;
                     at = to;
+                    blocks += 1;
                 }
             }
         }
@@ -149,6 +169,7 @@ impl<'a> PngCapture<'a> {
         ensures part { (from : ℕ) × (from + length result.rec.captured.now ≤ length (bytes_of self.now))
             × (result.rec.captured.now ≡ slice_range (bytes_of self.now) from (from + length result.rec.captured.now)) }
         ensures small { length result.rec.captured.now ≤ most_captured }
+        ensures narrow { result.link < 2 ^ 16 }
     {
         match index.place(n) {
             Place::Enhanced(from, to, order, interface) => {

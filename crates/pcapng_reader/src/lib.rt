@@ -6,6 +6,7 @@
 //!
 //! `specs/Blocks.antt` says which blocks a file has, `specs/Options.antt` which options a block has, and
 //! `specs/Reading.antt` what they tell: the interfaces of a section, and the records of the packets.
+//! [`run_tallied`] is the whole run; its [`PngTally`] says what was written and what was left out, by cause.
 #![tactic(auto)]
 
 mod capture;
@@ -18,6 +19,7 @@ mod options;
 mod record;
 mod running;
 mod status;
+mod tally;
 mod time;
 mod writing;
 
@@ -25,5 +27,6 @@ pub use capture::{NotPcapng, PngCapture, PngFault};
 pub use index::PngIndex;
 pub use laws::blocks_law;
 pub use record::PngRecord;
-pub use running::run_png;
+pub use running::{run_png, run_tallied};
 pub use status::PngStatus;
+pub use tally::PngTally;

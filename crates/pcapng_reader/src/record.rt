@@ -1,6 +1,6 @@
 //! A record of a capture, with the link type of its interface.
 
-ghost use Rattle.std.specs.Prelude.{◌≡◌, ◌+◌, ◌≤◌, length, slice_range};
+ghost use Rattle.std.specs.Prelude.{◌≡◌, ◌+◌, ◌<◌, ◌≤◌, ◌^◌, length, slice_range};
 ghost use Rattle.pcap_reader.specs.Records.{most_captured};
 ghost use Rattle.pcapng_reader.specs.Records.{enhanced_record, simple_record, captured_len};
 ghost use Rattle.pcapng_reader.specs.Index.{HasUnits, IsWhole, linked_read};
@@ -32,6 +32,7 @@ pub(crate) fn enhanced_record<'a>(
     ensures captured { result.rec.captured.now ≡ slice_range part.now 28 (28 + length result.rec.captured.now) }
     ensures within { 28 + length result.rec.captured.now ≤ length part.now }
     ensures small { length result.rec.captured.now ≤ most_captured }
+    ensures narrow { result.link < 2 ^ 16 }
 {
     let upper = order.u32_at(part, 12) as u64;
     let lower = order.u32_at(part, 16) as u64;
@@ -52,6 +53,7 @@ pub(crate) fn enhanced_record<'a>(
 pub(crate) fn simple_record(bytes: &[u8]) -> PngRecord<'_>
     ensures value { linked_read result ≡ simple_record }
     ensures empty { length result.rec.captured.now ≡ 0 }
+    ensures link { result.link ≡ 0 }
 {
     PngRecord {
         link: 0,

@@ -2,7 +2,7 @@
 
 use Want::{Bad, Not, Told};
 use meter_io::{MemSink, MemSource};
-use pcapng_reader::{NotPcapng, PngCapture, PngFault, PngStatus, run_png};
+use pcapng_reader::{NotPcapng, PngCapture, PngFault, PngStatus, PngTally, run_png, run_tallied};
 use std::alloc::Global;
 use std::process::Abort;
 use std::test::Fail;
@@ -429,6 +429,114 @@ fn is_run(alloc: Global, run: &Run) -> Result<bool, Fail> {
 fn runs(rt: HostRuntime) -> Result<(), Fail> {
     for (n, run) in RUNS.iter().enumerate() {
         assert!(rt; is_run(rt.alloc(), run)?, "run {n}");
+    }
+    Ok(())
+}
+
+/// A file in pieces, and its tally: blocks, packets, written, not IP, short, bad header, short transport, bad time and
+/// tail; and the link types that aren't read, each with its packets.
+struct Tallied {
+    pieces: &'static [&'static [u8]],
+    numbers: [u64; 9],
+    unread: &'static [(usize, u64)],
+}
+
+/// An Ethernet frame of 42 octets whose IP header has version 6.
+const NO_IPV4: &[u8] =
+    b"\x02\0\0\0\0\x01\x02\0\0\0\0\x02\x08\0\x65\0\0\x1c\0\0\0\0\x40\x11\0\0\xc0\0\x02\x01\xc0\0\x02\x02\x0f\xa0\0\x35\0\x08\0\0";
+
+/// An Ethernet frame of 42 octets that holds ARP.
+const ARP: &[u8] =
+    b"\x02\0\0\0\0\x01\x02\0\0\0\0\x02\x08\x06\x45\0\0\x1c\0\0\0\0\x40\x11\0\0\xc0\0\x02\x01\xc0\0\x02\x02\x0f\xa0\0\x35\0\x08\0\0";
+
+const TALLIES: &[Tallied] = &[
+    Tallied {
+        pieces: &[SECTION],
+        numbers: [1, 0, 0, 0, 0, 0, 0, 0, 0],
+        unread: &[],
+    },
+    // A packet of another link, one without a time, one that is written, a block that is skipped, and five bytes.
+    Tallied {
+        pieces: &[
+            SECTION,
+            ETHERNET,
+            WIRELESS,
+            PACKET_ON_1,
+            FRAME,
+            AFTER,
+            SIMPLE,
+            PACKET,
+            FRAME,
+            AFTER,
+            OTHER,
+            b"\x05\0\0\0\x1c",
+        ],
+        numbers: [7, 3, 1, 1, 0, 0, 0, 1, 5],
+        unread: &[(105, 1)],
+    },
+    // Of the packets that aren't IP, two have a link type that is read.
+    Tallied {
+        pieces: &[
+            SECTION,
+            ETHERNET,
+            WIRELESS,
+            PACKET,
+            ARP,
+            AFTER,
+            PACKET_ON_1,
+            FRAME,
+            AFTER,
+            PACKET,
+            NO_IPV4,
+            AFTER,
+            PACKET,
+            ARP,
+            AFTER,
+            PACKET_ON_1,
+            FRAME,
+            AFTER,
+        ],
+        numbers: [8, 5, 0, 4, 0, 1, 0, 0, 0],
+        unread: &[(105, 2)],
+    },
+];
+
+/// The numbers of a tally.
+fn numbers_of(tally: &PngTally) -> [u64; 9] {
+    [
+        tally.blocks,
+        tally.packets,
+        tally.written,
+        tally.not_ip,
+        tally.short,
+        tally.bad_header,
+        tally.short_transport,
+        tally.bad_time,
+        tally.tail,
+    ]
+}
+
+/// Whether the run over a file tells the tally that is wanted.
+fn is_tallied(alloc: Global, row: &Tallied) -> Result<bool, Fail> {
+    let file = all_bytes(alloc, row.pieces)?;
+    let words = command(alloc, &["pcapng"])?;
+    let mut input = MemSource::new(&file, 4096, &[]);
+    let mut output = MemSink::open(alloc, 1 << 20, 4096, &[])?;
+    let Ok(tally) = run_tallied(alloc, &words, &mut input, &mut output) else {
+        return Ok(false);
+    };
+    let others = tally.unread.iter().filter(|packets| **packets > 0).count();
+    let counted = row
+        .unread
+        .iter()
+        .all(|(link, packets)| tally.unread.get(*link) == Some(packets));
+    Ok(numbers_of(&tally) == row.numbers && others == row.unread.len() && counted)
+}
+
+#[test]
+fn tallies(rt: HostRuntime) -> Result<(), Fail> {
+    for (n, row) in TALLIES.iter().enumerate() {
+        assert!(rt; is_tallied(rt.alloc(), row)?, "file {n}");
     }
     Ok(())
 }

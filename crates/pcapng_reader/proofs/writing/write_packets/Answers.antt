@@ -7,6 +7,7 @@ use Rattle.pcapng_reader.specs.Index.{record_at, records_at, linked_read}
 use Rattle.pcapng_reader.specs.Filtered.{capture_of, file_header, octets_of_record}
 use Rattle.pcapng_reader.proofs.Gathered.{capture-more, capture-whole, passed-then, begun-capture, out-whole, out-begun}
 use Rattle.pcapng_reader.proofs.Gathered.{on-ok, on-err}
+use Rattle.pcapng_reader.proofs.Tallying.{tally-more, tally-room, tally-whole, few-taken}
 use Rattle.pcapng_reader.proofs.writing.write_packets.Goals as goal
 
 pub returns-in-Err-clause-begun : goal.returns-in-Err-clause-begun
@@ -22,6 +23,9 @@ loop-n-init g c = record {
       file_header)
       c.requires.empty c.in-Ok.ensures.passed;
   room = c.requires.room;
+  told = c.requires.uncounted;
+  blocks = refl;
+  tail = refl;
   quiet = c.in-Ok.ensures.cause.quiet;
 }
 
@@ -47,6 +51,10 @@ loop-n-preserved g c =
           (capture_of (take (n + 1) records))
           c.loop-n.invariant.way c.in-Ok-put_linked.ensures.passed (sym (capture-more records n _ there));
       room = omega (arith, c.loop-n.invariant.room, c.put_linked.ensures.room);
+      told = tally-more _ _ records n (linked_read c.record-linked.result) there c.loop-n.invariant.told
+          c.put_linked.ensures.counted;
+      blocks = c.put_linked.ensures.counted.blocks ∙ c.loop-n.invariant.blocks;
+      tail = c.put_linked.ensures.counted.tail ∙ c.loop-n.invariant.tail;
       quiet = c.in-Ok-put_linked.ensures.cause.quiet ∙ c.loop-n.invariant.quiet;
     }
 
@@ -75,3 +83,25 @@ returns-clause-begun g c =
     out-begun _ _ _ [] c.loop-n.out (capture_of (take c.loop-n.n records)) records c.loop-n.n begun.0 refl
     c.loop-n.invariant.way begun.1 refl)
     c.write_out.ensures.prefix
+
+pub put_linked-requires-clause-counts : goal.put_linked-requires-clause-counts
+put_linked-requires-clause-counts g c =
+    let records = records_at c.args.capture.now.bytes.now c.args.index.now in
+    let whole : c.count-n-end.result ≡ length records =
+    c.count-n-end.ensures ∙ sym (length-map c.args.index.now (record_at c.args.capture.now.bytes.now)) in
+    tally-room c.loop-n.tally (take c.loop-n.n records) c.loop-n.invariant.told
+    (few-taken records c.loop-n.n c.count-n-end.result c.loop-n-test.true whole (omega arith))
+
+pub returns-clause-counted : goal.returns-clause-counted
+returns-clause-counted g c =
+    let records = records_at c.args.capture.now.bytes.now c.args.index.now in
+    let all : length records ≤ c.loop-n.n = omega (
+      arith,
+      length-map c.args.index.now (record_at c.args.capture.now.bytes.now),
+      c.count-n-end.ensures,
+      c.loop-n-test.false,
+    ) in
+    on-ok c.write_out.result _ _
+    (λ (taken : Appends (g.K.Sink.held c.loop-n.output) (g.K.Sink.held c.write_out.new.sink) c.loop-n.out).
+    tally-whole c.loop-n.tally records c.loop-n.n all c.loop-n.invariant.told)
+    c.write_out.ensures.whole
