@@ -1,19 +1,17 @@
-# Completion of romtyalig-join's words for bash: `join`, then its options and files. Values are the user's own.
+# Completion of romtyalig-join's words for bash: `join`, then its options and names of files.
 
 _romtyalig_join() {
-    local word=${COMP_WORDS[COMP_CWORD]} options=
+    local word=${COMP_WORDS[COMP_CWORD]} before=${COMP_WORDS[COMP_CWORD - 1]} options=
     COMPREPLY=()
-    if [ "$COMP_CWORD" -eq 1 ]; then
-        mapfile -t COMPREPLY < <(compgen -W "join" -- "$word")
-        return
-    fi
-    case ${COMP_WORDS[1]} in
-    join) options="--active --idle --part --parts --size" ;;
+    case $COMP_CWORD,$word in
+    1,*) options="join help --help --version" ;;
+    *,-*) options="--active --idle --part --parts --size --help" ;;
     esac
-    case $word in
-    -*) mapfile -t COMPREPLY < <(compgen -W "$options" -- "$word") ;;
-    *) mapfile -t COMPREPLY < <(compgen -f -- "$word") ;;
+    case $before in
+    *[\<\>]*) ;; # the name of a file, which readline completes by default
+    = | --*) compopt +o default ;; # a value, which is the user's own
+    *) mapfile -t COMPREPLY < <(compgen -W "$options" -- "$word") ;;
     esac
 }
 
-complete -F _romtyalig_join romtyalig-join
+complete -o default -o filenames -F _romtyalig_join romtyalig-join

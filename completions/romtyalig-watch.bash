@@ -1,18 +1,17 @@
-# Completion of romtyalig-watch's words for bash: `watch`, then its options. Values are the user's own.
+# Completion of romtyalig-watch's words for bash: `watch`, then its options; after < and > names of files.
 
 _romtyalig_watch() {
-    local word=${COMP_WORDS[COMP_CWORD]} options=
+    local word=${COMP_WORDS[COMP_CWORD]} before=${COMP_WORDS[COMP_CWORD - 1]} options=
     COMPREPLY=()
-    if [ "$COMP_CWORD" -eq 1 ]; then
-        mapfile -t COMPREPLY < <(compgen -W "watch" -- "$word")
-        return
-    fi
-    case ${COMP_WORDS[1]} in
-    watch) options="--workers --sets --asks" ;;
+    case $COMP_CWORD in
+    1) options="watch help --help --version" ;;
+    *) options="--workers --sets --asks --help" ;;
     esac
-    case $word in
-    -*) mapfile -t COMPREPLY < <(compgen -W "$options" -- "$word") ;;
+    case $before in
+    *[\<\>]*) ;; # the name of a file, which readline completes by default
+    = | --*) compopt +o default ;; # a value, which is the user's own
+    *) mapfile -t COMPREPLY < <(compgen -W "$options" -- "$word") ;;
     esac
 }
 
-complete -F _romtyalig_watch romtyalig-watch
+complete -o default -F _romtyalig_watch romtyalig-watch

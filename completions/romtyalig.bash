@@ -1,20 +1,20 @@
-# Completion of romtyalig's words for bash: the command, then its options. Values are the user's own.
+# Completion of romtyalig's words for bash: the command, then its options; after < and > names of files.
 
 _romtyalig() {
-    local word=${COMP_WORDS[COMP_CWORD]} options=
+    local word=${COMP_WORDS[COMP_CWORD]} before=${COMP_WORDS[COMP_CWORD - 1]} options=
     COMPREPLY=()
-    if [ "$COMP_CWORD" -eq 1 ]; then
-        mapfile -t COMPREPLY < <(compgen -W "meter show make schedule selftest" -- "$word")
-        return
-    fi
     case ${COMP_WORDS[1]} in
-    meter) options="--idle --active --size --workers --sets --piece" ;;
-    make) options="--seed --packets --keys" ;;
-    selftest) options="--seed --packets --keys" ;;
+    meter) options="--idle --active --size --workers --sets --piece --help" ;;
+    make) options="--seed --packets --keys --help" ;;
+    selftest) options="--seed --packets --keys --help" ;;
+    show | schedule) options="--help" ;;
     esac
-    case $word in
-    -*) mapfile -t COMPREPLY < <(compgen -W "$options" -- "$word") ;;
+    [ "$COMP_CWORD" -gt 1 ] || options="meter show make schedule selftest help --help --version"
+    case $before in
+    *[\<\>]*) ;; # the name of a file, which readline completes by default
+    = | --*) compopt +o default ;; # a value, which is the user's own
+    *) mapfile -t COMPREPLY < <(compgen -W "$options" -- "$word") ;;
     esac
 }
 
-complete -F _romtyalig romtyalig
+complete -o default -F _romtyalig romtyalig

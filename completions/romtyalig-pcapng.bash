@@ -1,0 +1,17 @@
+# Completion of romtyalig-pcapng's words for bash: `pcapng`, then --help; after < and > names of files.
+
+_romtyalig_pcapng() {
+    local word=${COMP_WORDS[COMP_CWORD]} before=${COMP_WORDS[COMP_CWORD - 1]} options=
+    COMPREPLY=()
+    case $COMP_CWORD in
+    1) options="pcapng help --help --version" ;;
+    *) options="--help" ;;
+    esac
+    case $before in
+    *[\<\>]*) ;; # the name of a file, which readline completes by default
+    = | --*) compopt +o default ;; # a value, which is the user's own
+    *) mapfile -t COMPREPLY < <(compgen -W "$options" -- "$word") ;;
+    esac
+}
+
+complete -o default -F _romtyalig_pcapng romtyalig-pcapng
