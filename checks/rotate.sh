@@ -20,9 +20,11 @@ if [ ! -x "$program" ]; then
 fi
 work=$(mktemp -d) || exit 2
 dumping=
+receiving=
 # shellcheck disable=SC2329 # it is called by the trap
 clean() {
     [ -z "$dumping" ] || kill "$dumping" 2>/dev/null
+    [ -z "$receiving" ] || kill "$receiving" 2>/dev/null
     rm -rf "$work"
 }
 trap clean EXIT
@@ -86,19 +88,50 @@ limited_streams() {
         [ "$(cd "$work/many" && echo *.pcap)" = "kept.pcap" ] && [ ! -e "$work/many/old.ipfix" ]
 }
 
-count_of() { find "$work/dumped" -name "*.$1" | wc -l; }
+# tcpdump -C counts its files behind the ending.
+counted() {
+    mkdir "$work/counted"
+    for number in "" 1 2; do
+        cp "$top/examples/web-exchange.pcap" "$work/counted/piece.pcap$number"
+    done
+    "$script" "$work/counted/piece.pcap" >/dev/null && KEEP_CAPTURES=0 "$script" --rest "$work/counted" >/dev/null &&
+        [ "$(cd "$work/counted" && echo *)" = "piece.ipfix piece1.ipfix piece2.ipfix" ]
+}
 
-# The commands of docs/OPERATORS.md on loopback, in files of a second, with a datagram each tenth of a second. tcpdump goes on
-# as another user, so the program and the script lie where that user may read.
-dumped() {
-    mkdir "$work/bin"
+# Each stream is handed on; where that fails it stays.
+sent() {
+    mkdir "$work/sent"
+    cp "$top"/examples/*.pcap "$work/sent"
+    SEND="tee -a $work/got" "$script" "$work"/sent/*.pcap >/dev/null || return 1
+    cat "$work"/sent/*.ipfix | cmp - "$work/got" && rm "$work"/sent/*.ipfix || return 1
+    SEND="cat $work/missing" "$script" --rest "$work/sent" >/dev/null 2>"$work/said"
+    [ $? -eq 1 ] && [ "$(grep -c 'sent/.*ipfix: not sent, status 1: cat: .*missing' "$work/said")" -eq 2 ] && are_metered "$work/sent" 2
+}
+
+# What isn't there has one line, but a capture that another call metered and removed has none.
+missing() {
+    "$script" "$work/plain/none.pcap" 2>"$work/said"
+    [ $? -eq 1 ] && [ "$(cat "$work/said")" = "rotate.sh: no file $work/plain/none.pcap" ] || return 1
+    touch "$work/plain/gone.ipfix"
+    [ -z "$("$script" "$work/plain/gone.pcap" 2>&1)" ]
+}
+
+count_of() { find "$work/$1" -name "*.$2" | wc -l; }
+
+# The commands of a block of docs/OPERATORS.md on loopback, in files of a second, with a datagram each tenth of a second, until all
+# files that tcpdump closed are metered. tcpdump goes on as another user, so the program and the scripts lie where that user may
+# read: dump BLOCK FOLDER
+dump() {
+    mkdir -p "$work/bin"
     cp "$program" "$work/bin/romtyalig"
-    cp "$script" "$work/bin"
+    cp "$top"/examples/*.sh "$top"/examples/*.py "$work/bin"
     chmod 755 "$work" "$work/bin" "$work"/bin/*
-    awk '/^<!-- run: rotated, / { found = 1; next } found && /^```sh/ { inside = 1; next } inside && /^```/ { exit } inside' \
-        "$top/docs/OPERATORS.md" | sed -e "s,/usr/share/doc/romtyalig/examples/rotate.sh,$work/bin/rotate.sh udp and port 47475," \
-        -e "s,/var/lib/romtyalig,$work/dumped," -e 's/ tcpdump -i eth0 / exec tcpdump -i lo /' -e 's/ -G 300 / -G 1 /' \
-        >"$work/commands"
+    awk -v mark="<!-- run: $1, " 'index($0, mark) == 1 { found = 1; next }
+        found && /^```sh/ { inside = 1; next }
+        inside && /^```/ { exit }
+        inside' "$top/docs/OPERATORS.md" | sed -e "s,/usr/share/doc/romtyalig/examples,$work/bin,g" \
+        -e "s,/var/lib/romtyalig,$work/$2,g" -e 's/ tcpdump -i eth0 / exec tcpdump -i lo /' -e 's/ -G [0-9]* / -G 1 /' \
+        -e 's/192.0.2.9 4739/127.0.0.1 47476/' -e '$s/$/ udp and port 47475/' >"$work/commands"
     METER="$work/bin/romtyalig meter" bash -eu "$work/commands" >"$work/lines" 2>"$work/said" &
     dumping=$!
     python3 - <<'PYTHON'
@@ -113,12 +146,49 @@ PYTHON
     wait "$dumping"
     dumping=
     for _ in $(seq 60); do
-        [ "$(count_of ipfix)" -lt $(($(count_of pcap) - 1)) ] || break
+        [ "$(count_of "$2" ipfix)" -lt $(($(count_of "$2" pcap) - 1)) ] || break
         sleep 0.5
     done
-    [ "$(count_of ipfix)" -ge 2 ] || return 1
-    "$script" --rest "$work/dumped" >>"$work/lines" 2>>"$work/said"
+    [ "$(count_of "$2" ipfix)" -ge 2 ]
+}
+
+dumped() {
+    dump rotated dumped && "$script" --rest "$work/dumped" >>"$work/lines" 2>>"$work/said"
     are_metered "$work/dumped" 3 && grep -q 'accepted [1-9]' "$work/lines"
+}
+
+# The records of streams, in order of their lines.
+records() { for file in "$@"; do "$program" show <"$file" 2>/dev/null || return; done | sort; }
+
+# What a collector gets are the records of all streams, with sequence numbers that go on.
+handed() {
+    python3 - "$work/received" <<'PYTHON' &
+import socket
+import sys
+with socket.socket(socket.AF_INET, socket.SOCK_DGRAM) as receiver, open(sys.argv[1], "wb", buffering=0) as out:
+    receiver.bind(("127.0.0.1", 47476))
+    receiver.settimeout(60)
+    while True:
+        out.write(receiver.recv(65535))
+PYTHON
+    receiving=$!
+    dump handed handed || return
+    for _ in $(seq 20); do
+        [ "$(records "$work/received")" != "$(records "$work"/handed/*.ipfix)" ] || break
+        sleep 0.5
+    done
+    kill "$receiving" && receiving=
+    records "$work"/handed/*.ipfix >"$work/wanted" && records "$work/received" | cmp - "$work/wanted" &&
+        python3 - "$work/received" <<'PYTHON'
+import struct
+import sys
+octets, at, following = open(sys.argv[1], "rb").read(), 0, 0
+while at < len(octets):
+    length, sequence, kind, size = struct.unpack_from("!2xH4xL4xHH", octets, at)
+    assert sequence == following, f"{sequence} and not {following}"
+    following += (size - 4) // 48 if kind == 256 else 0
+    at += length
+PYTHON
 }
 
 # The unit is one that systemd takes, with its programs where they are here.
@@ -132,12 +202,16 @@ row "captures are metered" metered
 row "a capture that is refused stays" refused
 row "captures have a limit" limited
 row "streams have a limit" limited_streams
+row "captures with a number behind the ending" counted
+row "streams are handed on" sent
+row "a missing capture" missing
 if ! command -v tcpdump >/dev/null || ! command -v python3 >/dev/null; then
     echo "skipped: no tcpdump"
 elif [ "$(id -u)" -ne 0 ] || ! id tcpdump >/dev/null 2>&1; then
     echo "skipped: not root, or no user tcpdump"
 else
     row "tcpdump on loopback" dumped
+    row "tcpdump on loopback, and a collector" handed
 fi
 if command -v systemd-analyze >/dev/null; then
     row "the unit" unit

@@ -5,8 +5,8 @@
 #
 # Each block there that is marked `run: NAME, with PROGRAM` is taken as it stands and run in a folder with the files
 # that it names, but that for Slurm, which checks/slurm.sh runs. One line for each; a block whose program is missing
-# is skipped with one line. Besides, examples/many.sh must make just what isn't there, say which capture is
-# refused, and join by parts. The status is not 0 where any differs.
+# is skipped with one line. Besides, examples/many.sh must make just what isn't there, say which capture is refused or
+# left out, keep going where it is told to, and join by parts. The status is not 0 where any differs.
 #
 # ROMTYALIG and ROMTYALIG_JOIN are the programs' paths (bin/romtyalig and bin/romtyalig-join unless set). PACKETS is
 # how many packets the capture has (60000 unless set).
@@ -132,10 +132,34 @@ by_parts() {
     four_captures && PARTS=3 many >/dev/null && records flows.?.ipfix >got && [ ! -e flows.ipfix ] &&
         records ../wanted.ipfix | cmp - got
 }
+# The line of the whole has the packets and octets of the summary.
+tells_whole() {
+    local wanted
+    four_captures && many >said.out || return
+    wanted=$(romtyalig meter <../capture.pcap 2>&1 >/dev/null |
+        awk '{ value[$1] = $2 } END { print value["accepted"] " packets, " value["octets"] " octets" }')
+    grep -Eq "^flows.ipfix: 4 files, [0-9]+ records read, [0-9]+ written, $wanted *$" said.out
+}
 is_refused() {
     four_captures && echo none >captures/bad.pcap && ! many >/dev/null 2>said.err && [ ! -e flows.ipfix ] &&
-        [ ! -e streams/bad.ipfix ] && grep -q '^streams/bad.ipfix: not made, status [0-9]*: .' said.err &&
-        [ "$(find streams -type f | wc -l)" -eq 4 ]
+        [ ! -e streams/bad.ipfix ] && [ "$(find streams -type f | wc -l)" -eq 4 ] &&
+        [ "$(cat said.err)" = "captures/bad.pcap: not made into streams/bad.ipfix, status 4: not a capture" ]
+}
+keeps_going() {
+    four_captures && echo none >captures/bad.pcap || return
+    examples/many.sh --keep-going captures streams flows.ipfix >/dev/null 2>said.err
+    [ $? -eq 1 ] && grep -q '^captures/bad.pcap: not made ' said.err && same_stream &&
+        rm flows.ipfix && ! PARTS=2 examples/many.sh --keep-going captures streams flows.ipfix >/dev/null 2>said.err &&
+        records flows.?.ipfix >got && records ../wanted.ipfix | cmp - got
+}
+names_others() {
+    four_captures && cp captures/00.pcap captures/c.pcapng && gzip <captures/00.pcap >captures/b.pcap.gz &&
+        cp captures/00.pcap "captures/a capture" && many >/dev/null 2>said.err && same_stream &&
+        printf 'many.sh: left out: captures/%s\n' "a capture (its name doesn't end in .pcap)" 'b.pcap.gz (compressed)' \
+            'c.pcapng (for romtyalig-pcapng)' | cmp - said.err
+}
+has_none() {
+    mkdir captures && ! many 2>said.err && [ "$(cat said.err)" = "many.sh: no captures in captures" ] && [ ! -e streams ]
 }
 by_steps() {
     four_captures && mkdir streams && find captures -name '*.pcap' -exec examples/many.sh --meter streams {} ';' >/dev/null &&
@@ -157,6 +181,10 @@ compare order romtyalig-join three_streams same_one
 row "many.sh goes on where it was stopped" goes_on
 row "many.sh by parts" by_parts
 row "many.sh by its single steps" by_steps
+row "many.sh tells what the whole has" tells_whole
 row "many.sh and a capture that is refused" is_refused
+row "many.sh keeps going" keeps_going
+row "many.sh names what it leaves out" names_others
+row "many.sh and no captures" has_none
 row "many.sh with other time-outs" by_time_outs
 exit $((differ > 0))

@@ -6,7 +6,8 @@
 udp-flows.pcap     five packets of three UDP flows over IPv4, one of them idle for longer than five minutes
 web-exchange.pcap  an ARP request, a DNS query and its reply, and a TCP exchange of seven packets
 
-web-exchange.ipfix beside it is what `meter` writes of it; `make check` compares them.
+web-exchange.ipfix beside it is what `meter` writes of it; `make check` compares them. FOLDER is the folder of this program unless
+given. The status is 1 where a capture can't be written, and 2 where the command line is wrong.
 """
 
 import ipaddress
@@ -95,11 +96,22 @@ def web_exchange() -> bytes:
     return capture([(start + later, frame) for later, frame in exchange])
 
 
-def main() -> None:
-    folder = Path(sys.argv[1]) if len(sys.argv) > 1 else Path(__file__).parent
-    (folder / "udp-flows.pcap").write_bytes(udp_flows())
-    (folder / "web-exchange.pcap").write_bytes(web_exchange())
+def main(words: list[str]) -> int:
+    if "--help" in words or "-h" in words:
+        print(__doc__, end="")
+        return 0
+    if len(words) > 1 or words and words[0].startswith("-"):
+        print(f"make_captures: not expected: {words[-1]}; --help tells more", file=sys.stderr)
+        return 2
+    folder = Path(words[0]) if words else Path(__file__).parent
+    try:
+        (folder / "udp-flows.pcap").write_bytes(udp_flows())
+        (folder / "web-exchange.pcap").write_bytes(web_exchange())
+    except OSError as fault:
+        print(f"make_captures: {fault.filename}: {fault.strerror}", file=sys.stderr)
+        return 1
+    return 0
 
 
 if __name__ == "__main__":
-    main()
+    sys.exit(main(sys.argv[1:]))

@@ -1,7 +1,7 @@
 #!/bin/sh
 # Has a Slurm cluster meter a folder of captures, each in a task of its own, and join their streams to one behind it.
 #
-#     examples/slurm/submit.sh CAPTURES STREAMS [WHOLE]
+#     submit.sh CAPTURES STREAMS [WHOLE]
 #
 # Folders, files and environment are those of examples/many.sh, and lie where all nodes see them under the same names,
 # as this folder and the programs do. An array job meters each capture that has no stream yet, and a job that depends
@@ -14,10 +14,26 @@
 set -eu
 : "${ARRAY:=1000}" "${SBATCH:=}" "${PARTS:=1}"
 export PARTS
-if [ $# -lt 2 ] || [ $# -gt 3 ] || [ ! -d "$1" ]; then
-    sed -n '2,13s/^# \{0,1\}//p' "$0" >&2
-    exit 2
-fi
+
+# Says why nothing is submitted, and ends with a status: fail STATUS REASON
+fail() {
+    echo "submit.sh: $2" >&2
+    exit "$1"
+}
+
+case ${1:-},$# in
+--help,* | -h,*)
+    sed -n '2,${/^#/!q; s/^# \{0,1\}//p; }' "$0"
+    exit
+    ;;
+-*,* | *,[014-9] | *,??*) fail 2 "usage: submit.sh CAPTURES STREAMS [WHOLE], or submit.sh --help" ;;
+esac
+for count in "$ARRAY" "$PARTS"; do
+    case $count in '' | 0* | *[!0-9]*) fail 2 "ARRAY and PARTS are numbers from 1, not '$count'" ;; esac
+done
+[ -d "$1" ] || fail 1 "no folder $1"
+[ -n "$(find -L "$1" -maxdepth 1 -type f -name '*.pcap' -print -quit)" ] || fail 1 "no captures in $1"
+command -v sbatch >/dev/null || fail 1 "no sbatch here (package slurm-wlm)"
 here=$(cd "$(dirname "$0")" && pwd)
 many=$(dirname "$here")/many.sh
 captures=$(realpath "$1")
