@@ -6,8 +6,9 @@
 # The package is built and unpacked into a folder. There the programs meter the sample capture, which must give the stream that
 # the programs of bin/ give, and the examples of the package print and draw it. `dpkg` installs it into another folder, with a list
 # of packages of its own, where the programs meter the sample too. Each program has its page and its completions, and the pages
-# have the version of the package. lintian must find no error and no warning. Two builds must be the same, byte for byte. One line
-# for each; a program that is missing (dpkg-deb, strip; lintian), and a right that dpkg lacks, is skipped with one line. The status
+# have the version of the package. The version of libc6 that it depends on is that of dpkg-shlibdeps, and each path that its
+# documents name is there. lintian must find no error and no warning. Two builds must be the same, byte for byte. One line
+# for each; a program that is missing (dpkg-deb, strip; dpkg-shlibdeps of dpkg-dev; lintian), and a right that dpkg lacks, is skipped with one line. The status
 # is not 0 where anything differs.
 set -u
 
@@ -65,8 +66,27 @@ installed() {
     [ "$(dpkg-query --admindir=target/var/lib/dpkg -Wf '${db:Status-Abbrev}' romtyalig)" = "ii " ]
 }
 named() {
-    root/usr/bin/romtyalig show <flows.ipfix >lines && root/usr/share/doc/romtyalig/examples/named.py <lines >names &&
-        [ "$(grep -c '^sourceIPv4Address=' names)" -eq 4 ]
+    root/usr/bin/romtyalig show <flows.ipfix >lines && root/usr/bin/romtyalig-named <lines >names &&
+        [ "$(grep -c '^sourceIPv4Address=' names)" -eq 4 ] && root/usr/bin/romtyalig-named --line <lines | grep -q '^10.0.0.5:'
+}
+library() {
+    local program programs=()
+    mkdir debian && echo "Source: romtyalig" >debian/control || return
+    for program in root/usr/bin/*; do
+        head -c 4 "$program" | grep -q ELF && programs+=(-e"$program")
+    done
+    dpkg-shlibdeps -O "${programs[@]}" >wanted 2>said-there && [ "${#programs[@]}" -eq 6 ] &&
+        [ "$(sed -n 's/^shlibs:Depends=//p' wanted), python3" = "$(dpkg-deb -f "$package" Depends)" ]
+}
+# The paths that a document names, in the repository's folders or the package's own, are there.
+documents() {
+    local path missing=0
+    for path in $(grep -ohE '\b(bench|bin|checks|completions|crates|docs|examples|man|packaging|tools)/[A-Za-z0-9_./-]*[A-Za-z0-9_]' \
+        root/usr/share/doc/romtyalig/README.md root/usr/share/doc/romtyalig/docs/*.md | sort -u) \
+        $(grep -ohE '\]\([^)#]+' root/usr/share/doc/romtyalig/docs/*.md | sed 's,..,docs/,' | grep -v '://' | sort -u); do
+        [ -e "root/usr/share/doc/romtyalig/$path" ] || [ -e "root/usr/share/$path" ] || { echo "no $path"; missing=1; }
+    done
+    return "$missing"
 }
 report() { root/usr/share/doc/romtyalig/examples/report.sh flows.ipfix biflows.ipfix | grep -q '</html>'; }
 pages() {
@@ -104,7 +124,9 @@ if [ "$differ" -eq 0 ]; then
     fi
     row "pages and version" pages
     row "completions" completions
-    if command -v python3 >/dev/null; then row "named.py of the package" named; else echo "skipped: no python3"; fi
+    row "what the documents name" documents
+    if command -v dpkg-shlibdeps >/dev/null; then row "the version of libc6" library; else echo "skipped: no dpkg-shlibdeps"; fi
+    if command -v python3 >/dev/null; then row "romtyalig-named of the package" named; else echo "skipped: no python3"; fi
     if command -v ipfix2csv >/dev/null && command -v mlr >/dev/null && command -v gnuplot >/dev/null; then
         row "report.sh of the package" report
     else
