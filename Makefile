@@ -59,6 +59,7 @@ check: build $(CHECKS:%=bin/%)
 	tools/demo.sh
 	checks/shell.sh
 	checks/page.sh
+	checks/completions.sh
 	checks/readme.sh
 	checks/operators.sh
 	checks/scale.sh
@@ -67,6 +68,9 @@ check: build $(CHECKS:%=bin/%)
 	python3 checks/element_names.py
 	python3 checks/named.py
 	python3 checks/report.py
+	python3 checks/collector.py
+	python3 checks/compare.py
+	checks/scripts.sh
 	checks/rotate.sh
 	checks/deb.sh
 	checks/foreign_readers.sh
@@ -95,8 +99,9 @@ edits:
 install: build
 	install -d $(DESTDIR)$(PREFIX)/bin
 	install -m 755 $(PROGRAMS:%=bin/%) $(DESTDIR)$(PREFIX)/bin
+	install -m 755 examples/named.py $(DESTDIR)$(PREFIX)/bin/romtyalig-named
 	install -d $(DESTDIR)$(PREFIX)/share/man/man1
-	install -m 644 $(PROGRAMS:%=man/%.1) $(DESTDIR)$(PREFIX)/share/man/man1
+	install -m 644 man/*.1 $(DESTDIR)$(PREFIX)/share/man/man1
 	install -d $(DESTDIR)$(PREFIX)/share/bash-completion/completions
 	for file in completions/*.bash; do \
 	    name=$$(basename $$file .bash); \

@@ -9,7 +9,7 @@
 # wireshark-common) are skipped with one line. `mandoc` (Debian package mandoc) must find nothing to say of the pages; where it is
 # missing that is skipped with one line too. The status is not 0 where anything differs. ROMTYALIG, ROMTYALIG_PIPE,
 # ROMTYALIG_PCAPNG, ROMTYALIG_PAIR, ROMTYALIG_JOIN and ROMTYALIG_WATCH are the programs' paths (bin/romtyalig, bin/romtyalig-pipe
-# and so on unless set). romtyalig-pcapng has no options.
+# and so on unless set).
 set -u
 
 here=$(cd "$(dirname "$0")" && pwd)
@@ -39,13 +39,14 @@ differs() {
 # The name of the program that has a command, and its path.
 name_of() {
     case $1 in
-    pipe | pair | join | watch) echo "romtyalig-$1" ;;
+    pipe | pcapng | pair | join | watch) echo "romtyalig-$1" ;;
     *) echo romtyalig ;;
     esac
 }
 path_of() {
     case $1 in
     pipe) echo "$pipe" ;;
+    pcapng) echo "$filter" ;;
     pair) echo "$pair" ;;
     join) echo "$join" ;;
     watch) echo "$watch" ;;
@@ -59,10 +60,13 @@ in_page() {
         grep -o 'Fl -[a-z]*' | sed 's/Fl /-/' | sort
 }
 in_operators() { awk -F'|' -v command="\`$1\`" 'index($3, command) && $2 ~ /--/ { gsub(/[` ]/, "", $2); print $2 }' docs/OPERATORS.md | sort; }
-in_bash() { grep "^    $1) options=" "completions/$(name_of "$1").bash" | grep -o -e '--[a-z]*' | sort; }
+# The completions offer --help too.
+in_bash() {
+    grep -E "^    ($1|\*(,-\*)?)\) options=" "completions/$(name_of "$1").bash" | grep -o -e '--[a-z]*' | grep -vx -e --help | sort
+}
 in_zsh() {
-    awk -v command="$1" '$1 == command ")" { found = 1 } found && /;;/ { exit } found' "completions/_$(name_of "$1")" |
-        grep -o "'--[a-z]*=" | tr -d "'=" | sort
+    awk -v command="$1" '$1 == command ")" || /^    _arguments/ { found = 1 } found && /;;/ { exit } found' \
+        "completions/_$(name_of "$1")" | grep -o "'--[a-z]*=" | tr -d "'=" | sort
 }
 
 # What the command's program says of words, reading nothing; the words of join end with a file, here an empty one.
@@ -82,7 +86,7 @@ is_taken() {
     return 1
 }
 
-for command in meter show make schedule selftest pipe pair join watch; do
+for command in meter show make schedule selftest pipe pcapng pair join watch; do
     wanted=$(in_page "$command")
     for place in operators bash zsh; do
         [ "$wanted" = "$("in_$place" "$command")" ] || differs "options of $command in $place"
@@ -127,6 +131,7 @@ for each in "$program" "$pipe" "$filter" "$pair" "$join" "$watch"; do
     esac
     ln -s "$(realpath "$each")" "$work/bin/$name"
 done
+ln -s "$top/examples/named.py" "$work/bin/romtyalig-named"
 cp examples/web-exchange.pcap "$work/c.pcap"
 cp examples/web-exchange.pcap "$work/a.pcap"
 cp examples/udp-flows.pcap "$work/b.pcap"

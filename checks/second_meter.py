@@ -38,12 +38,12 @@ class Packet:
 
 
 class Ignored(Exception):
-    pass
+    """A record that gives no packet, by the name that its cause has in the summary."""
 
 
-def need(holds: bool) -> None:
+def need(holds: bool, cause: str = "short") -> None:
     if not holds:
-        raise Ignored
+        raise Ignored(cause)
 
 
 def number(octets: bytes) -> int:
@@ -68,10 +68,10 @@ def records_of(capture: bytes):
 def transport(protocol: int, payload: bytes) -> tuple[int, int, int]:
     """Ports and flags."""
     if protocol == 6:
-        need(len(payload) >= 14)
+        need(len(payload) >= 14, "short-transport")
         return number(payload[0:2]), number(payload[2:4]), number(payload[12:14]) & 0xFFF
     if protocol == 17:
-        need(len(payload) >= 4)
+        need(len(payload) >= 4, "short-transport")
         return number(payload[0:2]), number(payload[2:4]), 0
     return 0, 0, 0
 
@@ -79,12 +79,12 @@ def transport(protocol: int, payload: bytes) -> tuple[int, int, int]:
 def over_ipv4(ip: bytes, original: int, time: int) -> Packet:
     need(len(ip) >= 20)
     header = 4 * (ip[0] & 15)
-    need(ip[0] >> 4 == 4 and header >= 20)
+    need(ip[0] >> 4 == 4 and header >= 20, "bad-header")
     need(len(ip) >= header)
     octets = number(ip[2:4])
     if octets == 0:
         octets = max(original, header)
-    need(octets >= header and octets <= 16_777_215)
+    need(header <= octets <= 16_777_215, "bad-header")
     ports = (0, 0, 0)
     if number(ip[6:8]) & 0x1FFF == 0:
         ports = transport(ip[9], ip[header:octets])
@@ -93,11 +93,11 @@ def over_ipv4(ip: bytes, original: int, time: int) -> Packet:
 
 def over_ipv6(ip: bytes, original: int, time: int) -> Packet:
     need(len(ip) >= 40)
-    need(ip[0] >> 4 == 6)
+    need(ip[0] >> 4 == 6, "bad-header")
     octets = 40 + number(ip[4:6])
     if octets == 40 and ip[6] != 59:
         octets = max(original, 40)
-    need(octets <= 16_777_215)
+    need(octets <= 16_777_215, "bad-header")
     kind, rest = ip[6], ip[40:octets]
     while kind in (0, 43, 60, 51, 44):
         need(len(rest) >= 2)
@@ -127,10 +127,10 @@ def network_of(link: int, frame: bytes) -> tuple[int, int]:
 
 
 def packet_of(link: int, unit: int, seconds: int, fraction: int, original: int, frame: bytes) -> Packet:
-    need(fraction < 1000 * unit)
+    need(fraction < 1000 * unit, "bad-time")
     time = 1000 * seconds + fraction // unit
     start, kind = network_of(link, frame)
-    need(kind in (0x0800, 0x86DD))
+    need(kind in (0x0800, 0x86DD), "not-ip")
     over = over_ipv4 if kind == 0x0800 else over_ipv6
     return over(frame[start:], max(0, original - start), time)
 
