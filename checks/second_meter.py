@@ -187,10 +187,10 @@ def set_of(key: tuple, sets: int) -> int:
     return (hashed >> 32) % sets
 
 
-def put_in(entries: list, own: list, limits: Limits):
-    """Puts a flow into one of the entries of its place or set. What is put out for it, or None."""
+def put_in(entries: list, own: list, limits: Limits, joins: bool = True):
+    """Puts a flow into one of the entries of its place or set. The flow that is evicted for it, or None."""
     places = [place for place, entry in enumerate(entries) if entry and entry[0] == own[0]]
-    fit = [place for place in places if joinable(entries[place], own, limits)]
+    fit = [place for place in places if joins and joinable(entries[place], own, limits)]
     empty = [place for place, entry in enumerate(entries) if not entry]
     if fit:
         entries[fit[0]] = joined(entries[fit[0]], own)
@@ -212,12 +212,15 @@ def through_front(packets: list[Packet], limits: Limits):
         yield from (entry for entry in front[place] if entry)
 
 
-def cached(packets: list[Packet], limits: Limits, sets: int) -> list[list]:
-    """What a cache of so many sets of four entries hands out and keeps, where one worker meters all packets."""
+def cached(packets: list[Packet], limits: Limits, sets: int, entries: int = 4, joins: bool = True) -> list[list]:
+    """What a cache of so many sets of four entries evicts and keeps, if one worker meters all packets.
+
+    With fewer entries, or if nothing is joined, it is a wrong cache, which the captures must tell from the right one.
+    """
     cache: dict[int, list] = {}
     out = []
     for part in through_front(packets, limits):
-        left = put_in(cache.setdefault(set_of(part[0], sets), [None] * 4), part, limits)
+        left = put_in(cache.setdefault(set_of(part[0], sets), [None] * entries), part, limits, joins)
         if left:
             out.append(left)
     return out + [entry for entries in cache.values() for entry in entries if entry]
@@ -361,7 +364,7 @@ def crowd(count: int) -> list[int]:
     return [port for port, place in places.items() if place == places[1]][:count]
 
 
-CROWD = crowd(3)
+CROWD = crowd(8)
 
 
 def random_chain(chance: random.Random, kind: int, payload: bytes) -> tuple[int, bytes]:
@@ -383,7 +386,7 @@ def random_chain(chance: random.Random, kind: int, payload: bytes) -> tuple[int,
 def random_ip(chance: random.Random) -> bytes:
     """An IP packet of few keys, most often whole."""
     six = chance.random() < 0.4
-    ports = 53, chance.choice((1, 1, 1, 2, *CROWD))
+    ports = 53, chance.choice((1, 1, 1, 2, *CROWD[:3]))
     kind = chance.choice((6, 6, 6, 17, 17, 17, 1))
     data = bytes(chance.choice((0, 0, 5, 40)))
     control = chance.randrange(1 << 12) & (0xFFF if chance.random() < 0.2 else 0xFFA)
@@ -435,16 +438,56 @@ def random_capture(chance: random.Random, idle: int, active: int) -> bytes:
     return out[:-chance.randrange(1, 9)] if chance.random() < 0.1 and len(out) > 40 else out
 
 
+def crowded_capture(chance: random.Random, active: int) -> bytes:
+    """Short bursts of keys that have one place in a front, not in order of time, in sessions that outlast the active
+    time-out.
+
+    So fragments of several packets are evicted from the front, and meet others of their keys in the cache. Where the
+    cut between two records falls then depends on which fragments are joined there.
+    """
+    out = struct.pack("<IHHIIII", 0xA1B2C3D4, 2, 4, 7, 9, 11, 101)
+    time, ports = 100_000_000_000, CROWD[:chance.choice((3, 4, 5, 8))]
+    for _ in range(chance.randrange(10, 60)):
+        port = chance.choice(ports)
+        for _ in range(chance.choice((1, 2, 2, 3))):
+            packet = generate.raw4(17, "10.0.0.1", "10.0.0.2", generate.datagram(53, port, b""))
+            out += struct.pack("<IIII", time // 1000, time % 1000 * 1000, len(packet), len(packet)) + packet
+            time += chance.choice((0, 1))
+        time += chance.choice((-1, 1, 1)) * active * chance.choice((1, 40, 200, 700))
+    return out
+
+
+def tells_wrong_caches(count: int = 500) -> None:
+    """Ends with status 1 unless captures of this count tell two wrong caches from the right one."""
+    chance, limits = random.Random(1), Limits(10_000, 3000)
+    wrong = {"one entry of four is used": (1, True), "what joins is written apart": (4, False)}
+    told = dict.fromkeys(wrong, 0)
+    for _ in range(count):
+        found = packets_of(crowded_capture(chance, 3))
+        clock = clock_of(found)
+        right = gathered(cached(found, limits, 1), clock, limits)
+        for name, (entries, joins) in wrong.items():
+            told[name] += gathered(cached(found, limits, 1, entries, joins), clock, limits) != right
+    for name, captures in told.items():
+        if captures == 0:
+            sys.exit(f"{count} captures don't tell a cache in which {name}")
+    print(f"{count} captures tell: " + ", ".join(f"{name} ({captures})" for name, captures in told.items()))
+
+
 def main() -> None:
     wanted = int(sys.argv[1]) if len(sys.argv) > 1 else 300
     seed = int(sys.argv[2]) if len(sys.argv) > 2 else 1
     program = os.environ.get("ROMTYALIG", str(TOP / "bin" / "romtyalig"))
+    tells_wrong_caches()
     chance = random.Random(seed)
     packets = flows = 0
     for place in range(wanted):
         idle, active = chance.choice(((300, 1800), (1, 1), (2, 5), (10, 3), (86400, 86400)))
         size = chance.choice((116, 140, 163, 164, 400, 1400, 65535))
-        capture = random_capture(chance, idle, active)
+        if chance.random() < 0.2:
+            capture = crowded_capture(chance, active)
+        else:
+            capture = random_capture(chance, idle, active)
         workers, sets, piece = chance.choice((1, 1, 2, 8)), chance.choice((1, 2, 4096)), chance.choice((1, 7, 256))
         options = {"idle": idle, "active": active, "size": size, "workers": workers, "sets": sets, "piece": piece}
         words = [program, "meter"] + [f"--{name}={value}" for name, value in options.items()]
