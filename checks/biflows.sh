@@ -25,8 +25,8 @@ for needed in "$program" "$filter"; do
     fi
 done
 if ! command -v python3 >/dev/null; then
-    echo "skipped: no python3"
-    exit 0
+    echo "no python3, so nothing is compared"
+    exit 2
 fi
 
 work=$(mktemp -d) || exit 2
@@ -101,4 +101,8 @@ if [ -n "$readers" ]; then
 fi
 
 echo "$((same + different)) comparisons, $different different"
+if [ "$same" -eq 0 ] && [ -n "$readers" ]; then
+    echo "nothing was compared, though a reader is installed:$readers"
+    exit 1
+fi
 [ "$different" -eq 0 ]

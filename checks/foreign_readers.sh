@@ -20,8 +20,8 @@ if [ ! -x "$program" ]; then
     exit 2
 fi
 if ! command -v python3 >/dev/null; then
-    echo "skipped: no python3"
-    exit 0
+    echo "no python3, so nothing is compared"
+    exit 2
 fi
 
 work=$(mktemp -d) || exit 2
@@ -112,4 +112,8 @@ if [ -n "$readers" ]; then
 fi
 
 echo "$((same + different)) comparisons, $different different"
+if [ "$same" -eq 0 ] && [ -n "$readers" ]; then
+    echo "nothing was compared, though a reader is installed:$readers"
+    exit 1
+fi
 [ "$different" -eq 0 ]

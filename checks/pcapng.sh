@@ -1,13 +1,13 @@
 #!/bin/sh
-# Compares the flows of pcapng files with those of the classic captures that they were made from.
+# Compares the flows of pcapng files with those that a second meter finds in the captures that they were made from.
 #
 #     checks/pcapng.sh
 #
 # editcap and dumpcap (Debian package wireshark-common) write each capture of examples/ anew: editcap as classic pcap, with
 # microseconds and with nanoseconds, and each of these as pcapng; dumpcap, which reads the capture from a pipe, as classic pcap
-# and as pcapng. Each pcapng file goes through `romtyalig-pcapng`, and `meter` must give the same lines of `show` for every
-# file as for the capture itself. One line per comparison, or one where a tool is missing; the last line counts. The status
-# is not 0 where any differs.
+# and as pcapng. Each pcapng file goes through `romtyalig-pcapng`. For every file `meter` must write the stream that
+# second_meter.py writes of the capture itself. One line for each comparison, or one if a tool is missing; the last line
+# counts. The status is not 0 if any differs, or if nothing was compared.
 #
 # ROMTYALIG and ROMTYALIG_PCAPNG are the programs' paths (bin/romtyalig and bin/romtyalig-pcapng unless set).
 set -u
@@ -38,14 +38,9 @@ trap 'exit 2' HUP INT TERM
 same=0
 differ=0
 
-# The lines of the flows of a classic capture.
-shown() {
-    "$program" meter <"$1" 2>/dev/null | "$program" show 2>/dev/null
-}
-
-# Compares the flows of a classic capture with those wanted.
+# Compares the stream of a classic capture with the one wanted.
 compare() {
-    if shown "$2" >"$work/lines" && cmp -s "$work/wanted" "$work/lines"; then
+    if "$program" meter <"$2" >"$work/stream" 2>"$work/summary" && cmp -s "$work/wanted" "$work/stream"; then
         echo "same: $1"
         same=$((same + 1))
     else
@@ -62,7 +57,7 @@ compare_pcapng() {
 
 for capture in "$top"/examples/*.pcap; do
     name=$(basename "$capture" .pcap)
-    shown "$capture" >"$work/wanted"
+    python3 -B "$here/second_meter.py" --stream <"$capture" >"$work/wanted" || exit 2
     for format in pcap nsecpcap; do
         editcap -F "$format" "$capture" "$work/classic" || exit 2
         compare "$name, $format of editcap" "$work/classic"
@@ -75,4 +70,4 @@ for capture in "$top"/examples/*.pcap; do
     compare_pcapng "$name, pcapng of dumpcap" "$work/dumped"
 done
 echo "$same the same, $differ that differ"
-[ "$differ" -eq 0 ]
+[ "$differ" -eq 0 ] && [ "$same" -gt 0 ]

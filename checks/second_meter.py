@@ -2,12 +2,18 @@
 """A second meter, written after docs/FORMATS.md, and a comparison with the first on random captures.
 
     python3 checks/second_meter.py [CAPTURES [SEED]]
+    python3 checks/second_meter.py --stream < CAPTURE
 
-Each of the captures (300 unless given) has some tens of packets, most of them whole, some cut, with bytes changed, of odd
-links and times. `meter` of the program, at ROMTYALIG or bin/romtyalig, must write the very bytes that this one writes: by one
-worker always, and by several where nothing cuts a session. Where something does, what several workers write must be a stream of
-records that are in order, apart, and have the packets, octets, flags and reasons that this one's have together. The first
-difference ends the run with status 1 and leaves the capture in the current folder.
+Each of the captures (300 unless given) has some tens of packets. Most of them are whole; some are cut, have bytes changed, or
+odd links and times. One capture in five has bursts of a few keys that meet in the cache behind the front. `meter` of the
+program, at ROMTYALIG or bin/romtyalig, must write the very bytes that this one writes: by one worker always, and by several if
+nothing cuts a session. If something does, what several workers write must be a stream of records that are in order, apart, and
+have the packets, octets, flags and reasons that this one's have together. The first difference ends the run with status 1 and
+leaves the capture in the current folder.
+
+Before it compares anything, the script checks itself: 500 captures must tell two wrong caches from the right one.
+
+With --stream it writes the stream that one worker makes of one capture, with each option left out.
 """
 
 import os
@@ -474,7 +480,18 @@ def tells_wrong_caches(count: int = 500) -> None:
     print(f"{count} captures tell: " + ", ".join(f"{name} ({captures})" for name, captures in told.items()))
 
 
+def write_stream() -> None:
+    """Writes the stream that one worker makes of the capture on standard input, with each option left out."""
+    found, limits = packets_of(sys.stdin.buffer.read()), Limits(300_000, 1_800_000)
+    clock = clock_of(found)
+    flows = gathered(cached(found, limits, 4096), clock, limits)
+    sys.stdout.buffer.write(stream_of(flows, clock // 1000, 1400))
+
+
 def main() -> None:
+    if sys.argv[1:] == ["--stream"]:
+        write_stream()
+        return
     wanted = int(sys.argv[1]) if len(sys.argv) > 1 else 300
     seed = int(sys.argv[2]) if len(sys.argv) > 2 else 1
     program = os.environ.get("ROMTYALIG", str(TOP / "bin" / "romtyalig"))
