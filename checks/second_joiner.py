@@ -19,7 +19,8 @@ from pathlib import Path
 
 sys.dont_write_bytecode = True
 
-from second_meter import Limits, Packet, alone, clock_of, flows_in, gathered, is_uncut, set_of, stream_of  # noqa: E402
+from second_meter import Limits, Packet, alone, clock_of, flows_in, gathered, is_uncut, packets_of, set_of, stream_of  # noqa: E402
+from workers import many_flows  # noqa: E402
 
 TOP = Path(__file__).resolve().parent.parent
 PROGRAM = os.environ.get("ROMTYALIG_JOIN", str(TOP / "bin" / "romtyalig-join"))
@@ -107,16 +108,26 @@ def compare(chance: random.Random, folder: Path, place: int, seed: int) -> tuple
     return len(streams), 0 if uncut else 1
 
 
+def compare_few_of_many(folder: Path) -> None:
+    """Compares one part of 4,096 of the join of a stream of 20,000 flows."""
+    limits = Limits(300_000, 1_800_000)
+    stream = metered(packets_of(many_flows()), limits, 1400)
+    share = joined([stream], limits, 1400, (9, 4096))
+    if run(folder, [stream], limits, 1400, (9, 4096)) != share or not flows_in(share):
+        sys.exit("different: part 9 of 4,096 of 20,000 flows")
+
+
 def main() -> None:
     wanted = int(sys.argv[1]) if len(sys.argv) > 1 else 2000
     seed = int(sys.argv[2]) if len(sys.argv) > 2 else 1
     chance = random.Random(seed)
     streams = cut = 0
     with tempfile.TemporaryDirectory() as folder:
+        compare_few_of_many(Path(folder))
         for place in range(wanted):
             some, other = compare(chance, Path(folder), place, seed)
             streams, cut = streams + some, cut + other
-    print(f"same: {wanted} sets of seed {seed}, streams {streams}; sessions were cut in {cut} sets")
+    print(f"same: part 9 of 4,096, and {wanted} sets of seed {seed}, streams {streams}; sessions were cut in {cut} sets")
 
 
 if __name__ == "__main__":

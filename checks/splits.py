@@ -6,9 +6,10 @@
 The captures are examples/web-exchange.pcap, of ten packets, and one of two packets that is written here. The packets of each are
 dealt into two files in all ways, each packet to one file or the other, in the order of the capture; and then to one file a packet.
 `meter` makes a stream of each file, and `romtyalig-join` joins them: it must write the very bytes that `meter` writes of the whole
-capture. So it must of the 20,000 flows of workers.py, which several threads gather and write, where the first packet of each flow is
-in one file and the second in the other. One line for each capture. The status is 1 where any differs. ROMTYALIG and ROMTYALIG_JOIN are the programs' paths
-(bin/romtyalig and bin/romtyalig-join unless set).
+capture. So it must of the 20,000 flows of workers.py, which several threads gather and write, if the first packet of each flow is
+in one file and the second in the other; and of a made capture of 2,000 packets, each in a file of its own. One line for each
+capture. The status is 1 if any differs. ROMTYALIG and ROMTYALIG_JOIN are the programs' paths (bin/romtyalig and bin/romtyalig-join
+unless set).
 """
 
 import os
@@ -84,6 +85,17 @@ def is_joined_alike(capture: bytes) -> bool:
         return joined(names) == metered(capture)
 
 
+def is_joined_of_files(count: int, pool: ThreadPoolExecutor) -> bool:
+    """Whether so many files of one packet each give the stream of a made capture."""
+    made = [PROGRAM, "make", "--seed=1", f"--packets={count}", "--keys=64"]
+    capture = subprocess.run(made, capture_output=True, check=True).stdout
+    packets = packets_of(capture)
+    with tempfile.TemporaryDirectory() as folder:
+        names = [Path(folder) / f"{place}.ipfix" for place in range(len(packets))]
+        list(pool.map(lambda name, packet: name.write_bytes(metered(capture[:24] + packet)), names, packets))
+        return len(names) == count and joined(names) == metered(capture)
+
+
 def main() -> None:
     captures = {"web-exchange": (TOP / "examples" / "web-exchange.pcap").read_bytes(), "two packets": bytes.fromhex(TWO_PACKETS)}
     differs = 0
@@ -97,9 +109,11 @@ def main() -> None:
             else:
                 print(f"same: {name}, {2**count} splits of {count} packets into two files, and one file a packet")
             differs += len(found)
+        of_files = is_joined_of_files(2_000, pool)
+    print(f"{'same' if of_files else 'DIFFERS'}: 2000 files of one packet each")
     alike = is_joined_alike(workers.many_flows())
     print(f"{'same' if alike else 'DIFFERS'}: {workers.MANY} flows, each with a packet in each of two files")
-    sys.exit(0 if alike and not differs else 1)
+    sys.exit(0 if alike and of_files and not differs else 1)
 
 
 if __name__ == "__main__":
