@@ -1,5 +1,5 @@
 #!/usr/bin/env python3
-"""A second generator of captures, written after docs/FORMATS.md, beside `romtyalig make`.
+"""A second generator of captures, written after crates/capture_maker/README.md, beside `romtyalig make`.
 
     python3 checks/second_maker.py
 
