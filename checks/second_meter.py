@@ -213,10 +213,16 @@ def through_front(packets: list[Packet], limits: Limits):
 
 
 def cached(packets: list[Packet], limits: Limits, sets: int) -> list[list]:
-    """What a cache of so many sets of four entries hands out and keeps, where one worker meters all packets."""
+    """What a cache of so many sets of four entries hands out and keeps, where one worker meters all packets.
+
+    A flow of one packet that leaves the front goes by the cache.
+    """
     cache: dict[int, list] = {}
     out = []
     for part in through_front(packets, limits):
+        if part[1] == 1:
+            out.append(part)
+            continue
         left = put_in(cache.setdefault(set_of(part[0], sets), [None] * 4), part, limits)
         if left:
             out.append(left)
