@@ -221,11 +221,15 @@ def through_front(packets: list[Packet], limits: Limits):
 def cached(packets: list[Packet], limits: Limits, sets: int, entries: int = 4, joins: bool = True) -> list[list]:
     """What a cache of so many sets of four entries evicts and keeps, if one worker meters all packets.
 
-    With fewer entries, or if nothing is joined, it is a wrong cache, which the captures must tell from the right one.
+    A fragment of one packet that leaves the front bypasses the cache. With fewer entries, or if nothing is joined, it is a wrong
+    cache, which the captures must tell from the right one.
     """
     cache: dict[int, list] = {}
     out = []
     for part in through_front(packets, limits):
+        if part[1] == 1:
+            out.append(part)
+            continue
         left = put_in(cache.setdefault(set_of(part[0], sets), [None] * entries), part, limits, joins)
         if left:
             out.append(left)

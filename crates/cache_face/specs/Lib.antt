@@ -4,4 +4,5 @@ pub mod Keeping
 pub mod Laws
 pub mod Meaning
 pub mod Notes
+pub mod Openings
 pub mod Tries

@@ -1,7 +1,7 @@
 //! A shared cache, and what opens and closes caches.
 
 ghost use Rattle.std.specs.Prelude.{◌≡◌, ◌+◌, ◌*◌, ◌<◌, ◌≤◌, ◌^◌, ◌++◌, ℕ, List, [], length, All, IfOk, OnOk, OnErr};
-ghost use Rattle.std.specs.Prelude.{IsPermutation};
+ghost use Rattle.std.specs.Prelude.{IsPermutation, Some};
 ghost use Rattle.flow_key.specs.Key.{set_number};
 ghost use Rattle.packet_accept.specs.declared.packet.Packet.{Packet};
 ghost use Rattle.flow_parts.specs.declared.fragment.Fragment.{Fragment};
@@ -10,7 +10,9 @@ ghost use Rattle.flow_parts.specs.Sharing.{SharesOut};
 ghost use Rattle.cache_face.specs.Keeping.{packet_count, IsBorne};
 ghost use Rattle.cache_face.specs.Meaning.{CacheMeans, PassMeans, IsFresh, IsAnswer, IsMetered, IsUnited};
 ghost use Rattle.cache_face.specs.Notes.{note_with};
+ghost use Rattle.cache_face.specs.Openings.{opened_with};
 ghost use Rattle.cache_face.specs.Tries.{HasLost};
+ghost use Rattle.cache_face.specs.declared.opened.Opened.{Opened};
 
 use crate::metered::Metered;
 use flow_parts::{Fragment, PartList, Timeouts};
@@ -72,6 +74,19 @@ pub trait FlowCache: Sync + Drop {
         self.meter_part(pass, &Fragment::of(packet))
     }
 
+    /// Lets a fragment of one packet go by: it is put in, and handed out as it is, and no entry takes it in. What is
+    /// known of lost tries stays. It reads and writes nothing that threads share, and takes no memory. The caller hands
+    /// the fragment on.
+    fn bypass(&self, pass: &mut Self::Pass, fragment: &Fragment)
+        requires own { is_of self.now pass.old }
+        requires single { (shown pass.old).note.seats ≡ 1 }
+        requires alone { fragment.now.packets ≡ 1 }
+        requires octets { fragment.now.octets < 2 ^ 24 }
+        requires room { packet_count (shown pass.old).note.taken < 2 ^ 32 }
+        ensures own { is_of self.now pass.new }
+        ensures note { (shown pass.new).note ≡ note_with (shown pass.old).note fragment.now (Some fragment.now) }
+        ensures lost { lost pass.new ≡ lost pass.old };
+
     /// One pass that stands for the seats of both. Only `unite` and `close` take a pass that stands for more than one
     /// seat.
     fn unite(&self, first: Self::Pass, second: Self::Pass) -> Self::Pass
@@ -107,8 +122,11 @@ pub trait Caches {
     // The fragments of the last cache that was closed: those that were handed out, and its entries.
     ghost metered: { Self → List Fragment };
 
+    // Which caches were opened.
+    ghost opened: { Self → Opened };
+
     /// A cache of so many sets, 1 to 65,536, and a pass for each of 1 to 64 seats. What is
-    /// known of the cache that was closed last stays.
+    /// known of the cache that was closed last stays. At an `Ok` one more cache was opened, at an `Err` none.
     ///
     /// # Errors
     ///
@@ -127,7 +145,9 @@ pub trait Caches {
         ensures passes { IfOk result (λ r. (length r.1.items ≡ seats)
             × All (λ pass. Self.Cache.is_of r.0 pass × IsFresh (Self.Cache.shown pass)) r.1.items) }
         ensures unlost { IfOk result (λ r. All (λ pass. Self.Cache.lost pass ≡ []) r.1.items) }
-        ensures kept { metered self.new ≡ metered self.old };
+        ensures kept { metered self.new ≡ metered self.old }
+        ensures opened { OnOk result (opened self.new ≡ opened_with (opened self.old) sets seats) }
+        ensures unopened { OnErr result (opened self.new ≡ opened self.old) };
 
     /// Closes a cache with the pass for all its seats and the fragments that this was handed, and gives its fragments
     /// away: those that were handed out, and its entries behind them. Nothing is copied.
@@ -158,5 +178,6 @@ pub trait Caches {
             (IsBorne (Self.Cache.means cache).limits (Self.Cache.shown pass).note.taken)
             (Self.Cache.shown pass).note.seen) }
         ensures given { IfOk result (λ parts. parts ≡ metered self.new) }
-        ensures kept { OnErr result (metered self.new ≡ metered self.old) };
+        ensures kept { OnErr result (metered self.new ≡ metered self.old) }
+        ensures unopened { opened self.new ≡ opened self.old };
 }

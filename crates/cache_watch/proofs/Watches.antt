@@ -16,20 +16,33 @@ use Rattle.flow_cache.specs.Shown.{roots_of}
 use Rattle.cache_watch.specs.declared.watcher.Watch.{Watch}
 use Rattle.cache_watch.specs.declared.watcher.Watch.TheVariants as watch
 use Rattle.cache_watch.specs.declared.watcher.Watcher.{Watcher}
-use Rattle.cache_watch.specs.Holding.{IsHolding}
+use Rattle.std.proofs.Common.{Option, None, Some}
+use Rattle.flow_parts.specs.declared.fragment.Fragment.{Fragment}
+use Rattle.cache_face.specs.Notes.{Note, first_note}
+use Rattle.pebr_roots.specs.Passes.{note_by}
+use Rattle.pass_book.specs.Books.{Book, IsBeside}
+use Rattle.cache_watch.specs.Holding.{IsHolding, note_seen}
 use Rattle.cache_watch.specs.Watching.{IsOf, IsWatched, note_of, past_of}
 
 -- it is a watcher of the same cache
 pub goes_on : (cache : PebrCache) (old new : Watcher) → IsOf cache old → IsSame (roots_of cache) old.seat new.seat
-    → (note_of new).seats ≡ (note_of old).seats
+    → (note_of new).seats ≡ (note_of old).seats → IsBeside (note_by first_note new.seat) new.book
     → IfSome new.held (λ hold. IsHolding hold.place hold.fragment (known_by_pass new.seat) (past_of new))
     → IsOf cache new
-goes_on cache old new o same seats holds = record {
+goes_on cache old new o same seats beside holds = record {
   of = same.of;
   seats = seats ∙ o.seats ∙ sym same.still.3;
   united = λ place held at. o.united place held (subst (λ r. get_elem? r place ≡ some held) same.still.4 at);
+  beside = beside;
   holds = holds;
 }
+
+-- what is seen changes nothing of what was put in and handed out
+pub beside_seen : (entry : Option Fragment) (note note' : Note) (book : Book) → note' ≡ note_seen entry note
+    → IsBeside note book → IsBeside note' book
+beside_seen None note note' book is h = subst (λ (n : Note). IsBeside n book) (sym is) h
+beside_seen (Some fragment) note note' book is h = subst (λ (n : Note). IsBeside n book) (sym is)
+    (record { bypassed = h.bypassed; taken = h.taken; handed = h.handed })
 
 -- what came of a later try came of the call
 pub watched_since : (cache : CacheMeans) (key : FlowKey) (w : Watch) (first old new : Watcher)

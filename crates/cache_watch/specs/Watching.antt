@@ -13,6 +13,7 @@ use Rattle.pebr_roots.specs.Passes as roots
 use Rattle.pebr_roots.specs.Passes.{known_by_pass, note_by, past_by, lost_by, operations_by, count_by_pass}
 use Rattle.pebr_roots.specs.Passes.{IsUnitedPass}
 use Rattle.pebr_roots.specs.Under.{slot_at}
+use Rattle.pass_book.specs.Books.{noted, IsBeside}
 use Rattle.flow_cache.specs.declared.cache.PebrCache.{PebrCache}
 use Rattle.flow_cache.specs.Shown.{roots_of}
 use Rattle.flow_cache.specs.Trying.{HasReadTen}
@@ -31,7 +32,7 @@ slot_held_by watcher = option_map (λ hold. slot_at (known_by_pass watcher.seat)
 
 -- What the watcher's seat has done as a pass of the cache, its steps, and the tries that it lost, the newest first.
 abbrev pub note_of : Watcher → Note
-note_of watcher = note_by first_note watcher.seat
+note_of watcher = noted (note_by first_note watcher.seat) watcher.book
 
 abbrev pub past_of : Watcher → History
 past_of watcher = past_by watcher.seat
@@ -48,6 +49,7 @@ pub record IsOf (cache : PebrCache) (watcher : Watcher) : Type 0 where
   pub of : roots.IsOf (roots_of cache) watcher.seat
   pub seats : (note_of watcher).seats ≡ count_by_pass watcher.seat
   pub united : IsUnitedPass empty_note watcher.seat
+  pub beside : IsBeside (note_by first_note watcher.seat) watcher.book
   pub holds : IfSome watcher.held (λ hold. IsHolding hold.place hold.fragment (known_by_pass watcher.seat)
       (past_of watcher))
 

@@ -31,10 +31,12 @@ impl Watcher {
         ensures lost { lost_of result ≡ tries_of pass }
     {
         let lost = pass.lost();
+        let (seat, book) = pass.into_seat();
         Watcher {
-            seat: pass.into_seat(),
+            seat,
             lost,
             held: None,
+            book,
         }
     }
 
@@ -136,7 +138,8 @@ impl Watcher {
             seat,
             lost,
             held: _,
+            book,
         } = self;
-        PebrPass::from_seat(seat, lost)
+        PebrPass::from_seat(seat, lost, book)
     }
 }

@@ -7,6 +7,7 @@ ghost use Rattle.pebr_roots.specs.Passes.{known_by_pass, lost_by};
 
 use flow_cache::CacheRule;
 use flow_parts::Fragment;
+use pass_book::PassBook;
 use pebr_roots::RootPass;
 
 /// What came of a call of [`Watcher::hold`].
@@ -34,6 +35,8 @@ pub struct Watcher {
     /// The number of tries that it lost, as far as 64 bits count.
     pub(crate) lost: u64,
     pub(crate) held: Option<Hold>,
+    /// What was put in through its seat, and what this was handed. It has no bytes.
+    pub(crate) book: PassBook,
     ghost out: { IsTrue (is_out (known_by_pass seat).status) },
     ghost counted: { lost ≡ min (length (lost_by seat)) (2 ^ 64 - 1) },
     ghost idle: { IsNone held → IsTrue (list_all is_down (known_by_pass seat).shields) },

@@ -19,6 +19,7 @@ use Rattle.flow_cache.specs.declared.protocol.CacheRule.{CacheRule}
 use Rattle.flow_cache.specs.declared.cache.PebrCache.{PebrCache}
 use Rattle.flow_cache.specs.declared.cache.PebrPass.{PebrPass}
 use Rattle.flow_cache.specs.Places.{root_of}
+use Rattle.pass_book.specs.Books.{Book, noted, IsBeside}
 use Rattle.flow_cache.specs.Reading.{entries_read, set_read, written_in}
 
 -- The roots of a cache of open flows, and a seat at them: their contents are entries, and their notes say what a pass
@@ -43,10 +44,14 @@ shape_of_roots cache = shape_at (roots_of cache)
 abbrev pub means_of : PebrCache → CacheMeans
 means_of cache = record { sets = cache.sets; seats = (shape_at (roots_of cache)).seats; limits = cache.timeouts }
 
+-- What was put in through it and what it was handed: by its seat, and what went by besides.
+abbrev pub book_of : PebrPass → Book
+book_of pass = pass.book
+
 -- The set that its last try read is that of the roots which it loaded.
 abbrev pub shown_of : PebrPass → PassMeans
 shown_of pass = record {
-  note = note_by first_note (seat_of pass);
+  note = noted (note_by first_note (seat_of pass)) (book_of pass);
   set = set_read (past_by (seat_of pass)).loads;
   entries = entries_read (past_by (seat_of pass)) (set_read (past_by (seat_of pass)).loads);
   written = written_in (past_by (seat_of pass)).put;
@@ -83,8 +88,10 @@ slots_of cache = 32 + 4 * (means_of cache).seats
 abbrev pub IsTryOf : ℕ → Lost → Type 0
 IsTryOf set try = (try ≡ was_ejected) ⊎ ((place : ℕ) × (place < 4) × (try ≡ found_other (root_of set place)))
 
--- A pass of this cache, whose note counts its seats.
+-- A pass of this cache, whose note counts its seats. Its book has what its seat put in and was handed, and what went by
+-- besides.
 pub record IsOf (cache : PebrCache) (pass : PebrPass) : Type 0 where
   pub of : roots.IsOf (roots_of cache) (seat_of pass)
   pub seats : (note_by first_note (seat_of pass)).seats ≡ count_by_pass (seat_of pass)
   pub united : IsUnitedPass empty_note (seat_of pass)
+  pub beside : IsBeside (note_by first_note (seat_of pass)) (book_of pass)

@@ -8,6 +8,7 @@ ghost use Rattle.flow_cache.specs.Places.{cache_shape};
 
 use crate::protocol::CacheRule;
 use flow_parts::Timeouts;
+use pass_book::PassBook;
 use pebr_roots::{RootPass, Roots};
 
 /// A cache whose sets have four roots each.
@@ -30,6 +31,8 @@ pub struct PebrPass {
     /// The words of the four entries that it read last. They are used within a try alone, and kept so that no try
     /// has to zero them first.
     pub(crate) contents: [[u64; 10]; 4],
+    /// What was put in through it, and what it was handed. It has no bytes.
+    pub(crate) book: PassBook,
     ghost out: { IsTrue (is_out (known_by_pass inner).status) },
     ghost down: { IsTrue (list_all is_down (known_by_pass inner).shields) },
     ghost counted: { lost ≡ min (length (lost_by inner)) (2 ^ 64 - 1) },

@@ -71,17 +71,20 @@ impl PebrCache {
             inner,
             lost,
             contents,
+            book,
         } = first;
         let PebrPass {
             inner: other,
             lost: more,
             contents: _,
+            book: beside,
         } = second;
         let inner = self.roots.unite(inner, other);
         PebrPass {
             inner,
             lost: lost.saturating_add(more),
             contents,
+            book: book.merge(beside),
         }
     }
 
@@ -99,6 +102,7 @@ impl PebrCache {
             inner,
             lost: _,
             contents: _,
+            book: _,
         } = pass;
         let PebrCache {
             roots,

@@ -1,12 +1,13 @@
 //! The cache as a shared cache, and what opens and closes such caches.
 
-ghost use Rattle.std.specs.Prelude.{◌≡◌, ◌≢◌, ◌+◌, ◌-◌, ◌*◌, ◌<◌, ◌≤◌, ◌^◌, []};
+ghost use Rattle.std.specs.Prelude.{◌≡◌, ◌≢◌, ◌+◌, ◌-◌, ◌*◌, ◌<◌, ◌≤◌, ◌^◌, [], Some};
 ghost use Rattle.flow_key.specs.Key.{set_number};
 ghost use Rattle.cache_face.specs.Keeping.{packet_count};
 ghost use Rattle.cache_face.specs.Meaning.{IsAnswer};
 ghost use Rattle.cache_face.specs.Notes.{note_with};
 ghost use Rattle.cache_face.specs.Tries.{HasLost};
-ghost use Rattle.flow_cache.specs.Closed.{metered_by};
+ghost use Rattle.cache_face.specs.declared.opened.Opened.TheVariants.{Nothing};
+ghost use Rattle.flow_cache.specs.Closed.{metered_by, opened_by};
 ghost use Rattle.flow_cache.specs.Collecting.{CollectsFrom};
 ghost use Rattle.flow_cache.specs.Shown.{means_of, shown_of, tries_of, retired_of, ejections_of, slots_of, IsOf};
 ghost use Rattle.flow_cache.specs.Shown.{past_of, IsTryOf, seat_of, shape_of_roots, number_of, operations_of};
@@ -16,7 +17,7 @@ ghost use Rattle.pebr_words.specs.Pasts.{Lost};
 
 use crate::cache::{PebrCache, PebrPass};
 use crate::stop::Never;
-use cache_face::{Caches, FlowCache, LastClosed, Metered, NoMemory};
+use cache_face::{Caches, FlowCache, LastClosed, Metered, NoMemory, Opened};
 use flow_parts::{Fragment, PartList, Timeouts};
 use std::alloc::Global;
 
@@ -56,6 +57,21 @@ impl FlowCache for PebrCache {
         self.meter_stopping(pass, part, &mut Never)
     }
 
+    fn bypass(&self, pass: &mut PebrPass, fragment: &Fragment)
+        requires own { IsOf self.now pass.old }
+        requires single { (shown_of pass.old).note.seats ≡ 1 }
+        requires alone { fragment.now.packets ≡ 1 }
+        requires octets { fragment.now.octets < 2 ^ 24 }
+        requires room { packet_count (shown_of pass.old).note.taken < 2 ^ 32 }
+        ensures own { IsOf self.now pass.new }
+        ensures note { (shown_of pass.new).note
+            ≡ note_with (shown_of pass.old).note fragment.now (Some fragment.now) }
+        ensures lost { tries_of pass.new ≡ tries_of pass.old }
+        ensures seat { seat_of pass.new ≡ seat_of pass.old }
+    {
+        pass.book.put(fragment, &Some(*fragment));
+    }
+
     fn unite(&self, first: PebrPass, second: PebrPass) -> PebrPass {
         self.join(first, second)
     }
@@ -68,15 +84,18 @@ impl FlowCache for PebrCache {
 /// Opens and closes caches without turns.
 #[derive(Drop)]
 pub struct PebrCaches {
+    opened: Opened,
     closed: LastClosed,
 }
 
 impl PebrCaches {
-    /// No cache was closed yet.
+    /// No cache was opened or closed yet.
     pub fn new() -> PebrCaches
-        ensures { ⟦<PebrCaches as Caches>⟧.metered result ≡ [] }
+        ensures metered { ⟦<PebrCaches as Caches>⟧.metered result ≡ [] }
+        ensures opened { ⟦<PebrCaches as Caches>⟧.opened result ≡ Nothing }
     {
         PebrCaches {
+            opened: Opened::Nothing,
             closed: LastClosed::new(),
         }
     }
@@ -87,6 +106,8 @@ impl Caches for PebrCaches {
 
     ghost metered = { metered_by };
 
+    ghost opened = { opened_by };
+
     fn open(
         &mut self,
         alloc: Global,
@@ -94,7 +115,9 @@ impl Caches for PebrCaches {
         seats: usize,
         timeouts: Timeouts,
     ) -> Result<(PebrCache, Vec<PebrPass>), NoMemory> {
-        PebrCache::open(alloc, sets, seats, timeouts)
+        let cache = PebrCache::open(alloc, sets, seats, timeouts)?;
+        self.opened = self.opened.with(sets, seats);
+        Ok(cache)
     }
 
     fn close(

@@ -185,6 +185,7 @@ impl PebrCache {
             stop,
         );
         pass.lost = pass.lost.saturating_add(lost);
+        pass.book.put(part, &metered.out);
         metered
     }
 }

@@ -10,6 +10,7 @@ use crate::cache::{PebrCache, PebrPass};
 use crate::protocol::{CacheFixed, CacheRule};
 use cache_face::NoMemory;
 use flow_parts::Timeouts;
+use pass_book::PassBook;
 use pebr_roots::{RootPass, Roots, Shape};
 use std::alloc::Global;
 
@@ -38,6 +39,7 @@ impl PebrCache {
             inner,
             lost: 0,
             contents: [[0; 10]; 4],
+            book: PassBook::new(),
         }
     }
 

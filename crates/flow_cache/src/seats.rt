@@ -7,12 +7,13 @@ ghost use Rattle.pebr_shields.specs.declared.checked.Checked.TheVariants as chec
 ghost use Rattle.pebr_words.specs.Pasts.{was_ejected};
 ghost use Rattle.pebr_roots.specs.Passes.{known_by_pass, note_by, past_by, lost_by, operations_by, IsOf, IsSame};
 ghost use Rattle.pebr_roots.specs.Orders.{HasMade};
-ghost use Rattle.flow_cache.specs.Shown.{means_of, roots_of, seat_of};
+ghost use Rattle.flow_cache.specs.Shown.{means_of, roots_of, seat_of, book_of};
 ghost use Rattle.flow_cache.specs.Trying.{AreProtected, IsResting, IsUnlost};
 
 use crate::cache::{PebrCache, PebrPass};
 use crate::protocol::CacheRule;
 use crate::stop::Never;
+use pass_book::PassBook;
 use pebr_roots::{Checked, RootPass, Roots};
 
 impl PebrCache {
@@ -52,29 +53,34 @@ impl PebrCache {
 }
 
 impl PebrPass {
-    /// The seat of the pass.
-    pub fn into_seat(self) -> RootPass<CacheRule>
-        ensures seat { result ≡ seat_of self }
-        ensures resting { IsResting (known_by_pass result) }
+    /// The seat of the pass, and its book.
+    pub fn into_seat(self) -> (RootPass<CacheRule>, PassBook)
+        ensures seat { result.0 ≡ seat_of self }
+        ensures book { result.1 ≡ book_of self }
+        ensures resting { IsResting (known_by_pass result.0) }
     {
         let PebrPass {
             inner,
             lost: _,
             contents: _,
+            book,
         } = self;
-        inner
+        (inner, book)
     }
 
-    /// The pass of a seat that is out and has no shield up. `lost` is how many tries it has lost, at most 2^64 - 1.
-    pub fn from_seat(seat: RootPass<CacheRule>, lost: u64) -> PebrPass
+    /// The pass of a seat that is out and has no shield up, and of this book. `lost` is how many tries it has lost, at
+    /// most 2^64 - 1.
+    pub fn from_seat(seat: RootPass<CacheRule>, lost: u64, book: PassBook) -> PebrPass
         requires resting { IsResting (known_by_pass seat) }
         requires counted { lost ≡ min (length (lost_by seat)) (2 ^ 64 - 1) }
         ensures seat { seat_of result ≡ seat }
+        ensures book { book_of result ≡ book }
     {
         PebrPass {
             inner: seat,
             lost,
             contents: [[0; 10]; 4],
+            book,
         }
     }
 }

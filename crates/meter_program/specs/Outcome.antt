@@ -27,6 +27,8 @@ use Rattle.meter_program.specs.Statuses.{fault_line}
 use Rattle.meter_io.specs.Sides.{Side, IsRead, IsTooLarge, IsBroken, IsWrong, IsUntouched, HasTaken, HasBegun}
 use Rattle.meter_io.specs.Sides.{HasTakenOrFailed, HasFailed}
 use Rattle.meter_program.specs.Seen.{Seen}
+use Rattle.cache_face.specs.Openings.{opened_with}
+use Rattle.cache_face.specs.declared.opened.Opened.{Opened}
 use Rattle.meter_program.specs.Words.{Asked, meter, show, make, schedule, selftest}
 use Rattle.meter_program.specs.Replays.{bad_line, replay_text}
 use Rattle.capture_maker.specs.Made.{capture_of}
@@ -112,6 +114,15 @@ IsAnswer (make seed packets keys) metered input written reported = IsMade seed p
 IsAnswer schedule metered input written reported = IsReplayed input written reported
 IsAnswer (selftest seed packets keys) metered input written reported =
     IsTested seed packets keys metered written reported
+
+-- Which caches were opened, where the command is done: one more, of the sets and with a pass for each of the workers
+-- that `meter` asks for, or of 4,096 sets and with four passes at `selftest`; none by the other commands.
+abbrev pub opened_after : Asked → Opened → Opened
+opened_after (meter idle active workers sets piece size) before = opened_with before sets workers
+opened_after show before = before
+opened_after (make seed packets keys) before = before
+opened_after schedule before = before
+opened_after (selftest seed packets keys) before = opened_with before 4096 4
 
 -- Standard error took this text; with `selftest`, which reports nothing, it is as it was.
 abbrev pub HasReported : Asked → Side → List ℕ → Type 0

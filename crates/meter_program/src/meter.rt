@@ -2,6 +2,7 @@
 
 ghost use Rattle.std.specs.Prelude.{◌≡◌, ◌≤◌, ◌<◌, ◌*◌, ◌^◌, ℕ, List, IfOk, OnErr};
 ghost use Rattle.std.specs.Option.{ForSome};
+ghost use Rattle.cache_face.specs.Openings.{opened_with};
 ghost use Rattle.meter_program.specs.ExportTime.{export_time};
 ghost use Rattle.meter_program.specs.Metering.{IsWritten, WriteMeans};
 ghost use Rattle.meter_program.specs.Outcome.{Ends};
@@ -128,11 +129,13 @@ pub fn meter<R: Threads + Sync, S: Source, K: Sink, E: Sink, M: Caches, G: Gate>
     stderr: &mut E,
     caches: &mut M,
 ) -> Status
-    ensures { let seen = seen_of (side S.left S.faults input.old input.new) (side K.held K.faults output.old output.new)
+    ensures ends { let seen = seen_of (side S.left S.faults input.old input.new) (side K.held K.faults output.old output.new)
         (side E.held E.faults stderr.old stderr.new) (M.metered caches.new)
         in Ends (meter settings.now.idle settings.now.active settings.now.workers settings.now.sets settings.now.piece
         settings.now.size)
         seen (IsUntouched seen.stderr) result }
+    ensures opened { result ≡ Status.Done → M.opened caches.new
+        ≡ opened_with (M.opened caches.old) settings.now.sets settings.now.workers }
 {
     let (rt, alloc) = (engine.rt, engine.alloc);
     let (size, threads) = (settings.size, settings.workers);

@@ -1,6 +1,7 @@
 //! Metering a capture through one cache, and gathering what the cache gave.
 
-ghost use Rattle.std.specs.Prelude.{◌≡◌, ◌<◌, ◌≤◌, ◌^◌, ◌*◌, List, ℕ, IfOk, IfErr};
+ghost use Rattle.std.specs.Prelude.{◌≡◌, ◌<◌, ◌≤◌, ◌^◌, ◌*◌, List, ℕ, IfOk, IfErr, OnOk};
+ghost use Rattle.cache_face.specs.Openings.{opened_with};
 ghost use Rattle.flow_parts.specs.declared.timeouts.Timeouts.{Timeouts};
 ghost use Rattle.meter_io.specs.Sides.{Side, side};
 ghost use Rattle.meter_program.specs.Metering.{IsKept, IsReadAndKept, IsGathered, IsReadAndGathered};
@@ -67,6 +68,8 @@ fn meter_input<R: Threads + Sync, S: Source, M: Caches, G: Gate>(
         (λ r. IsReadAndKept (side S.left S.faults input.old input.new) limits (M.metered caches.new) r.1.tally
         r.1.tail) }
     ensures given { IfOk result (λ r. r.0 ≡ M.metered caches.new) }
+    ensures opened { OnOk result (M.opened caches.new
+        ≡ opened_with (M.opened caches.old) settings.now.sets settings.now.workers) }
     ensures refused { IfErr result (λ status. MeterRefuses (side S.left S.faults input.old input.new) status) }
 {
     let (cache, passes) = caches.open(engine.alloc, settings.sets, settings.workers, limits)?;
@@ -129,6 +132,8 @@ pub fn gathered_from<R: Threads + Sync, S: Source, M: Caches, G: Gate>(
     ensures records { IfOk result
         (λ g. IsReadAndGathered (side S.left S.faults input.old input.new) settings.now.idle settings.now.active
         (M.metered caches.new) g.records g.tally g.tail) }
+    ensures opened { OnOk result (M.opened caches.new
+        ≡ opened_with (M.opened caches.old) settings.now.sets settings.now.workers) }
     ensures refused { IfErr result (λ status. MeterRefuses (side S.left S.faults input.old input.new) status) }
 {
     let limits = Timeouts::new(settings.idle, settings.active);

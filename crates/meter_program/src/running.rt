@@ -1,12 +1,12 @@
 //! The top call.
 
-ghost use Rattle.std.specs.Prelude.{◌≡◌, ◌⊎◌, None, map};
+ghost use Rattle.std.specs.Prelude.{◌≡◌, ◌⊎◌, Some, None, map};
 ghost use Rattle.std.specs.String.{string_bytes};
 ghost use Rattle.meter_io.specs.Causes.{Rose};
-ghost use Rattle.meter_program.specs.Outcome.{RunMeans, IsComplete, Ends};
+ghost use Rattle.meter_program.specs.Outcome.{RunMeans, IsComplete, Ends, opened_after};
 ghost use Rattle.meter_io.specs.Sides.{IsUntouched, side};
 ghost use Rattle.meter_program.specs.Seen.{seen_of};
-ghost use Rattle.meter_program.specs.Words.{asked_by, asked_of};
+ghost use Rattle.meter_program.specs.Words.{Asked, asked_by, asked_of};
 
 use crate::make::make;
 use crate::meter::meter;
@@ -32,9 +32,11 @@ fn command<R: Threads + Sync, S: Source, K: Sink, E: Sink, M: Caches, G: Gate>(
     stderr: &mut E,
     caches: &mut M,
 ) -> Status
-    ensures { let seen = seen_of (side S.left S.faults input.old input.new) (side K.held K.faults output.old output.new)
+    ensures ends { let seen = seen_of (side S.left S.faults input.old input.new) (side K.held K.faults output.old output.new)
         (side E.held E.faults stderr.old stderr.new) (M.metered caches.new)
         in Ends (asked_of command.now) seen (IsUntouched seen.stderr) result }
+    ensures opened { result ≡ Status.Done
+        → M.opened caches.new ≡ opened_after (asked_of command.now) (M.opened caches.old) }
 {
     match command {
         Command::Meter(settings) => meter(engine, settings, input, output, stderr, caches),
@@ -56,7 +58,8 @@ fn command<R: Threads + Sync, S: Source, K: Sink, E: Sink, M: Caches, G: Gate>(
 /// | `selftest` | nothing | the summary of metering the capture of a seed by four workers | nothing |
 ///
 /// `meter` opens one cache of `caches` with a pass for each worker, meters through it, and closes it; the records that
-/// it writes regroup the fragments that `caches` then tells. The gate is told of each piece of records before a worker
+/// it writes regroup the fragments that `caches` then tells. Where it is done, `caches` tell that this one was opened, of
+/// the sets and workers asked for, and no other. The gate is told of each piece of records before a worker
 /// meters it.
 ///
 /// The input is read to its end before anything is written. At a refusal, any status but `Done` and `WriteFault`,
@@ -98,6 +101,8 @@ pub fn run<R: Threads + Sync, S: Source, K: Sink, E: Sink, M: Caches, G: Gate>(
         (side K.held K.faults output.old output.new) (side E.held E.faults stderr.old stderr.new)
         (M.metered caches.new))
         result }
+    ensures opened { (asked : Asked) → asked_by (map string_bytes words.now) ≡ Some asked → result ≡ Status.Done
+        → M.opened caches.new ≡ opened_after asked (M.opened caches.old) }
     ensures read_fault { result ≡ Status.ReadFault → Rose (S.faults input.old) (S.faults input.new) }
     ensures write_fault { result ≡ Status.WriteFault
         → Rose (K.faults output.old) (K.faults output.new) ⊎ Rose (E.faults stderr.old) (E.faults stderr.new) }

@@ -1,6 +1,7 @@
 //! The command `selftest`.
 
 ghost use Rattle.std.specs.Prelude.{◌≡◌, Some, None};
+ghost use Rattle.cache_face.specs.Openings.{opened_with};
 ghost use Rattle.meter_io.specs.Sides.{Side, IsUntouched, side};
 ghost use Rattle.meter_program.specs.Outcome.{Ends};
 ghost use Rattle.meter_program.specs.Seen.{seen_of};
@@ -58,6 +59,8 @@ fn four_workers() -> Settings
     ensures idle { result.idle ≡ 300 }
     ensures active { result.active ≡ 1800 }
     ensures size { result.size ≡ 1400 }
+    ensures workers { result.workers ≡ 4 }
+    ensures sets { result.sets ≡ 4096 }
 {
     Settings {
         idle: 300,
@@ -77,10 +80,11 @@ pub fn selftest<R: Threads + Sync, K: Sink, M: Caches, G: Gate>(
     output: &mut K,
     caches: &mut M,
 ) -> Status
-    ensures { (input stderr : Side) → IsUntouched input → IsUntouched stderr → let seen =
+    ensures ends { (input stderr : Side) → IsUntouched input → IsUntouched stderr → let seen =
         seen_of input (side K.held K.faults output.old output.new)
         stderr (M.metered caches.new)
         in Ends (selftest settings.now.seed settings.now.packets settings.now.keys) seen (IsUntouched stderr) result }
+    ensures opened { result ≡ Status.Done → M.opened caches.new ≡ opened_with (M.opened caches.old) 4096 4 }
 {
     let Ok(bytes) = capture(engine.alloc, settings.seed, settings.packets, settings.keys) else {
         return Status::NoMemory;

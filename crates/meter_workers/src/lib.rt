@@ -8,7 +8,7 @@
 //!
 //! What a seat of the cache does is a share (`share.rt`): its pass of the cache, its front, where it has one, the
 //! fragments that the cache handed it, and the tally of its records. A share meters a run of records of a [`Part`]; a
-//! packet goes into the front, and what leaves it goes into the cache. At the end each front is emptied into the cache
+//! packet goes into the front, and what leaves it goes into the cache, or by it where it has one packet alone. At the end each front is emptied into the cache
 //! through its own pass, by a thread of its own (`emptying.rt`), and what all did is put together (`together.rt`).
 //! `specs/Shares.antt` says what a share has done: what was put in shares out the packets of the records that it
 //! metered. So how many packets were put in is known from the tally alone, and nothing is said of the order of the

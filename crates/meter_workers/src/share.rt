@@ -58,7 +58,56 @@ fn put_in<C: FlowCache>(
     Ok(())
 }
 
-/// Meters a packet: through the front where there is one, of which only what leaves it goes into the cache.
+/// Lets a fragment of one packet go by the cache, and keeps it.
+fn let_by<C: FlowCache>(
+    cache: &C,
+    pass: &mut C::Pass,
+    parts: &mut PartList,
+    part: &Fragment,
+) -> Result<(), NoMemory>
+    requires own { C.is_of cache.now pass.old }
+    requires single { (C.shown pass.old).note.seats ≡ 1 }
+    requires alone { part.now.packets ≡ 1 }
+    requires bounded { IsBounded part.now }
+    requires room { packet_count (C.shown pass.old).note.taken + part.now.packets ≤ 2 ^ 32 }
+    ensures own { C.is_of cache.now pass.new }
+    ensures single { (C.shown pass.new).note.seats ≡ 1 }
+    ensures taken { (C.shown pass.new).note.taken ≡ (C.shown pass.old).note.taken ++ part.now ∷ [] }
+    ensures handed { OnOk result (parts.old ≡ (C.shown pass.old).note.handed
+        → parts.new ≡ (C.shown pass.new).note.handed) }
+{
+    cache.bypass(pass, part);
+    let alloc = *parts.allocator();
+    parts.push(alloc, *part)?;
+    Ok(())
+}
+
+/// Puts a fragment that left a front into the cache. One of a single packet goes by: most of these would be driven out
+/// again before any packet joined them.
+fn admit<C: FlowCache>(
+    cache: &C,
+    pass: &mut C::Pass,
+    parts: &mut PartList,
+    part: &Fragment,
+) -> Result<(), NoMemory>
+    requires own { C.is_of cache.now pass.old }
+    requires single { (C.shown pass.old).note.seats ≡ 1 }
+    requires bounded { IsBounded part.now }
+    requires room { packet_count (C.shown pass.old).note.taken + part.now.packets ≤ 2 ^ 32 }
+    ensures own { C.is_of cache.now pass.new }
+    ensures single { (C.shown pass.new).note.seats ≡ 1 }
+    ensures taken { (C.shown pass.new).note.taken ≡ (C.shown pass.old).note.taken ++ part.now ∷ [] }
+    ensures handed { OnOk result (parts.old ≡ (C.shown pass.old).note.handed
+        → parts.new ≡ (C.shown pass.new).note.handed) }
+{
+    if part.packets == 1 {
+        let_by(cache, pass, parts, part)
+    } else {
+        put_in(cache, pass, parts, part)
+    }
+}
+
+/// Meters a packet: through the front where there is one, of which only what leaves it is admitted to the cache.
 fn meter_packet<C: FlowCache>(
     cache: &C,
     pass: &mut C::Pass,
@@ -77,7 +126,7 @@ fn meter_packet<C: FlowCache>(
 {
     match front {
         Some(front) => match front.take_in(packet) {
-            Some(out) => put_in(cache, pass, parts, &out),
+            Some(out) => admit(cache, pass, parts, &out),
             None => Ok(()),
         },
         None => put_in(cache, pass, parts, &Fragment::of(packet)),
@@ -202,7 +251,7 @@ fn empty_front<C: FlowCache>(
         return Ok(());
     };
     while let Some(out) = front.take_out() {
-        put_in(cache, pass, parts, &out)?;
+        admit(cache, pass, parts, &out)?;
     }
     Ok(())
 }

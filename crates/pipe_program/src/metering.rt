@@ -1,10 +1,12 @@
 //! Metering a capture in batches through one cache, and gathering what the cache gave.
 
-ghost use Rattle.std.specs.Prelude.{◌≡◌, IfOk, IfErr};
+ghost use Rattle.std.specs.Prelude.{◌≡◌, ◌+◌, IfOk, IfErr, OnOk};
+ghost use Rattle.cache_face.specs.Openings.{opened_with};
 ghost use Rattle.meter_io.specs.Sides.{IsUntouched, side};
 ghost use Rattle.meter_program.specs.Metering.{IsReadAndKept, IsReadAndGathered};
 ghost use Rattle.meter_program.specs.Outcome.{MeterRefuses, Ends};
 ghost use Rattle.meter_program.specs.Seen.{seen_of};
+ghost use Rattle.pipe_program.specs.Outcome.{opened_after};
 ghost use Rattle.pipe_program.specs.Words.{as_meter, piping_of};
 
 use crate::settings::PipeSettings;
@@ -33,6 +35,8 @@ fn meter_in_batches<R: Threads + Wait + Sync, S: Source, M: Caches, G: Gate>(
         (λ r. IsReadAndKept (side S.left S.faults input.old input.new) limits (M.metered caches.new) r.1.tally
         r.1.tail) }
     ensures given { IfOk result (λ r. r.0 ≡ M.metered caches.new) }
+    ensures opened { OnOk result (M.opened caches.new
+        ≡ opened_with (M.opened caches.old) settings.now.sets (settings.now.workers + 2)) }
     ensures refused { IfErr result (λ status. MeterRefuses (side S.left S.faults input.old input.new) status) }
 {
     let seats = settings.workers + OTHER_SEATS;
@@ -67,6 +71,8 @@ fn gathered_in_batches<R: Threads + Wait + Sync, S: Source, M: Caches, G: Gate>(
     ensures records { IfOk result
         (λ g. IsReadAndGathered (side S.left S.faults input.old input.new) settings.now.idle settings.now.active
         (M.metered caches.new) g.records g.tally g.tail) }
+    ensures opened { OnOk result (M.opened caches.new
+        ≡ opened_with (M.opened caches.old) settings.now.sets (settings.now.workers + 2)) }
     ensures refused { IfErr result (λ status. MeterRefuses (side S.left S.faults input.old input.new) status) }
 {
     let limits = Timeouts::new(settings.idle, settings.active);
@@ -86,9 +92,11 @@ pub fn pipe_input<R: Threads + Wait + Sync, S: Source, K: Sink, E: Sink, M: Cach
     stderr: &mut E,
     caches: &mut M,
 ) -> Status
-    ensures { let seen = seen_of (side S.left S.faults input.old input.new) (side K.held K.faults output.old output.new)
+    ensures ends { let seen = seen_of (side S.left S.faults input.old input.new) (side K.held K.faults output.old output.new)
         (side E.held E.faults stderr.old stderr.new) (M.metered caches.new)
         in Ends (as_meter (piping_of settings.now)) seen (IsUntouched seen.stderr) result }
+    ensures opened { result ≡ Status.Done
+        → M.opened caches.new ≡ opened_after (piping_of settings.now) (M.opened caches.old) }
 {
     let (rt, alloc) = (engine.rt, engine.alloc);
     let (size, threads) = (settings.size, settings.workers);

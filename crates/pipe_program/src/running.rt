@@ -1,12 +1,12 @@
 //! The top call.
 
-ghost use Rattle.std.specs.Prelude.{◌≡◌, ◌⊎◌, None, map};
+ghost use Rattle.std.specs.Prelude.{◌≡◌, ◌⊎◌, Some, None, map};
 ghost use Rattle.std.specs.String.{string_bytes};
 ghost use Rattle.meter_io.specs.Causes.{Rose};
 ghost use Rattle.meter_io.specs.Sides.{side};
 ghost use Rattle.meter_program.specs.Seen.{seen_of};
-ghost use Rattle.pipe_program.specs.Outcome.{PipeMeans, IsPipeComplete};
-ghost use Rattle.pipe_program.specs.Words.{piping_by};
+ghost use Rattle.pipe_program.specs.Outcome.{PipeMeans, IsPipeComplete, opened_after};
+ghost use Rattle.pipe_program.specs.Words.{Piping, piping_by};
 
 use crate::metering::pipe_input;
 use crate::refusal::pipe_line;
@@ -26,7 +26,7 @@ use std::thread::Threads;
 /// summary, eleven lines, to `stderr`. The capture is cut into batches of whole records, which wait in a queue; workers
 /// meter them while the next bytes are read. One cache of `caches` is opened, with a pass for each worker, one for the
 /// reader and one for what is left in the queue at the end, and closed; the records that are written regroup the
-/// fragments that `caches` then tells.
+/// fragments that `caches` then tells. Where it is done, `caches` tell that this one was opened, and no other.
 ///
 /// Before a batch is metered, the gate is told its number and who meters it: a worker by its number, counted from 0;
 /// the reader, which meters a batch that finds the queue full, by the number of workers; and for what is left in the
@@ -70,6 +70,8 @@ pub fn run_pipe<R: Threads + Wait + Sync, S: Source, K: Sink, E: Sink, M: Caches
         (side K.held K.faults output.old output.new) (side E.held E.faults stderr.old stderr.new)
         (M.metered caches.new))
         result }
+    ensures opened { (piping : Piping) → piping_by (map string_bytes words.now) ≡ Some piping → result ≡ Status.Done
+        → M.opened caches.new ≡ opened_after piping (M.opened caches.old) }
     ensures read_fault { result ≡ Status.ReadFault → Rose (S.faults input.old) (S.faults input.new) }
     ensures write_fault { result ≡ Status.WriteFault
         → Rose (K.faults output.old) (K.faults output.new) ⊎ Rose (E.faults stderr.old) (E.faults stderr.new) }

@@ -2,12 +2,12 @@
 #![tactic(auto)]
 
 use command_words::{OptionsError, words_of};
+use flow_cache::PebrCaches;
 use meter_io::{Sink, StdSink, StdSource};
 use meter_program::{Status, fault_line, run};
 use meter_workers::OpenGate;
 use std::alloc::Global;
 use std::process::ExitCode;
-use worker_caches::WorkerCaches;
 
 /// Writes the line of a refusal.
 fn refuse<E: Sink>(stderr: &mut E, status: Status) -> Status {
@@ -28,7 +28,7 @@ fn main(rt: HostRuntime) -> ExitCode {
             &mut input,
             &mut output,
             &mut stderr,
-            &mut WorkerCaches::new(),
+            &mut PebrCaches::new(),
             &OpenGate,
         ),
         Err(OptionsError::NotOptions) => refuse(&mut stderr, Status::Usage),

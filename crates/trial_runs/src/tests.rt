@@ -1,6 +1,5 @@
 //! Whole runs: captures and streams octet by octet, what is written of them, and what is reported.
 
-use cache_face::Caches;
 use flow_cache::PebrCaches;
 use meter_io::{MemSink, MemSource};
 use meter_program::{Status, run};
@@ -10,7 +9,6 @@ use std::process::Abort;
 use std::test::Fail;
 use std::thread::Threads;
 use trial_samples::{octets_of, words_in};
-use worker_caches::WorkerCaches;
 
 mod captures;
 mod extremes;
@@ -63,23 +61,12 @@ struct Ran {
     stderr: Vec<u8>,
 }
 
-/// A run over this input, whose workers are told to this gate, over the caches that the program has.
+/// A run over this input, whose workers are told to this gate.
 fn run_by<R: Threads + Sync + AllocGlobal, G: Gate>(
     rt: &R,
     line: &str,
     input: &[u8],
     gate: &G,
-) -> Result<Ran, Fail> {
-    run_over(rt, line, input, gate, &mut WorkerCaches::new())
-}
-
-/// The same over these caches.
-fn run_over<R: Threads + Sync + AllocGlobal, G: Gate, M: Caches>(
-    rt: &R,
-    line: &str,
-    input: &[u8],
-    gate: &G,
-    caches: &mut M,
 ) -> Result<Ran, Fail> {
     let alloc = rt.alloc();
     let words = words_in(alloc, line)?;
@@ -93,13 +80,13 @@ fn run_over<R: Threads + Sync + AllocGlobal, G: Gate, M: Caches>(
         source,
         &mut output,
         &mut stderr,
-        caches,
+        &mut PebrCaches::new(),
         gate,
     );
     ran_to(alloc, status, &output, &stderr)
 }
 
-/// The status of a run over the caches that the program has.
+/// The status of a run.
 fn status_of<R: Threads + Sync + AllocGlobal, G: Gate>(
     rt: &R,
     words: &[String],
@@ -108,7 +95,7 @@ fn status_of<R: Threads + Sync + AllocGlobal, G: Gate>(
     gate: &G,
 ) -> Status {
     let alloc = rt.alloc();
-    let caches = &mut WorkerCaches::new();
+    let caches = &mut PebrCaches::new();
     run(rt, alloc, words, source, output, stderr, caches, gate)
 }
 
@@ -126,8 +113,8 @@ fn ran_to(
     })
 }
 
-/// Runs a command line over an input, over the caches that the program has and over those without turns for any number
-/// of workers, and compares status, output and standard error with what is wanted; `name` tells the run.
+/// Runs a command line over an input, and compares status, output and standard error with what is wanted; `name` tells
+/// the run.
 fn check_run<R: Threads + Sync + Abort + AllocGlobal>(
     rt: &R,
     name: &str,
@@ -136,8 +123,6 @@ fn check_run<R: Threads + Sync + Abort + AllocGlobal>(
     (status, output, stderr): (Status, &[u8], &str),
 ) -> Result<(), Fail> {
     let ran = run_by(rt, line, input, &OpenGate)?;
-    check_ran(rt, name, &ran, (status, output, stderr));
-    let ran = run_over(rt, line, input, &OpenGate, &mut PebrCaches::new())?;
     check_ran(rt, name, &ran, (status, output, stderr));
     Ok(())
 }

@@ -6,6 +6,7 @@ ghost use Rattle.turn_cache.specs.Hands.{number_of, idle};
 use crate::rule::{Known, Told, Turns};
 use atomic_table::{Seat, Table};
 use flow_parts::Timeouts;
+use pass_book::PassBook;
 use std::alloc::Global;
 
 /// A cache whose sets have one turn each.
@@ -31,6 +32,8 @@ pub struct TurnPass {
     /// The words of the four entries that it read last. They are used within a call alone, and kept so that no call
     /// has to zero them first.
     pub(crate) contents: [[u64; 10]; 4],
+    /// What was put in through it, and what it was handed. It has no bytes.
+    pub(crate) book: PassBook,
     ghost acts: { number_of seat.me.0.numbers ≡ number },
     ghost low: { number < 64 },
     ghost no_turn: { seat.me.0.turn ≡ idle },

@@ -1,6 +1,6 @@
 //! A fragment is metered.
 
-ghost use Rattle.std.specs.Prelude.{◌≡◌, ◌+◌, ◌*◌, ◌<◌, ◌≤◌, ◌^◌};
+ghost use Rattle.std.specs.Prelude.{◌≡◌, ◌+◌, ◌*◌, ◌<◌, ◌≤◌, ◌^◌, Some};
 ghost use Rattle.flow_key.specs.Key.{set_number};
 ghost use Rattle.cache_face.specs.Keeping.{packet_count};
 ghost use Rattle.cache_face.specs.Meaning.{IsAnswer};
@@ -31,6 +31,18 @@ impl TurnCache {
             out: None,
         };
         self.put_in(pass, part, &mut metered);
+        pass.book.put(part, &metered.out);
         metered
+    }
+
+    /// Lets a fragment of one packet go by. It makes no operation on a word.
+    pub(crate) fn let_by(&self, pass: &mut TurnPass, fragment: &Fragment)
+        requires own { IsOf self.now pass.old }
+        ensures own { IsOf self.now pass.new }
+        ensures note { (shown_of pass.new).note
+            ≡ note_with (shown_of pass.old).note fragment.now (Some fragment.now) }
+        ensures lost { lost_of pass.new ≡ lost_of pass.old }
+    {
+        pass.book.put(fragment, &Some(*fragment));
     }
 }

@@ -126,6 +126,7 @@ impl TurnCache {
             seat,
             number: _,
             contents: _,
+            book: _,
         } = pass;
         let TurnCache {
             table,

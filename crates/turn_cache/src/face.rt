@@ -1,10 +1,11 @@
 //! The cache as a shared cache, and what opens and closes such caches.
 
 ghost use Rattle.std.specs.Prelude.{◌≡◌, []};
+ghost use Rattle.cache_face.specs.declared.opened.Opened.TheVariants.{Nothing};
 ghost use Rattle.turn_cache.specs.Shown.{means_of, shown_of, lost_of, IsOf, IsTryOf, LostTry};
 
 use crate::cache::{TurnCache, TurnPass};
-use cache_face::{Caches, FlowCache, LastClosed, Metered, NoMemory};
+use cache_face::{Caches, FlowCache, LastClosed, Metered, NoMemory, Opened};
 use flow_parts::{Fragment, PartList, Timeouts};
 use std::alloc::Global;
 
@@ -27,6 +28,10 @@ impl FlowCache for TurnCache {
         self.meter_fragment(pass, part)
     }
 
+    fn bypass(&self, pass: &mut TurnPass, fragment: &Fragment) {
+        self.let_by(pass, fragment);
+    }
+
     fn unite(&self, first: TurnPass, second: TurnPass) -> TurnPass {
         self.join(first, second)
     }
@@ -39,15 +44,18 @@ impl FlowCache for TurnCache {
 /// Opens and closes caches with one turn for each set.
 #[derive(Drop)]
 pub struct TurnCaches {
+    opened: Opened,
     closed: LastClosed,
 }
 
 impl TurnCaches {
-    /// No cache was closed yet.
+    /// No cache was opened or closed yet.
     pub fn new() -> TurnCaches
-        ensures { ⟦<TurnCaches as Caches>⟧.metered result ≡ [] }
+        ensures metered { ⟦<TurnCaches as Caches>⟧.metered result ≡ [] }
+        ensures opened { ⟦<TurnCaches as Caches>⟧.opened result ≡ Nothing }
     {
         TurnCaches {
+            opened: Opened::Nothing,
             closed: LastClosed::new(),
         }
     }
@@ -58,6 +66,8 @@ impl Caches for TurnCaches {
 
     ghost metered = { λ s. s.closed };
 
+    ghost opened = { λ s. s.opened };
+
     fn open(
         &mut self,
         alloc: Global,
@@ -65,7 +75,9 @@ impl Caches for TurnCaches {
         seats: usize,
         timeouts: Timeouts,
     ) -> Result<(TurnCache, Vec<TurnPass>), NoMemory> {
-        TurnCache::open(alloc, sets, seats, timeouts)
+        let cache = TurnCache::open(alloc, sets, seats, timeouts)?;
+        self.opened = self.opened.with(sets, seats);
+        Ok(cache)
     }
 
     fn close(

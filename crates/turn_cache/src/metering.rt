@@ -14,7 +14,7 @@ ghost use Rattle.cache_face.specs.declared.metered.How.TheVariants.{PassedBy};
 ghost use Rattle.cache_choice.specs.Chosen.{out_of};
 ghost use Rattle.turn_cache.specs.Hands.{number_of, idle, reading, writing, entries_of};
 ghost use Rattle.turn_cache.specs.Moves as moves;
-ghost use Rattle.turn_cache.specs.Shown.{means_of, shown_of, lost_of, IsOf, IsTryOf};
+ghost use Rattle.turn_cache.specs.Shown.{means_of, seated_of, lost_of, IsAt, IsTryOf};
 
 use crate::cache::{TurnCache, TurnPass};
 use crate::rule::Known;
@@ -199,12 +199,13 @@ impl TurnCache {
     /// nothing handed out; what is to be otherwise is written.
     #[inline(never)]
     pub(crate) fn put_in(&self, pass: &mut TurnPass, own: &Fragment, metered: &mut Metered)
-        requires own { IsOf self.now pass.old }
-        requires fragment { moves.IsOwn (shown_of pass.old).note own.now }
+        requires own { IsAt self.now pass.old }
+        requires fragment { moves.IsOwn (seated_of pass.old).note own.now }
         requires passed_by { (metered.old.how ≡ PassedBy) × (metered.old.out ≡ None) }
-        ensures own { IsOf self.now pass.new }
-        ensures note { (shown_of pass.new).note ≡ note_with (shown_of pass.old).note own.now metered.new.out }
-        ensures answer { IsAnswer (means_of self.now) (shown_of pass.new) own.now metered.new.how metered.new.out }
+        ensures own { IsAt self.now pass.new }
+        ensures note { (seated_of pass.new).note ≡ note_with (seated_of pass.old).note own.now metered.new.out }
+        ensures book { pass.new.book ≡ pass.old.book }
+        ensures answer { IsAnswer (means_of self.now) (seated_of pass.new) own.now metered.new.how metered.new.out }
         ensures lost { HasLost (IsTryOf (set_number own.now.key self.now.sets)) metered.new.how (lost_of pass.old)
             (lost_of pass.new) }
     {

@@ -13,6 +13,7 @@ use crate::rule::{Known, Parts, Told};
 use atomic_table::{Seat, Table};
 use cache_face::NoMemory;
 use flow_parts::Timeouts;
+use pass_book::PassBook;
 use std::alloc::Global;
 
 /// `count` words that are 0.
@@ -45,6 +46,7 @@ impl TurnCache {
             seat,
             number,
             contents: [[0; 10]; 4],
+            book: PassBook::new(),
         }
     }
 
@@ -113,17 +115,20 @@ impl TurnCache {
             mut seat,
             number,
             contents,
+            book,
         } = first;
         let TurnPass {
             seat: other,
             number: _,
             contents: _,
+            book: beside,
         } = second;
         self.table.shared.join_seat::<Parts>(&mut seat, other);
         TurnPass {
             seat,
             number,
             contents,
+            book: book.merge(beside),
         }
     }
 }

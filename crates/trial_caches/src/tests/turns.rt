@@ -4,6 +4,7 @@ ghost use Rattle.std.specs.Prelude.{◌≡◌, ◌+◌, ◌<◌, ◌≤◌, ◌^
 ghost use Rattle.cache_face.specs.Keeping.{packet_count};
 
 use cache_face::{Caches, FlowCache, How, Metered};
+use flow_cache::PebrCaches;
 use flow_parts::{Fragment, PartList, Timeouts};
 use packet_accept::Packet;
 use std::alloc::Global;
@@ -11,7 +12,6 @@ use std::process::Abort;
 use std::test::Fail;
 use trial_samples::udp_key;
 use turn_cache::TurnCaches;
-use worker_caches::WorkerCaches;
 
 /// A packet of 40 octets of a flow, at this second.
 fn packet(number: u32, flow: u16, second: u32) -> Packet
@@ -109,6 +109,30 @@ fn puts_the_oldest_out<C: Caches + Drop>(rt: &impl Abort, alloc: Global, mut cac
     assert!(rt; packets_of(&parts, 4) == 1 && packets_of(&parts, 5) == 1);
 }
 
+/// Lets a packet's own fragment go by.
+fn let_by<C: FlowCache>(cache: &C, pass: &mut C::Pass, number: u32, flow: u16, second: u32)
+    requires own { C.is_of cache.now pass.old }
+    requires single { (C.shown pass.old).note.seats ≡ 1 }
+    requires few { packet_count (C.shown pass.old).note.taken ≤ number }
+    ensures own { C.is_of cache.now pass.new }
+    ensures single { (C.shown pass.new).note.seats ≡ 1 }
+    ensures few { packet_count (C.shown pass.new).note.taken ≤ number + 1 }
+{
+    cache.bypass(pass, &Fragment::of(&packet(number, flow, second)));
+}
+
+/// A packet of flow 1 opens an entry, the next one goes by, and the third joins the entry, which has two packets then.
+fn lets_one_packet_by<C: Caches + Drop>(rt: &impl Abort, alloc: Global, mut caches: C) {
+    let timeouts = Timeouts::new(300, 1800);
+    let (cache, mut passes) = caches.open(alloc, 1, 1, timeouts).expect(rt, "memory");
+    let mut pass = passes.pop().expect(rt, "a pass");
+    assert!(rt; meter(&cache, &mut pass, 0, 1, 5).how == How::Opened);
+    let_by(&cache, &mut pass, 1, 1, 6);
+    assert!(rt; meter(&cache, &mut pass, 2, 1, 7).how == How::Joined);
+    let parts = cache.close(alloc, pass).expect(rt, "memory");
+    assert!(rt; parts.len() == 1 && packets_of(&parts, 1) == 2);
+}
+
 /// The octets of all fragments.
 fn octets_of(parts: &[Fragment]) -> u64 {
     let mut octets: u64 = 0;
@@ -162,6 +186,7 @@ fn keeps_what_two_passes_metered<C: Caches + Drop>(
 #[test]
 fn one_set_and_one_seat(rt: HostRuntime) {
     puts_the_oldest_out(&rt, rt.alloc(), TurnCaches::new());
+    lets_one_packet_by(&rt, rt.alloc(), TurnCaches::new());
 }
 
 #[test]
@@ -170,11 +195,12 @@ fn one_set_and_two_seats(rt: HostRuntime) -> Result<(), Fail> {
 }
 
 #[test]
-fn one_worker_and_one_set(rt: HostRuntime) {
-    puts_the_oldest_out(&rt, rt.alloc(), WorkerCaches::new());
+fn one_set_and_one_seat_without_turns(rt: HostRuntime) {
+    puts_the_oldest_out(&rt, rt.alloc(), PebrCaches::new());
+    lets_one_packet_by(&rt, rt.alloc(), PebrCaches::new());
 }
 
 #[test]
-fn two_workers_and_one_set(rt: HostRuntime) -> Result<(), Fail> {
-    keeps_what_two_passes_metered(&rt, rt.alloc(), WorkerCaches::new())
+fn one_set_and_two_seats_without_turns(rt: HostRuntime) -> Result<(), Fail> {
+    keeps_what_two_passes_metered(&rt, rt.alloc(), PebrCaches::new())
 }

@@ -3,8 +3,8 @@ use Rattle.meter_program.specs.Seen.{seen_of}
 use Rattle.meter_program.proofs.Endings.{meter-ends}
 use Rattle.meter_program.proofs.meter.meter.Goals as goal
 
-pub returns-in-Ok : goal.returns-in-Ok
-returns-in-Ok g c =
+pub returns-in-Ok-clause-ends : goal.returns-in-Ok-clause-ends
+returns-in-Ok-clause-ends g c =
     let settings = c.args.settings.now in
     let gathered = c.in-Ok.gathered in
     meter-ends settings.idle settings.active settings.workers settings.sets settings.piece settings.size

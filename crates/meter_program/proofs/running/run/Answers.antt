@@ -24,6 +24,6 @@ returns-then-is_refusal-clause-complete g c = λ other is valid quiet. elim c.ma
       (side g.E.Sink.held g.E.Sink.faults c.args.stderr.now c.fault_line-reported.new.stderr) _ _
       c.match-command_of.status _
       w.input-is w.output-is w.stderr-is w.status-is
-      w.command-status.ensures (sym c.is_refusal.ensures ∙ c.if-is_refusal.true)
+      w.command-status.ensures.ends (sym c.is_refusal.ensures ∙ c.if-is_refusal.true)
       (some-same (asked_of w.in-Ok.asked) other (sym w.in-Ok.ensures.command ∙ is)) valid quiet
 ]

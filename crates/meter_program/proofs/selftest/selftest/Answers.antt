@@ -8,8 +8,8 @@ use Rattle.meter_program.proofs.Endings.{tested}
 use Rattle.meter_program.proofs.Streams.{none-begun}
 use Rattle.meter_program.proofs.selftest.selftest.Goals as goal
 
-pub returns-in-Err : goal.returns-in-Err
-returns-in-Err g c = λ input stderr still quiet.
+pub returns-in-Err-clause-ends : goal.returns-in-Err-clause-ends
+returns-in-Err-clause-ends g c = λ input stderr still quiet.
     let settings = c.args.settings.now in
     let few : length c.as_slice.result.now ≤ 2 ^ 30 =
     subst (λ bytes. length bytes ≤ 2 ^ 30) (sym c.as_slice.ensures.value)
@@ -23,8 +23,8 @@ returns-in-Err g c = λ input stderr still quiet.
     (g.M.Caches.metered c.gathered_from.new.caches)) (IsUntouched stderr) status) (sym same)
     (record { cause = still; output = record { bytes = refl; faults = refl }; stderr = quiet })
 
-pub returns-in-Ok-summary : goal.returns-in-Ok-summary
-returns-in-Ok-summary g c = λ input stderr still quiet. record {
+pub returns-in-Ok-summary-clause-ends : goal.returns-in-Ok-summary-clause-ends
+returns-in-Ok-summary-clause-ends g c = λ input stderr still quiet. record {
   bytes = [];
   read = (still, refl);
   written = _;
@@ -44,8 +44,8 @@ returns-in-Ok-summary g c = λ input stderr still quiet. record {
   stderr = quiet;
 }
 
-pub returns : goal.returns
-returns g c = λ input stderr still quiet. record {
+pub returns-clause-ends : goal.returns-clause-ends
+returns-clause-ends g c = λ input stderr still quiet. record {
   bytes = [];
   read = (still, refl);
   written = _;

@@ -2,8 +2,8 @@ use Rattle.meter_workers.proofs.Common.{◌++◌, ◌∷◌, [], length, sym, ap
 use Rattle.meter_workers.proofs.Shares.{room-out}
 use Rattle.meter_workers.proofs.share.empty_front.Goals as goal
 
-pub put_in-requires-clause-room : goal.put_in-requires-clause-room
-put_in-requires-clause-room g c κs within =
+pub admit-requires-clause-room : goal.admit-requires-clause-room
+admit-requires-clause-room g c κs within =
     let taken = (g.C.FlowCache.shown c.loop-out.pass).note.taken in
     room-out taken (open_in c.take_out.new.self) _ c.in-Some-take_out.out
     (ap (λ l. taken ++ l) (sym c.in-Some-take_out.ensures.taken) ∙ c.loop-out.invariant.taken) c.requires.room
@@ -11,7 +11,7 @@ put_in-requires-clause-room g c κs within =
 pub loop-out-preserved : goal.loop-out-preserved
 loop-out-preserved g c =
     let i = c.loop-out.invariant in
-    let told = c.in_ok-put_in.ensures in
+    let told = c.in_ok-admit.ensures in
     let taken = (g.C.FlowCache.shown c.loop-out.pass).note.taken in
     record {
       own = told.own;

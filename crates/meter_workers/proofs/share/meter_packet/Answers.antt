@@ -2,8 +2,8 @@ use Rattle.meter_workers.proofs.Common.{[], ◌∷◌, sym, append-nil}
 use Rattle.meter_workers.proofs.Shares.{reached-alone, reached-through, room-through, on-ok}
 use Rattle.meter_workers.proofs.share.meter_packet.Goals as goal
 
-pub put_in-requires-clause-room : goal.put_in-requires-clause-room
-put_in-requires-clause-room g c κs within =
+pub admit-requires-clause-room : goal.admit-requires-clause-room
+admit-requires-clause-room g c κs within =
     let told = c.in-Some-take_in.ensures.reached in
     room-through c.in-Some.front.limits told.0 c.in-Some-take_in.out
     (g.C.FlowCache.shown c.args.pass.now).note.taken c.args.front.now c.in-Some.front c.take_in.new.self c.in-Some.is
@@ -12,11 +12,11 @@ put_in-requires-clause-room g c κs within =
 pub returns-in-Some-take_in-clause-reached : goal.returns-in-Some-take_in-clause-reached
 returns-in-Some-take_in-clause-reached g c =
     let told = c.in-Some-take_in.ensures.reached in
-    on-ok c.put_in.result (
+    on-ok c.admit.result (
       told.0,
       told.1,
       reached-through _ told.0 _ _ (c.in-Some-take_in.out ∷ []) c.args.front.now c.in-Some.front c.take_in.new.self
-          c.requires.seated.front_is c.in-Some.is told.2 c.put_in.ensures.taken,
+          c.requires.seated.front_is c.in-Some.is told.2 c.admit.ensures.taken,
     )
 
 pub returns-in-None-take_in-clause-reached : goal.returns-in-None-take_in-clause-reached
@@ -31,8 +31,8 @@ returns-in-None-take_in-clause-reached g c =
 
 pub returns-in-None-clause-reached : goal.returns-in-None-clause-reached
 returns-in-None-clause-reached g c =
-    on-ok c.put_in-in-None.result (
+    on-ok c.put_in.result (
       c.of.result,
       c.of.ensures.alone,
-      reached-alone _ c.of.result _ _ c.args.front.now c.in-None.is c.put_in-in-None.ensures.taken,
+      reached-alone _ c.of.result _ _ c.args.front.now c.in-None.is c.put_in.ensures.taken,
     )

@@ -27,7 +27,7 @@ returns-then-is_refusal-clause-complete g c = λ other is valid quiet. elim c.ma
       c.match-settings_of.stderr _ (side g.E.Sink.held g.E.Sink.faults c.args.stderr.now
       c.pipe_line-reported.new.stderr) _ _
       c.match-settings_of.status _ w.input-is w.output-is
-      w.stderr-is w.status-is w.pipe_input-status.ensures (sym c.is_refusal.ensures ∙ c.if-is_refusal.true)
+      w.stderr-is w.status-is w.pipe_input-status.ensures.ends (sym c.is_refusal.ensures ∙ c.if-is_refusal.true)
       (some-same (as_meter (piping_of w.in-Ok.settings)) other
       (sym (ap (option_map as_meter) w.in-Ok.ensures.settings) ∙ is)) valid quiet
 ]

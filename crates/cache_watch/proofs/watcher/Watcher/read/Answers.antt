@@ -1,16 +1,16 @@
 use Rattle.std.proofs.Common.{◌≡◌, List, Option, Some, None, sym, ap, ◌∙◌, subst}
 use Rattle.std.specs.Prelude.{IfSome, MatchOption, option_map}
 use Rattle.flow_parts.specs.declared.fragment.Fragment.{Fragment}
-use Rattle.cache_face.specs.Notes.{Note}
+use Rattle.cache_face.specs.Notes.{Note, first_note}
 use Rattle.pebr_core.specs.State.{Seat}
 use Rattle.pebr_words.specs.Pasts.{Read}
-use Rattle.pebr_roots.specs.Passes.{known_by_pass, past_by}
+use Rattle.pebr_roots.specs.Passes.{known_by_pass, past_by, note_by}
 use Rattle.pebr_roots.specs.Under.{slot_at}
 use Rattle.flow_cache.specs.Trying.{HasReadTen}
 use Rattle.cache_watch.specs.declared.watcher.Hold.{Hold}
 use Rattle.cache_watch.specs.Holding.{IsHolding}
 use Rattle.cache_watch.proofs.Entries.{again, still_holding}
-use Rattle.cache_watch.proofs.Watches.{goes_on}
+use Rattle.cache_watch.proofs.Watches.{goes_on, beside_seen}
 use Rattle.cache_watch.proofs.watcher.Watcher.read.Goals as goal
 
 pub unreachable-requires-in-None : goal.unreachable-requires-in-None
@@ -35,6 +35,8 @@ returns-clause-of c =
     subst (λ o. IfSome o holding) c.in-Some.is c.requires.of.holds in
     goes_on c.args.cache.now c.args.self.now _ c.requires.of c.read_entry.ensures.same
     (ap (λ (n : Note). n.seats) c.read_entry.ensures.note)
+    (beside_seen None (note_by first_note seat) (note_by first_note end) c.args.self.now.book
+    c.read_entry.ensures.note c.requires.of.beside)
     (subst (λ o. IfSome o (λ (hold : Hold). IsHolding hold.place hold.fragment (known_by_pass end) (past_by end)))
     (sym c.in-Some.is)
     (still_holding hold.place hold.fragment (known_by_pass seat) (known_by_pass end) (past_by seat)

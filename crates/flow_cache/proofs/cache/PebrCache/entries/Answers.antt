@@ -8,6 +8,8 @@ use Rattle.cache_face.specs.Notes.{Note, first_note, empty_note}
 use Rattle.pebr_core.specs.declared.kinds.Shape.{Shape}
 use Rattle.pebr_words.specs.Opening.{rows_of}
 use Rattle.pebr_roots.specs.Passes.{shape_at, fixed_at, number_by, note_by}
+use Rattle.pass_book.specs.Books.{Book}
+use Rattle.pass_book.proofs.Besides.{ended, all_borne}
 use Rattle.flow_cache.specs.Ending.{rows_at}
 use Rattle.flow_cache.proofs.Endings.{ends, on_ok}
 use Rattle.flow_cache.proofs.cache.PebrCache.entries.Goals as goal
@@ -28,11 +30,13 @@ returns c =
     let rows : rows_of shape words ≡ contents = ap (λ (s : Shape). rows_of s words) cache.shaped in
     let end = ends cache.timeouts cache.sets contents shape.seats number note c.requires.own.of.at.3
     (subst (λ cs. Keeps cache.timeouts cache.sets cs notes) rows kept) in
+    let book : Book = c.args.pass.book in
+    let whole = ended cache.timeouts note book (parts_in contents) c.requires.own.beside end.0 in
     record {
       reached = IfOk-weaker c.fragments_in.result _ _
-          (λ parts is. subst (λ (ps : List Fragment). Reaches cache.timeouts note.taken (ps ++ note.handed))
+          (λ parts is. subst (λ (ps : List Fragment). Reaches cache.timeouts book.taken (ps ++ book.handed))
           (sym (is cache.sets shape.seats ∙ ap (λ ws. parts_in (rows_at cache.sets shape.seats ws (4 * cache.sets)))
-          c.as_slice.ensures.value)) end.0)
+          c.as_slice.ensures.value)) whole)
           c.fragments_in.ensures;
-      seen = on_ok c.fragments_in.result _ end.1;
+      seen = on_ok c.fragments_in.result _ (all_borne cache.timeouts note book note.seen c.requires.own.beside end.1);
     }

@@ -4,7 +4,9 @@ use lib.ListN.{get_elem?}
 use Rattle.cache_face.specs.Laws.{CanTake}
 use Rattle.cache_face.proofs.Keeping.{taken_is_small}
 use Rattle.cache_face.specs.Meaning.{PassMeans}
-use Rattle.cache_face.specs.Notes.{Note, first_note}
+use Rattle.cache_face.specs.Notes.{Note, first_note, note_with}
+use Rattle.pass_book.specs.Books.{Book, book_with, noted, IsBeside}
+use Rattle.pass_book.proofs.Besides.{beside_put, fewer}
 use Rattle.pebr_words.specs.Pasts.{Lost}
 use Rattle.pebr_roots.specs.Passes.{shape_at, known_by_pass, number_by, note_by, past_by, lost_by}
 use Rattle.flow_cache.specs.Reading.{entries_read, set_read, written_in}
@@ -22,7 +24,8 @@ put_in-lost-requires-clause-own g c =
     let can : CanTake (note_by first_note c.args.pass.now.inner) c.args.part.now = record {
       single = c.requires.single;
       bounded = c.requires.octets;
-      room = c.requires.room;
+      room = (let few = fewer (note_by first_note c.args.pass.now.inner) c.args.pass.now.book c.requires.own.beside in
+          let room = c.requires.room in omega (arith, few, room));
     } in
     subst (λ (note : Note). IsOwn c.args.self.now.sets c.set_of-set.result note c.args.part.now)
     (sym c.make_room.ensures.note) (record {
@@ -40,13 +43,20 @@ returns-clause-own g c =
           ∙ ap (λ (n : Note). n.seats) c.make_room.ensures.note ∙ c.requires.own.seats ∙ sym (put.3 ∙ room.3);
       united = λ place held at. c.requires.own.united place held
           (ap (λ (l : List _). get_elem? l place) (sym (put.4 ∙ room.4)) ∙ at);
+      beside = subst (λ (b : Book). IsBeside (note_by first_note c.put_in-lost.new.pass) b) (sym c.put.ensures)
+          (subst (λ (n : Note). IsBeside n (book_with c.args.pass.now.book c.args.part.now
+          c.put_in-lost.new.metered.out))
+          (sym (c.put_in-lost.ensures.note
+          ∙ ap (λ (n : Note). note_with n c.args.part.now c.put_in-lost.new.metered.out) c.make_room.ensures.note))
+          (beside_put (note_by first_note c.args.pass.now.inner) c.args.pass.now.book c.args.part.now
+          c.put_in-lost.new.metered.out c.requires.own.beside));
     }
 
 pub returns-clause-answer : goal.returns-clause-answer
 returns-clause-answer g c =
     let past = past_by c.put_in-lost.new.pass in
     let now : PassMeans = record {
-      note = note_by first_note c.put_in-lost.new.pass;
+      note = noted (note_by first_note c.put_in-lost.new.pass) c.put.new.self;
       set = set_read past.loads;
       entries = entries_read past (set_read past.loads);
       written = written_in past.put;

@@ -6,6 +6,7 @@ use Rattle.flow_parts.specs.declared.timeouts.Timeouts.{Timeouts}
 use Rattle.flow_parts.specs.declared.fragment.Fragment.{Fragment}
 use Rattle.flow_parts.specs.Reaching.{Reaches}
 use Rattle.flow_parts.proofs.Reaching.{turned, shared}
+use Rattle.turn_cache.specs.Shown.{shown_of}
 use Rattle.turn_cache.proofs.face.TurnCachesCaches.close.Goals as goal
 
 -- the fragments that were handed out stand first
@@ -21,7 +22,7 @@ handed_reached limits taken entries handed given all same is reached =
 
 pub returns-clause-reached : goal.returns-clause-reached
 returns-clause-reached c =
-    let note = c.args.pass.seat.me.0.note in
+    let note = (shown_of c.args.pass).note in
     let limits = c.args.cache.timeouts in
     on_ok_weaker c.closed_with.result
     (λ is. handed_reached limits note.taken c.in_ok-entries.entries.items note.handed c.args.handed _
@@ -29,7 +30,7 @@ returns-clause-reached c =
 
 pub returns-clause-shared : goal.returns-clause-shared
 returns-clause-shared c =
-    let note = c.args.pass.seat.me.0.note in
+    let note = (shown_of c.args.pass).note in
     let limits = c.args.cache.timeouts in
     on_ok_weaker c.closed_with.result
     (λ is packets shares. shared limits packets note.taken _
