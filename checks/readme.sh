@@ -102,7 +102,7 @@ capture() {
 pcapng() {
     editcap -F pcapng examples/web-exchange.pcap mine.pcapng &&
         sed -n 's/.*`\(romtyalig-pcapng pcapng <[^`]*\)`.*/\1/p' "$top/README.md" | typed out &&
-        cmp flows.ipfix examples/web-exchange.ipfix
+        bin/romtyalig meter <mine.pcap 2>stderr | cmp - examples/web-exchange.ipfix
 }
 
 cut() {
