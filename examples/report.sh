@@ -384,12 +384,12 @@ answers() {
     # its own, and later IP fragments have no ports. All biflows less those that are answered are one way.
     mlr --icsv --ocsv --headerless-csv-output put -q '
         begin {
-            for (name in ["answered", "not answered", "one way, TCP without SYN", "one way, later IP fragments"]) { @count[name] = 0 }
+            for (name in ["answered", "not answered", "one-way TCP without SYN", "one-way later IP fragments"]) { @count[name] = 0 }
         }
         ported = $protocol == 6 || $protocol == 17;
         kind = "not answered";
-        if ($protocol == 6 && $flags & 2 == 0) { kind = "one way, TCP without SYN" }
-        if (ported && $source_port == 0 && $destination_port == 0) { kind = "one way, later IP fragments" }
+        if ($protocol == 6 && $flags & 2 == 0) { kind = "one-way TCP without SYN" }
+        if (ported && $source_port == 0 && $destination_port == 0) { kind = "one-way later IP fragments" }
         if (FILENAME =~ "answered.csv$") {
             @count[kind] -= 1;
             @count["answered"] += 1;
