@@ -25,7 +25,7 @@ refuse() {
 title="Flow report" idle='' active=''
 while [[ ${1:-} == -?* ]]; do
     case $1 in
-        --help)
+        -h | --help)
             sed -n '2,/^set/{/^set/d;s/^# \{0,1\}//;p}' "$0"
             exit 0
             ;;
@@ -464,7 +464,14 @@ th.number { white-space: normal; }
 .wide td { text-align: right; white-space: nowrap; }
 summary { color: var(--soft); font-size: .85rem; }
 i, b { print-color-adjust: exact; -webkit-print-color-adjust: exact; }
+@media (max-width: 34rem) {
+  body { padding: .6rem; }
+  section { padding: .6rem; overflow-x: auto; }
+  #protocols { font-size: .75rem; }
+  #protocols td:first-child { width: 30%; }
+}
 @media print {
+  section { overflow-x: visible; }
   :root { --page: #fff; --text: #000; --soft: #444; --line: #bbb; --bar: #cfe0ef; --box: #fff; color-scheme: light; }
   body { max-width: none; padding: 0; font-size: 10pt; }
 }
