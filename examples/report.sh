@@ -472,6 +472,7 @@ i, b { print-color-adjust: exact; -webkit-print-color-adjust: exact; }
 }
 @media print {
   section { overflow-x: visible; }
+  svg { max-width: 27rem; }
   :root { --page: #fff; --text: #000; --soft: #444; --line: #bbb; --bar: #cfe0ef; --box: #fff; color-scheme: light; }
   body { max-width: none; padding: 0; font-size: 10pt; }
 }
