@@ -25,7 +25,7 @@ refuse() {
 title="Flow report" idle='' active=''
 while [[ ${1:-} == -?* ]]; do
     case $1 in
-        --help)
+        -h | --help)
             sed -n '2,/^set/{/^set/d;s/^# \{0,1\}//;p}' "$0"
             exit 0
             ;;
@@ -384,12 +384,12 @@ answers() {
     # its own, and later IP fragments have no ports. All biflows less those that are answered are one way.
     mlr --icsv --ocsv --headerless-csv-output put -q '
         begin {
-            for (name in ["answered", "not answered", "one way, TCP without SYN", "one way, later IP fragments"]) { @count[name] = 0 }
+            for (name in ["answered", "not answered", "one-way TCP without SYN", "one-way later IP fragments"]) { @count[name] = 0 }
         }
         ported = $protocol == 6 || $protocol == 17;
         kind = "not answered";
-        if ($protocol == 6 && $flags & 2 == 0) { kind = "one way, TCP without SYN" }
-        if (ported && $source_port == 0 && $destination_port == 0) { kind = "one way, later IP fragments" }
+        if ($protocol == 6 && $flags & 2 == 0) { kind = "one-way TCP without SYN" }
+        if (ported && $source_port == 0 && $destination_port == 0) { kind = "one-way later IP fragments" }
         if (FILENAME =~ "answered.csv$") {
             @count[kind] -= 1;
             @count["answered"] += 1;
@@ -464,7 +464,15 @@ th.number { white-space: normal; }
 .wide td { text-align: right; white-space: nowrap; }
 summary { color: var(--soft); font-size: .85rem; }
 i, b { print-color-adjust: exact; -webkit-print-color-adjust: exact; }
+@media (max-width: 34rem) {
+  body { padding: .6rem; }
+  section { padding: .6rem; overflow-x: auto; }
+  #protocols { font-size: .75rem; }
+  #protocols td:first-child { width: 30%; }
+}
 @media print {
+  section { overflow-x: visible; }
+  svg { max-width: 27rem; }
   :root { --page: #fff; --text: #000; --soft: #444; --line: #bbb; --bar: #cfe0ef; --box: #fff; color-scheme: light; }
   body { max-width: none; padding: 0; font-size: 10pt; }
 }
