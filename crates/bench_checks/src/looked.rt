@@ -43,6 +43,10 @@ impl FlowCache for LookedCache {
         metered
     }
 
+    fn bypass(&self, pass: &mut LookedPass, fragment: &Fragment) {
+        self.inner.bypass(&mut pass.inner, fragment);
+    }
+
     fn unite(&self, first: LookedPass, second: LookedPass) -> LookedPass {
         let LookedPass { inner, most } = first;
         let LookedPass {
