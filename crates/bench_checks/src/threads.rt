@@ -15,13 +15,17 @@ use std::process::ExitCode;
 use std::thread::Threads;
 use turn_cache::TurnCaches;
 
-/// Whether the fragments have the packets and the octets of the tally; `None` where the capture isn't metered.
-fn is_whole<R: Threads + Sync>(rt: &R, alloc: Global, bytes: &[u8]) -> Option<bool>
+/// Whether the fragments have the packets and the octets of the tally; `None` if the capture isn't metered.
+fn is_whole<R: Threads + Sync, M: Caches>(
+    rt: &R,
+    alloc: Global,
+    bytes: &[u8],
+    caches: &mut M,
+) -> Option<bool>
     requires { length bytes.now ≤ 2 ^ 30 }
 {
     let capture = Capture::open(bytes).ok()?;
     let index = capture.index(alloc).ok()?;
-    let mut caches = TurnCaches::new();
     let (cache, passes) = caches.open(alloc, 4, 2, Timeouts::new(300, 1800)).ok()?;
     let part = Part {
         capture,
@@ -51,7 +55,7 @@ fn check_source<R: Threads + Sync, S: Source>(
     input: &mut S,
 ) -> Option<bool> {
     let bytes = read_all(alloc, input, CAPTURE_LIMIT).ok()?;
-    is_whole(rt, alloc, bytes.as_slice())
+    is_whole(rt, alloc, bytes.as_slice(), &mut TurnCaches::new())
 }
 
 /// Checks the capture of standard input; the words are `threads` alone.

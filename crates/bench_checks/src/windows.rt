@@ -48,13 +48,13 @@ fn setting_of(words: &[String]) -> Option<Setting> {
 }
 
 /// The tally of the capture of a source, once it is metered.
-fn meter_source<R: Threads + Sync, S: Source>(
+fn meter_source<R: Threads + Sync, S: Source, M: Caches>(
     rt: &R,
     alloc: Global,
     input: &mut S,
     setting: Setting,
+    caches: &mut M,
 ) -> Option<Tally> {
-    let mut caches = TurnCaches::new();
     let limits = Timeouts::new(300, 1800);
     let (cache, passes) = caches
         .open(alloc, setting.sets, setting.workers, limits)
@@ -95,7 +95,7 @@ pub(crate) fn tell_windows<R: Threads + Sync>(
         return ExitCode::from(2);
     };
     let mut input = StdSource::new(host.stdin());
-    match meter_source(rt, host.alloc(), &mut input, setting) {
+    match meter_source(rt, host.alloc(), &mut input, setting, &mut TurnCaches::new()) {
         Some(tally) => {
             let (records, packets, octets) = (tally.captured, tally.accepted, tally.octets);
             match println!(host; "records {records} packets {packets} octets {octets}") {

@@ -65,7 +65,7 @@ fn all_of(alloc: Global, pieces: &[Vec<Fragment>]) -> Result<Vec<Fragment>, Fail
     Ok(all)
 }
 
-/// Meters what a source gives, and gathers the records.
+/// Meters what a source gives through a turn cache, and gathers the records.
 fn meter_source<R: Threads + Sync, S: Source, G: Gate>(
     rt: &R,
     alloc: Global,
@@ -78,6 +78,23 @@ fn meter_source<R: Threads + Sync, S: Source, G: Gate>(
     requires piece { (0 < setting.piece) × (setting.piece ≤ 65536) }
     requires limit { setting.limit ≤ 2 ^ 30 }
 {
+    let engine = Engine { rt, alloc, gate };
+    meter_through(&engine, source, setting, &mut TurnCaches::new())
+}
+
+/// The same through one of these caches.
+fn meter_through<R: Threads + Sync, S: Source, G: Gate, M: Caches>(
+    engine: &Engine<'_, R, G>,
+    source: &mut S,
+    setting: Setting,
+    caches: &mut M,
+) -> Result<Result<Outcome, MeterFault>, Fail>
+    requires seats { (1 ≤ setting.seats) × (setting.seats ≤ 64) }
+    requires window { (262184 ≤ setting.window) × (setting.window ≤ 2 ^ 27) }
+    requires piece { (0 < setting.piece) × (setting.piece ≤ 65536) }
+    requires limit { setting.limit ≤ 2 ^ 30 }
+{
+    let (rt, alloc) = (engine.rt, engine.alloc);
     let Setting {
         seats,
         window,
@@ -85,7 +102,6 @@ fn meter_source<R: Threads + Sync, S: Source, G: Gate>(
         limit,
     } = setting;
     let limits = Timeouts::new(300, 1800);
-    let mut caches = TurnCaches::new();
     let (cache, passes) = caches.open(alloc, 4096, seats, limits)?;
     let windows = Windows {
         size: window,
@@ -93,8 +109,7 @@ fn meter_source<R: Threads + Sync, S: Source, G: Gate>(
         piece,
         front: Some(limits),
     };
-    let engine = Engine { rt, alloc, gate };
-    let done = meter_windows(&engine, source, &cache, passes, windows);
+    let done = meter_windows(engine, source, &cache, passes, windows);
     let metered = match done {
         Ok(metered) => metered,
         Err(fault) => return Ok(Err(fault)),

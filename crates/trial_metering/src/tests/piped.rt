@@ -88,7 +88,7 @@ fn run<S: Source, C: FlowCache, G: Gate, R: Threads + Wait + Sync>(
     meter_batches(engine, source, cache, passes, batches)
 }
 
-/// Meters a capture, and adds up what the cache kept of it.
+/// Meters a capture, and adds up what a turn cache kept of it.
 fn meter_capture<G: Gate, R: Threads + Wait + Sync>(
     rt: &R,
     alloc: Global,
@@ -101,13 +101,28 @@ fn meter_capture<G: Gate, R: Threads + Wait + Sync>(
     requires window { (262184 ≤ setting.window) × (setting.window ≤ 4194304) }
     requires limit { setting.limit ≤ 2 ^ 30 }
 {
+    let engine = Engine { rt, alloc, gate };
+    meter_through(&engine, bytes, setting, &mut TurnCaches::new())
+}
+
+/// The same through one of these caches.
+fn meter_through<G: Gate, R: Threads + Wait + Sync, M: Caches>(
+    engine: &Engine<'_, R, G>,
+    bytes: &[u8],
+    setting: Setting,
+    caches: &mut M,
+) -> Result<Result<Outcome, MeterFault>, Fail>
+    requires passes { (3 ≤ setting.passes) × (setting.passes ≤ 64) }
+    requires room { setting.room ≤ 64 }
+    requires window { (262184 ≤ setting.window) × (setting.window ≤ 4194304) }
+    requires limit { setting.limit ≤ 2 ^ 30 }
+{
+    let alloc = engine.alloc;
     let fails = [setting.fails];
     let mut source = MemSource::new(bytes, 100_000, fails.as_slice());
     let limits = Timeouts::new(300, 1800);
-    let mut caches = TurnCaches::new();
     let (cache, passes) = caches.open(alloc, 4096, setting.passes, limits)?;
-    let engine = Engine { rt, alloc, gate };
-    let metered = match run(&engine, &mut source, &cache, passes, limits, setting) {
+    let metered = match run(engine, &mut source, &cache, passes, limits, setting) {
         Ok(metered) => metered,
         Err(fault) => return Ok(Err(fault)),
     };
