@@ -1,0 +1,58 @@
+//! The programs as commands of `clap`.
+
+use crate::program::{CommandText, OptionText, Program, VERSION};
+use clap::{Arg, ArgAction, Command, value_parser};
+use no_memory::NoMemory;
+use std::alloc::Global;
+
+/// An option as an argument of `clap`, which checks its range as far as it is one of `i64`.
+fn argument(alloc: Global, option: &'static OptionText) -> Arg<'static> {
+    let argument = Arg::new(alloc, option.name)
+        .long(option.name)
+        .value_name(option.value)
+        .help(option.about)
+        .long_help(option.range)
+        .action(ArgAction::Set)
+        .required(option.is_required);
+    if option.high > i64::MAX as u64 {
+        argument.value_parser(value_parser!(u64))
+    } else {
+        argument.value_parser(value_parser!(u64).range(option.low as i64..=option.high as i64))
+    }
+}
+
+/// A command of a program, under a name.
+pub(crate) fn command_of(
+    alloc: Global,
+    name: &'static str,
+    text: &'static CommandText,
+) -> Result<Command<'static>, NoMemory> {
+    let mut command = Command::new(alloc, name)
+        .about(text.about)
+        .after_help(text.details)
+        .disable_version_flag(true);
+    for option in text.options {
+        command = command.arg(argument(alloc, option))?;
+    }
+    if text.has_files {
+        let files = Arg::new(alloc, "FILE")
+            .num_args(1..)
+            .required(true)
+            .help("IPFIX streams; - is standard input");
+        command = command.arg(files)?;
+    }
+    Ok(command)
+}
+
+/// A program of several commands.
+pub(crate) fn program_of(alloc: Global, program: &'static Program) -> Result<Command<'static>, NoMemory> {
+    let mut whole = Command::new(alloc, program.name)
+        .about(program.about)
+        .version(VERSION)
+        .after_help(program.details)
+        .subcommand_required(true);
+    for text in program.commands {
+        whole = whole.subcommand(command_of(alloc, text.word, text)?)?;
+    }
+    Ok(whole)
+}
