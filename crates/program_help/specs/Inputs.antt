@@ -1,6 +1,6 @@
 -- What an input is, by its first octets.
 use Rattle.std.specs.Prelude.{ℕ, Bool, ◌||◌, ◌==◌, if◌then◌else◌, List, [], ◌∷◌}
-use Rattle.core.specs.List.{starts_with}
+use Rattle.std.specs.List.{starts_with}
 use Rattle.program_help.specs.declared.input.InputKind.{InputKind}
 use Rattle.program_help.specs.declared.input.InputKind.TheVariants.{Nothing, Capture, Pcapng, Stream, Gzip, Zstd, Xz, Bzip2, Unknown}
 

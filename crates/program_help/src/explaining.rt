@@ -102,7 +102,7 @@ fn tell_link(rt: &HostRuntime, program: &Program, link: u32) {
 }
 
 /// Writes to standard error why words that can't be read as text are refused, and where to look.
-pub fn explain_words(rt: &HostRuntime, program: &'static Program) {
+pub fn explain_words(rt: &HostRuntime, program: &Program) {
     tell(rt, program, "a word of the command line is not UTF-8");
     tell_help(rt, program, &[]);
 }
@@ -111,7 +111,7 @@ pub fn explain_words(rt: &HostRuntime, program: &'static Program) {
 /// and a colon. A closed pipe stays silent. What can't be written, or finds no memory, is left out.
 pub fn explain(
     rt: &HostRuntime,
-    program: &'static Program,
+    program: &Program,
     words: &[String],
     cause: Cause,
     faults: &Faults<'_>,

@@ -55,11 +55,11 @@ fn tell_message(rt: &HostRuntime, program: &Program, message: &str) {
 }
 
 /// Tells what is wrong with the words of a command, by `clap`.
-fn tell_by_parser(
+fn tell_by_parser<'a>(
     rt: &HostRuntime,
-    program: &'static Program,
-    text: Option<&'static CommandText>,
-    words: &[String],
+    program: &'a Program,
+    text: Option<&'a CommandText>,
+    words: &'a [String],
 ) -> Result<(), NoMemory> {
     let alloc: Global = rt.alloc();
     let command = match text {
@@ -104,16 +104,17 @@ fn tell_operand(
 }
 
 /// Tells which word of a faulty command line is wrong, and why.
-pub(crate) fn tell_mistake(
+pub(crate) fn tell_mistake<'a>(
     rt: &HostRuntime,
-    program: &'static Program,
-    words: &[String],
+    program: &'a Program,
+    words: &'a [String],
 ) -> Result<(), NoMemory> {
     let Some((first, others)) = words.split_first() else {
         tell(rt, program, "no command is given");
         return Ok(());
     };
-    let Some(text) = program.command(first.as_str()) else {
+    let found: Option<&'a CommandText> = program.command(first.as_str());
+    let Some(text) = found else {
         if first.as_str().contains('.') {
             let alloc: Global = rt.alloc();
             let name = program.name;
@@ -126,5 +127,6 @@ pub(crate) fn tell_mistake(
     if tell_operand(rt, program, text, others)? {
         return Ok(());
     }
-    tell_by_parser(rt, program, Some(text), others)
+    let command: Option<&'a CommandText> = Some(text);
+    tell_by_parser(rt, program, command, others)
 }

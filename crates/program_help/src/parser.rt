@@ -6,7 +6,7 @@ use no_memory::NoMemory;
 use std::alloc::Global;
 
 /// An option as an argument of `clap`, which checks its range as far as it is one of `i64`.
-fn argument(alloc: Global, option: &'static OptionText) -> Arg<'static> {
+fn argument<'a>(alloc: Global, option: &'a OptionText) -> Arg<'a> {
     let argument = Arg::new(alloc, option.name)
         .long(option.name)
         .value_name(option.value)
@@ -22,11 +22,11 @@ fn argument(alloc: Global, option: &'static OptionText) -> Arg<'static> {
 }
 
 /// A command of a program, under a name.
-pub(crate) fn command_of(
+pub(crate) fn command_of<'a>(
     alloc: Global,
-    name: &'static str,
-    text: &'static CommandText,
-) -> Result<Command<'static>, NoMemory> {
+    name: &'a str,
+    text: &'a CommandText,
+) -> Result<Command<'a>, NoMemory> {
     let mut command = Command::new(alloc, name)
         .about(text.about)
         .after_help(text.details)
@@ -45,7 +45,7 @@ pub(crate) fn command_of(
 }
 
 /// A program of several commands.
-pub(crate) fn program_of(alloc: Global, program: &'static Program) -> Result<Command<'static>, NoMemory> {
+pub(crate) fn program_of<'a>(alloc: Global, program: &'a Program) -> Result<Command<'a>, NoMemory> {
     let mut whole = Command::new(alloc, program.name)
         .about(program.about)
         .version(VERSION)

@@ -58,7 +58,7 @@ pub const VERSION: &str = "0.9.0";
 
 impl Program {
     /// The command of this word.
-    pub fn command(&self, word: &str) -> Option<&'static CommandText> {
+    pub fn command<'a>(&'a self, word: &str) -> Option<&'a CommandText> {
         for command in self.commands {
             if command.word == word {
                 return Some(command);
@@ -68,7 +68,7 @@ impl Program {
     }
 
     /// The one command, if there is one alone.
-    pub fn only_command(&self) -> Option<&'static CommandText> {
+    pub fn only_command<'a>(&'a self) -> Option<&'a CommandText> {
         match self.commands {
             [command] => Some(command),
             _ => None,

@@ -36,10 +36,10 @@ fn write_text(rt: &HostRuntime, text: &str) -> ExitCode {
 }
 
 /// The help of a program, or of one of its commands.
-fn help_text(
+fn help_text<'a>(
     alloc: Global,
-    program: &'static Program,
-    command: Option<&'static CommandText>,
+    program: &'a Program,
+    command: Option<&'a CommandText>,
 ) -> Result<String, NoMemory> {
     let text = match command {
         Some(text) => {
@@ -56,7 +56,7 @@ fn help_text(
 }
 
 /// Answers a request for help.
-fn help(rt: &HostRuntime, program: &'static Program, command: Option<&'static CommandText>) -> ExitCode {
+fn help<'a>(rt: &HostRuntime, program: &'a Program, command: Option<&'a CommandText>) -> ExitCode {
     match help_text(rt.alloc(), program, command) {
         Ok(text) => write_text(rt, text.as_str()),
         Err(_) => ExitCode::from(NO_MEMORY),
@@ -82,7 +82,7 @@ fn is_in_the_way(rt: &HostRuntime, program: &Program, command: &CommandText) -> 
     if let Some(awaited) = command.awaits {
         if rt.stdin().is_terminal() {
             let alloc: Global = rt.alloc();
-            if let Ok(line) = format!(in alloc; "awaiting {awaited} on standard input, which is a terminal: add < FILE") {
+            if let Ok(line) = format!(in alloc; "waiting for {awaited} on standard input, a terminal; add < FILE, or end it by Ctrl-D") {
                 tell(rt, program, line.as_str());
             }
         }
@@ -91,7 +91,7 @@ fn is_in_the_way(rt: &HostRuntime, program: &Program, command: &CommandText) -> 
 }
 
 /// What a program is to do with words that aren't a request for help.
-fn begin_run(rt: &HostRuntime, program: &'static Program, words: Vec<String>) -> Start {
+fn begin_run(rt: &HostRuntime, program: &Program, words: Vec<String>) -> Start {
     let words = match program.only_command() {
         Some(command) => match with_command(rt.alloc(), words, command.word) {
             Ok(words) => words,
@@ -112,7 +112,7 @@ fn begin_run(rt: &HostRuntime, program: &'static Program, words: Vec<String>) ->
 /// What a program is to do with its command line. A request for help or for the version is answered on standard output,
 /// with status 0. The command's word is put in front if the program has one command and it was left out. A command that
 /// writes octets which aren't text refuses a terminal as standard output, with status 2, before it reads anything.
-pub fn begin(rt: &HostRuntime, program: &'static Program) -> Start {
+pub fn begin(rt: &HostRuntime, program: &Program) -> Start {
     let words = match words_of(rt) {
         Ok(words) => words,
         Err(error) => return Start::Refuse(error),
