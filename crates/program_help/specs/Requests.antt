@@ -1,5 +1,5 @@
 -- What the words behind a program's name ask for.
-use Rattle.std.specs.Prelude.{ℕ, Bool, ◌||◌, if◌then◌else◌, List, [], ◌∷◌, codes}
+use Rattle.std.specs.Prelude.{ℕ, Bool, false, ◌||◌, if◌then◌else◌, List, [], ◌∷◌, codes}
 use Rattle.std.specs.Str.{bytes_eq}
 use Rattle.program_help.specs.declared.request.Request.{Request}
 use Rattle.program_help.specs.declared.request.Request.TheVariants.{Help, HelpOf, Version, Run}
@@ -30,8 +30,11 @@ request_of [] = Run
 request_of (first ∷ []) = request_by_word first
 request_of (first ∷ (second ∷ words)) = request_by_words first second
 
+-- Whether the first word is the command's.
+abbrev pub is_in_front : List ℕ → List (List ℕ) → Bool
+is_in_front command [] = false
+is_in_front command (first ∷ words) = bytes_eq first command
+
 -- The words with the command's in front, if that isn't the first one already.
 abbrev pub with_command : List ℕ → List (List ℕ) → List (List ℕ)
-with_command command [] = command ∷ []
-with_command command (first ∷ words) =
-    if bytes_eq first command then first ∷ words else command ∷ (first ∷ words)
+with_command command words = if is_in_front command words then words else command ∷ words

@@ -78,7 +78,7 @@ fn tell_help(rt: &HostRuntime, program: &Program, words: &[String]) {
 }
 
 /// Tells what the system said of a read or a write that failed.
-fn tell_error(rt: &HostRuntime, program: &Program, what: &str, error: Option<Error>) {
+pub(crate) fn tell_error(rt: &HostRuntime, program: &Program, what: &str, error: Option<Error>) {
     let Some(error) = error else {
         return;
     };

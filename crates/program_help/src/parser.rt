@@ -14,10 +14,9 @@ fn argument<'a>(alloc: Global, option: &'a OptionText) -> Arg<'a> {
         .long_help(option.range)
         .action(ArgAction::Set)
         .required(option.is_required);
-    if option.high > i64::MAX as u64 {
-        argument.value_parser(value_parser!(u64))
-    } else {
-        argument.value_parser(value_parser!(u64).range(option.low as i64..=option.high as i64))
+    match (i64::try_from(option.low), i64::try_from(option.high)) {
+        (Ok(low), Ok(high)) => argument.value_parser(value_parser!(u64).range(low..=high)),
+        _ => argument.value_parser(value_parser!(u64)),
     }
 }
 

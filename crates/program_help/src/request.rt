@@ -2,7 +2,8 @@
 
 ghost use Rattle.std.specs.Prelude.{◌≡◌, IfOk, map, codes};
 ghost use Rattle.std.specs.String.{string_bytes};
-ghost use Rattle.program_help.specs.Requests.{request_of, is_help_word, is_help_option, is_version_word, with_command};
+ghost use Rattle.program_help.specs.Requests.{request_of, is_help_word, is_help_option, is_version_word, is_in_front};
+ghost use Rattle.program_help.specs.Requests.{with_command};
 
 use no_memory::NoMemory;
 use std::alloc::Global;
@@ -72,6 +73,16 @@ pub fn request_of(words: &[String]) -> Request
     }
 }
 
+/// Whether the first word is this one.
+fn is_in_front(words: &[String], command: &str) -> bool
+    ensures { result ≡ is_in_front command.now (map string_bytes words.now) }
+{
+    match words {
+        [] => false,
+        [first, ..] => first.as_str() == command,
+    }
+}
+
 /// The words with the command's in front, if that isn't the first one already.
 ///
 /// # Errors
@@ -80,15 +91,10 @@ pub fn request_of(words: &[String]) -> Request
 pub fn with_command(alloc: Global, words: Vec<String>, command: &str) -> Result<Vec<String>, NoMemory>
     ensures { IfOk result (λ whole. map string_bytes whole.items ≡ with_command command.now (map string_bytes words.items)) }
 {
-    if let Some(first) = words.first() {
-        if first.as_str() == command {
-            return Ok(words);
-        }
+    if is_in_front(words.as_slice(), command) {
+        return Ok(words);
     }
-    let mut whole = Vec::new(alloc);
-    whole.push(String::from_str(alloc, command)?)?;
-    for word in words {
-        whole.push(word)?;
-    }
+    let mut whole = words;
+    whole.insert(0, String::from_str(alloc, command)?)?;
     Ok(whole)
 }

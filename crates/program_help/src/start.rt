@@ -1,5 +1,6 @@
 //! What comes before a run.
 
+use crate::explaining::tell_error;
 use crate::lines::tell;
 use crate::parser::{command_of, program_of};
 use crate::program::{CommandText, Program, VERSION};
@@ -28,10 +29,13 @@ pub enum Start {
 }
 
 /// Writes a text to standard output. The exit status.
-fn write_text(rt: &HostRuntime, text: &str) -> ExitCode {
+fn write_text(rt: &HostRuntime, program: &Program, text: &str) -> ExitCode {
     match print!(rt; "{text}") {
         Ok(()) => ExitCode::from(0),
-        Err(_) => ExitCode::from(WRITE_FAULT),
+        Err(error) => {
+            tell_error(rt, program, "write the output", Some(error));
+            ExitCode::from(WRITE_FAULT)
+        }
     }
 }
 
@@ -58,7 +62,7 @@ fn help_text<'a>(
 /// Answers a request for help.
 fn help<'a>(rt: &HostRuntime, program: &'a Program, command: Option<&'a CommandText>) -> ExitCode {
     match help_text(rt.alloc(), program, command) {
-        Ok(text) => write_text(rt, text.as_str()),
+        Ok(text) => write_text(rt, program, text.as_str()),
         Err(_) => ExitCode::from(NO_MEMORY),
     }
 }
