@@ -39,8 +39,10 @@ fn input_hint(kind: InputKind) -> &'static str {
     match kind {
         InputKind::Nothing => "the input has no octets at all",
         InputKind::Capture => "the input is a capture; it is read by: romtyalig meter < FILE",
-        InputKind::Pcapng => "the input is pcapng; it is read by: romtyalig-pcapng < FILE | romtyalig meter",
-        InputKind::Stream => "the input looks like an IPFIX stream; it is read by: romtyalig show < FILE",
+        InputKind::Pcapng =>
+            "the input is pcapng; it is read by: romtyalig-pcapng < FILE | romtyalig meter",
+        InputKind::Stream =>
+            "the input looks like an IPFIX stream; it is read by: romtyalig show < FILE",
         InputKind::Gzip => "the input is compressed by gzip; first: zcat FILE |",
         InputKind::Zstd => "the input is compressed by zstd; first: zstdcat FILE |",
         InputKind::Xz => "the input is compressed by xz; first: xzcat FILE |",
@@ -69,7 +71,10 @@ fn tell_help(rt: &HostRuntime, program: &Program, words: &[String]) {
         None => None,
     };
     let line = match command {
-        Some(text) if program.only_command().is_none() => format!(in alloc; "try '{name} {} --help'", text.word),
+        Some(text) if program.only_command().is_none() => format!(in alloc;
+            "try '{name} {} --help'",
+            text.word
+        ),
         _ => format!(in alloc; "try '{name} --help'"),
     };
     if let Ok(line) = line {
@@ -94,9 +99,12 @@ pub(crate) fn tell_error(rt: &HostRuntime, program: &Program, what: &str, error:
 /// Tells which recipe reads a link type.
 fn tell_link(rt: &HostRuntime, program: &Program, link: u32) {
     let hint = match link {
-        0 | 108 => "BSD loopback; see 'Other link types' in OPERATORS: its link header is cut off by editcap",
-        276 => "Linux cooked, version 2, what 'tcpdump -i any' writes; see 'Other link types' in OPERATORS",
-        _ => "read are 1 (Ethernet), 101 (IP) and 113 (Linux cooked, version 1); see 'Other link types' in OPERATORS",
+        0 | 108 =>
+            "BSD loopback; see 'Other link types' in OPERATORS: its link header is cut off by editcap",
+        276 =>
+            "Linux cooked, version 2, what 'tcpdump -i any' writes; see 'Other link types' in OPERATORS",
+        _ =>
+            "read are 1 (Ethernet), 101 (IP) and 113 (Linux cooked, version 1); see 'Other link types' in OPERATORS",
     };
     tell(rt, program, hint);
 }

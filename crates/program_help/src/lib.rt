@@ -20,7 +20,6 @@ mod program;
 mod programs;
 mod request;
 mod start;
-
 #[cfg(test)]
 mod tests;
 

@@ -87,7 +87,9 @@ fn tell_operand(
         let Some(word) = option_behind_files(words) else {
             return Ok(false);
         };
-        let line = format!(in alloc; "'{word}' stands behind a file: options come first, as in {name} --idle 60 FILE..")?;
+        let line = format!(in alloc;
+            "'{word}' stands behind a file: options come first, as in {name} --idle 60 FILE.."
+        )?;
         tell(rt, program, line.as_str());
         return Ok(true);
     }
@@ -96,7 +98,9 @@ fn tell_operand(
     };
     let line = match text.awaits {
         Some(awaited) => format!(in alloc;
-            "'{word}' is not expected: {awaited} comes on standard input, as in {name} {} < {word}", text.word)?,
+            "'{word}' is not expected: {awaited} comes on standard input, as in {name} {} < {word}",
+            text.word
+        )?,
         None => format!(in alloc; "'{word}' is not expected: {} reads nothing", text.word)?,
     };
     tell(rt, program, line.as_str());
@@ -118,7 +122,9 @@ pub(crate) fn tell_mistake<'a>(
         if first.as_str().contains('.') {
             let alloc: Global = rt.alloc();
             let name = program.name;
-            let line = format!(in alloc; "'{first}' is no command: a capture comes on standard input, as in {name} meter < {first}")?;
+            let line = format!(in alloc;
+                "'{first}' is no command: a capture comes on standard input, as in {name} meter < {first}"
+            )?;
             tell(rt, program, line.as_str());
             return Ok(());
         }

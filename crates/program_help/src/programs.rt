@@ -11,6 +11,7 @@ const IDLE: OptionText = OptionText {
     range: "1 to 86400, by default 300",
     is_required: false,
 };
+
 const ACTIVE: OptionText = OptionText {
     name: "active",
     value: "SECONDS",
@@ -20,6 +21,7 @@ const ACTIVE: OptionText = OptionText {
     range: "1 to 86400, by default 1800",
     is_required: false,
 };
+
 const SIZE: OptionText = OptionText {
     name: "size",
     value: "OCTETS",
@@ -29,6 +31,7 @@ const SIZE: OptionText = OptionText {
     range: "116 to 65535, by default 1400",
     is_required: false,
 };
+
 const SETS: OptionText = OptionText {
     name: "sets",
     value: "COUNT",
@@ -38,6 +41,7 @@ const SETS: OptionText = OptionText {
     range: "1 to 65536, by default 4096",
     is_required: false,
 };
+
 const WORKERS: OptionText = OptionText {
     name: "workers",
     value: "COUNT",
@@ -47,6 +51,7 @@ const WORKERS: OptionText = OptionText {
     range: "1 to 64, by default 1",
     is_required: false,
 };
+
 const PIECE: OptionText = OptionText {
     name: "piece",
     value: "RECORDS",
@@ -56,6 +61,7 @@ const PIECE: OptionText = OptionText {
     range: "1 to 65536, by default 256",
     is_required: false,
 };
+
 const SEED: OptionText = OptionText {
     name: "seed",
     value: "NUMBER",
@@ -65,6 +71,7 @@ const SEED: OptionText = OptionText {
     range: "0 to 18446744073709551615",
     is_required: true,
 };
+
 const PACKETS: OptionText = OptionText {
     name: "packets",
     value: "COUNT",
@@ -74,6 +81,7 @@ const PACKETS: OptionText = OptionText {
     range: "1 to 1000000",
     is_required: true,
 };
+
 const KEYS: OptionText = OptionText {
     name: "keys",
     value: "COUNT",
@@ -85,7 +93,9 @@ const KEYS: OptionText = OptionText {
 };
 
 const METER_OPTIONS: [OptionText; 6] = [IDLE, ACTIVE, SIZE, WORKERS, SETS, PIECE];
+
 const MAKE_OPTIONS: [OptionText; 3] = [SEED, PACKETS, KEYS];
+
 const PIPE_OPTIONS: [OptionText; 7] = [
     IDLE,
     ACTIVE,
@@ -115,6 +125,7 @@ const PIPE_OPTIONS: [OptionText; 7] = [
         is_required: false,
     },
 ];
+
 const PAIR_OPTIONS: [OptionText; 2] = [
     OptionText {
         about: "Flows of both directions pair if no longer gap is between them",
@@ -126,6 +137,7 @@ const PAIR_OPTIONS: [OptionText; 2] = [
         ..SIZE
     },
 ];
+
 const JOIN_OPTIONS: [OptionText; 5] = [
     IDLE,
     ACTIVE,
@@ -149,6 +161,7 @@ const JOIN_OPTIONS: [OptionText; 5] = [
         is_required: false,
     },
 ];
+
 const WATCH_OPTIONS: [OptionText; 3] = [
     OptionText {
         high: 63,
@@ -227,6 +240,7 @@ const METER_COMMANDS: [CommandText; 5] = [
             --packets 1000\n\nManual: man romtyalig",
     },
 ];
+
 const PIPE_COMMANDS: [CommandText; 1] = [CommandText {
     word: "pipe",
     about: "Turns a capture into a stream of flow records while it is still being read",
@@ -239,6 +253,7 @@ const PIPE_COMMANDS: [CommandText; 1] = [CommandText {
         workers as they come. Writes what romtyalig meter writes: an IPFIX stream to standard output, a summary to \
         standard error.\n\nExample: romtyalig-pipe --workers 3 < capture.pcap > flows.ipfix\n\nManual: man romtyalig-pipe",
 }];
+
 const PCAPNG_COMMANDS: [CommandText; 1] = [CommandText {
     word: "pcapng",
     about: "Turns a pcapng file into a classic capture, which romtyalig meter reads",
@@ -251,6 +266,7 @@ const PCAPNG_COMMANDS: [CommandText; 1] = [CommandText {
         standard output, and a summary to standard error of what was written and left out.\n\nExample: romtyalig-pcapng < \
         file.pcapng | romtyalig meter > flows.ipfix\n\nManual: man romtyalig-pcapng",
 }];
+
 const PAIR_COMMANDS: [CommandText; 1] = [CommandText {
     word: "pair",
     about: "Pairs flow records of both directions to biflows (RFC 5103)",
@@ -263,6 +279,7 @@ const PAIR_COMMANDS: [CommandText; 1] = [CommandText {
         stream of biflows to standard output.\n\nExample: romtyalig-pair < flows.ipfix > biflows.ipfix\n\nManual: man \
         romtyalig-pair",
 }];
+
 const JOIN_COMMANDS: [CommandText; 1] = [CommandText {
     word: "join",
     about: "Joins the streams of many captures to one",
@@ -275,6 +292,7 @@ const JOIN_COMMANDS: [CommandText; 1] = [CommandText {
         come before the files. Writes one IPFIX stream to standard output, and a summary to standard error.\n\nExample: \
         romtyalig-join monday.ipfix tuesday.ipfix > week.ipfix\n\nManual: man romtyalig-join",
 }];
+
 const WATCH_COMMANDS: [CommandText; 1] = [CommandText {
     word: "watch",
     about: "Demonstrates that look-ups see open flows; what they saw is reported after the run",

@@ -88,7 +88,11 @@ fn is_in_front(words: &[String], command: &str) -> bool
 /// # Errors
 ///
 /// `NoMemory`: out of memory.
-pub fn with_command(alloc: Global, words: Vec<String>, command: &str) -> Result<Vec<String>, NoMemory>
+pub fn with_command(
+    alloc: Global,
+    words: Vec<String>,
+    command: &str,
+) -> Result<Vec<String>, NoMemory>
     ensures { IfOk result (λ whole. map string_bytes whole.items ≡ with_command command.now (map string_bytes words.items)) }
 {
     if is_in_front(words.as_slice(), command) {

@@ -80,13 +80,19 @@ fn version(rt: &HostRuntime, program: &Program) -> ExitCode {
 /// tells that, and goes on.
 fn is_in_the_way(rt: &HostRuntime, program: &Program, command: &CommandText) -> bool {
     if command.is_binary && rt.stdout().is_terminal() {
-        tell(rt, program, "standard output is a terminal, and the output isn't text: add > FILE, or | and a command");
+        tell(
+            rt,
+            program,
+            "standard output is a terminal, and the output isn't text: add > FILE, or | and a command",
+        );
         return true;
     }
     if let Some(awaited) = command.awaits {
         if rt.stdin().is_terminal() {
             let alloc: Global = rt.alloc();
-            if let Ok(line) = format!(in alloc; "waiting for {awaited} on standard input, a terminal; add < FILE, or end it by Ctrl-D") {
+            if let Ok(line) = format!(in alloc;
+                "waiting for {awaited} on standard input, a terminal; add < FILE, or end it by Ctrl-D"
+            ) {
                 tell(rt, program, line.as_str());
             }
         }

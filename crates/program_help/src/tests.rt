@@ -50,7 +50,10 @@ fn commands_in_front(rt: HostRuntime) {
 #[test]
 fn kinds(rt: HostRuntime) {
     assert_eq!(rt; kind_of(&[]), InputKind::Nothing);
-    assert_eq!(rt; kind_of(&[0xd4, 0xc3, 0xb2, 0xa1, 2, 0]), InputKind::Capture);
+    assert_eq!(rt;
+        kind_of(&[0xd4, 0xc3, 0xb2, 0xa1, 2, 0]),
+        InputKind::Capture
+    );
     assert_eq!(rt; kind_of(&[0x0a, 0x0d, 0x0d, 0x0a]), InputKind::Pcapng);
     assert_eq!(rt; kind_of(b"BZh9"), InputKind::Bzip2);
     assert_eq!(rt; kind_of(b"text"), InputKind::Unknown);
