@@ -25,6 +25,7 @@ pub enum Cause {
 }
 
 /// What is known of a run that ended.
+#[derive(Drop)]
 pub struct Faults<'a> {
     /// The first octets of standard input, 16 at most.
     pub first: &'a [u8],
