@@ -59,6 +59,7 @@ check: build $(CHECKS:%=bin/%)
 	tools/demo.sh
 	checks/shell.sh
 	checks/page.sh
+	checks/help.sh
 	checks/completions.sh
 	checks/readme.sh
 	checks/operators.sh

@@ -92,12 +92,12 @@ try_all "no memory" "$work/two.pcap" "$pipe" pipe
 try_all "no memory" "$work/two.pcap" "$pipe" pipe --workers=3 --queue=1
 try_all "no memory" "$work/steps" "$program" schedule
 try_all "no memory" "$work/two.ipfix" "$program" show
-try_all "" "$work/two.ipfix" "$pair" pair
-try_all "" /dev/null "$join" join "$work/two.ipfix" "$work/two.ipfix"
-try_all "" "$work/one.pcapng" "$pcapng" pcapng
+try_all "romtyalig-pair: no memory" "$work/two.ipfix" "$pair" pair
+try_all "romtyalig-join: no memory" /dev/null "$join" join "$work/two.ipfix" "$work/two.ipfix"
+try_all "romtyalig-pcapng: no memory" "$work/one.pcapng" "$pcapng" pcapng
 try_all "no memory" "$work/many.pcap" "$program" meter --workers=4
 try_all "no memory" "$work/thrice.pcap" "$program" meter --workers=4 --sets=1
 try_all "no memory" "$work/many.pcap" "$pipe" pipe --workers=3
-try_all "" /dev/null "$join" join "$work/many.ipfix"
+try_all "romtyalig-join: no memory" /dev/null "$join" join "$work/many.ipfix"
 [ "$differ" -eq 0 ] && echo "right: $refused runs were out of memory"
 [ "$differ" -eq 0 ]

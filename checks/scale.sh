@@ -132,14 +132,6 @@ by_parts() {
     four_captures && PARTS=3 many >/dev/null && records flows.?.ipfix >got && [ ! -e flows.ipfix ] &&
         records ../wanted.ipfix | cmp - got
 }
-# The line of the whole has the packets and octets of the summary.
-tells_whole() {
-    local wanted
-    four_captures && many >said.out || return
-    wanted=$(romtyalig meter <../capture.pcap 2>&1 >/dev/null |
-        awk '{ value[$1] = $2 } END { print value["accepted"] " packets, " value["octets"] " octets" }')
-    grep -Eq "^flows.ipfix: 4 files, [0-9]+ records read, [0-9]+ written, $wanted *$" said.out
-}
 is_refused() {
     four_captures && echo none >captures/bad.pcap && ! many >/dev/null 2>said.err && [ ! -e flows.ipfix ] &&
         [ ! -e streams/bad.ipfix ] && [ "$(find streams -type f | wc -l)" -eq 4 ] &&
@@ -181,7 +173,6 @@ compare order romtyalig-join three_streams same_one
 row "many.sh goes on where it was stopped" goes_on
 row "many.sh by parts" by_parts
 row "many.sh by its single steps" by_steps
-row "many.sh tells what the whole has" tells_whole
 row "many.sh and a capture that is refused" is_refused
 row "many.sh keeps going" keeps_going
 row "many.sh names what it leaves out" names_others

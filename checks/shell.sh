@@ -41,12 +41,15 @@ same=0
 differ=0
 
 # A command, its exit status, what standard error has, and what standard output has: row NAME STATUS LINES OUTPUT COMMAND. The
-# lines and the output are files.
+# lines and the output are files. Hints, lines that begin with a program's name and a colon, aren't compared here, but none comes
+# before the run's own line, nor where all was done.
 row() {
-    : >stderr
+    : >said
     : >output
-    bash -c "$5" >output 2>stderr
+    bash -c "$5" >output 2>said
     got=$?
+    awk -v own="$(wc -l <"$3")" 'NR <= own || !/^romtyalig[-a-z]*: /' said >stderr
+    [ "$got" -eq 0 ] && cp said stderr
     if [ "$got" -eq "$2" ] && cmp -s stderr "$3" && cmp -s output "$4"; then
         echo "same: $1"
         same=$((same + 1))
@@ -71,7 +74,6 @@ row "a wrong word" 2 "$usage" none 'romtyalig metre <"$capture"'
 row "a wrong option" 2 "$usage" none 'romtyalig meter --idel 5 <"$capture"'
 row "a word that is not UTF-8" 2 "$usage" none 'romtyalig $'"'"'met\xffer'"'"' <"$capture"'
 row "a value that is not UTF-8" 2 "$usage" none 'romtyalig meter --idle $'"'"'\xff'"'"' <"$capture"'
-row "help" 2 "$usage" none 'romtyalig --help <"$capture"'
 row "a folder as input" 1 "$(line "read fault")" none 'romtyalig meter <folder'
 row "a closed input" 1 "$(line "read fault")" none 'romtyalig meter <&-'
 row "an empty input" 4 "$(line "not a capture")" none 'romtyalig meter </dev/null'
@@ -100,7 +102,7 @@ row "the summary of the pipeline to a full device" 3 none whole 'romtyalig-pipe 
 row "a stream to join" 0 none whole 'romtyalig-join join whole'
 row "a stream from standard input to join" 0 none whole 'romtyalig-join join - <whole'
 row "no words of the joiner" 2 none none 'romtyalig-join <whole'
-row "a wrong word of the joiner" 2 none none 'romtyalig-join meter whole'
+row "a word of the joiner that is no file" 1 "$(line "meter: read fault")" none 'romtyalig-join meter whole'
 row "no file to join" 2 none none 'romtyalig-join join <whole'
 row "a folder to join" 1 "$(line "folder: read fault")" none 'romtyalig-join join folder'
 row "a missing file to join" 1 "$(line "missing: read fault")" none 'romtyalig-join join missing'

@@ -1,10 +1,11 @@
-//! The program `romtyalig-pcapng`: the command line's words, the standard streams, the summary, and the exit status. It
-//! reads a pcapng file and writes its packets as a classic capture, for `romtyalig meter` to read.
+//! The program `romtyalig-pcapng`: the command line's words, the standard streams, the summary, help and hints, and the
+//! exit status. It reads a pcapng file and writes its packets as a classic capture, for `romtyalig meter` to read.
 #![tactic(auto)]
 
-use command_words::{OptionsError, words_of};
-use meter_io::{StdSink, StdSource};
+use command_words::OptionsError;
+use meter_io::{FirstBytes, StdSink, StdSource};
 use pcapng_reader::{PngStatus, PngTally, run_tallied};
+use program_help::{Cause, Faults, InputKind, PCAPNG, Start, begin, explain, explain_words};
 use std::alloc::Global;
 use std::io;
 use std::process::ExitCode;
@@ -41,17 +42,54 @@ fn summarize(host: &HostRuntime, tally: &PngTally) -> PngStatus {
     }
 }
 
+/// Of what a hint tells more.
+fn cause_of(status: &PngStatus) -> Cause {
+    match status {
+        PngStatus::Usage => Cause::Usage,
+        PngStatus::ReadFault => Cause::ReadFault,
+        PngStatus::WriteFault => Cause::WriteFault,
+        PngStatus::NotPcapng => Cause::NotExpected(InputKind::Pcapng),
+        PngStatus::Done | PngStatus::BadBlock(_) | PngStatus::TooLarge | PngStatus::NoMemory => Cause::Other,
+    }
+}
+
+/// Writes why a run refused; of words, reads and writes the hints say it.
+fn report(host: &HostRuntime, status: &PngStatus) -> io::Result<()> {
+    match status {
+        PngStatus::NotPcapng => eprintln!(host; "romtyalig-pcapng: not a pcapng file"),
+        PngStatus::BadBlock(at) => eprintln!(host; "romtyalig-pcapng: bad block at {at}"),
+        PngStatus::TooLarge => eprintln!(host; "romtyalig-pcapng: the input is larger than 1073741824 octets"),
+        PngStatus::NoMemory => eprintln!(host; "romtyalig-pcapng: no memory"),
+        PngStatus::Done | PngStatus::Usage | PngStatus::ReadFault | PngStatus::WriteFault => Ok(()),
+    }
+}
+
 fn main(rt: HostRuntime) -> ExitCode {
     let alloc: Global = rt.alloc();
-    let mut input = StdSource::new(rt.stdin());
-    let mut output = StdSink::new(rt.stdout());
-    let status = match words_of(&rt) {
-        Ok(words) => match run_tallied(alloc, words.as_slice(), &mut input, &mut output) {
-            Ok(tally) => summarize(&rt, &tally),
-            Err(status) => status,
-        },
-        Err(OptionsError::NotOptions) => PngStatus::Usage,
-        Err(OptionsError::NoMemory) => PngStatus::NoMemory,
+    let words = match begin(&rt, &PCAPNG) {
+        Start::Run(words) => words,
+        Start::End(code) => return code,
+        Start::Refuse(OptionsError::NotOptions) => {
+            explain_words(&rt, &PCAPNG);
+            return ExitCode::from(PngStatus::Usage.code());
+        }
+        Start::Refuse(OptionsError::NoMemory) => {
+            let _reported = report(&rt, &PngStatus::NoMemory);
+            return ExitCode::from(PngStatus::NoMemory.code());
+        }
     };
+    let mut input = FirstBytes::new(StdSource::new(rt.stdin()));
+    let mut output = StdSink::new(rt.stdout());
+    let status = match run_tallied(alloc, words.as_slice(), &mut input, &mut output) {
+        Ok(tally) => summarize(&rt, &tally),
+        Err(status) => status,
+    };
+    let faults = Faults {
+        first: input.first(),
+        read: input.inner().last_error(),
+        written: output.last_error(),
+    };
+    let _reported = report(&rt, &status);
+    explain(&rt, &PCAPNG, words.as_slice(), cause_of(&status), &faults);
     ExitCode::from(status.code())
 }

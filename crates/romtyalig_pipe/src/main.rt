@@ -1,13 +1,14 @@
-//! The program `romtyalig-pipe`: the command line's words, the standard streams, and the exit status. It meters a
-//! capture while it reads it.
+//! The program `romtyalig-pipe`: the command line's words, the standard streams, help and hints, and the exit status. It
+//! meters a capture while it reads it.
 #![tactic(auto)]
 
-use command_words::{OptionsError, words_of};
+use command_words::OptionsError;
 use flow_cache::PebrCaches;
-use meter_io::{Sink, StdSink, StdSource};
+use meter_io::{FirstBytes, Sink, StdSink, StdSource};
 use meter_program::Status;
 use meter_workers::OpenGate;
 use pipe_program::{pipe_line, run_pipe};
+use program_help::{Cause, Faults, InputKind, PIPE, Start, begin, explain, explain_words};
 use std::alloc::Global;
 use std::process::ExitCode;
 
@@ -17,24 +18,55 @@ fn refuse<E: Sink>(stderr: &mut E, status: Status) -> Status {
     status
 }
 
+/// Of what a hint tells more.
+fn cause_of(status: &Status) -> Cause {
+    match status {
+        Status::Usage => Cause::Usage,
+        Status::ReadFault => Cause::ReadFault,
+        Status::WriteFault => Cause::WriteFault,
+        Status::NotCapture => Cause::NotExpected(InputKind::Capture),
+        Status::NotStream(_) => Cause::NotExpected(InputKind::Stream),
+        Status::LinkUnknown(link) => Cause::LinkUnknown(*link),
+        Status::Done
+        | Status::Damaged(_)
+        | Status::TooLarge
+        | Status::NoMemory
+        | Status::BadSchedule(_) => Cause::Other,
+    }
+}
+
 fn main(rt: HostRuntime) -> ExitCode {
     let alloc: Global = rt.alloc();
-    let mut input = StdSource::new(rt.stdin());
-    let mut output = StdSink::new(rt.stdout());
     let mut stderr = StdSink::new(rt.stderr());
-    let status = match words_of(&rt) {
-        Ok(words) => run_pipe(
-            &rt,
-            alloc,
-            words.as_slice(),
-            &mut input,
-            &mut output,
-            &mut stderr,
-            &mut PebrCaches::new(),
-            &OpenGate,
-        ),
-        Err(OptionsError::NotOptions) => refuse(&mut stderr, Status::Usage),
-        Err(OptionsError::NoMemory) => refuse(&mut stderr, Status::NoMemory),
+    let words = match begin(&rt, &PIPE) {
+        Start::Run(words) => words,
+        Start::End(code) => return code,
+        Start::Refuse(OptionsError::NotOptions) => {
+            let status = refuse(&mut stderr, Status::Usage);
+            explain_words(&rt, &PIPE);
+            return ExitCode::from(status.code());
+        }
+        Start::Refuse(OptionsError::NoMemory) => {
+            return ExitCode::from(refuse(&mut stderr, Status::NoMemory).code());
+        }
     };
+    let mut input = FirstBytes::new(StdSource::new(rt.stdin()));
+    let mut output = StdSink::new(rt.stdout());
+    let status = run_pipe(
+        &rt,
+        alloc,
+        words.as_slice(),
+        &mut input,
+        &mut output,
+        &mut stderr,
+        &mut PebrCaches::new(),
+        &OpenGate,
+    );
+    let faults = Faults {
+        first: input.first(),
+        read: input.inner().last_error(),
+        written: output.last_error(),
+    };
+    explain(&rt, &PIPE, words.as_slice(), cause_of(&status), &faults);
     ExitCode::from(status.code())
 }
