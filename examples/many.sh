@@ -8,7 +8,7 @@
 # The stream of CAPTURES/NAME.pcap is STREAMS/NAME.ipfix, and WHOLE, which isn't to lie in STREAMS, is all of them
 # joined. A stream has its name only once it is whole. Run again, only what isn't there is made: the streams that are
 # missing, and WHOLE where a stream is newer; a capture that changed isn't looked at. A line on standard output tells
-# the summary of each capture, and what the whole has. A line on standard error names each file of CAPTURES that is left
+# the summary of each capture, and that the whole is made. A line on standard error names each file of CAPTURES that is left
 # out, since its name doesn't end in .pcap, and each capture or stream that is refused, and says why. Then WHOLE isn't
 # made, and the status is 1; with --keep-going the others are joined, and the status is 1 all the same.
 #
