@@ -95,7 +95,13 @@ pub(crate) fn tell_windows<R: Threads + Sync>(
         return ExitCode::from(2);
     };
     let mut input = StdSource::new(host.stdin());
-    match meter_source(rt, host.alloc(), &mut input, setting, &mut TurnCaches::new()) {
+    match meter_source(
+        rt,
+        host.alloc(),
+        &mut input,
+        setting,
+        &mut TurnCaches::new(),
+    ) {
         Some(tally) => {
             let (records, packets, octets) = (tally.captured, tally.accepted, tally.octets);
             match println!(host; "records {records} packets {packets} octets {octets}") {

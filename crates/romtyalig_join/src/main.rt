@@ -27,9 +27,12 @@ fn meaning_of(fault: &FileFault) -> &'static str {
     match fault {
         FileFault::ReadFault => "that file can't be opened or read; nothing was written",
         FileFault::TooLarge => "that file is larger than 4294967296 octets; nothing was written",
-        FileFault::NotStream(_) => "that file is no IPFIX stream, as romtyalig meter writes it; nothing was written",
-        FileFault::NotFlows(_) => "that file has a record that romtyalig meter doesn't write; nothing was written",
-        FileFault::TooMany => "with that file a record would count beyond 2^64 - 1; nothing was written",
+        FileFault::NotStream(_) =>
+            "that file is no IPFIX stream, as romtyalig meter writes it; nothing was written",
+        FileFault::NotFlows(_) =>
+            "that file has a record that romtyalig meter doesn't write; nothing was written",
+        FileFault::TooMany =>
+            "with that file a record would count beyond 2^64 - 1; nothing was written",
     }
 }
 

@@ -17,14 +17,17 @@ fn cause_of(status: &PairStatus) -> Cause {
         PairStatus::ReadFault => Cause::ReadFault,
         PairStatus::WriteFault => Cause::WriteFault,
         PairStatus::NotStream(_) => Cause::NotExpected(InputKind::Stream),
-        PairStatus::Done | PairStatus::TooLarge | PairStatus::NoMemory | PairStatus::NotFlows(_) => Cause::Other,
+        PairStatus::Done | PairStatus::TooLarge | PairStatus::NoMemory | PairStatus::NotFlows(_) =>
+            Cause::Other,
     }
 }
 
 /// Writes why a run refused; of words, reads and writes the hints say it.
 fn report(host: &HostRuntime, status: &PairStatus) -> io::Result<()> {
     match status {
-        PairStatus::TooLarge => eprintln!(host; "romtyalig-pair: the input is larger than 67108864 octets"),
+        PairStatus::TooLarge => eprintln!(host;
+            "romtyalig-pair: the input is larger than 67108864 octets"
+        ),
         PairStatus::NoMemory => eprintln!(host; "romtyalig-pair: no memory"),
         PairStatus::NotStream(fault) => {
             let text = fault.text();
@@ -32,9 +35,13 @@ fn report(host: &HostRuntime, status: &PairStatus) -> io::Result<()> {
             eprintln!(host; "romtyalig-pair: not a stream: {text}")
         }
         PairStatus::NotFlows(place) => {
-            eprintln!(host; "romtyalig-pair: data record {place}, counted from 0, is no flow record of romtyalig meter")
+            eprintln!(host;
+                "romtyalig-pair: data record {place}, counted from 0, is no flow record of romtyalig meter"
+            )
         }
-        PairStatus::Done | PairStatus::Usage | PairStatus::ReadFault | PairStatus::WriteFault => Ok(()),
+        PairStatus::Done | PairStatus::Usage | PairStatus::ReadFault | PairStatus::WriteFault => Ok(
+            (),
+        ),
     }
 }
 

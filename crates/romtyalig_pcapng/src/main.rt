@@ -49,7 +49,8 @@ fn cause_of(status: &PngStatus) -> Cause {
         PngStatus::ReadFault => Cause::ReadFault,
         PngStatus::WriteFault => Cause::WriteFault,
         PngStatus::NotPcapng => Cause::NotExpected(InputKind::Pcapng),
-        PngStatus::Done | PngStatus::BadBlock(_) | PngStatus::TooLarge | PngStatus::NoMemory => Cause::Other,
+        PngStatus::Done | PngStatus::BadBlock(_) | PngStatus::TooLarge | PngStatus::NoMemory =>
+            Cause::Other,
     }
 }
 
@@ -58,7 +59,9 @@ fn report(host: &HostRuntime, status: &PngStatus) -> io::Result<()> {
     match status {
         PngStatus::NotPcapng => eprintln!(host; "romtyalig-pcapng: not a pcapng file"),
         PngStatus::BadBlock(at) => eprintln!(host; "romtyalig-pcapng: bad block at {at}"),
-        PngStatus::TooLarge => eprintln!(host; "romtyalig-pcapng: the input is larger than 1073741824 octets"),
+        PngStatus::TooLarge => eprintln!(host;
+            "romtyalig-pcapng: the input is larger than 1073741824 octets"
+        ),
         PngStatus::NoMemory => eprintln!(host; "romtyalig-pcapng: no memory"),
         PngStatus::Done | PngStatus::Usage | PngStatus::ReadFault | PngStatus::WriteFault => Ok(()),
     }

@@ -19,7 +19,10 @@ fn cause_of(status: &WatchStatus) -> Cause {
         WatchStatus::WriteFault => Cause::WriteFault,
         WatchStatus::NotCapture => Cause::NotExpected(InputKind::Capture),
         WatchStatus::LinkUnknown(link) => Cause::LinkUnknown(*link),
-        WatchStatus::Done | WatchStatus::Damaged(_) | WatchStatus::TooLarge | WatchStatus::NoMemory => Cause::Other,
+        WatchStatus::Done
+        | WatchStatus::Damaged(_)
+        | WatchStatus::TooLarge
+        | WatchStatus::NoMemory => Cause::Other,
     }
 }
 
@@ -29,9 +32,12 @@ fn report(host: &HostRuntime, status: &WatchStatus) -> io::Result<()> {
         WatchStatus::NotCapture => eprintln!(host; "romtyalig-watch: not a capture"),
         WatchStatus::LinkUnknown(link) => eprintln!(host; "romtyalig-watch: link type {link}"),
         WatchStatus::Damaged(at) => eprintln!(host; "romtyalig-watch: damaged at {at}"),
-        WatchStatus::TooLarge => eprintln!(host; "romtyalig-watch: the input is larger than 1073741824 octets"),
+        WatchStatus::TooLarge => eprintln!(host;
+            "romtyalig-watch: the input is larger than 1073741824 octets"
+        ),
         WatchStatus::NoMemory => eprintln!(host; "romtyalig-watch: no memory"),
-        WatchStatus::Done | WatchStatus::Usage | WatchStatus::ReadFault | WatchStatus::WriteFault => Ok(()),
+        WatchStatus::Done | WatchStatus::Usage | WatchStatus::ReadFault | WatchStatus::WriteFault =>
+            Ok(()),
     }
 }
 
