@@ -7,7 +7,7 @@ Pairs of streams are made here whose totals are known: the same flows cut otherw
 count changed, a key missing and a key more, for which the lines that it must write stand below. Then two other meters read a
 capture that is made here, and the stream of `meter` must have the same totals by key as theirs: softflowd (package softflowd)
 sends IPFIX, and nfpcapd's files go out by nfreplay (package nfdump). On a capture with IP fragments they must differ in the lines
-that stand below, and in no other: as docs/OPERATORS.md says. What is missing is skipped with one line. The status is 1 where
+that stand below, and in no other: as docs/RECIPES.md says. What is missing is skipped with one line. The status is 1 where
 anything differs. ROMTYALIG and ROMTYALIG_PAIR are the programs' paths (bin/romtyalig and bin/romtyalig-pair unless set).
 """
 import os

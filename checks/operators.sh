@@ -1,5 +1,5 @@
 #!/bin/bash
-# Runs the commands of docs/OPERATORS.md, and compares what each gives with what `show` says of the same flows.
+# Runs the commands of docs/OPERATORS.md and docs/RECIPES.md, and compares what each gives with what `show` says of the same flows.
 #
 #     checks/operators.sh
 #
@@ -197,7 +197,7 @@ block() {
     awk -v mark="<!-- run: $1, " 'index($0, mark) == 1 { found = 1; next }
         found && /^```sh/ { inside = 1; next }
         inside && /^```/ { exit }
-        inside' "$top/docs/OPERATORS.md"
+        inside' "$top/docs/OPERATORS.md" "$top/docs/RECIPES.md"
 }
 
 same=0
@@ -225,7 +225,7 @@ compare() {
 
 same_stream() { cmp flows.ipfix wanted.ipfix && rm flows.ipfix; }
 # The same, of a command that the document names in passing.
-named_stream() { grep -qF "\`$(cut -d ' ' -f 1,2 commands)\`" "$top/docs/OPERATORS.md" && same_stream; }
+named_stream() { grep -qF "\`$(cut -d ' ' -f 1,2 commands)\`" "$top/docs/OPERATORS.md" "$top/docs/RECIPES.md" && same_stream; }
 same_lines() { cmp out lines; }
 # By type and code: how many packets each address sent, and the flow of the two requests.
 same_types() {
@@ -239,7 +239,7 @@ same_requests() {
         grep -q ' 27=20010db80*1 .* 4=58 .* 2=2 ' got
 }
 same_dump() {
-    grep -o 'octetDeltaCount *: *[0-9]*' out | grep -o '[0-9]*$' >got
+    grep -ho 'octetDeltaCount *: *[0-9]*' out | grep -ho '[0-9]*$' >got
     values 1 | cmp - got
 }
 same_rows() { values 8 12 7 11 2 1 | cmp - out; }
@@ -306,8 +306,8 @@ same_talkers() {
 drawn() { grep -q '</svg>' octets.svg; }
 # Each record's octets in each of the four forms; checks/named.py compares every field.
 same_named() {
-    grep -o ' octetDeltaCount=[0-9]*' flows.txt | cut -d= -f2 >got
-    grep -o '[0-9]* octets* from' out | cut -d ' ' -f 1 >>got
+    grep -ho ' octetDeltaCount=[0-9]*' flows.txt | cut -d= -f2 >got
+    grep -ho '[0-9]* octets* from' out | cut -d ' ' -f 1 >>got
     { values 1; values 1; } | cmp - got || return 1
     python3 -c 'import csv, json, sys
 print(*[row["octetDeltaCount"] for row in csv.DictReader(open("named.csv"))], sep="\n")
@@ -363,7 +363,7 @@ compare loopback "tcpdump editcap" same_stream
 compare "link type 108 of loopback" "tcpdump editcap" same_stream 's/loopback.pcap/bsd-loopback.pcap/'
 compare pppoe "tcpdump editcap" same_stream
 compare "tags of pppoe" "tcpdump editcap" same_stream "s/pppoe.pcap/tagged-pppoe.pcap/; s/'pppoes and .*)'/'$(
-    grep -o 'vlan and pppoes and [^`]*' "$top/docs/OPERATORS.md")'/; s/-C 22/$(grep -o -e '-C 26' "$top/docs/OPERATORS.md")/"
+    grep -ho 'vlan and pppoes and [^`]*' "$top/docs/OPERATORS.md" "$top/docs/RECIPES.md")'/; s/-C 22/$(grep -ho -e '-C 26' "$top/docs/OPERATORS.md" "$top/docs/RECIPES.md")/"
 compare mpls "tcpdump editcap" same_stream
 compare bill diff right_bill
 compare bills diff right_bills
@@ -371,10 +371,10 @@ rm flows.ipfix
 compare tags "tshark editcap mergecap" same_stream
 # A first run that ends at a file, by the line that the text above the block names, and then all lines with that file.
 compare "two of tags" "tshark editcap mergecap" same_stream "H; s/old-tags/two-tags/; \$s/.*/$(
-    grep -o 'mergecap -F pcap -w once.pcap [^`]*' "$top/docs/OPERATORS.md")/; \$!b; p; x; s/^\n//; s/old-tags/once/g"
+    grep -ho 'mergecap -F pcap -w once.pcap [^`]*' "$top/docs/OPERATORS.md" "$top/docs/RECIPES.md")/; \$!b; p; x; s/^\n//; s/old-tags/once/g"
 compare icmp tshark same_types
 compare "IPv6 of icmp" tshark same_requests \
-    "1d; s/icmp.pcap/icmpv6.pcap/; s/icmp.type == 8/$(grep -o 'icmpv6.type == [0-9]*' "$top/docs/OPERATORS.md")/"
+    "1d; s/icmp.pcap/icmpv6.pcap/; s/icmp.type == 8/$(grep -ho 'icmpv6.type == [0-9]*' "$top/docs/OPERATORS.md" "$top/docs/RECIPES.md")/"
 cp wanted.ipfix flows.ipfix
 compare show romtyalig same_lines
 compare text ipfixDump same_dump

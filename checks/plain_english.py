@@ -25,6 +25,7 @@ LIMITS = {
     "docs/HEADLINE.md": 990,
     "docs/OPERATORS.md": 2640,
     "docs/PROVED.md": 3300,
+    "docs/RECIPES.md": 2200,
     "docs/SCALE.md": 1210,
     "bench/README.md": 1430,
     "checks/README.md": 660,

@@ -3,7 +3,7 @@
 #
 #     checks/rotate.sh
 #
-# One line for each row. The commands for tcpdump are taken out of docs/OPERATORS.md, with another interface, time,
+# One line for each row. The commands for tcpdump are taken out of docs/RECIPES.md, with another interface, time,
 # folder and path of the script, and a filter. Where tcpdump or its user is missing, or this isn't run as root, that is
 # skipped with one line, and so is what needs systemd-analyze. The status is not 0 where any differs. ROMTYALIG is the
 # program's path (bin/romtyalig unless set).
@@ -118,7 +118,7 @@ missing() {
 
 count_of() { find "$work/$1" -name "*.$2" | wc -l; }
 
-# The commands of a block of docs/OPERATORS.md on loopback, in files of a second, with a datagram each tenth of a second, until all
+# The commands of a block of docs/RECIPES.md on loopback, in files of a second, with a datagram each tenth of a second, until all
 # files that tcpdump closed are metered. tcpdump goes on as another user, so the program and the scripts lie where that user may
 # read: dump BLOCK FOLDER
 dump() {
@@ -129,7 +129,7 @@ dump() {
     awk -v mark="<!-- run: $1, " 'index($0, mark) == 1 { found = 1; next }
         found && /^```sh/ { inside = 1; next }
         inside && /^```/ { exit }
-        inside' "$top/docs/OPERATORS.md" | sed -e "s,/usr/share/doc/romtyalig/examples,$work/bin,g" \
+        inside' "$top/docs/OPERATORS.md" "$top/docs/RECIPES.md" | sed -e "s,/usr/share/doc/romtyalig/examples,$work/bin,g" \
         -e "s,/var/lib/romtyalig,$work/$2,g" -e 's/ tcpdump -i eth0 / exec tcpdump -i lo /' -e 's/ -G [0-9]* / -G 1 /' \
         -e 's/192.0.2.9 4739/127.0.0.1 47476/' -e '$s/$/ udp and port 47475/' >"$work/commands"
     METER="$work/bin/romtyalig meter" bash -eu "$work/commands" >"$work/lines" 2>"$work/said" &

@@ -35,7 +35,7 @@ fi
 doc=$stage/usr/share/doc/romtyalig
 install -d "$doc/docs"
 cp packaging/README.md "$doc"
-cp docs/OPERATORS.md docs/SCALE.md docs/FORMATS.md docs/octets.svg "$doc/docs"
+cp docs/OPERATORS.md docs/RECIPES.md docs/SCALE.md docs/FORMATS.md docs/octets.svg "$doc/docs"
 cp -R examples "$doc"
 find "$doc" -name __pycache__ -prune -exec rm -rf {} +
 install -m 644 packaging/copyright "$doc"
