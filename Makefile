@@ -65,6 +65,7 @@ check: build $(CHECKS:%=bin/%)
 	checks/operators.sh
 	checks/scale.sh
 	checks/slurm.sh
+	python3 checks/plain_english.py
 	python3 checks/edit_lines.py
 	python3 checks/element_names.py
 	python3 checks/named.py
