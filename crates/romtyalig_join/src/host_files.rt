@@ -17,11 +17,13 @@ enum Input {
     Standard(Stdin),
 }
 
-/// A file that is open, and how many of its reads failed. What a file has left isn't told.
+/// A file that is open, how many of its reads failed, and what the system said of the last that did. What a file has left
+/// isn't told.
 #[derive(Drop)]
 pub struct OpenFile {
     input: Input,
     faults: u64,
+    last: Option<io::Error>,
 }
 
 /// Counts a failed call, unless the count is at its greatest value.
@@ -51,7 +53,10 @@ impl Source for OpenFile {
     fn read(&mut self, buf: &mut [u8]) -> Result<usize, Failed> {
         match read_some(&mut self.input, buf) {
             Ok(count) => Ok(count),
-            Err(_) => Err(count_fault(&mut self.faults)),
+            Err(error) => {
+                self.last = Some(error);
+                Err(count_fault(&mut self.faults))
+            }
         }
     }
 }
@@ -61,12 +66,22 @@ impl Source for OpenFile {
 pub struct HostFiles<'a> {
     rt: &'a HostRuntime,
     faults: u64,
+    last: Option<io::Error>,
 }
 
 impl<'a> HostFiles<'a> {
     /// No file is open yet.
     pub fn new(rt: &'a HostRuntime) -> HostFiles<'a> {
-        HostFiles { rt, faults: 0 }
+        HostFiles {
+            rt,
+            faults: 0,
+            last: None,
+        }
+    }
+
+    /// What the system said of the last file that couldn't be opened or read; `None` if each could.
+    pub fn last_error(&self) -> Option<io::Error> {
+        self.last
     }
 
     /// Opens the file of this name.
@@ -88,13 +103,21 @@ impl<'a> Opener for HostFiles<'a> {
 
     fn open(&mut self, name: &str) -> Result<OpenFile, Failed> {
         match self.input(name) {
-            Ok(input) => Ok(OpenFile { input, faults: 0 }),
-            Err(_) => Err(count_fault(&mut self.faults)),
+            Ok(input) => Ok(OpenFile {
+                input,
+                faults: 0,
+                last: None,
+            }),
+            Err(error) => {
+                self.last = Some(error);
+                Err(count_fault(&mut self.faults))
+            }
         }
     }
 
     fn close(&mut self, file: OpenFile) {
         if file.faults > 0 {
+            self.last = file.last;
             self.faults = self.faults.saturating_add(1);
         }
     }

@@ -3,11 +3,13 @@
 //! become.
 #![tactic(auto)]
 
+mod hints;
 mod host_files;
 
 use command_words::OptionsError;
+use hints::{explain_file, warn_of_twice};
 use host_files::HostFiles;
-use join_program::{FileFault, JoinStatus, run_join};
+use join_program::{JoinStatus, run_join};
 use meter_io::StdSink;
 use program_help::{Cause, Faults, JOIN, Start, begin, explain, explain_words, tell};
 use std::alloc::Global;
@@ -22,29 +24,6 @@ fn cause_of(status: &JoinStatus) -> Cause {
     }
 }
 
-/// What a file's fault means, behind the run's own line, which names the file.
-fn meaning_of(fault: &FileFault) -> &'static str {
-    match fault {
-        FileFault::ReadFault => "that file can't be opened or read; nothing was written",
-        FileFault::TooLarge => "that file is larger than 4294967296 octets; nothing was written",
-        FileFault::NotStream(_) =>
-            "that file is no IPFIX stream, as romtyalig meter writes it; nothing was written",
-        FileFault::NotFlows(_) =>
-            "that file has a record that romtyalig meter doesn't write; nothing was written",
-        FileFault::TooMany =>
-            "with that file a record would count beyond 2^64 - 1; nothing was written",
-    }
-}
-
-/// Writes why a run refused; of words and writes the hints say it.
-fn report(host: &HostRuntime, status: &JoinStatus) {
-    match status {
-        JoinStatus::NoMemory => tell(host, &JOIN, "no memory"),
-        JoinStatus::Refused { fault, .. } => tell(host, &JOIN, meaning_of(fault)),
-        JoinStatus::Done | JoinStatus::Usage | JoinStatus::WriteFault => {}
-    }
-}
-
 fn main(rt: HostRuntime) -> ExitCode {
     let alloc: Global = rt.alloc();
     let words = match begin(&rt, &JOIN) {
@@ -55,7 +34,7 @@ fn main(rt: HostRuntime) -> ExitCode {
             return ExitCode::from(JoinStatus::Usage.code());
         }
         Start::Refuse(OptionsError::NoMemory) => {
-            report(&rt, &JoinStatus::NoMemory);
+            tell(&rt, &JOIN, "no memory");
             return ExitCode::from(JoinStatus::NoMemory.code());
         }
     };
@@ -75,7 +54,17 @@ fn main(rt: HostRuntime) -> ExitCode {
         read: None,
         written: output.last_error(),
     };
-    report(&rt, &status);
+    match &status {
+        JoinStatus::Done => warn_of_twice(&rt, words.as_slice()),
+        JoinStatus::NoMemory => tell(&rt, &JOIN, "no memory"),
+        JoinStatus::Refused { fault, .. } => explain_file(
+            &rt,
+            words.as_slice(),
+            fault,
+            files.last_error(),
+        ),
+        JoinStatus::Usage | JoinStatus::WriteFault => {}
+    }
     explain(&rt, &JOIN, words.as_slice(), cause_of(&status), &faults);
     ExitCode::from(status.code())
 }
