@@ -48,7 +48,7 @@ fn tell_message(rt: &HostRuntime, program: &Program, message: &str) {
         let line = line.trim();
         if let Some(fault) = line.strip_prefix("error: ") {
             tell(rt, program, fault);
-        } else if line.starts_with("tip: ") || line.starts_with("--") {
+        } else if line.starts_with("tip: ") || line.starts_with("--") || line.starts_with("<") {
             tell(rt, program, line);
         }
     }
