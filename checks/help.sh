@@ -117,7 +117,9 @@ row 4 - "romtyalig-watch: not a capture" "romtyalig-watch <flows.ipfix"
 row 5 - "Linux cooked, version 2" "romtyalig meter <cooked2.pcap"
 row 5 - "BSD loopback" "romtyalig-pipe <loopback.pcap"
 row 9 - "romtyalig-join: that file is no IPFIX stream" "romtyalig-join c.pcap"
-row 1 - "romtyalig-join: that file can't be opened or read" "romtyalig-join missing"
+row 1 - "romtyalig-join: can't read that file: No such file or directory" "romtyalig-join missing"
+row 1 - "romtyalig-join: --idle stands behind a file" "romtyalig-join flows.ipfix --idle 5"
+row 0 - "romtyalig-join: warning: flows.ipfix is named twice" "romtyalig-join flows.ipfix flows.ipfix >/dev/null"
 
 # Reads and writes that fail, and a closed pipe.
 row 1 - "romtyalig: can't read the input: Is a directory" "romtyalig meter <folder"
@@ -158,7 +160,7 @@ for name in romtyalig romtyalig-pipe romtyalig-pair romtyalig-join romtyalig-wat
     [ "$name" = romtyalig ] && commands="meter make selftest"
     for command in $commands; do
         if [ "$name" = romtyalig ]; then "$name" "$command" --help >output; else "$name" --help >output; fi
-        page=$(sed 's/,\([0-9]\)/\1/g; s/^\.It Fl -\([a-z]*\).*/--\1/' "$top/man/$name.1" | tr '\n' ' ')
+        page=$(sed 's/,\([0-9]\)/\1/g; s/Fl -\([a-z]*\)/--\1/g' "$top/man/$name.1" | tr '\n' ' ')
         grep -oE -e '--[a-z]+ <' output | tr -d ' <' | grep -vx -e --help | sort -u >options
         while read -r option; do
             grep -qF -e "$option" <<<"$page" || differs "$name $command: $option is not in its page"

@@ -90,7 +90,7 @@ row "the line of a wrong word to a closed standard error" 2 none none 'romtyalig
 
 piped=$(line "usage: pipe")
 row "a capture by the pipeline" 0 summary whole 'romtyalig-pipe pipe --workers 2 --queue=1 <"$capture"'
-row "no words of the pipeline" 2 "$piped" none 'romtyalig-pipe <"$capture"'
+row "no word of the pipeline" 0 summary whole 'romtyalig-pipe <"$capture"'
 row "a wrong word of the pipeline" 2 "$piped" none 'romtyalig-pipe meter <"$capture"'
 row "a word of the pipeline that is not UTF-8" 2 "$piped" none 'romtyalig-pipe $'"'"'pipe\xff'"'"' <"$capture"'
 row "a folder as input of the pipeline" 1 "$(line "read fault")" none 'romtyalig-pipe pipe <folder'
