@@ -275,7 +275,7 @@ const JOIN_COMMANDS: [CommandText; 1] = [CommandText {
     awaits: None,
     is_binary: true,
     details: "Reads IPFIX streams of at most 2^32 octets each, as romtyalig meter writes them; - is standard input. Options \
-        come before the files. Writes one IPFIX stream to standard output, and a summary to standard error.\n\nExample: \
+        come before the files. Writes one IPFIX stream to standard output, and a line to standard error if a file is refused.\n\nExample: \
         romtyalig-join monday.ipfix tuesday.ipfix > week.ipfix\n\nManual: man romtyalig-join",
 }];
 
